@@ -182,14 +182,15 @@ impl<B: Bounds> Arrays<B> {
 
     /// Opens an array behind the others. Returns the place where it begins: the number of bytes before it.
     ///
-    /// The call is refused first where there would be more bytes than there may be, then for want of memory; all arrays
-    /// then stay unchanged.
+    /// The call is refused first where there would be more bytes than there may be, then, where an array is open, for want
+    /// of memory; all arrays then stay unchanged.
     pub fn open(&mut self, kind: ArrayKind) -> Result<usize, ArrayFault>
         ensures ok { OnOk result (self.new ≡ opened kind self.old) }
         ensures place { IfOk result (λ place. place ≡ arrays_size (all_of self.old)) }
         ensures err { OnErr result (self.new ≡ self.old) }
         ensures fault { let fault = open_fault B.most kind self.old in
             MatchResult result (λ _. fault ≡ None) (λ refused. refused ≡ unwrap_or fault Memory) }
+        ensures memory { IfErr result (λ refused. refused ≡ Memory → IsSome self.old.open_one) }
     {
         let place = self.size;
         if self.limit - place < kind.count_size() {
@@ -218,6 +219,7 @@ impl<B: Bounds> Arrays<B> {
     fn close(&mut self) -> Result<(), AllocError>
         ensures ok { OnOk result (self.new ≡ closed_one self.old) }
         ensures err { OnErr result (self.new ≡ self.old) }
+        ensures memory { OnErr result (IsSome self.old.open_one) }
     {
         if let Some(array) = self.growing.take() {
             if let Err(refused) = self.closed.push(array) {
@@ -237,6 +239,7 @@ impl<B: Bounds> Arrays<B> {
         ensures err { OnErr result (self.new ≡ self.old) }
         ensures fault { let fault = entries_fault B.most (value ∷ []) self.old in
             MatchResult result (λ _. fault ≡ None) (λ refused. refused ≡ unwrap_or fault Memory) }
+        ensures memory { IfErr result (λ refused. refused ≡ Memory → IsSome self.old.open_one) }
     {
         if self.growing.is_none() {
             return Ok(());
@@ -256,6 +259,7 @@ impl<B: Bounds> Arrays<B> {
         ensures err { OnErr result (self.new ≡ self.old) }
         ensures fault { let fault = zeros_fault B.most count self.old in
             MatchResult result (λ _. fault ≡ None) (λ refused. refused ≡ unwrap_or fault Memory) }
+        ensures memory { IfErr result (λ refused. refused ≡ Memory → IsSome self.old.open_one) }
     {
         if count == 0 {
             return Err(ArrayFault::NoEntries);
@@ -280,6 +284,7 @@ impl<B: Bounds> Arrays<B> {
         ensures err { OnErr result (self.new ≡ self.old) }
         ensures fault { let fault = characters_fault B.most text.now self.old in
             MatchResult result (λ _. fault ≡ None) (λ refused. refused ≡ unwrap_or fault Memory) }
+        ensures memory { IfErr result (λ refused. refused ≡ Memory → IsSome self.old.open_one) }
     {
         if self.growing.is_none() {
             return Ok(());
@@ -300,6 +305,7 @@ impl<B: Bounds> Arrays<B> {
         ensures err { OnErr result (self.new ≡ self.old) }
         ensures fault { let fault = added_fault B.most (added entries.entry) self.old in
             MatchResult result (λ _. fault ≡ None) (λ refused. refused ≡ unwrap_or fault Memory) }
+        ensures memory { IfErr result (λ refused. refused ≡ Memory → IsSome self.old.open_one) }
     {
         match entries {
             Entries::One(value) => self.entry(value),

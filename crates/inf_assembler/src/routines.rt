@@ -361,8 +361,8 @@ impl Routine {
     ///
     /// Where control can run past the last item, `rtrue` follows it, or `rfalse` in an embedded routine. Returns the place
     /// and size of the routine. Refuses, in this order, a label that is missing, one that is marked twice, an offset that
-    /// does not fit, a limit that would be passed, and want of memory; the area and the list of fixups are then as they
-    /// were before `open`, and the routine is given up.
+    /// does not fit, and a limit that would be passed; want of memory may come in place of each of these. The area and the
+    /// list of fixups are then as they were before `open`, and the routine is given up.
     pub fn close<A: Area>(
         self,
         area: &mut A,

@@ -9,7 +9,7 @@ use Rattle.inf_names.specs.declared.meanings.Meaning.{Meaning}
 use Rattle.inf_names.specs.declared.meanings.Meaning.TheVariants as meaning
 use Rattle.inf_names.specs.declared.symbols.Found.{Found}
 use Rattle.inf_names.specs.declared.symbols.Found.TheVariants as found
-use Rattle.inf_output.specs.Output.{Code, declared}
+use Rattle.inf_output.specs.Output.{Code}
 use Rattle.inf_scanner.specs.declared.tokens.Mark.TheVariants as mark
 use Rattle.inf_scanner.specs.declared.tokens.Place.{Place}
 use Rattle.inf_scanner.specs.declared.tokens.TokenKind.{TokenKind}
@@ -21,7 +21,7 @@ use Rattle.inf_tables.specs.declared.faults.WorldFault.{WorldFault}
 use Rattle.inf_tables.specs.World.{further_value_fault, given_property_fault, individual_fault, set_attribute_fault, with_further_value}
 use Rattle.inf_tables.specs.World.{with_given_property, with_individual, with_lost_property, with_set_attribute}
 use Rattle.inf_compilation.specs.Actions.{Compilation}
-use Rattle.inf_declarations.specs.Declarations.{with_world}
+use Rattle.inf_declarations.specs.Declarations.{name_declared, with_world}
 use Rattle.inf_bodies.specs.Objects.{class_of, entry_told, found_at, joined_fault, joined_some, noted, refused_finding}
 
 -- the place of the last token
@@ -108,7 +108,7 @@ is_words (Some number) = number == 1
 -- a new individual property is declared with its name
 abbrev pub individual_declared : Limits → Option Name → ℕ → Code
 individual_declared limits None number o = o
-individual_declared limits (Some n) number o = declared limits n.bytes n.place (meaning.IndividualProperty (number % 65536)) o
+individual_declared limits (Some n) number o = name_declared limits n (meaning.IndividualProperty (number % 65536)) o
 
 -- Behind a property with something wrong further values give nothing. Where its name is new it is declared all the same.
 abbrev pub with_property_lost : Code

@@ -4,13 +4,14 @@ use Rattle.std.specs.Prelude.{Option, Some, None, unwrap_or, Result, Ok, Err}
 use Rattle.std.specs.Str.{str_eq_ignore_ascii_case}
 use Rattle.inf_settings.specs.Bounds.{Limits}
 use Rattle.inf_expressions.specs.declared.findings.Finding.{Finding}
+use Rattle.inf_expressions.specs.declared.findings.UnitError.TheVariants as unit_error
 use Rattle.inf_expressions.specs.Findings.{least_of_both, wrong_kind}
 use Rattle.inf_names.specs.Symbols.{found_in}
 use Rattle.inf_names.specs.declared.meanings.Meaning.{Meaning}
 use Rattle.inf_names.specs.declared.meanings.Meaning.TheVariants as meaning
 use Rattle.inf_names.specs.declared.symbols.Found.{Found}
 use Rattle.inf_names.specs.declared.symbols.Found.TheVariants as found
-use Rattle.inf_output.specs.Output.{Code, Out, declared, passed_table}
+use Rattle.inf_output.specs.Output.{Code, Out, passed_table}
 use Rattle.inf_report.specs.Messages.{TooMany}
 use Rattle.inf_report.specs.declared.messages.FixedLimit.TheVariants as countable
 use Rattle.inf_scanner.specs.declared.tokens.Place.{Place}
@@ -34,7 +35,7 @@ use Rattle.inf_tables.specs.Objects.{class_count, parent_of}
 use Rattle.inf_tables.specs.World.{class_header_fault, class_of_fault, lost_header_fault, object_header_fault, with_class_header}
 use Rattle.inf_tables.specs.World.{with_class_of, with_lost_header, with_object_header}
 use Rattle.inf_compilation.specs.Actions.{Compilation, unit_ended}
-use Rattle.inf_declarations.specs.Declarations.{declared_ended, plainly_known, with_world}
+use Rattle.inf_declarations.specs.Declarations.{declared_ended, name_declared, plainly_known, with_world}
 use Rattle.inf_compilation.specs.Findings.{found_alone, many_finding}
 use Rattle.inf_declarations.specs.declared.declarations.Declared.{Declared}
 use Rattle.inf_bodies.specs.declared.headers.Header.{Header}
@@ -58,7 +59,7 @@ noted limits fault.Memory o = o
 -- setting would be passed.
 abbrev pub refused_finding : Option WorldFault → ℕ → Option Finding
 refused_finding None name = None
-refused_finding (Some (fault.Limit l)) name = Some (record { order = 0; number = 19 })
+refused_finding (Some (fault.Limit l)) name = Some (record { order = 0; error = unit_error.TooMany })
 refused_finding (Some (fault.Misfit m)) name = Some (wrong_kind name)
 refused_finding (Some (fault.Full s)) name = None
 refused_finding (Some fault.Memory) name = None
@@ -155,7 +156,7 @@ lost_begun o = lost_begun_by (lost_header_fault o.tables.world) o
 
 -- the name of a class is declared; where there is no such class, as that of none
 abbrev pub class_declared : Limits → Name → ℕ → Code
-class_declared limits name number o = declared limits name.bytes name.place (meaning.Class (number % 65536)) o
+class_declared limits name number o = name_declared limits name (meaning.Class (number % 65536)) o
 
 abbrev pub class_lost : Limits → Name → Code
 class_lost limits name o = class_declared limits name 0 (lost_begun o)
@@ -248,7 +249,7 @@ joined_fault limits (Some number) o = class_of_fault limits number o.tables.worl
 
 abbrev pub object_declared : Limits → Option Name → ℕ → Code
 object_declared limits None number o = o
-object_declared limits (Some n) number o = declared limits n.bytes n.place (meaning.Object (number % 65536)) o
+object_declared limits (Some n) number o = name_declared limits n (meaning.Object (number % 65536)) o
 
 abbrev pub object_named : Limits → Option ℕ → Option Name → ℕ → Code
 object_named limits class name number o = object_declared limits name number (joined_some limits class o)

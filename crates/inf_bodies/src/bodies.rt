@@ -16,6 +16,7 @@ use crate::objects::{class_of, found_at, name_at, refused_finding, tell_entry};
 use inf_area::Value;
 use inf_compilation::compilation::Compilation;
 use inf_compilation::context::Context;
+use inf_declarations::declarations::declare;
 use inf_expressions::{Finding, least_of_both};
 use inf_lexer::Place;
 use inf_names::meanings::Meaning;
@@ -156,8 +157,7 @@ fn declare_individual<B: Bounds>(
     match name {
         Some(name) => {
             let meaning = Meaning::IndividualProperty((number % 65536) as u16);
-            out.declare(name.bytes(), name.place, meaning)?;
-            Ok(())
+            declare(name, meaning, out)
         }
         None => Ok(()),
     }

@@ -6,6 +6,7 @@ ghost use Rattle.inf_bodies.specs.Objects.{lost_begun, noted, object_begun, obje
 ghost use Rattle.inf_bodies.specs.Objects.{setting_of};
 ghost use Rattle.inf_tables.specs.World.{class_of_fault};
 
+use inf_declarations::declarations::declare;
 use inf_names::meanings::Meaning;
 use inf_names::spellings::Name;
 use inf_output::Output;
@@ -56,12 +57,7 @@ fn declare_class<B: Bounds>(
 ) -> Result<(), AllocError>
     ensures { OnOk result (out.new ≡ class_declared B.most (as_name name.now) number out.old) }
 {
-    out.declare(
-        name.bytes(),
-        name.place,
-        Meaning::Class((number % 65536) as u16),
-    )?;
-    Ok(())
+    declare(name, Meaning::Class((number % 65536) as u16), out)
 }
 
 /// Declares the name of a class that there is not: it stands for none.
@@ -114,14 +110,7 @@ fn declare_object<B: Bounds>(
     ensures { OnOk result (out.new ≡ object_declared B.most (option_map as_name name.now) number out.old) }
 {
     match name {
-        Some(name) => {
-            out.declare(
-                name.bytes(),
-                name.place,
-                Meaning::Object((number % 65536) as u16),
-            )?;
-            Ok(())
-        }
+        Some(name) => declare(name, Meaning::Object((number % 65536) as u16), out),
         None => Ok(()),
     }
 }

@@ -15,9 +15,9 @@ use crate::headers::{Header, header_in, word_place};
 use crate::short_names::{bracketed, pack_name, short_text};
 use inf_compilation::compilation::Compilation;
 use inf_compilation::context::Context;
-use inf_compilation::findings::{Findings, TOO_MANY, many_finding};
+use inf_compilation::findings::{Findings, many_finding};
 use inf_declarations::declarations::{Declared, end_declared, plainly_known};
-use inf_expressions::{Finding, least_of_both};
+use inf_expressions::{Finding, UnitError, least_of_both};
 use inf_lexer::Place;
 use inf_names::meanings::Meaning;
 use inf_names::spellings::Name;
@@ -41,7 +41,7 @@ pub(crate) fn refused_finding(fault: Option<WorldFault>, name: u32) -> Option<Fi
     match fault? {
         WorldFault::Limit(_) => Some(Finding {
             order: 0,
-            number: TOO_MANY,
+            error: UnitError::TooMany,
         }),
         WorldFault::Misfit(_) => Some(Finding::wrong_kind(name)),
         WorldFault::Full(_) | WorldFault::Memory => None,

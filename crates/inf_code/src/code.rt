@@ -1,6 +1,6 @@
 //! The code of a story: its finished routines, and the open one.
 ghost use Rattle.std.specs.Prelude.{◌≡◌, ◌≤◌, ◌⊎◌, ◌∷◌, ◌++◌, ◌+◌, [], None, Some, IfOk, MatchResult, OnOk, OnErr, false, if◌then◌else◌};
-ghost use Rattle.std.specs.Prelude.{length};
+ghost use Rattle.std.specs.Prelude.{length, IsErr, IsSome};
 ghost use Rattle.std.specs.Prelude.{nat_lt, take, true};
 ghost use Rattle.inf_area.specs.Fixups.{with_fixups};
 ghost use Rattle.inf_area.specs.Cells.{bytes_of, fixups_of};
@@ -351,6 +351,7 @@ impl<B: Bounds> Code<B> {
         ensures err { OnErr result (self.new ≡ self.old) }
         ensures fault { let full = full_with (parts_of instruction.now) self.old in
             MatchResult result (λ _. full ≡ None) (λ fault. fault ≡ refusal full) }
+        ensures is_open { IsErr result → IsSome self.old.opened }
     {
         let Some(routine) = &mut self.routine else {
             return Ok(());
@@ -368,11 +369,12 @@ impl<B: Bounds> Code<B> {
         ensures err { OnErr result (self.new ≡ self.old) }
         ensures fault { let full = full_label self.old in
             MatchResult result (λ _. full ≡ None) (λ fault. fault ≡ refusal full) }
+        ensures is_open { IsErr result → IsSome self.old.opened }
     {
-        let Some(routine) = &mut self.routine else {
+        let Some(opened) = &mut self.routine else {
             return Ok(());
         };
-        routine.label(&self.area, label)
+        opened.label(&self.area, label)
     }
 
     /// Closes the open routine, if there is one: it becomes the last of the finished ones, filled up with zeros to the next
@@ -381,12 +383,13 @@ impl<B: Bounds> Code<B> {
     /// A refused call leaves the finished routines unchanged, and gives the open one up. It is refused, in this order,
     /// where a label is missing or placed twice, where a branch or jump is too far, where the return at its end or all
     /// references would pass the numbers of the program, or where the code with the zeros behind it would pass the limit of
-    /// bytes; and otherwise only for want of memory.
+    /// bytes. Want of memory may come in place of each of these.
     pub fn close(&mut self, kind: RoutineKind) -> Result<(), CloseFault>
         ensures ok { OnOk result (self.new ≡ with_closed kind self.old) }
         ensures err { OnErr result (self.new ≡ with_none_open self.old) }
         ensures fault { let wrong = fault_closed B.most kind self.old in
             MatchResult result (λ _. wrong ≡ None) (λ fault. (fault ≡ close_fault.Memory) ⊎ (wrong ≡ Some fault)) }
+        ensures is_open { IsErr result → IsSome self.old.opened }
     {
         let Some(routine) = self.routine.take() else {
             return Ok(());

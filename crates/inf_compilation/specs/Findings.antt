@@ -1,47 +1,30 @@
 -- Findings about a unit, and the messages by which they are told.
-use Rattle.std.specs.Prelude.{ℕ, ◌==◌, List, [], slice_get, Bool, if◌then◌else◌, Option, Some, None, option_map}
+use Rattle.std.specs.Prelude.{ℕ, List, [], slice_get, Bool, if◌then◌else◌, Option, Some, None, option_map}
 use Rattle.inf_scanner.specs.declared.tokens.Place.{Place}
 use Rattle.inf_expressions.specs.declared.findings.Finding.{Finding}
+use Rattle.inf_expressions.specs.declared.findings.UnitError.{UnitError}
+use Rattle.inf_expressions.specs.declared.findings.UnitError.TheVariants as unit_error
 use Rattle.inf_expressions.specs.Findings.{least_of_both}
 use Rattle.inf_names.specs.declared.symbols.DeclareFault.{DeclareFault}
 use Rattle.inf_names.specs.declared.symbols.DeclareFault.TheVariants as declaring
-use Rattle.inf_report.specs.Messages.{ConstantOutOfRange, Declared, End, LabelTwice, Message, MisplacedDefault, MisplacedSwitches}
-use Rattle.inf_report.specs.Messages.{NotConstant, NothingToLeave, NoZscii, NumberOutOfRange, SystemName, Told, TooMany}
-use Rattle.inf_report.specs.Messages.{TooManyArguments, UnknownEscape, UsedBefore, WrongAbbreviation, WrongKind, WrongOpcode, WrongVerb}
+use Rattle.inf_report.specs.Messages.{Declared, End, Message, SystemName, TooMany}
 use Rattle.inf_report.specs.declared.messages.FixedLimit.{FixedLimit}
 use Rattle.inf_report.specs.declared.messages.FixedLimit.TheVariants as countable
 use Rattle.inf_names.specs.Spellings.{Name}
 use Rattle.inf_names.specs.Locals.{Headed, Repeated}
-use Rattle.inf_unit.specs.Messages.{FileNames, Diagnostic, location}
+use Rattle.inf_unit.specs.Messages.{FileNames, Diagnostic, location, message_of}
 use Rattle.inf_unit.specs.Tokens.{SourceToken, told}
 use Rattle.inf_compilation.specs.Words.{nowhere}
 
 -- Expressions
 
--- Message of a finding at a token with these bytes, by its number in the table of errors.
-abbrev pub message_of : ℕ → Told → List ℕ → Message
-message_of number t bytes =
-    if number == 4 then NumberOutOfRange else
-    if number == 5 then UnknownEscape else
-    if number == 7 then NoZscii else
-    if number == 9 then WrongKind t else
-    if number == 11 then UsedBefore bytes else
-    if number == 12 then NotConstant else
-    if number == 13 then ConstantOutOfRange else
-    if number == 15 then WrongOpcode bytes else
-    if number == 16 then LabelTwice bytes else
-    if number == 17 then NothingToLeave else
-    if number == 20 then MisplacedSwitches else
-    if number == 21 then WrongAbbreviation else
-    if number == 22 then WrongVerb t else
-    if number == 24 then MisplacedDefault else TooManyArguments
-
-abbrev pub blame_at : ℕ → Option SourceToken → Diagnostic
-blame_at number None = record { place = nowhere; message = message_of number End [] }
-blame_at number (Some t) = record { place = t.place; message = message_of number (told t) t.bytes }
+-- Message of an error at a token, and its place.
+abbrev pub blame_at : UnitError → Option SourceToken → Diagnostic
+blame_at error None = record { place = nowhere; message = message_of error End [] }
+blame_at error (Some t) = record { place = t.place; message = message_of error (told t) t.bytes }
 
 abbrev pub blame_of : List SourceToken → Finding → Diagnostic
-blame_of tokens f = blame_at f.number (slice_get tokens f.order)
+blame_of tokens f = blame_at f.error (slice_get tokens f.order)
 
 -- A name that is declared already, with the place of its first declaration, which a name of the language does not have.
 pub record Again : Type 0 where
@@ -66,7 +49,7 @@ again_by n _ = None
 -- Finding at the order of a name that is declared already.
 abbrev pub again_finding : ℕ → Option Again → Option Finding
 again_finding order None = None
-again_finding order (Some a) = Some (record { order = order; number = 8 })
+again_finding order (Some a) = Some (record { order = order; error = unit_error.Declared })
 
 abbrev pub again_message : FileNames → List ℕ → Option Place → Message
 again_message files bytes None = SystemName bytes
@@ -79,7 +62,7 @@ again_told files a = record { place = a.name.place; message = again_message file
 
 -- Finding that there is one more than there may be, which is told of the first token.
 abbrev pub many_finding : Bool → Option Finding
-many_finding are_many = if are_many then Some (record { order = 0; number = 19 }) else None
+many_finding are_many = if are_many then Some (record { order = 0; error = unit_error.TooMany }) else None
 
 -- Findings about a unit in which nothing else may be wrong.
 abbrev pub found_alone : Option Finding → Findings
@@ -88,15 +71,15 @@ found_alone f = record { least = f; many = countable.Values; again = None }
 abbrev pub nothing_found : Findings
 nothing_found = found_alone None
 
--- Message of a finding about a unit that begins at a place and has these tokens.
-abbrev pub told_by : FileNames → List SourceToken → Place → Finding → Findings → Option Diagnostic
-told_by files tokens first f all =
-    if f.number == 8 then option_map (again_told files) all.again else
-    if f.number == 19 then Some (record { place = first; message = TooMany all.many }) else Some (blame_of tokens f)
+-- Message of a finding, by its error, about a unit that begins at a place and has these tokens.
+unfoldable pub told_by : UnitError → FileNames → List SourceToken → Place → Finding → Findings → Option Diagnostic
+told_by unit_error.Declared files tokens first f all = option_map (again_told files) all.again
+told_by unit_error.TooMany files tokens first f all = Some (record { place = first; message = TooMany all.many })
+told_by _ files tokens first f all = Some (blame_of tokens f)
 
 abbrev pub told_of : FileNames → List SourceToken → Place → Option Finding → Findings → Option Diagnostic
 told_of files tokens first None all = None
-told_of files tokens first (Some f) all = told_by files tokens first f all
+told_of files tokens first (Some f) all = told_by f.error files tokens first f all
 
 abbrev pub told_as : FileNames → List SourceToken → Place → Findings → Option Diagnostic
 told_as files tokens first all = told_of files tokens first all.least all

@@ -1,73 +1,24 @@
 //! The findings about a unit, and the messages by which they are told.
 ghost use Rattle.std.specs.Prelude.{option_map, ◌≡◌};
-ghost use Rattle.inf_report.specs.Meant.{meant, named};
+ghost use Rattle.inf_report.specs.Meant.{meant};
 ghost use Rattle.inf_names.specs.LocalList.{headed as as_headed, repeated as repeated_of};
 ghost use Rattle.inf_names.specs.Spellings.{as_name};
 ghost use Rattle.inf_unit.specs.Diagnostics.{blamed};
 ghost use Rattle.inf_compilation.specs.Findings.{again_by, again_finding, again_local, again_message, again_told, blame_of, found_alone};
-ghost use Rattle.inf_compilation.specs.Findings.{header_findings, many_finding, message_of, nothing_found, told_as};
+ghost use Rattle.inf_compilation.specs.Findings.{header_findings, many_finding, nothing_found, told_as};
 ghost use Rattle.inf_compilation.specs.Meant.{again_as, found_as};
 
-use inf_expressions::{Finding, NOT_CONSTANT, OUT_OF_RANGE, WRONG_KIND, least_of_both};
+use inf_expressions::{Finding, UnitError, least_of_both};
 use inf_lexer::{Place, Stack};
 use inf_names::locals::{Headed, Repeated};
 use inf_names::spellings::Name;
 use inf_names::symbols::DeclareFault;
 use inf_report::messages::{FixedLimit, Message, Told};
-use inf_statements::effects::{GIVEN_TWICE, MISPLACED_DEFAULT, NOTHING_TO_LEAVE, WRONG_OPCODE};
-use inf_unit::messages::{Diagnostic, location};
+use inf_unit::messages::{Diagnostic, location, message_of};
 use inf_unit::unit_tokens::UnitTokens;
-
-/// Numbers of the messages about the characters of a text: a code out of its range, an unknown escape, and a character that a story
-/// cannot print.
-pub const NUMBER_OUT_OF_RANGE: u8 = 4;
-
-pub const UNKNOWN_ESCAPE: u8 = 5;
-
-pub const NO_ZSCII: u8 = 7;
-
-/// Number of the message that a name was declared before, and of the one that it is used before its declaration.
-pub const DECLARED: u8 = 8;
-
-pub const USED_BEFORE: u8 = 11;
-
-/// Number of the message that there are too many of something.
-pub const TOO_MANY: u8 = 19;
-
-/// Number of the message that `Switches` comes too late, or has letters that are unknown.
-pub const MISPLACED_SWITCHES: u8 = 20;
-
-/// Number of the message that an abbreviation comes too late, is declared already or is too short.
-pub const WRONG_ABBREVIATION: u8 = 21;
-
-/// Number of the message that a word is, or is not, one of a verb.
-pub const WRONG_VERB: u8 = 22;
 
 /// Place before the first unit, where nothing was laid.
 pub(crate) const NOWHERE: Place = Place { file: 0, line: 0 };
-
-/// Returns the message of a finding at `token` with `bytes`, by its `number` in the table of errors.
-fn message_of<'t>(number: u8, token: Told<'t>, bytes: &'t [u8]) -> Message<'t>
-    ensures { meant result ≡ message_of number (named token.entry) bytes.now }
-{
-    match number {
-        NUMBER_OUT_OF_RANGE => Message::NumberOutOfRange,
-        UNKNOWN_ESCAPE => Message::UnknownEscape,
-        NO_ZSCII => Message::NoZscii,
-        WRONG_KIND => Message::WrongKind(token),
-        USED_BEFORE => Message::UsedBefore(bytes),
-        NOT_CONSTANT => Message::NotConstant,
-        OUT_OF_RANGE => Message::ConstantOutOfRange,
-        WRONG_OPCODE => Message::WrongOpcode(bytes),
-        MISPLACED_SWITCHES => Message::MisplacedSwitches,
-        WRONG_ABBREVIATION => Message::WrongAbbreviation,
-        WRONG_VERB => Message::WrongVerb(token),
-        GIVEN_TWICE => Message::LabelTwice(bytes),
-        NOTHING_TO_LEAVE => Message::NothingToLeave,
-        MISPLACED_DEFAULT => Message::MisplacedDefault,
-        _ => Message::TooManyArguments,
-    }
-}
 
 /// Returns the message and the place by which `finding` is told, of a unit with `tokens`.
 pub fn blame_of<'t>(tokens: &'t UnitTokens, finding: Finding) -> Diagnostic<'t>
@@ -76,11 +27,11 @@ pub fn blame_of<'t>(tokens: &'t UnitTokens, finding: Finding) -> Diagnostic<'t>
     match tokens.get(finding.order as usize) {
         Some(token) => Diagnostic {
             place: token.place,
-            message: message_of(finding.number, token.told(), token.bytes),
+            message: message_of(finding.error, token.told(), token.bytes),
         },
         None => Diagnostic {
             place: NOWHERE,
-            message: message_of(finding.number, Told::End, b""),
+            message: message_of(finding.error, Told::End, b""),
         },
     }
 }
@@ -93,7 +44,7 @@ pub struct Again {
     pub first: Option<Place>,
 }
 
-/// Findings about a unit. Of all that was found the least is told, by the order of its token and then by its number.
+/// Findings about a unit. Of all that was found the least is told, by the order of its token and then by the number of its error.
 #[derive(Debug, Drop)]
 pub struct Findings {
     pub least: Option<Finding>,
@@ -123,7 +74,7 @@ pub fn again_finding(order: u32, again: &Option<Again>) -> Option<Finding>
     match again {
         Some(_) => Some(Finding {
             order,
-            number: DECLARED,
+            error: UnitError::Declared,
         }),
         None => None,
     }
@@ -136,7 +87,7 @@ pub fn many_finding(are_many: bool) -> Option<Finding>
     if are_many {
         Some(Finding {
             order: 0,
-            number: TOO_MANY,
+            error: UnitError::TooMany,
         })
     } else {
         None
@@ -195,6 +146,7 @@ impl Findings {
     }
 
     /// Returns the message of the least finding, about a unit that begins at `first` and has `tokens`, if there is a finding.
+    #[tactic(auto, unfolding(crate::specs::Findings::told_by))]
     pub(crate) fn told<'t>(
         &'t self,
         files: &'t Stack,
@@ -204,9 +156,9 @@ impl Findings {
         ensures { option_map blamed result ≡ told_as files.now.names tokens.now first (found_as self.now) }
     {
         let finding = self.least?;
-        match finding.number {
-            DECLARED => again_told(files, &self.again),
-            TOO_MANY => Some(Diagnostic {
+        match finding.error {
+            UnitError::Declared => again_told(files, &self.again),
+            UnitError::TooMany => Some(Diagnostic {
                 place: first,
                 message: Message::TooMany(self.many),
             }),

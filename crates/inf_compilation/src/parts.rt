@@ -10,10 +10,10 @@ use crate::context::Context;
 use crate::findings::Findings;
 use inf_constructs::constructs::Kind;
 use inf_constructs::lay_case;
-use inf_expressions::{Finding, Forest, Operand, Wanted, build, judge, least_of_both};
+use inf_expressions::{Finding, Forest, Operand, UnitError, Wanted, build, judge, least_of_both};
 use inf_lexer::Place;
 use inf_settings::bounds::Bounds;
-use inf_statements::effects::{MISPLACED_DEFAULT, Site, wanted_by};
+use inf_statements::effects::{Site, wanted_by};
 use inf_statements::operands::{all_looked, name_locals, name_stores, settled};
 use inf_statements::statements::{Statement, lay_expression, lay_switched, lay_test};
 use inf_unit::items::Item;
@@ -218,7 +218,7 @@ impl<B: Bounds> Compilation<B> {
             Part::Statement(statement) => Ok(self.site(context).finding(statement, &self.labels)),
             Part::Case if self.constructs.is_late() => Ok(Some(Finding {
                 order: 0,
-                number: MISPLACED_DEFAULT,
+                error: UnitError::MisplacedDefault,
             })),
             _ => Ok(None),
         }

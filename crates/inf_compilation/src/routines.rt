@@ -1,6 +1,6 @@
 //! The beginnings and ends of routines.
 ghost use Rattle.inf_compilation.specs.Context.{handed};
-ghost use Rattle.std.specs.Prelude.{IfOk, None, OnOk, is_some, option_map, ◌≡◌};
+ghost use Rattle.std.specs.Prelude.{IfOk, None, OnErr, OnOk, is_some, option_map, ◌≡◌};
 ghost use Rattle.inf_names.specs.Symbols.{declare_fault};
 ghost use Rattle.inf_names.specs.LocalList.{headed as as_headed, listed};
 ghost use Rattle.inf_names.specs.Locals.{no_locals};
@@ -152,12 +152,15 @@ impl<B: Bounds> Compilation<B> {
     }
 
     /// Declares `name` as a routine that begins behind those that are finished. Returns the refusal of the name, if there is one.
+    /// Where memory runs out the compilation stays as it was.
     pub fn declare_routine(
         &mut self,
         name: &Name,
     ) -> Result<Option<DeclareFault<Place>>, AllocError>
         ensures value { OnOk result (work self.new ≡ routine_declared B.most (as_name name.now) (work self.old)) }
         ensures fault { IfOk result (λ refused. refused ≡ declare_fault B.most (as_name name.now).bytes (work self.old).output.names) }
+        ensures err { OnErr result (work self.new ≡ work self.old) }
+        ensures memory { OnErr result (declare_fault B.most (as_name name.now).bytes (work self.old).output.names ≡ None) }
     {
         let routine = Meaning::Routine(self.output.code.next_place());
         self.output.declare(name.bytes(), name.place, routine)

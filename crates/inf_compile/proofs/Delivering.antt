@@ -173,11 +173,12 @@ more_caused (fault.Read name) writing P Q cause = absurd cause
 more_caused fault.Messages writing P Q cause = cause
 more_caused (fault.Story n) writing P Q cause = absurd cause
 
-pub untouched_always : (fault : Fault) (story : Option (List ℕ)) → UnlessStory fault (story ≡ story)
-untouched_always fault.Memory story = refl
-untouched_always (fault.Read name) story = refl
-untouched_always fault.Messages story = refl
-untouched_always (fault.Story n) story = tt
+pub unfailed_always : (fault : Fault) (story : Option (List ℕ)) (failures : ℕ) → UnlessStory fault
+    ((story ≡ story) × (failures ≡ failures))
+unfailed_always fault.Memory story failures = (refl, refl)
+unfailed_always (fault.Read name) story failures = (refl, refl)
+unfailed_always fault.Messages story failures = (refl, refl)
+unfailed_always (fault.Story n) story failures = tt
 
 no_success : (r : Status) (P : Type 0) → r ≡ status.Errors → r ≡ status.Success → P
 no_success r P is success = let never : status.Errors ≡ status.Success = sym is ∙ success in cc

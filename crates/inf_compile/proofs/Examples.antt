@@ -39,6 +39,7 @@ use Rattle.inf_templates.specs.Meaning as meaning
 use Rattle.inf_templates.specs.Parts as parts
 use Rattle.inf_statements.specs.Effects as effects
 use Rattle.inf_statements.specs.Statements as statements
+use Rattle.inf_unit.specs.Messages as messages
 use Rattle.inf_unit.specs.Units as units
 use Rattle.inf_compilation.specs.Parts as work_parts
 
@@ -82,7 +83,7 @@ pub conditions_choose : ConditionsChoose
 unfolding digits more text_of piece_at escape_piece spelled spellings zscii_of zscii_of_unicode accented units.order units.next_place
     output.laid output.instruction output.behind meaning.call_of parts.calling statements.statement_in effects.statement_laid
     effects.statement_finding work_parts.part_effect language.grammar language.known atoms.keyword_of words.keywords system.system_names
-    veneer.all_names
+    veneer.all_names messages.message_of
 conditions_choose serial = record { final = _; is_read = record { turns = 80; leads = refl; ends = refl }; is_ending = refl }
 
 pub sixteen_are_open : SixteenAreOpen

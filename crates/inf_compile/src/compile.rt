@@ -5,7 +5,7 @@ ghost use Rattle.inf_command.specs.FileNames.{source_name};
 ghost use Rattle.inf_compile.specs.Comes.{Begins, Heard, IsUnread, OpenedBy, OpenedPart};
 ghost use Rattle.inf_session.specs.Delivered.{EndsClean, TakesFront};
 ghost use Rattle.inf_session.specs.Ending.{missing};
-ghost use Rattle.inf_session.specs.Faults.{IfRead, IfStory, UnlessStory};
+ghost use Rattle.inf_session.specs.Faults.{HidesNoFailure, IfRead, IfStory, UnlessStory};
 ghost use Rattle.inf_compile.specs.Compiling.{Compiles, DeliversPart, HasCause, OnlyStory, TakesPart, TakesStory, chosen_by, named_by};
 ghost use Rattle.inf_compile.specs.Compiling.{story_in};
 
@@ -71,7 +71,8 @@ fn compile_named<F: Files, M: Sink, S: Sink>(
         DeliversPart (F.sources files.old) (chosen_by (F.sources files.old) options.now) date (source_name options.now.source) n
         (M.taken messages.old) (M.taken messages.new) (S.taken story.old) (S.taken story.new))) }
     ensures untouched { IfErr result (λ fault.
-        UnlessStory fault (S.taken story.new ≡ S.taken story.old)) }
+        UnlessStory fault ((S.taken story.new ≡ S.taken story.old) × (S.failures story.new ≡ S.failures story.old))) }
+    ensures quiet { HidesNoFailure result (M.failures messages.old) (M.failures messages.new) }
 {
     let name = source_name(alloc, options)?;
     let compiled = translate(
@@ -92,6 +93,7 @@ fn refuse<M: Sink>(alloc: Global, messages: &mut M) -> Result<Status, Fault>
         (missing (codes ".inf")).messages) }
     ensures err { OnErr result (TakesFront (missing (codes ".inf")).messages (M.taken messages.old) (M.taken messages.new)) }
     ensures fault { IfErr result (λ fault. HasCause fault (λ name. ⊥) (Rose (M.failures messages.old) (M.failures messages.new)) (λ n. ⊥)) }
+    ensures quiet { HidesNoFailure result (M.failures messages.old) (M.failures messages.new) }
 {
     let ending = no_file(alloc, b".inf")?;
     let compiled = written(ending, messages)?;
@@ -112,7 +114,7 @@ fn refuse<M: Sink>(alloc: Global, messages: &mut M) -> Result<Status, Fault>
 /// Included files are looked for in the directories of the options. `Status` tells whether an error is among the
 /// messages.
 ///
-/// Of the faults, `Memory` comes where a growth was refused; `Read` where a file could not be opened or read, is longer
+/// Of the faults, `Memory` is want of memory; `Read` comes where a file could not be opened or read, is longer
 /// than 16,777,216 bytes, or is one of more than 65,535 names, and names it: as it was opened, or where it was not, as
 /// the inclusion has it; `Messages` and `Story` where a write of that sink failed or took nothing, `Story` with the
 /// number of the story's bytes that were written. Only then has the story's sink taken anything beside a whole story.
@@ -166,12 +168,13 @@ pub fn compile<F: Files, M: Sink, S: Sink>(
         (Rose (M.failures messages.old) (M.failures messages.new)) (λ n. Rose (S.failures story.old) (S.failures story.new))) }
 
     // Before a fault of the story's sink, the messages of the outcome were written, and a front of its story; before
-    // another fault that sink took nothing.
+    // another fault that sink took nothing and did not fail. Nor did that of the messages where another fault, or none, is told.
     ensures part { IsTrue (F.is_honest files.old) → IfErr result (λ fault. IfStory fault (λ n.
         DeliversPart (named_by options.now.source (F.sources files.old)) (chosen_by (F.sources files.old) options.now) date
         (source_name options.now.source) n (M.taken messages.old) (M.taken messages.new) (S.taken story.old) (S.taken story.new))) }
     ensures untouched { IfErr result (λ fault.
-        UnlessStory fault (S.taken story.new ≡ S.taken story.old)) }
+        UnlessStory fault ((S.taken story.new ≡ S.taken story.old) × (S.failures story.new ≡ S.failures story.old))) }
+    ensures quiet { HidesNoFailure result (M.failures messages.old) (M.failures messages.new) }
 {
     if options.names_nothing() {
         return refuse(alloc, messages);

@@ -8,7 +8,7 @@ ghost use Rattle.inf_session.specs.Delivered.{Appends, EndsClean};
 ghost use Rattle.inf_session.specs.Standing.{IsSet, state};
 ghost use Rattle.inf_session.specs.Leading.{GivenUp, OpensAll};
 ghost use Rattle.inf_session.specs.Session.{first_state, run};
-ghost use Rattle.inf_session.specs.Faults.{Caused, IfRead};
+ghost use Rattle.inf_session.specs.Faults.{Caused, HidesNoFailure, IfRead};
 ghost use Rattle.inf_settings.specs.Bounds.{limits_of};
 ghost use Rattle.inf_compile.specs.Chosen.{begun_at, chosen_at, chosen_for};
 ghost use Rattle.inf_compile.specs.Comes.{Begins, BreaksOffAll, Comes, Concludes, EndsAll, GivenUpFrom, Heard, IsUnread, OpenedPart, Stops};
@@ -35,7 +35,7 @@ use std::marker::Brand;
 /// is found. The words of `options` choose, and where they say nothing, the head of the main source does. The serial
 /// number has six digits.
 ///
-/// Returns an error: `Memory` where a growth was refused; `Read` where a file could not be opened or read, has more
+/// Returns an error: `Memory` is want of memory; `Read` comes where a file could not be opened or read, has more
 /// than 16,777,216 bytes, or is one of more than 65,535 names; `Messages` where a write failed or took nothing.
 pub fn translate<F: Files, M: Sink>(
     alloc: Global,
@@ -71,6 +71,7 @@ pub fn translate<F: Files, M: Sink>(
     ensures clean { IfOk result (λ compiled. compiled.status ≡ Status.Success → EndsClean (M.taken messages.old) (M.taken messages.new)) }
     ensures fault { IfErr result (λ fault. Caused fault (λ name. IsUnread F.Files files.old files.new)
         (Rose (M.failures messages.old) (M.failures messages.new))) }
+    ensures quiet { HidesNoFailure result (M.failures messages.old) (M.failures messages.new) }
 {
     let limit = options.settings().of(Setting::QuotedText);
     let open_files = match OpenFiles::enter_main(alloc, options.set(), limit, files, name) {
@@ -126,6 +127,7 @@ fn translate_opened<F: Files, M: Sink>(
     ensures clean { IfOk result.1 (λ compiled. compiled.status ≡ Status.Success → EndsClean (M.taken messages.old) (M.taken messages.new)) }
     ensures fault { IfErr result.1 (λ fault. Caused fault (λ name. IsUnreadable F.Files files.old files.new open_files result.0)
         (Rose (M.failures messages.old) (M.failures messages.new))) }
+    ensures quiet { HidesNoFailure result.1 (M.failures messages.old) (M.failures messages.new) }
     ensures is_open { length result.0.outer < F.depth files.new }
 {
     let head = match read_head(&mut open_files, files) {
@@ -187,6 +189,7 @@ fn translate_under<F: Files, M: Sink, B: Bounds>(
     ensures clean { IfOk result.1 (λ compiled. compiled.status ≡ Status.Success → EndsClean (M.taken messages.old) (M.taken messages.new)) }
     ensures fault { IfErr result.1 (λ fault. Caused fault (λ name. IsUnreadable F.Files files.old files.new open_files result.0)
         (Rose (M.failures messages.old) (M.failures messages.new))) }
+    ensures quiet { HidesNoFailure result.1 (M.failures messages.old) (M.failures messages.new) }
     ensures is_open { length result.0.outer < F.depth files.new }
 {
     match Session::<B>::new(alloc, setup, open_files) {
@@ -228,6 +231,7 @@ fn read_out<F: Files, M: Sink, B: Bounds>(
     ensures fault { IfErr result.1 (λ fault. Caused fault (λ name. IsUnreadable F.Files files.old files.new session.entry.open_files
         result.0)
         (Rose (M.failures messages.old) (M.failures messages.new))) }
+    ensures quiet { HidesNoFailure result.1 (M.failures messages.old) (M.failures messages.new) }
     ensures is_open { length result.0.outer < F.depth files.new }
 {
     match session.read(files, messages) {
@@ -246,7 +250,8 @@ fn supply_all<M: Sink, B: Bounds>(
     ensures cut { OnErr result (SuppliesPart B.most (chosen session.old.setup) session.old (M.taken messages.old) (M.taken messages.new)) }
     ensures files { session.new.open_files ≡ session.old.open_files }
     ensures fault { IfErr result (λ fault. Caused fault (λ name. ⊥) (Rose (M.failures messages.old) (M.failures messages.new))) }
-    ensures wrote { Appends M.Sink messages.old messages.new }
+    ensures wrote { Appends M.Sink messages.old messages.new
+        × HidesNoFailure result (M.failures messages.old) (M.failures messages.new) }
 {
     session.supply(messages)
 }
@@ -266,6 +271,7 @@ fn supply_out<M: Sink, B: Bounds>(
     ensures errors { IfOk result.1 (λ compiled. compiled.status ≡ Status.Errors → compiled.story ≡ None) }
     ensures clean { IfOk result.1 (λ compiled. compiled.status ≡ Status.Success → EndsClean (M.taken messages.old) (M.taken messages.new)) }
     ensures fault { IfErr result.1 (λ fault. Caused fault (λ name. ⊥) (Rose (M.failures messages.old) (M.failures messages.new))) }
+    ensures quiet { HidesNoFailure result.1 (M.failures messages.old) (M.failures messages.new) }
 {
     match supply_all(&mut session, messages) {
         Ok(()) => session.finish(serial, messages),

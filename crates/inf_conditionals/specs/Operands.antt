@@ -4,8 +4,6 @@ use Rattle.inf_settings.specs.Bounds.{Limits}
 use Rattle.inf_area.specs.declared.targets.Target.TheVariants as target
 use Rattle.inf_area.specs.declared.scale.Scale.{Scale}
 use Rattle.inf_scanner.specs.declared.tokens.Place.{Place}
-use Rattle.inf_expressions.specs.declared.operators.Function.{Function}
-use Rattle.inf_expressions.specs.declared.operators.Function.TheVariants as function
 use Rattle.inf_expressions.specs.declared.operators.Operand.{Operand}
 use Rattle.inf_expressions.specs.declared.operators.Operand.TheVariants as operand
 use Rattle.inf_gathering.specs.declared.gathering.Leaf.{Leaf}
@@ -13,13 +11,7 @@ use Rattle.inf_gathering.specs.declared.gathering.Leaf.TheVariants as leaf
 use Rattle.inf_names.specs.Symbols.{Table, declared_before, found_in, no_names}
 use Rattle.inf_output.specs.Actions.{action_of}
 use Rattle.inf_output.specs.Output.{Code, Out}
-use Rattle.inf_statements.specs.Operands.{looked_action, system_operand}
-use Rattle.inf_names.specs.declared.meanings.Function.{Function as NamedFunction}
-use Rattle.inf_names.specs.declared.meanings.Function.TheVariants as named
-use Rattle.inf_names.specs.declared.meanings.Meaning.{Meaning}
-use Rattle.inf_names.specs.declared.meanings.Meaning.TheVariants as meaning
-use Rattle.inf_names.specs.declared.symbols.Found.{Found}
-use Rattle.inf_names.specs.declared.symbols.Found.TheVariants as found
+use Rattle.inf_statements.specs.Operands.{found_operand, looked_action, system_operand}
 use Rattle.inf_names.specs.Spellings.{Name}
 use Rattle.inf_unit.specs.Tokens.{SourceToken}
 use Rattle.inf_unit.specs.Units.{bytes_at, name_at}
@@ -28,40 +20,9 @@ use Rattle.inf_unit.specs.Units.{bytes_at, name_at}
 abbrev pub later : Operand
 later = operand.Later (target.Name 0)
 
-abbrev pub function_of : NamedFunction → Function
-function_of named.Child = function.Child
-function_of named.Parent = function.Parent
-function_of named.Sibling = function.Sibling
-function_of named.Children = function.Children
-function_of named.Random = function.Random
-function_of named.Indirect = function.Indirect
-
-abbrev pub operand_of : Meaning → Operand
-operand_of (meaning.Number number) = operand.Known number
-operand_of (meaning.Variable number) = operand.Variable number
-operand_of (meaning.Attribute number) = operand.Known number
-operand_of (meaning.Property number is_additive) = operand.Known number
-operand_of (meaning.IndividualProperty number) = operand.Known number
-operand_of (meaning.Object number) = operand.Known number
-operand_of (meaning.Class number) = operand.Known number
-operand_of (meaning.FakeAction number) = operand.Known number
-operand_of (meaning.Function f) = operand.Function (function_of f)
-operand_of (meaning.Text place) = later
-operand_of (meaning.Word place) = later
-operand_of (meaning.LowString place) = later
-operand_of (meaning.Array place) = later
-operand_of (meaning.Routine place) = later
-operand_of (meaning.PackedAddress place) = later
-
-abbrev pub found_operand : Found Place → Operand
-found_operand (found.System m) = operand_of m
-found_operand (found.Declared m place) = operand_of m
-found_operand found.Used = later
-found_operand found.Unknown = later
-
 -- the operand of a name, where `declared` names were declared by the directives before
 abbrev pub name_operand : ℕ → Table Place → List ℕ → Operand
-name_operand declared names bytes = if declared_before bytes declared names then found_operand (found_in bytes names) else later
+name_operand declared names bytes = if declared_before bytes declared names then found_operand (found_in bytes names) None else later
 
 -- the bytes of a name among the tokens of the condition, or none
 abbrev pub bytes_of : Option Name → List ℕ

@@ -1,5 +1,5 @@
 -- The messages about a condition.
-use Rattle.std.specs.Prelude.{ℕ, ◌==◌, List, nat_lt, slice_get, ◌&&◌, if◌then◌else◌, Option, Some, None}
+use Rattle.std.specs.Prelude.{ℕ, List, [], nat_lt, slice_get, ◌&&◌, if◌then◌else◌, Option, Some, None}
 use Rattle.inf_settings.specs.Bounds.{Limits}
 use Rattle.inf_gathering.specs.declared.gathering.Leaf.{Leaf}
 use Rattle.inf_output.specs.Output.{Code}
@@ -7,9 +7,9 @@ use Rattle.inf_scanner.specs.declared.tokens.Mark.TheVariants as mark
 use Rattle.inf_scanner.specs.declared.tokens.Place.{Place}
 use Rattle.inf_settings.specs.declared.setting.Setting.TheVariants.{ExpressionNodes}
 use Rattle.inf_expressions.specs.declared.findings.Finding.{Finding}
-use Rattle.inf_report.specs.Messages.{ConstantOutOfRange, DeepNesting, End, Exceeded, Message, NotConstant, Told, TooManyArguments}
-use Rattle.inf_report.specs.Messages.{WrongKind}
-use Rattle.inf_unit.specs.Messages.{Diagnostic, FileNames, Reported, location, with_error, with_fatal}
+use Rattle.inf_expressions.specs.declared.findings.UnitError.{UnitError}
+use Rattle.inf_report.specs.Messages.{DeepNesting, End, Exceeded}
+use Rattle.inf_unit.specs.Messages.{Diagnostic, FileNames, Reported, location, message_of, with_error, with_fatal}
 use Rattle.inf_unit.specs.Tokens.{SourceToken, is_mark, told}
 use Rattle.inf_unit.specs.Units.{long_at}
 use Rattle.inf_conditionals.specs.Condition.{Condition}
@@ -37,17 +37,13 @@ with_right limits _ o = o
 
 -- Errors
 
--- the message of a finding at a token, by its number in the table of errors
-abbrev pub message_of : ℕ → Told → Message
-message_of number t =
-    if number == 9 then WrongKind t else if number == 12 then NotConstant else if number == 13 then ConstantOutOfRange else TooManyArguments
-
-abbrev pub blame_at : Place → ℕ → Option SourceToken → Diagnostic
-blame_at directive number None = record { place = directive; message = message_of number End }
-blame_at directive number (Some t) = record { place = t.place; message = message_of number (told t) }
+-- the message of an error at a token, and its place
+abbrev pub blame_at : Place → UnitError → Option SourceToken → Diagnostic
+blame_at directive error None = record { place = directive; message = message_of error End [] }
+blame_at directive error (Some t) = record { place = t.place; message = message_of error (told t) t.bytes }
 
 abbrev pub blame_of : Place → Condition → Finding → Diagnostic
-blame_of directive k f = blame_at directive f.number (slice_get k.unit.tokens f.order)
+blame_of directive k f = blame_at directive f.error (slice_get k.unit.tokens f.order)
 
 abbrev pub wrong : Place → Condition → Finding → Said
 wrong directive k f = Wrong directive (blame_of directive k f)

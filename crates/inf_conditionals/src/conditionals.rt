@@ -1,5 +1,5 @@
 //! The conditionals of the file that is read.
-ghost use Rattle.std.specs.Prelude.{◌≡◌, ◌≤◌, [], length, IfOk, OnOk, IsSome, is_none, reverse, true};
+ghost use Rattle.std.specs.Prelude.{◌≡◌, ◌≤◌, [], length, IfOk, OnOk, IsErr, IsSome, is_none, reverse, true};
 ghost use Rattle.inf_conditionals.specs.Judging.{sign_handed};
 ghost use Rattle.inf_conditionals.specs.Words.{word_of};
 ghost use Rattle.inf_unit.specs.Tokens.{keyword};
@@ -150,6 +150,7 @@ impl Conditionals {
         ensures told { OnOk result (report.new ≡ with_said files.now.names self.old.said report.old) }
         ensures right { OnOk result (out.new ≡ with_right B.most self.old.said out.old) }
         ensures silent { OnOk result (self.new ≡ silent self.old) }
+        ensures memory { IsErr result → IsSome self.old.said }
     {
         if let Some(said) = &self.said {
             said.tell(files, report)?;

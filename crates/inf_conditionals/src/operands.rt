@@ -1,69 +1,22 @@
 //! The operands of the names of a condition.
 ghost use Rattle.std.specs.Prelude.{◌≡◌, ◌≤◌, IfOk, IfSome, OnOk, length, option_map};
 ghost use Rattle.inf_unit.specs.NameTokens.{named};
-ghost use Rattle.inf_conditionals.specs.Operands.{action_added, actions_added, appeared_by, bytes_of, found_operand, function_of};
-ghost use Rattle.inf_conditionals.specs.Operands.{leaf_operand, name_operand, operand_behind, operand_of, operands_of};
+ghost use Rattle.inf_conditionals.specs.Operands.{action_added, actions_added, appeared_by, bytes_of, leaf_operand, name_operand};
+ghost use Rattle.inf_conditionals.specs.Operands.{operand_behind, operands_of};
 
 use inf_area::{Scale, Target};
-use inf_expressions::{Function, Operand};
+use inf_expressions::Operand;
 use inf_gathering::gathering::Leaf;
-use inf_names::meanings::{Function as NamedFunction, Meaning};
-use inf_names::symbols::{Found, Symbols};
+use inf_names::symbols::Symbols;
 use inf_output::Output;
 use inf_scanner::Place;
 use inf_settings::bounds::{Bounds, Unbounded};
-use inf_statements::operands::{looked_action, system_operand};
+use inf_statements::operands::{found_operand, looked_action, system_operand};
 use inf_unit::unit_tokens::{NameToken, UnitTokens};
 use std::alloc::{AllocError, Global};
 
 /// A name that is known later. No code asks for its number.
 const LATER: Operand = Operand::Later(Target::Name(0));
-
-fn function_of(function: NamedFunction) -> Function
-    ensures { result ≡ function_of function }
-{
-    match function {
-        NamedFunction::Child => Function::Child,
-        NamedFunction::Parent => Function::Parent,
-        NamedFunction::Sibling => Function::Sibling,
-        NamedFunction::Children => Function::Children,
-        NamedFunction::Random => Function::Random,
-        NamedFunction::Indirect => Function::Indirect,
-    }
-}
-
-/// Returns the operand in a condition of a name of this `meaning`.
-fn operand_of(meaning: Meaning) -> Operand
-    ensures { result ≡ operand_of meaning }
-{
-    match meaning {
-        Meaning::Variable(number) => Operand::Variable(number),
-        Meaning::Attribute(number) | Meaning::Property { number, .. } => {
-            Operand::Known(number as u16)
-        }
-        Meaning::Number(number)
-        | Meaning::IndividualProperty(number)
-        | Meaning::Object(number)
-        | Meaning::Class(number)
-        | Meaning::FakeAction(number) => Operand::Known(number),
-        Meaning::Function(function) => Operand::Function(function_of(function)),
-        Meaning::Text(_)
-        | Meaning::Word(_)
-        | Meaning::LowString(_)
-        | Meaning::Array(_)
-        | Meaning::Routine(_)
-        | Meaning::PackedAddress(_) => LATER,
-    }
-}
-
-fn found_operand(found: Found<Place>) -> Operand
-    ensures { result ≡ found_operand found }
-{
-    match found {
-        Found::System(meaning) | Found::Declared(meaning, _) => operand_of(meaning),
-        Found::Used | Found::Unknown => LATER,
-    }
-}
 
 /// Returns the operand in a condition of `name`, where `declared` names were declared by the directives before.
 fn name_operand<B: Bounds>(declared: usize, names: &Symbols<Place, B>, name: &[u8]) -> Operand
@@ -71,7 +24,7 @@ fn name_operand<B: Bounds>(declared: usize, names: &Symbols<Place, B>, name: &[u
     ensures { result ≡ name_operand declared names.now name.now }
 {
     if names.declared_before(name, declared) {
-        found_operand(names.look(name))
+        found_operand(names.look(name), None)
     } else {
         LATER
     }

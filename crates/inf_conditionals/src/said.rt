@@ -1,14 +1,13 @@
 //! The messages about a condition.
 ghost use Rattle.std.specs.Prelude.{◌≡◌, OnOk, None, Some, if◌then◌else◌, option_map};
-ghost use Rattle.inf_report.specs.Meant.{meant, named};
 ghost use Rattle.inf_unit.specs.Diagnostics.{blamed};
 ghost use Rattle.inf_unit.specs.Spelled.{spelled};
 ghost use Rattle.inf_conditionals.specs.Meant.{condition as condition_of, said_of};
-ghost use Rattle.inf_conditionals.specs.Said.{blame_of, message_of, too_deep, too_much, with_right, with_said};
+ghost use Rattle.inf_conditionals.specs.Said.{blame_of, too_deep, too_much, with_right, with_said};
 
 use crate::condition::Condition;
 use crate::operands::add_actions;
-use inf_expressions::{Finding, NOT_CONSTANT, OUT_OF_RANGE, WRONG_KIND};
+use inf_expressions::Finding;
 use inf_lexer::Stack;
 use inf_output::Output;
 use inf_report::messages::{Message, Told};
@@ -16,7 +15,7 @@ use inf_scanner::{Mark, Place};
 use inf_settings::bounds::Bounds;
 use inf_settings::setting::Setting;
 use inf_unit::kinds::is_mark;
-use inf_unit::messages::{Diagnostic, Diagnostics, location};
+use inf_unit::messages::{Diagnostic, Diagnostics, location, message_of};
 use inf_unit::tokens::SourceToken;
 use std::alloc::AllocError;
 
@@ -107,23 +106,11 @@ fn blame_of<'t>(directive: Place, condition: &'t Condition, finding: Finding) ->
     match condition.unit.tokens.get(finding.order as usize) {
         Some(token) => Diagnostic {
             place: token.place,
-            message: message_of(finding.number, token.told()),
+            message: message_of(finding.error, token.told(), token.bytes),
         },
         None => Diagnostic {
             place: directive,
-            message: message_of(finding.number, Told::End),
+            message: message_of(finding.error, Told::End, b""),
         },
-    }
-}
-
-/// Returns the message of a finding at a token, by its number in the table of errors.
-fn message_of<'t>(number: u8, token: Told<'t>) -> Message<'t>
-    ensures { meant result ≡ message_of number (named token.entry) }
-{
-    match number {
-        WRONG_KIND => Message::WrongKind(token),
-        NOT_CONSTANT => Message::NotConstant,
-        OUT_OF_RANGE => Message::ConstantOutOfRange,
-        _ => Message::TooManyArguments,
     }
 }

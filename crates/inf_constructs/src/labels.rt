@@ -1,5 +1,5 @@
 //! The labels of a routine that have names.
-ghost use Rattle.std.specs.Prelude.{◌≡◌, ◌≤◌, [], IfOk, OnOk, length, option_map};
+ghost use Rattle.std.specs.Prelude.{◌≡◌, ◌≤◌, [], None, IfOk, OnErr, OnOk, length, option_map};
 ghost use Rattle.inf_names.specs.Symbols.{folded};
 
 use arrayvec::ArrayVec;
@@ -101,11 +101,13 @@ impl Labels {
     }
 
     /// Uses the label of `name`, in any case, as the goal of a jump or a branch. Returns this label, which is `new` where
-    /// the name has none.
+    /// the name has none. Where memory runs out the labels stay as they were.
     pub fn want(&mut self, name: &[u8], new: Label) -> Result<Label, AllocError>
         requires { length name.now ≤ 32 }
         ensures label { IfOk result (λ label. label ≡ label_of name.now new self.old) }
         ensures wanted { OnOk result (self.new ≡ wanted name.now new self.old) }
+        ensures err { OnErr result (self.new ≡ self.old) }
+        ensures memory { OnErr result (known_of (folded name.now) self.old ≡ None) }
     {
         if let Some(entry) = self.entry(name) {
             return Ok(entry.label);
@@ -114,11 +116,14 @@ impl Labels {
         Ok(new)
     }
 
-    /// Gives the label of `name`, in any case, its place. Returns this label, which is `new` where the name has none.
+    /// Gives the label of `name`, in any case, its place. Returns this label, which is `new` where the name has none. Where memory runs
+    /// out the labels stay as they were.
     pub fn give(&mut self, name: &[u8], new: Label) -> Result<Label, AllocError>
         requires { length name.now ≤ 32 }
         ensures label { IfOk result (λ label. label ≡ label_of name.now new self.old) }
         ensures given { OnOk result (self.new ≡ given name.now new self.old) }
+        ensures err { OnErr result (self.new ≡ self.old) }
+        ensures memory { OnErr result (known_of (folded name.now) self.old ≡ None) }
     {
         let (spelling, label) = match self.entry(name) {
             Some(entry) => (spelled(entry.spelling.as_slice()), entry.label),
@@ -128,7 +133,8 @@ impl Labels {
         Ok(label)
     }
 
-    /// Puts the label of a name, with its spelling, in the place of its entry or behind the others.
+    /// Puts the label of a name, with its spelling, in the place of its entry or behind the others. Only one that has no entry takes
+    /// memory; where that runs out the labels stay as they were.
     fn add(
         &mut self,
         name: &[u8],
@@ -137,8 +143,10 @@ impl Labels {
         is_given: bool,
     ) -> Result<(), AllocError>
         requires { length name.now ≤ 32 }
-        ensures { OnOk result (self.new ≡ put (folded name.now) (record { spelling = spelling.items; label = label; is_given = is_given })
-            self.old) }
+        ensures ok { OnOk result (self.new
+            ≡ put (folded name.now) (record { spelling = spelling.items; label = label; is_given = is_given }) self.old) }
+        ensures err { OnErr result (self.new ≡ self.old) }
+        ensures memory { OnErr result (known_of (folded name.now) self.old ≡ None) }
     {
         self.entries.insert(
             folded(name),

@@ -1,7 +1,10 @@
+mod Cases
 pub mod Laying
+mod Loops
 mod Opening
 mod Pieces
 pub mod Plain
+pub mod Premises
 mod Settling
 mod Reaching
 pub mod Statements

@@ -137,7 +137,7 @@ leaf_returned w limits x operand.Unknown m =
     so (λ at from to g stack temp s r t e. none_some e) (fixed_runs w limits x).1
 
 -- any other tree has no operand of its own, and is returned from the stack
-one_operand : (limits : Limits) (op : Unary) (m : Meaning) → (code.one limits op m).operand ≡ None
+pub one_operand : (limits : Limits) (op : Unary) (m : Meaning) → (code.one limits op m).operand ≡ None
 one_operand limits unary.Negate m = refl
 one_operand limits unary.Not m = refl
 one_operand limits (unary.Single how) m = refl
@@ -148,7 +148,7 @@ one_operand limits unary.Children m = refl
 one_operand limits unary.Call m = refl
 one_operand limits unary.Indirect m = refl
 
-two_operand : (limits : Limits) (op : Binary) (m n : Meaning) → (code.two limits op m n).operand ≡ None
+pub two_operand : (limits : Limits) (op : Binary) (m n : Meaning) → (code.two limits op m n).operand ≡ None
 two_operand limits (binary.Operation o) m n = refl
 two_operand limits (binary.Property p) m n = refl
 two_operand limits (binary.Test t) m n = refl

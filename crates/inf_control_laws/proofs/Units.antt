@@ -1,9 +1,12 @@
 -- Units of a routine.
-use Rattle.std.proofs.Common.{◌≡◌, false, List, [], ◌∷◌, ◌++◌, Option, Some, None, refl, ◌∙◌, ap, sym, subst}
-use Rattle.std.specs.Prelude.{if◌then◌else◌}
+use Rattle.std.proofs.Common.{◌≡◌, Bool, true, false, List, [], ◌∷◌, ◌++◌, Option, Some, None, refl, ◌∙◌, ap, sym, subst}
+use Rattle.std.specs.Prelude.{map, if◌then◌else◌}
 use Rattle.inf_settings.specs.Bounds.{Limits}
 use Rattle.inf_scanner.specs.declared.tokens.Place.{Place}
 use Rattle.inf_expressions.specs.declared.findings.Finding.{Finding}
+use Rattle.inf_expressions.specs.declared.units.Wanted.TheVariants as wanted
+use Rattle.inf_expressions.specs.Questions.{children_of}
+use Rattle.inf_expressions.specs.Rooted.{Rooted}
 use Rattle.inf_expressions.specs.Trees.{Tree}
 use Rattle.inf_unit.specs.Roles.{role_of}
 use Rattle.inf_unit.specs.declared.roles.Ending.TheVariants as ending
@@ -12,13 +15,17 @@ use Rattle.inf_unit.specs.declared.roles.Role.TheVariants as role
 use Rattle.inf_opcode.specs.declared.instructions.Label.{Label}
 use Rattle.inf_output.specs.Output.{Out, apart, items_of, together}
 use Rattle.inf_templates.specs.Meaning.{meaning}
-use Rattle.inf_constructs.specs.Cases.{SWITCHED}
-use Rattle.inf_constructs.specs.Constructs.{condition_label, otherwise, with_step}
+use Rattle.inf_constructs.specs.Cases.{SWITCHED, case_code}
+use Rattle.inf_constructs.specs.Constructs.{are_cases, are_own, cases_begun, changed, condition_label, entered, looped_over, next_case}
+use Rattle.inf_constructs.specs.Constructs.{otherwise, with_step}
+use Rattle.inf_constructs.specs.Roots.{tree_in}
+use Rattle.inf_constructs.specs.declared.constructs.Case.{Case}
 use Rattle.inf_constructs.specs.declared.constructs.Construct.{Construct}
+use Rattle.inf_constructs.specs.declared.constructs.Kind.TheVariants as kind
 use Rattle.inf_compilation.specs.Context.{Context}
-use Rattle.inf_compilation.specs.Actions.{Compilation, named, passed, settled_of}
-use Rattle.inf_compilation.specs.Parts.{found_in, has_last, part_carried, part_finished, part_prepared, place_of, site_of, statement_at}
-use Rattle.inf_compilation.specs.Parts.{part_effect}
+use Rattle.inf_compilation.specs.Actions.{Compilation, named, passed, settled_of, trees_at}
+use Rattle.inf_compilation.specs.Parts.{actions_named, constructs_laid, found_in, has_last, is_default, part_begun, part_carried}
+use Rattle.inf_compilation.specs.Parts.{part_effect, part_finished, part_prepared, place_of, site_of, statement_at}
 use Rattle.inf_compilation.specs.declared.parts.Part.{Part}
 use Rattle.inf_compilation.specs.declared.parts.Part.TheVariants as part
 use Rattle.inf_statements.specs.Effects.{Site, statement_code, statement_laid}
@@ -34,10 +41,15 @@ use Rattle.inf_meaning_laws.specs.Covered.{Covered}
 use Rattle.inf_meaning_laws.specs.Laws.{Branches, GivesNothing, GivesValue}
 use Rattle.inf_meaning_laws.specs.Values.{sense, truth_of}
 use Rattle.inf_meaning_laws.proofs.Expressions.{branches_are_taken, effects_are_done, values_are_computed}
+use Rattle.inf_control_laws.specs.Carrying.{CaseBegins}
+use Rattle.inf_control_laws.specs.Cases.{AreValues, case_truth}
+use Rattle.inf_control_laws.specs.Loops.{LoopBegins, loop_variable}
 use Rattle.inf_control_laws.specs.Plain.{IsCovered, IsPlain, plain_run}
 use Rattle.inf_control_laws.specs.Runs.{KeepsApart, Lays, LaysNone, Runs, exits}
-use Rattle.inf_control_laws.specs.Units.{AllUnitsRun, IsSound, kept_value, step_of, trees_of}
+use Rattle.inf_control_laws.specs.Units.{AllUnitsRun, IsSound, kept_value, ready_for, rooted_of, step_of, trees_of}
+use Rattle.inf_control_laws.proofs.Cases.{case_begins}
 use Rattle.inf_control_laws.proofs.Laying.{lays_code, lays_so, none_alike, none_both, none_then}
+use Rattle.inf_control_laws.proofs.Loops.{looped_laid}
 use Rattle.inf_control_laws.proofs.Plain.{plain_statements_run}
 use Rattle.inf_control_laws.proofs.Settling.{settled_none}
 
@@ -45,18 +57,16 @@ use Rattle.inf_control_laws.proofs.Settling.{settled_none}
 abbrev begun_in : Limits → Context → Place → Compilation → Out
 begun_in limits context first v = record (settled_of limits context (named (part_prepared v))).out { first = first }
 
-none_begun : (limits : Limits) (context : Context) (first : Place) (v : Compilation) → LaysNone v.output (begun_in limits context first v)
-none_begun limits context first v =
-    let u = named (part_prepared v) in
+none_settled : (limits : Limits) (context : Context) (first : Place) (u : Compilation) →
+    LaysNone u.output (record (settled_of limits context u).out { first = first })
+none_settled limits context first u =
     let s = (settled_of limits context u).out in
-    none_both v.output s (begun_in limits context first v)
-    (settled_none limits context.set u.locals u.unit.tokens u.unit.gathering.leaves (record { out = v.output; operands = [] }))
-    (none_alike s (begun_in limits context first v) refl refl refl refl)
+    none_both u.output s (record s { first = first })
+    (settled_none limits context.set u.locals u.unit.tokens u.unit.gathering.leaves (record { out = u.output; operands = [] }))
+    (none_alike s (record s { first = first }) refl refl refl refl)
 
--- units that are no cases
-abbrev IsOther : Part → Type 0
-IsOther part.Case = ⊥
-IsOther p = Unit {0}
+none_begun : (limits : Limits) (context : Context) (first : Place) (v : Compilation) → LaysNone v.output (begun_in limits context first v)
+none_begun limits context first v = none_settled limits context first (named (part_prepared v))
 
 -- A sound unit is carried out.
 unit_is : (limits : Limits) (context : Context) (place : Place) (p : Part) (v : Compilation) (after : Compilation) →
@@ -245,6 +255,83 @@ statement_ends w limits context place v sound plainly h =
     (none_then w P v.output o (statement_code limits site trees s o) (none_begun limits context first v)
     (plain_statements_run w limits site trees s plainly h o))
 
+-- the unit of a loop over objects
+loop_carried : (limits : Limits) (context : Context) (first : Place) (v : Compilation) →
+    both_of (part_carried limits context first part.Loop None (named (part_prepared v)))
+    ≡ looped_over limits (rooted_of limits context part.Loop v) v.constructs (begun_in limits context first v)
+unfolding part_effect
+loop_carried limits context first v = refl
+
+loop_ends : (w : World) (limits : Limits) (context : Context) (place : Place) (v : Compilation) → IsSound limits context part.Loop v →
+    (c : Construct) (around : List Construct) → v.constructs ≡ c ∷ around → (r : Rooted) (others : List Rooted) →
+    rooted_of limits context part.Loop v ≡ r ∷ others → Covered false r.tree →
+    let now = played limits context place (role.End ending.Loop) v in
+    LoopBegins w limits (children_of r.tree) r.tree (loop_variable r) c v.output now.constructs now.output
+loop_ends w limits context place v sound c around inner r others one h =
+    let ready = part_prepared v in
+    let first = place_of part.Loop place ready in
+    let o = begun_in limits context first v in
+    let is = ap (λ b. both_of (if b then passed (has_last part.Loop) v else part_finished limits context first part.Loop ready)) sound.stays
+    ∙ ap (λ g. both_of (part_carried limits context first part.Loop g (named ready))) sound.finds
+    ∙ loop_carried limits context first v
+    ∙ ap (λ l. looped_over limits (rooted_of limits context part.Loop v) l o) inner
+    ∙ ap (λ l. looped_over limits l (c ∷ around) o) one in
+    subst (λ (z : List Construct × Out). LoopBegins w limits (children_of r.tree) r.tree (loop_variable r) c v.output z.0 z.1) (sym is)
+    (looped_laid w limits r c around v.output o h (none_begun limits context first v))
+
+-- the unit of a case: where it begins, and what is laid behind that
+abbrev case_to : Limits → Context → Place → Compilation → List Construct × Out
+case_to limits context first u =
+    let s = settled_of limits context u in (
+      u.constructs,
+      case_code limits (next_case u.constructs) (map tree_in (trees_at 0 wanted.Case s.operands u)) (record s.out { first = first }),
+    )
+
+case_carried : (limits : Limits) (context : Context) (first : Place) (u : Compilation) →
+    both_of (part_carried limits context first part.Case None u) ≡ case_to limits context first u
+unfolding part_effect
+case_carried limits context first u = refl
+
+named_alike : (b : Bool) (u : Compilation) → both_of (actions_named b u) ≡ both_of u
+named_alike true u = refl
+named_alike false u = refl
+
+case_ready : (limits : Limits) (v : Compilation) (c : Construct) (around : List Construct) → v.constructs ≡ c ∷ around →
+    both_of (ready_for limits part.Case v) ≡ both_of (record (part_prepared v) { constructs = c ∷ around; output = v.output })
+case_ready limits v c around inner =
+    ap (λ l. let b = constructs_laid (cases_begun limits l) (part_prepared v) in both_of (actions_named (are_own b.constructs) b)) inner
+    ∙ named_alike (are_cases c.kind) (record (part_prepared v) { constructs = c ∷ around; output = v.output })
+
+case_begun : (limits : Limits) (v : Compilation) (c : Construct) (around : List Construct) → v.constructs ≡ c ∷ around →
+    let ready = ready_for limits part.Case v in
+    both_of (part_begun limits part.Case ready) ≡ changed (entered limits (is_default ready.unit.items)) (c ∷ around) v.output
+case_begun limits v c around inner =
+    let ready = ready_for limits part.Case v in
+    ap (λ (z : List Construct × Out). changed (entered limits (is_default ready.unit.items)) z.0 z.1) (case_ready limits v c around inner)
+
+case_ends : (w : World) (limits : Limits) (context : Context) (place : Place) (v : Compilation) → IsSound limits context part.Case v →
+    (c : Construct) (around : List Construct) → v.constructs ≡ c ∷ around → (old : Case) (had_default : Bool) →
+    c.kind ≡ kind.Switch old had_default → AreValues (trees_of limits context part.Case v) →
+    let now = played limits context place (role.End ending.Case) v in
+    CaseBegins w (case_truth w (is_default (ready_for limits part.Case v).unit.items) (trees_of limits context part.Case v)) v.constructs
+    now.constructs v.output now.output
+case_ends w limits context place v sound c around inner old had_default which h =
+    let ready = ready_for limits part.Case v in
+    let first = place_of part.Case place ready in
+    let u = named (part_begun limits part.Case ready) in
+    let o = record (settled_of limits context u).out { first = first } in
+    let known = is_default ready.unit.items in
+    let trees = trees_of limits context part.Case v in
+    let holds = case_truth w known trees in
+    let is = ap (λ b. both_of (if b then passed (has_last part.Case) v else part_finished limits context first part.Case ready)) sound.stays
+    ∙ ap (λ g. both_of (part_carried limits context first part.Case g u)) sound.finds
+    ∙ case_carried limits context first u in
+    let begins = subst (λ (z : List Construct × Out). LaysNone z.1 o →
+    CaseBegins w holds (c ∷ around) z.0 v.output (case_code limits (next_case z.0) trees o)) (sym (case_begun limits v c around inner))
+    (case_begins w limits known trees h c around old had_default which v.output o) (none_settled limits context first u) in
+    subst (λ (z : List Construct × Out). CaseBegins w holds v.constructs z.0 v.output z.1) (sym is)
+    (subst (λ l. CaseBegins w holds l u.constructs v.output (case_code limits (next_case u.constructs) trees o)) (sym inner) begins)
+
 by_role : (w : World) (limits : Limits) (context : Context) (place : Place) (v : Compilation) (P : Claim) (r e : Role) → r ≡ e →
     Lays w P v.output (played limits context place e v).output → Lays w P v.output (played limits context place r v).output
 by_role w limits context place v P r e same h = subst (λ z. Lays w P v.output (played limits context place z v).output) (sym same) h
@@ -269,4 +356,13 @@ units_run w limits context place v = record {
       by_role w limits context place v (Runs w (exits v.constructs) (plain_run w (exits v.constructs)
       (trees_of limits context (part.Statement (statement_at v)) v) (statement_at v))) (role_of a) (role.End ending.Statement) is
       (statement_ends w limits context place v sound plainly h);
+  loops = λ a is sound c around inner r others one h.
+      subst (λ z. let now = played limits context place z v in
+      LoopBegins w limits (children_of r.tree) r.tree (loop_variable r) c v.output now.constructs now.output) (sym is)
+      (loop_ends w limits context place v sound c around inner r others one h);
+  cases = λ a is sound c around inner old had_default which h.
+      subst (λ z. let now = played limits context place z v in
+      CaseBegins w (case_truth w (is_default (ready_for limits part.Case v).unit.items) (trees_of limits context part.Case v)) v.constructs
+      now.constructs v.output now.output) (sym is)
+      (case_ends w limits context place v sound c around inner old had_default which h);
 }

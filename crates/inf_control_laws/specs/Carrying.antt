@@ -1,5 +1,5 @@
 -- Nested statements whose parts have the effects that a control flow gives them.
-use Rattle.std.specs.Prelude.{◌≡◌, Bool, false, ◌∷◌, Some}
+use Rattle.std.specs.Prelude.{◌≡◌, Bool, false, List, ◌∷◌, Some}
 use Rattle.inf_settings.specs.Bounds.{Limits}
 use Rattle.inf_opcode.specs.declared.instructions.Label.{Label}
 use Rattle.inf_syntax.specs.declared.actions.Action.TheVariants as action
@@ -9,6 +9,7 @@ use Rattle.inf_compilation.specs.Actions.{Compilation}
 use Rattle.inf_constructs.specs.Constructs.{between, opened}
 use Rattle.inf_constructs.specs.declared.constructs.Case.{Case as CaseKind}
 use Rattle.inf_constructs.specs.declared.constructs.Case.TheVariants as case
+use Rattle.inf_constructs.specs.declared.constructs.Construct.{Construct}
 use Rattle.inf_constructs.specs.declared.constructs.Kind.TheVariants as kind
 use Rattle.inf_constructs.specs.declared.constructs.Over.TheVariants as over
 use Rattle.inf_statement_laws.specs.Happenings.{Acts, Moment}
@@ -31,15 +32,15 @@ abbrev pub Tests : World → Truth → Label → Compilation → Compilation →
 Tests w holds label before now = Lays w (Branches false w holds false label) before.output now.output
 
 -- A case begins, in a `switch` whose end has a label.
-pub record CaseBegins (w : World) (holds : Truth) (v now : Compilation) (before : Out) : Type 0 where
+pub record CaseBegins (w : World) (holds : Truth) (around constructs : List Construct) (before now : Out) : Type 0 where
   pub old : CaseKind
   pub new : CaseKind
   pub end : Label
-  pub was : open_case v.constructs ≡ Some old
-  pub is : open_case now.constructs ≡ Some new
-  pub breaks : (exits v.constructs).breaks ≡ Some end
-  pub same : exits now.constructs ≡ exits v.constructs
-  pub begins : Lays w (BeginsCase w holds old new end) before now.output
+  pub was : open_case around ≡ Some old
+  pub is : open_case constructs ≡ Some new
+  pub breaks : (exits around).breaks ≡ Some end
+  pub same : exits constructs ≡ exits around
+  pub begins : Lays w (BeginsCase w holds old new end) before now
 
 -- The parts of a statement have their effects where they stand: with the statement as the innermost one, and with the labels that were
 -- handed out where its word was read. Its own code, and the code around it, is not spoken of.
@@ -111,5 +112,5 @@ Carries w limits context (Switch opens value cases brace closes) (ByCases keeps 
 Carries w limits context (Case values ends) (CaseOf holds) v =
     let before = run limits context values.all v in
     let now = happens limits context (Acts ends action.EndCase) before in
-    LaysNone v.output before.output × CaseBegins w holds v now before.output
+    LaysNone v.output before.output × CaseBegins w holds v.constructs now.constructs before.output now.output
 Carries w limits context n p v = ⊥

@@ -1,7 +1,10 @@
 pub mod Carrying
+pub mod Cases
 pub mod Control
 pub mod Laws
+pub mod Loops
 pub mod Parts
 pub mod Plain
+pub mod Premises
 pub mod Runs
 pub mod Units

@@ -1,8 +1,10 @@
--- Units of a routine: a condition, the start and the step of a `for`, the value of a `switch`, and a statement that holds no others, by the
--- trees of their expressions.
-use Rattle.std.specs.Prelude.{◌≡◌, false, List, [], ◌∷◌, Option, Some, None, map}
+-- Units of a routine: a condition, the start and the step of a `for`, the objects of a loop, the value and the cases of a `switch`, and a
+-- statement that holds no others, by the trees of their expressions.
+use Rattle.std.specs.Prelude.{◌≡◌, Bool, false, List, [], ◌∷◌, Option, Some, None, map}
 use Rattle.inf_settings.specs.Bounds.{Limits}
 use Rattle.inf_scanner.specs.declared.tokens.Place.{Place}
+use Rattle.inf_expressions.specs.Questions.{children_of}
+use Rattle.inf_expressions.specs.Rooted.{Rooted}
 use Rattle.inf_expressions.specs.Trees.{Tree}
 use Rattle.inf_syntax.specs.declared.actions.Action.{Action}
 use Rattle.inf_unit.specs.Roles.{role_of}
@@ -11,10 +13,12 @@ use Rattle.inf_unit.specs.declared.roles.Role.TheVariants as role
 use Rattle.inf_constructs.specs.Cases.{SWITCHED}
 use Rattle.inf_constructs.specs.Constructs.{otherwise}
 use Rattle.inf_constructs.specs.Roots.{tree_in}
+use Rattle.inf_constructs.specs.declared.constructs.Case.{Case as CaseKind}
 use Rattle.inf_constructs.specs.declared.constructs.Construct.{Construct}
+use Rattle.inf_constructs.specs.declared.constructs.Kind.TheVariants as kind
 use Rattle.inf_compilation.specs.Context.{Context}
 use Rattle.inf_compilation.specs.Actions.{Compilation, named, settled_of, trees_at}
-use Rattle.inf_compilation.specs.Parts.{found_in, order_of, part_prepared, statement_at, wanted_of}
+use Rattle.inf_compilation.specs.Parts.{case_prepared, found_in, is_default, order_of, part_begun, part_prepared, statement_at, wanted_of}
 use Rattle.inf_compilation.specs.declared.parts.Part.{Part}
 use Rattle.inf_compilation.specs.declared.parts.Part.TheVariants as part
 use Rattle.inf_reader.specs.Acting.{act}
@@ -23,19 +27,30 @@ use Rattle.inf_interpreter.specs.Machine.{World, ◌then◌, with_variable}
 use Rattle.inf_meaning_laws.specs.Covered.{Covered}
 use Rattle.inf_meaning_laws.specs.Laws.{Branches, GivesNothing}
 use Rattle.inf_meaning_laws.specs.Values.{sense, truth_of}
-use Rattle.inf_control_laws.specs.Plain.{IsCovered, IsPlain, plain_run}
+use Rattle.inf_control_laws.specs.Carrying.{CaseBegins}
+use Rattle.inf_control_laws.specs.Cases.{AreValues, case_truth}
 use Rattle.inf_control_laws.specs.Control.{Change}
+use Rattle.inf_control_laws.specs.Loops.{LoopBegins, loop_variable}
+use Rattle.inf_control_laws.specs.Plain.{IsCovered, IsPlain, plain_run}
 use Rattle.inf_control_laws.specs.Runs.{KeepsApart, Lays, Runs, exits}
 
--- the trees of a unit that ends
+-- A unit ends: one that is a case is prepared as such.
+abbrev pub ready_for : Limits → Part → Compilation → Compilation
+ready_for limits p v = case_prepared limits p (part_prepared v)
+
+-- the trees of a unit that ends, where a case has begun
+abbrev pub rooted_of : Limits → Context → Part → Compilation → List Rooted
+rooted_of limits context p v =
+    let u = named (part_begun limits p (ready_for limits p v)) in
+    trees_at (order_of p u) (wanted_of p) (settled_of limits context u).operands u
+
 abbrev pub trees_of : Limits → Context → Part → Compilation → List Tree
-trees_of limits context p v =
-    let u = named (part_prepared v) in map tree_in (trees_at (order_of p u) (wanted_of p) (settled_of limits context u).operands u)
+trees_of limits context p v = map tree_in (rooted_of limits context p v)
 
 -- A unit has no error and stands in a routine that is not passed over.
 pub record IsSound (limits : Limits) (context : Context) (p : Part) (v : Compilation) : Type 0 where
   pub stays : v.is_replaced ≡ false
-  pub finds : found_in limits context p (part_prepared v) ≡ None
+  pub finds : found_in limits context p (ready_for limits p v) ≡ None
 
 -- the value of a tree, which a `switch` keeps in a variable of its own
 abbrev pub kept_value : World → Tree → Change
@@ -47,7 +62,7 @@ step_of [] = None
 step_of (c ∷ constructs) = c.step
 
 -- A condition branches where it is not true; the start of a `for` and the value of a `switch` change the store; a plain statement has its
--- effect; and the step of a `for` is kept apart, where nothing else is.
+-- effect; the step of a `for` is kept apart, where nothing else is; a loop over objects begins; and so does a case of a `switch`.
 pub record UnitsRun (w : World) (limits : Limits) (context : Context) (place : Place) (v : Compilation) : Type 0 where
   pub conditions : (a : Action) → role_of a ≡ role.End ending.Condition → IsSound limits context part.Condition v → (c : Construct)
       (around : List Construct) → v.constructs ≡ c ∷ around → (t : Tree) (trees : List Tree) →
@@ -68,6 +83,17 @@ pub record UnitsRun (w : World) (limits : Limits) (context : Context) (place : P
       IsPlain (statement_at v) → IsCovered (trees_of limits context (part.Statement (statement_at v)) v) →
       Lays w (Runs w (exits v.constructs) (plain_run w (exits v.constructs)
       (trees_of limits context (part.Statement (statement_at v)) v) (statement_at v))) v.output (act limits context place a v).output
+  pub loops : (a : Action) → role_of a ≡ role.End ending.Loop → IsSound limits context part.Loop v → (c : Construct)
+      (around : List Construct) → v.constructs ≡ c ∷ around → (r : Rooted) (others : List Rooted) →
+      rooted_of limits context part.Loop v ≡ r ∷ others → Covered false r.tree →
+      let now = act limits context place a v in
+      LoopBegins w limits (children_of r.tree) r.tree (loop_variable r) c v.output now.constructs now.output
+  pub cases : (a : Action) → role_of a ≡ role.End ending.Case → IsSound limits context part.Case v → (c : Construct)
+      (around : List Construct) → v.constructs ≡ c ∷ around → (old : CaseKind) (had_default : Bool) →
+      c.kind ≡ kind.Switch old had_default → AreValues (trees_of limits context part.Case v) →
+      let now = act limits context place a v in
+      CaseBegins w (case_truth w (is_default (ready_for limits part.Case v).unit.items) (trees_of limits context part.Case v)) v.constructs
+      now.constructs v.output now.output
 
 abbrev pub AllUnitsRun : Type 0
 AllUnitsRun = (w : World) (limits : Limits) (context : Context) (place : Place) (v : Compilation) → UnitsRun w limits context place v

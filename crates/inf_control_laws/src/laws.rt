@@ -1,6 +1,7 @@
 //! Statements that hold others do what they mean.
 ghost use Rattle.inf_control_laws.specs.Laws.{StatementsRun};
 ghost use Rattle.inf_control_laws.specs.Plain.{PlainStatementsRun};
+ghost use Rattle.inf_control_laws.specs.Premises.{AllPremisesHold};
 ghost use Rattle.inf_control_laws.specs.Units.{AllUnitsRun};
 
 /// States that the items which are laid for `if`, `else`, `while`, `do`, `for`, `objectloop` and `switch`, however
@@ -19,9 +20,17 @@ pub fn plain_statements_run()
     ensures { PlainStatementsRun }
 {}
 
-/// States that the units of conditions, of the start and the step of a `for`, of the value of a `switch`, and of such
-/// plain statements lay what their trees ask, where they have no error: a condition branches to the label of the
-/// innermost statement where it is not true.
+/// States that the units of conditions, of the start and the step of a `for`, of the objects of a loop, of the value and
+/// the cases of a `switch`, and of such plain statements lay what their trees ask, where they have no error: a
+/// condition branches to the label of the innermost statement where it is not true, a loop over objects finds the first
+/// object and each next one, and a case leads to the next one where the value is none of its own.
 pub fn units_run()
     ensures { AllUnitsRun }
+{}
+
+/// States that the parts of nested statements are what the law of these takes of them: conditions, the start and the
+/// step of a `for`, the objects of a loop (`LoopBegins`), the value and the cases of a `switch` (`CaseBegins`), and
+/// plain statements, where their units have no error and nothing is laid while they are read.
+pub fn premises_hold()
+    ensures { AllPremisesHold }
 {}

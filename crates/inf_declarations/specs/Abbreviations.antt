@@ -16,11 +16,13 @@ use Rattle.inf_text.specs.declared.abbreviation.AbbrevFault.{AbbrevFault}
 use Rattle.inf_text.specs.declared.abbreviation.AbbrevFault.TheVariants as abbrev_fault
 use Rattle.inf_scanner.specs.declared.tokens.Place.{Place}
 use Rattle.inf_expressions.specs.declared.findings.Finding.{Finding}
+use Rattle.inf_expressions.specs.declared.findings.UnitError.{UnitError}
+use Rattle.inf_expressions.specs.declared.findings.UnitError.TheVariants as unit_error
 use Rattle.inf_names.specs.declared.meanings.Meaning.TheVariants as meaning
 use Rattle.inf_names.specs.Spellings.{Name}
 use Rattle.inf_tables.specs.LowStrings.{low_fits, low_size, with_abbreviation}
 use Rattle.inf_tables.specs.Tables.{AllTables}
-use Rattle.inf_output.specs.Output.{Code, Out, declared, passed_table, with_low_text}
+use Rattle.inf_output.specs.Output.{Code, Out, passed_table, with_low_text}
 use Rattle.inf_report.specs.declared.messages.FixedLimit.TheVariants as countable
 use Rattle.inf_unit.specs.Tokens.{SourceToken}
 use Rattle.inf_unit.specs.Units.{first_place, name_order, quoted_in}
@@ -28,19 +30,20 @@ use Rattle.inf_statements.specs.Statements.{text_packed}
 use Rattle.inf_compilation.specs.Context.{Context}
 use Rattle.inf_compilation.specs.Actions.{Compilation, passed, unit_ended}
 use Rattle.inf_compilation.specs.Findings.{Findings, found_alone}
-use Rattle.inf_declarations.specs.Declarations.{declaration_ended, plainly_known}
+use Rattle.inf_declarations.specs.Declarations.{declaration_ended, name_declared, plainly_known}
 use Rattle.inf_declarations.specs.declared.declarations.Declared.{Declared}
 
--- the number of the message about a fault in a text
-abbrev pub fault_number : TextFault → ℕ
-fault_number text_fault.BadCode = 4
-fault_number text_fault.UnknownEscape = 5
-fault_number _ = 7
+-- the error of a fault in a text, where no definition answers the fault `Memory`
+abbrev pub fault_error : TextFault → UnitError
+fault_error text_fault.BadCode = unit_error.NumberOutOfRange
+fault_error text_fault.UnknownEscape = unit_error.UnknownEscape
+fault_error text_fault.NoZscii = unit_error.NoZscii
+fault_error text_fault.Memory = unit_error.NoZscii
 
--- the characters of a text, or the number of the message about its first fault
-abbrev pub numbered : Result (List TextItem) TextFault → Result (List TextItem) ℕ
-numbered (Ok items) = Ok items
-numbered (Err fault) = Err (fault_number fault)
+-- the characters of a text, or the error of its first fault
+abbrev pub or_error : Result (List TextItem) TextFault → Result (List TextItem) UnitError
+or_error (Ok items) = Ok items
+or_error (Err fault) = Err (fault_error fault)
 
 -- Abbreviations
 
@@ -48,25 +51,25 @@ numbered (Err fault) = Err (fault_number fault)
 abbrev pub has_most_abbreviations : Out → Bool
 has_most_abbreviations o = nat_le 64 (length o.tables.low_strings.abbreviations)
 
--- the number of the message about a text that is not declared
-abbrev pub refused_number : Result ℕ AbbrevFault → Option ℕ
-refused_number (Ok number) = None
-refused_number (Err abbrev_fault.Full) = Some 19
-refused_number (Err abbrev_fault.Repeated) = Some 21
-refused_number (Err abbrev_fault.TooShort) = Some 21
-refused_number (Err abbrev_fault.Memory) = None
+-- the error of a text that is not declared
+abbrev pub refused_error : Result ℕ AbbrevFault → Option UnitError
+refused_error (Ok number) = None
+refused_error (Err abbrev_fault.Full) = Some unit_error.TooMany
+refused_error (Err abbrev_fault.Repeated) = Some unit_error.WrongAbbreviation
+refused_error (Err abbrev_fault.TooShort) = Some unit_error.WrongAbbreviation
+refused_error (Err abbrev_fault.Memory) = None
 
--- The number of the message about an abbreviation, by all that was laid before it: there are too many, or a text was packed before, or it
--- is declared already, or it is too short.
-abbrev pub abbreviation_number : List TextItem → Out → Option ℕ
-abbreviation_number items o =
-    if has_most_abbreviations o then Some 19 else if o.texts.is_late then Some 21 else refused_number
-    (declared_number o.texts.declared items)
+-- The error of an abbreviation, by all that was laid before it: there are too many, or a text was packed before, or it is declared already,
+-- or it is too short.
+abbrev pub abbreviation_error : List TextItem → Out → Option UnitError
+abbreviation_error items o =
+    if has_most_abbreviations o then Some unit_error.TooMany else if o.texts.is_late then Some unit_error.WrongAbbreviation else
+    refused_error (declared_number o.texts.declared items)
 
 -- a text is declared, unless it is refused
-abbrev pub text_declared : Option ℕ → List TextItem → Code
+abbrev pub text_declared : Option UnitError → List TextItem → Code
 text_declared None items o = record o { texts = record o.texts { declared = o.texts.declared ++ items ∷ [] } }
-text_declared (Some number) items o = o
+text_declared (Some error) items o = o
 
 -- The low string of an abbreviation is added, packed without abbreviations. Where it would pass the limit, it is not added, and the limit
 -- is passed.
@@ -80,34 +83,34 @@ low_added_by limits false bytes o = passed_table limits setting.LowStrings o
 abbrev pub low_added : Limits → List ℕ → Code
 low_added limits bytes o = low_added_by limits (low_fits limits bytes o.tables.low_strings) bytes o
 
-abbrev pub low_unless : Limits → Option ℕ → List TextItem → Code
+abbrev pub low_unless : Limits → Option UnitError → List TextItem → Code
 low_unless limits None items o = low_added limits (packed items []) o
-low_unless limits (Some number) items o = o
+low_unless limits (Some error) items o = o
 
-abbrev pub abbreviation_added : Limits → Option ℕ → List TextItem → Code
-abbreviation_added limits number items o = low_unless limits number items (text_declared number items o)
+abbrev pub abbreviation_added : Limits → Option UnitError → List TextItem → Code
+abbreviation_added limits error items o = low_unless limits error items (text_declared error items o)
 
 -- the finding about a text, at the text
-abbrev pub at_text : ℕ → Finding
-at_text number = record { order = 0; number = number }
+abbrev pub at_text : UnitError → Finding
+at_text error = record { order = 0; error = error }
 
-abbrev pub abbreviation_findings : Option ℕ → Findings
-abbreviation_findings number = record (found_alone (option_map at_text number)) { many = countable.Abbreviations }
+abbrev pub abbreviation_findings : Option UnitError → Findings
+abbreviation_findings error = record (found_alone (option_map at_text error)) { many = countable.Abbreviations }
 
-abbrev pub abbreviation_ended : Limits → Context → Place → Option ℕ → Compilation → Compilation
-abbreviation_ended limits context first number w = unit_ended limits context first false (abbreviation_findings number) w
+abbrev pub abbreviation_ended : Limits → Context → Place → Option UnitError → Compilation → Compilation
+abbreviation_ended limits context first error w = unit_ended limits context first false (abbreviation_findings error) w
 
-abbrev pub abbreviation_with : Limits → Context → Place → Result (List TextItem) ℕ → Compilation → Compilation
-abbreviation_with limits context first (Err number) w = abbreviation_ended limits context first (Some number) w
+abbrev pub abbreviation_with : Limits → Context → Place → Result (List TextItem) UnitError → Compilation → Compilation
+abbreviation_with limits context first (Err error) w = abbreviation_ended limits context first (Some error) w
 abbreviation_with limits context first (Ok items) w =
-    let number = abbreviation_number items w.output in
-    abbreviation_ended limits context first number (record w { output = abbreviation_added limits number items w.output })
+    let error = abbreviation_error items w.output in
+    abbreviation_ended limits context first error (record w { output = abbreviation_added limits error items w.output })
 
 -- a text of `Abbreviate` is a unit of its own
 abbrev pub abbreviation : Limits → Context → Place → Compilation → Compilation
 abbreviation limits context place w =
     abbreviation_with limits context (first_place w.unit.tokens place)
-    (numbered (text_of context.set mode.Abbreviation (quoted_in w.unit.tokens))) w
+    (or_error (text_of context.set mode.Abbreviation (quoted_in w.unit.tokens))) w
 
 -- the word, which is a unit, too
 abbrev pub abbreviate_header : Limits → Context → Place → Compilation → Compilation
@@ -117,20 +120,20 @@ abbreviate_header limits context first w = unit_ended limits context first false
 
 -- a name whose declaration has an error stands for 0
 abbrev pub named_nothing : Limits → Name → Code
-named_nothing limits name o = declared limits name.bytes name.place (meaning.Number 0) o
+named_nothing limits name o = name_declared limits name (meaning.Number 0) o
 
 abbrev pub low_named : Limits → Name → List TextItem → Code
 low_named limits name items o =
-    declared limits name.bytes name.place (meaning.LowString (low_size o.tables.low_strings))
+    name_declared limits name (meaning.LowString (low_size o.tables.low_strings))
     (with_low_text limits (packed items []) (text_packed o))
 
-abbrev pub low_named_by : Limits → Name → Result (List TextItem) ℕ → Code
-low_named_by limits name (Err number) o = named_nothing limits name o
+abbrev pub low_named_by : Limits → Name → Result (List TextItem) UnitError → Code
+low_named_by limits name (Err error) o = named_nothing limits name o
 low_named_by limits name (Ok items) o = low_named limits name items o
 
 abbrev pub low_string_added : Limits → CharSet → Option Finding → Name → List SourceToken → Code
 low_string_added limits set (Some f) name tokens o = named_nothing limits name o
-low_string_added limits set None name tokens o = low_named_by limits name (numbered (text_of set mode.Text (quoted_in tokens))) o
+low_string_added limits set None name tokens o = low_named_by limits name (or_error (text_of set mode.Text (quoted_in tokens))) o
 
 abbrev pub low_string_with : Limits → Context → Place → Name → Declared → Compilation → Compilation
 low_string_with limits context first name d w =

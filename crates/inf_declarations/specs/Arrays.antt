@@ -19,7 +19,7 @@ use Rattle.inf_expressions.specs.Findings.{least_of_both, out_of_range}
 use Rattle.inf_gathering.specs.declared.gathering.Leaf.{Leaf}
 use Rattle.inf_gathering.specs.declared.gathering.Leaf.TheVariants as leaf
 use Rattle.inf_names.specs.declared.meanings.Meaning.TheVariants as meaning
-use Rattle.inf_output.specs.Output.{Code, declared, passed_table}
+use Rattle.inf_output.specs.Output.{Code, passed_table}
 use Rattle.inf_report.specs.declared.messages.FixedLimit.TheVariants as countable
 use Rattle.inf_scanner.specs.declared.tokens.Mark.TheVariants as mark
 use Rattle.inf_scanner.specs.declared.tokens.Place.{Place}
@@ -33,7 +33,7 @@ use Rattle.inf_compilation.specs.Context.{Context}
 use Rattle.inf_unit.specs.Tokens.{SourceToken}
 use Rattle.inf_unit.specs.Units.{bytes_at, first_place, kind_at, name_order}
 use Rattle.inf_compilation.specs.Actions.{Compilation, finding_at, operands_of, passed, settled_of, trees_at, unit_ended}
-use Rattle.inf_declarations.specs.Declarations.{declared_ended, plainly_known, value_in, value_of}
+use Rattle.inf_declarations.specs.Declarations.{declared_ended, name_declared, plainly_known, value_in, value_of}
 use Rattle.inf_compilation.specs.Findings.{found_alone, nothing_found}
 use Rattle.inf_declarations.specs.declared.declarations.Declared.{Declared}
 
@@ -57,7 +57,7 @@ with_arrays arrays o = record o { tables = record o.tables { arrays = arrays } }
 
 -- the name of an array is declared, which begins at `place`
 abbrev pub array_declared : Limits → Name → ℕ → Code
-array_declared limits name place o = declared limits name.bytes name.place (meaning.Array place) o
+array_declared limits name place o = name_declared limits name (meaning.Array place) o
 
 -- An array that would pass the limit is not opened, and has its name all the same: that may pass a limit before that of
 -- arrays.

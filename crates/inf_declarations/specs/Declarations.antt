@@ -7,6 +7,7 @@ use Rattle.inf_area.specs.declared.targets.Value.{Value}
 use Rattle.inf_area.specs.declared.targets.Value.TheVariants as value
 use Rattle.inf_scanner.specs.declared.tokens.Place.{Place}
 use Rattle.inf_expressions.specs.declared.findings.Finding.{Finding}
+use Rattle.inf_expressions.specs.declared.findings.UnitError.TheVariants as unit_error
 use Rattle.inf_expressions.specs.declared.units.Wanted.TheVariants as wanted
 use Rattle.inf_expressions.specs.Findings.{least_of_both, wrong_kind}
 use Rattle.inf_expressions.specs.Questions.{constant_of as constant_in}
@@ -66,7 +67,7 @@ is_late found.Used names_itself = true
 is_late found.Unknown names_itself = names_itself
 
 abbrev pub late_finding : ℕ → Bool → Option Finding
-late_finding order is_late = if is_late then Some (record { order = order; number = 11 }) else None
+late_finding order is_late = if is_late then Some (record { order = order; error = unit_error.UsedBefore }) else None
 
 abbrev pub declared_finding : ℕ → Option Again → Bool → Bool → Option Finding
 declared_finding order again is_late are_many =
@@ -106,6 +107,10 @@ declared_ended limits context first has_last name kind d w =
 
 abbrev pub declaration_ended : Limits → Context → Place → Name → FixedLimit → Declared → Compilation → Compilation
 declaration_ended limits context first name kind d w = declared_ended limits context first true name kind d w
+
+-- a name is declared, where it stands, with a meaning
+abbrev pub name_declared : Limits → Name → Meaning → Code
+name_declared limits name m o = declared limits name.bytes name.place m o
 
 -- Another name of an attribute or a property
 
@@ -156,7 +161,7 @@ aliased kind _ f = nothing_of kind
 abbrev pub alias_with : Limits → Context → Place → Name → FixedLimit → Option Meaning → Declared → Compilation → Compilation
 alias_with limits context first name kind m d w =
     declaration_ended limits context first name kind d
-    (record w { output = declared limits name.bytes name.place (aliased kind m d.finding) w.output })
+    (record w { output = name_declared limits name (aliased kind m d.finding) w.output })
 
 abbrev pub alias_by : Limits → Option Meaning → Context → Place → Name → ℕ → FixedLimit → Compilation → Compilation
 alias_by limits m context first name at kind w =
@@ -191,8 +196,8 @@ attribute_number o = o.tables.world.attributes % 256
 
 -- a name whose declaration has an error stands for the first attribute
 abbrev pub attribute_added : Limits → Option Finding → Name → Code
-attribute_added limits (Some f) name o = declared limits name.bytes name.place (meaning.Attribute 0) o
-attribute_added limits None name o = new_attribute (declared limits name.bytes name.place (meaning.Attribute (attribute_number o)) o)
+attribute_added limits (Some f) name o = name_declared limits name (meaning.Attribute 0) o
+attribute_added limits None name o = new_attribute (name_declared limits name (meaning.Attribute (attribute_number o)) o)
 
 abbrev pub attribute_ended : Limits → Context → Place → Name → Declared → Compilation → Compilation
 attribute_ended limits context first name d w =
@@ -238,11 +243,11 @@ abbrev pub property_number : Out → ℕ
 property_number o = 4 + length o.tables.world.declared % 252
 
 abbrev pub property_added : Limits → Context → Option Finding → Name → Bool → Compilation → Out
-property_added limits context (Some f) name is_additive w = declared limits name.bytes name.place (nothing_of countable.Properties) w.output
+property_added limits context (Some f) name is_additive w = name_declared limits name (nothing_of countable.Properties) w.output
 property_added limits context None name is_additive w =
     let o = (settled_of limits context w).out in
     new_property is_additive (value_of limits context w)
-    (declared limits name.bytes name.place (meaning.Property (property_number o) is_additive) o)
+    (name_declared limits name (meaning.Property (property_number o) is_additive) o)
 
 abbrev pub property_order : List SourceToken → Bool → ℕ
 property_order tokens is_additive = if is_additive then min (name_order tokens + 1) 4294967295 else name_order tokens
@@ -294,10 +299,10 @@ abbrev pub new_global : Value → Code
 new_global v o = if nat_le 235 (length o.tables.globals) then o else with_variable v o
 
 abbrev pub global_added : Limits → Context → Option Finding → Name → Compilation → Out
-global_added limits context (Some f) name w = declared limits name.bytes name.place (nothing_of countable.Globals) w.output
+global_added limits context (Some f) name w = name_declared limits name (nothing_of countable.Globals) w.output
 global_added limits context None name w =
     let o = (settled_of limits context w).out in
-    new_global (value_of limits context w) (declared limits name.bytes name.place (meaning.Variable (16 + length o.tables.globals)) o)
+    new_global (value_of limits context w) (name_declared limits name (meaning.Variable (16 + length o.tables.globals)) o)
 
 abbrev pub global_ended : Limits → Context → Place → Name → Declared → Compilation → Compilation
 global_ended limits context first name d w =

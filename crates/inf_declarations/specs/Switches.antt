@@ -3,6 +3,7 @@ use Rattle.std.specs.Prelude.{ℕ, nat_lt, List, [], ◌∷◌, Bool, true, if�
 use Rattle.inf_settings.specs.Bounds.{Limits}
 use Rattle.inf_scanner.specs.declared.tokens.Place.{Place}
 use Rattle.inf_expressions.specs.declared.findings.Finding.{Finding}
+use Rattle.inf_expressions.specs.declared.findings.UnitError.TheVariants as unit_error
 use Rattle.inf_letters.specs.Letters.{ignores, set_of, with_letters}
 use Rattle.inf_letters.specs.declared.letters.Letters.{Letters}
 use Rattle.inf_names.specs.Spellings.{Name}
@@ -14,7 +15,7 @@ use Rattle.inf_compilation.specs.Findings.{found_alone, nothing_found}
 
 -- the finding about the first token that the directive comes behind another unit, or has letters that are unknown
 abbrev pub misplaced : Finding
-misplaced = record { order = 0; number = 20 }
+misplaced = record { order = 0; error = unit_error.MisplacedSwitches }
 
 -- whether code has begun: then a routine counts
 abbrev pub has_code : Routines → Bool

@@ -8,18 +8,16 @@ ghost use Rattle.inf_compilation.specs.Context.{handed};
 ghost use Rattle.inf_compilation.specs.Meant.{found_as};
 ghost use Rattle.inf_compilation.specs.Works.{work};
 ghost use Rattle.inf_declarations.specs.Abbreviations.{abbreviate_header, abbreviation, abbreviation_added, abbreviation_ended};
-ghost use Rattle.inf_declarations.specs.Abbreviations.{abbreviation_findings, abbreviation_number, abbreviation_with};
+ghost use Rattle.inf_declarations.specs.Abbreviations.{abbreviation_error, abbreviation_findings, abbreviation_with};
 ghost use Rattle.inf_declarations.specs.Abbreviations.{has_most_abbreviations, low_added, low_named, low_named_by, low_string};
-ghost use Rattle.inf_declarations.specs.Abbreviations.{low_string_added, low_string_with, named_nothing, numbered, refused_number};
+ghost use Rattle.inf_declarations.specs.Abbreviations.{low_string_added, low_string_with, named_nothing, or_error, refused_error};
 ghost use Rattle.inf_declarations.specs.Abbreviations.{low_unless, text_declared};
 
-use crate::declarations::{Declared, end_declaration, plainly_known};
+use crate::declarations::{Declared, declare, end_declaration, plainly_known};
 use inf_compilation::compilation::Compilation;
 use inf_compilation::context::Context;
-use inf_compilation::findings::{
-    Findings, NO_ZSCII, NUMBER_OUT_OF_RANGE, TOO_MANY, UNKNOWN_ESCAPE, WRONG_ABBREVIATION,
-};
-use inf_expressions::Finding;
+use inf_compilation::findings::Findings;
+use inf_expressions::{Finding, UnitError};
 use inf_lexer::Place;
 use inf_names::meanings::Meaning;
 use inf_names::spellings::Name;
@@ -34,20 +32,20 @@ use std::alloc::{AllocError, Global};
 /// (Z-Machine Standard 1.1, section 3.3).
 const MOST_ABBREVIATIONS: usize = 64;
 
-/// Returns the characters of a text in a character set, or the number of the message about its first fault.
-fn read_numbered(
+/// Returns the characters of a text in a character set, or the error of its first fault.
+fn read_or_error(
     alloc: Global,
     set: CharSet,
     mode: Mode,
     bytes: &[u8],
-) -> Result<Result<Text, u8>, AllocError>
-    ensures { IfOk result (λ text. text ≡ numbered (read_in set mode bytes.now)) }
+) -> Result<Result<Text, UnitError>, AllocError>
+    ensures { IfOk result (λ text. text ≡ or_error (read_in set mode bytes.now)) }
 {
     match read_text(alloc, bytes, set, mode) {
         Ok(text) => Ok(Ok(text)),
-        Err(TextFault::BadCode) => Ok(Err(NUMBER_OUT_OF_RANGE)),
-        Err(TextFault::UnknownEscape) => Ok(Err(UNKNOWN_ESCAPE)),
-        Err(TextFault::NoZscii) => Ok(Err(NO_ZSCII)),
+        Err(TextFault::BadCode) => Ok(Err(UnitError::NumberOutOfRange)),
+        Err(TextFault::UnknownEscape) => Ok(Err(UnitError::UnknownEscape)),
+        Err(TextFault::NoZscii) => Ok(Err(UnitError::NoZscii)),
         Err(TextFault::Memory) => Err(AllocError),
     }
 }
@@ -61,16 +59,21 @@ fn has_most_abbreviations<B: Bounds>(out: &Output<B>) -> bool
     out.tables.low_strings.abbreviation_places().len() >= MOST_ABBREVIATIONS
 }
 
-/// Declares a text as an abbreviation, or returns the number of the message where it is refused.
-fn declare_text<B: Bounds>(text: &Text, out: &mut Output<B>) -> Result<Option<u8>, AllocError>
-    ensures number { IfOk result (λ number. number ≡ refused_number (declared_number out.old.texts.declared text.now)) }
+/// Declares a text as an abbreviation, or returns the error where it is refused.
+fn declare_text<B: Bounds>(
+    text: &Text,
+    out: &mut Output<B>,
+) -> Result<Option<UnitError>, AllocError>
+    ensures error { IfOk result (λ error. error ≡ refused_error (declared_number out.old.texts.declared text.now)) }
     ensures declared { OnOk result (out.new
-        ≡ text_declared (refused_number (declared_number out.old.texts.declared text.now)) text.now out.old) }
+        ≡ text_declared (refused_error (declared_number out.old.texts.declared text.now)) text.now out.old) }
 {
     match out.texts.declare(text) {
         Ok(_) => Ok(None),
-        Err(AbbrevFault::Full) => Ok(Some(TOO_MANY)),
-        Err(AbbrevFault::Repeated | AbbrevFault::TooShort) => Ok(Some(WRONG_ABBREVIATION)),
+        Err(AbbrevFault::Full) => Ok(Some(UnitError::TooMany)),
+        Err(AbbrevFault::Repeated | AbbrevFault::TooShort) => {
+            Ok(Some(UnitError::WrongAbbreviation))
+        }
         Err(AbbrevFault::Memory) => Err(AllocError),
     }
 }
@@ -88,7 +91,7 @@ fn add_low<B: Bounds>(bytes: &[u8], out: &mut Output<B>) -> Result<(), AllocErro
 /// Adds the low string of a text, unless it was refused. It is packed without abbreviations.
 fn add_unless<B: Bounds>(
     alloc: Global,
-    refused: Option<u8>,
+    refused: Option<UnitError>,
     text: &Text,
     out: &mut Output<B>,
 ) -> Result<(), AllocError>
@@ -103,32 +106,32 @@ fn add_unless<B: Bounds>(
     }
 }
 
-/// Declares one more abbreviation and adds its low string. Where it is refused, returns the number of the message.
+/// Declares one more abbreviation and adds its low string. Where it is refused, returns the error.
 fn add_abbreviation<B: Bounds>(
     alloc: Global,
     text: &Text,
     out: &mut Output<B>,
-) -> Result<Option<u8>, AllocError>
-    ensures number { IfOk result (λ number. number ≡ abbreviation_number text.now out.old) }
-    ensures added { OnOk result (out.new ≡ abbreviation_added B.most (abbreviation_number text.now out.old) text.now out.old) }
+) -> Result<Option<UnitError>, AllocError>
+    ensures error { IfOk result (λ error. error ≡ abbreviation_error text.now out.old) }
+    ensures added { OnOk result (out.new ≡ abbreviation_added B.most (abbreviation_error text.now out.old) text.now out.old) }
 {
     if has_most_abbreviations(out) {
-        return Ok(Some(TOO_MANY));
+        return Ok(Some(UnitError::TooMany));
     }
     if out.texts.is_late() {
-        return Ok(Some(WRONG_ABBREVIATION));
+        return Ok(Some(UnitError::WrongAbbreviation));
     }
     let refused = declare_text(text, out)?;
     add_unless(alloc, refused, text, out)?;
     Ok(refused)
 }
 
-/// Returns the findings about a text of `Abbreviate`: the one with the message of `number`, if there is one.
-fn abbreviation_findings(number: Option<u8>) -> Findings
-    ensures { found_as result ≡ abbreviation_findings number }
+/// Returns the findings about a text of `Abbreviate`: that of `error`, if there is one.
+fn abbreviation_findings(error: Option<UnitError>) -> Findings
+    ensures { found_as result ≡ abbreviation_findings error }
 {
-    let least = match number {
-        Some(number) => Some(Finding { order: 0, number }),
+    let least = match error {
+        Some(error) => Some(Finding { order: 0, error }),
         None => None,
     };
     Findings {
@@ -138,33 +141,32 @@ fn abbreviation_findings(number: Option<u8>) -> Findings
     }
 }
 
-/// Ends a text of `Abbreviate`, which begins at `first`. The message of `number` is told of it, if there is one.
+/// Ends a text of `Abbreviate`, which begins at `first`. Of `error`, if there is one, the message is told.
 fn end_abbreviation<B: Bounds>(
     compilation: &mut Compilation<B>,
     context: &Context<'_>,
     first: Place,
-    number: Option<u8>,
+    error: Option<UnitError>,
 ) -> Result<(), AllocError>
-    ensures { OnOk result (work compilation.new ≡ abbreviation_ended B.most (handed context.now) first number (work compilation.old)) }
+    ensures { OnOk result (work compilation.new ≡ abbreviation_ended B.most (handed context.now) first error (work compilation.old)) }
 {
-    compilation.end_unit(context, first, false, &abbreviation_findings(number))
+    compilation.end_unit(context, first, false, &abbreviation_findings(error))
 }
 
-/// Declares `text`, a text of `Abbreviate` that begins at `first`, as an abbreviation, or tells the message of its number about a fault in
-/// it.
+/// Declares `text`, a text of `Abbreviate` that begins at `first`, as an abbreviation, or tells the error of its fault.
 fn abbreviate<B: Bounds>(
     compilation: &mut Compilation<B>,
     context: &Context<'_>,
     first: Place,
-    text: Result<Text, u8>,
+    text: Result<Text, UnitError>,
 ) -> Result<(), AllocError>
     ensures { OnOk result (work compilation.new ≡ abbreviation_with B.most (handed context.now) first text (work compilation.old)) }
 {
     match text {
-        Err(number) => end_abbreviation(compilation, context, first, Some(number)),
+        Err(error) => end_abbreviation(compilation, context, first, Some(error)),
         Ok(text) => {
-            let number = add_abbreviation(compilation.alloc, &text, &mut compilation.output)?;
-            end_abbreviation(compilation, context, first, number)
+            let error = add_abbreviation(compilation.alloc, &text, &mut compilation.output)?;
+            end_abbreviation(compilation, context, first, error)
         }
     }
 }
@@ -181,7 +183,7 @@ pub fn abbreviation<B: Bounds>(
     ensures { OnOk result (work compilation.new ≡ abbreviation B.most (handed context.now) place (work compilation.old)) }
 {
     let first = compilation.unit.first_place(place);
-    let text = read_numbered(
+    let text = read_or_error(
         compilation.alloc,
         context.set,
         Mode::Abbreviation,
@@ -207,8 +209,7 @@ pub fn abbreviate_header<B: Bounds>(
 fn name_nothing<B: Bounds>(name: &Name, out: &mut Output<B>) -> Result<(), AllocError>
     ensures { OnOk result (out.new ≡ named_nothing B.most (as_name name.now) out.old) }
 {
-    out.declare(name.bytes(), name.place, Meaning::Number(0))?;
-    Ok(())
+    declare(name, Meaning::Number(0), out)
 }
 
 /// Adds `text` as a low string, which is packed without abbreviations, and declares `name` as that.
@@ -223,15 +224,14 @@ fn name_low<B: Bounds>(
     let place = out.tables.low_strings.len();
     let packed = out.texts.pack_low(alloc, text)?;
     out.low_string(packed.as_slice())?;
-    out.declare(name.bytes(), name.place, Meaning::LowString(place))?;
-    Ok(())
+    declare(name, Meaning::LowString(place), out)
 }
 
 /// Declares `name` as a new low string of `text`, or as 0 where a fault was found in the text.
 fn name_text<B: Bounds>(
     alloc: Global,
     name: &Name,
-    text: Result<Text, u8>,
+    text: Result<Text, UnitError>,
     out: &mut Output<B>,
 ) -> Result<(), AllocError>
     ensures { OnOk result (out.new ≡ low_named_by B.most (as_name name.now) text out.old) }
@@ -256,7 +256,7 @@ fn add_low_string<B: Bounds>(
     if found.is_some() {
         return name_nothing(name, &mut compilation.output);
     }
-    let text = read_numbered(
+    let text = read_or_error(
         compilation.alloc,
         context.set,
         Mode::Text,

@@ -8,18 +8,19 @@ ghost use Rattle.inf_statements.specs.Printing.{text_at};
 ghost use Rattle.inf_declarations.specs.Arrays.{added, added_finding, adding, apart, array_declared, array_header, array_kind, array_named};
 ghost use Rattle.inf_declarations.specs.Arrays.{array_opened, array_refused, bare_leaf, bare_text, code_of, codes_of, entry_added};
 ghost use Rattle.inf_declarations.specs.Arrays.{entry_ended};
-ghost use Rattle.inf_declarations.specs.Arrays.{entry_finding, entry_judged, entry_with, header_with, is_alone, is_variable, items_finding};
-ghost use Rattle.inf_declarations.specs.Arrays.{kind_in, kind_named, listed, looked_value, lost_added, own_finding, refused, story_added};
+ghost use Rattle.inf_declarations.specs.Arrays.{entry_finding, entry_judged, entry_with, header_with, is_alone, items_finding};
+ghost use Rattle.inf_declarations.specs.Arrays.{kind_in, kind_named, listed, lost_added, own_finding, refused, story_added};
 ghost use Rattle.inf_declarations.specs.Arrays.{text_added, text_finding, value_added, variables_from};
 ghost use Rattle.inf_compilation.specs.Actions.{operands_of};
 ghost use Rattle.inf_compilation.specs.Works.{work};
 
-use crate::declarations::{Declared, end_declared, plainly_known, value, value_in};
+use crate::declarations::{Declared, declare, end_declared, plainly_known};
+use crate::values::{has_variables, looked_value, text_at, value};
 use inf_area::Value;
 use inf_compilation::compilation::{Compilation, Listing};
 use inf_compilation::context::Context;
 use inf_compilation::findings::Findings;
-use inf_expressions::{Finding, Operand, Wanted, build, least_of_both};
+use inf_expressions::{Finding, Operand, Wanted, least_of_both};
 use inf_gathering::gathering::Leaf;
 use inf_lexer::Place;
 use inf_names::meanings::Meaning;
@@ -30,8 +31,7 @@ use inf_scanner::{Mark, TokenKind};
 use inf_settings::bounds::{Bounds, Unbounded};
 use inf_settings::setting::Setting;
 use inf_tables::{ArrayFault, ArrayKind, Arrays, Entries};
-use inf_text::{Text, TextItem};
-use inf_unit::texts::text_of;
+use inf_text::TextItem;
 use inf_unit::unit_tokens::UnitTokens;
 use std::alloc::{AllocError, Global};
 
@@ -76,24 +76,6 @@ pub fn refused(fault: Option<ArrayFault>) -> Option<Finding>
         }
         ArrayFault::Full | ArrayFault::Memory => None,
     }
-}
-
-/// Returns whether an item is a string variable.
-fn is_variable(item: TextItem) -> bool
-    ensures { result ≡ is_variable item }
-{
-    matches!(item, TextItem::Variable(_))
-}
-
-/// Returns whether a string variable is among some items.
-pub fn has_variables(items: &[TextItem]) -> bool
-    ensures { result ≡ variables_from items.now false }
-{
-    let mut found = false;
-    for item in items {
-        found = found | is_variable(*item);
-    }
-    found
 }
 
 /// Returns the code of a character.
@@ -160,8 +142,7 @@ fn declare_array<B: Bounds>(
 ) -> Result<(), AllocError>
     ensures { OnOk result (out.new ≡ array_declared B.most (as_name name.now) place out.old) }
 {
-    out.declare(name.bytes(), name.place, Meaning::Array(place))?;
-    Ok(())
+    declare(name, Meaning::Array(place), out)
 }
 
 /// Passes the limit of arrays, and declares the name of the array all the same.
@@ -311,20 +292,6 @@ fn bare_text<B: Bounds>(compilation: &Compilation<B>, is_alone: bool) -> Option<
     }
 }
 
-/// Returns the characters of the text at a place of the unit.
-pub fn text_at<B: Bounds>(
-    compilation: &Compilation<B>,
-    context: &Context<'_>,
-    at: usize,
-) -> Result<Option<Text>, AllocError>
-    ensures { IfOk result (λ text. text ≡ text_at (handed context.now).set compilation.now.unit.tokens at) }
-{
-    match compilation.unit.tokens.get(at) {
-        Some(token) => text_of(compilation.alloc, context.set, &token),
-        None => Ok(None),
-    }
-}
-
 /// Returns the finding about the entries that are to be added to the array that is read.
 fn added_finding<B: Bounds>(compilation: &Compilation<B>, entries: Entries<'_>) -> Option<Finding>
     ensures { result ≡ added_finding B.most (adding_of entries.entry) (work compilation.now) }
@@ -363,24 +330,6 @@ fn text_finding<B: Bounds>(
         Some(text) => items_finding(compilation, text.as_slice()),
         None => Ok(Some(Finding::out_of_range(0))),
     }
-}
-
-/// Returns the value of the unit's expression, where its names are only looked up.
-pub fn looked_value<B: Bounds>(
-    compilation: &Compilation<B>,
-    operands: &[Operand],
-) -> Result<Value, AllocError>
-    requires { operands.now ≡ operands_of (work compilation.now) }
-    ensures { IfOk result (λ value. value ≡ looked_value (work compilation.now)) }
-{
-    let forest = build(
-        compilation.alloc,
-        Wanted::Constant,
-        0,
-        compilation.unit.gathering.symbols(),
-        operands,
-    )?;
-    Ok(value_in(&forest))
 }
 
 /// Returns the finding about an entry, beside that about its expression; `is_alone` is whether it is alone.

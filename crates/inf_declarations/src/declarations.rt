@@ -1,38 +1,32 @@
-//! Directives that declare attributes, and the common parts of all declarations.
+//! The common parts of all declarations: the findings about a name, its declaration with a meaning, and the end of its directive.
 ghost use Rattle.inf_compilation.specs.Context.{handed};
 ghost use Rattle.std.specs.Prelude.{IfOk, OnOk, map, option_map, ◌≡◌};
-ghost use Rattle.inf_expressions.specs.Forests.{trees_in as rooted_in};
-ghost use Rattle.inf_constructs.specs.Roots.{tree_in};
 ghost use Rattle.inf_names.specs.Spellings.{as_name};
-ghost use Rattle.inf_declarations.specs.Declarations.{alias_finding, alias_meaning, alias_told, aliased, attribute, attribute_added};
-ghost use Rattle.inf_declarations.specs.Declarations.{attribute_ended, attribute_number, attribute_with, declaration_ended, declared_ended};
-ghost use Rattle.inf_declarations.specs.Declarations.{declared_finding, declared_findings, has_most_attributes, is_alias, is_late};
-ghost use Rattle.inf_declarations.specs.Declarations.{is_name_at, last_meaning, late_finding, name_known, names_itself, new_attribute};
-ghost use Rattle.inf_declarations.specs.Declarations.{nothing_of, plainly_known, standing_fault, value_in, valued};
-ghost use Rattle.inf_compilation.specs.Actions.{settled_of, trees_at};
+ghost use Rattle.inf_declarations.specs.Declarations.{alias_finding, alias_meaning, alias_told, aliased, declaration_ended};
+ghost use Rattle.inf_declarations.specs.Declarations.{declared_ended, declared_finding, declared_findings, is_alias, is_late};
+ghost use Rattle.inf_declarations.specs.Declarations.{is_name_at, last_meaning, late_finding, name_declared, name_known, names_itself};
+ghost use Rattle.inf_declarations.specs.Declarations.{nothing_of, plainly_known, standing_fault, valued};
 ghost use Rattle.inf_compilation.specs.Meant.{again_as, found_as};
 ghost use Rattle.inf_compilation.specs.Works.{work};
 
-use crate::globals::FIRST_GLOBAL;
-use inf_area::Value;
 use inf_compilation::compilation::Compilation;
 use inf_compilation::context::Context;
-use inf_compilation::findings::{
-    Again, Findings, USED_BEFORE, again_by, again_finding, many_finding,
-};
-use inf_expressions::{Finding, Forest, Wanted, build, constant, least_of_both};
+use inf_compilation::findings::{Again, Findings, again_by, again_finding, many_finding};
+use inf_expressions::{Finding, UnitError, Wanted, least_of_both};
 use inf_gathering::gathering::Leaf;
 use inf_lexer::Place;
 use inf_names::meanings::Meaning;
 use inf_names::spellings::Name;
 use inf_names::symbols::{DeclareFault, Found};
+use inf_output::Output;
 use inf_report::messages::FixedLimit;
 use inf_settings::bounds::Bounds;
-use inf_statements::operands::settled;
-use inf_tables::WorldFault;
 use inf_unit::unit::order;
 use inf_unit::unit_tokens::UnitTokens;
 use std::alloc::AllocError;
+
+/// The number of the first global variable (Z-Machine Standard 1.1, section 6.2).
+pub(crate) const FIRST_GLOBAL: u8 = 16;
 
 /// A declaration, as far as it is known: the answer of the look-up of its name, and the least of the findings about it.
 #[derive(Clone, Copy)]
@@ -40,10 +34,6 @@ pub struct Declared {
     pub found: Found<Place>,
     pub finding: Option<Finding>,
 }
-
-/// The greatest number of attributes (Z-Machine Standard 1.1, section 12.3). Those of properties and global variables
-/// are in sections 12.2 and 6.2.
-const MOST_ATTRIBUTES: usize = 48;
 
 /// Returns the reason why a name cannot be declared that is declared already, or is one of the language, by `found`,
 /// the answer of its look-up.
@@ -97,7 +87,7 @@ fn late_finding(order: u32, is_late: bool) -> Option<Finding>
     if is_late {
         Some(Finding {
             order,
-            number: USED_BEFORE,
+            error: UnitError::UsedBefore,
         })
     } else {
         None
@@ -200,14 +190,17 @@ fn aliased(kind: FixedLimit, meaning: Option<Meaning>, found: Option<Finding>) -
     }
 }
 
-/// Returns the value of the expression in `forest`, which is 0 where there is none.
-pub fn value_in(forest: &Forest) -> Value
-    ensures { result ≡ value_in (map tree_in (rooted_in forest.now)) }
+/// Declares `name`, where it stands, with `meaning`. A name that is declared already stays as it is, and one more than there may be passes
+/// the limit.
+pub fn declare<B: Bounds>(
+    name: &Name,
+    meaning: Meaning,
+    out: &mut Output<B>,
+) -> Result<(), AllocError>
+    ensures { OnOk result (out.new ≡ name_declared B.most (as_name name.now) meaning out.old) }
 {
-    match forest.roots.first() {
-        Some(root) => constant(&forest.nodes, root.place).unwrap_or(Value::Known(0)),
-        None => Value::Known(0),
-    }
+    out.declare(name.bytes(), name.place, meaning)?;
+    Ok(())
 }
 
 /// Looks for `name`, which is declared by a token of `order`, and returns the declaration as far as it is known. The
@@ -290,119 +283,6 @@ pub(crate) fn name_known<B: Bounds>(
     }
 }
 
-/// Declares the first of these names as an attribute, or as another name of one.
-pub fn attribute<B: Bounds>(
-    compilation: &mut Compilation<B>,
-    context: &Context<'_>,
-    first: Place,
-    names: &[Name],
-) -> Result<(), AllocError>
-    ensures { OnOk result (work compilation.new ≡ attribute B.most (handed context.now) first (map as_name names.now)
-        (work compilation.old)) }
-{
-    let Some((name, names)) = names.split_first() else {
-        compilation.pass(true);
-        return Ok(());
-    };
-    if is_alias(names, compilation.unit.gathering.leaves()) {
-        let order = compilation.unit.tokens.name_order();
-        return alias(
-            compilation,
-            context,
-            first,
-            name,
-            order,
-            FixedLimit::Attributes,
-        );
-    }
-    one_attribute(compilation, context, first, name)
-}
-
-/// Returns whether there are as many attributes as there may be.
-fn has_most_attributes<B: Bounds>(compilation: &Compilation<B>) -> bool
-    ensures { result ≡ has_most_attributes (work compilation.now).output }
-{
-    compilation.output.tables.world.attribute_count() >= MOST_ATTRIBUTES
-}
-
-/// Declares a name as an attribute.
-fn one_attribute<B: Bounds>(
-    compilation: &mut Compilation<B>,
-    context: &Context<'_>,
-    first: Place,
-    name: &Name,
-) -> Result<(), AllocError>
-    ensures { OnOk result (work compilation.new ≡ attribute_with B.most (handed context.now) first (as_name name.now)
-        (work compilation.old)) }
-{
-    let order = compilation.unit.tokens.name_order();
-    let declared = name_known(compilation, name, order, has_most_attributes(compilation));
-    end_attribute(compilation, context, first, name, declared)
-}
-
-/// Ends the declaration of `name` as an attribute, which begins at `first`; `declared` is the declaration as far as it
-/// is known.
-fn end_attribute<B: Bounds>(
-    compilation: &mut Compilation<B>,
-    context: &Context<'_>,
-    first: Place,
-    name: &Name,
-    declared: Declared,
-) -> Result<(), AllocError>
-    ensures { OnOk result (work compilation.new ≡ attribute_ended B.most (handed context.now) first (as_name name.now) declared
-        (work compilation.old)) }
-{
-    add_attribute(compilation, name, declared.finding)?;
-    end_declaration(
-        compilation,
-        context,
-        first,
-        name,
-        FixedLimit::Attributes,
-        declared,
-    )
-}
-
-/// Returns the number of the next attribute.
-fn attribute_number<B: Bounds>(compilation: &Compilation<B>) -> u8
-    ensures { result ≡ attribute_number (work compilation.now).output }
-{
-    (compilation.output.tables.world.attribute_count() % 256) as u8
-}
-
-/// Declares the name of an attribute, which is a new one where nothing is wrong with it.
-fn add_attribute<B: Bounds>(
-    compilation: &mut Compilation<B>,
-    name: &Name,
-    found: Option<Finding>,
-) -> Result<(), AllocError>
-    ensures { let before = work compilation.old in
-        OnOk result (work compilation.new ≡ record before { output = attribute_added B.most found (as_name name.now) before.output }) }
-{
-    if found.is_some() {
-        compilation
-            .output
-            .declare(name.bytes(), name.place, Meaning::Attribute(0))?;
-        return Ok(());
-    }
-    let meaning = Meaning::Attribute(attribute_number(compilation));
-    compilation
-        .output
-        .declare(name.bytes(), name.place, meaning)?;
-    new_attribute(compilation)
-}
-
-/// Makes one attribute more.
-fn new_attribute<B: Bounds>(compilation: &mut Compilation<B>) -> Result<(), AllocError>
-    ensures { let before = work compilation.old in OnOk result
-        (work compilation.new ≡ record before { output = new_attribute before.output }) }
-{
-    match compilation.output.tables.world.declare_attribute() {
-        Ok(_) | Err(WorldFault::Limit(_) | WorldFault::Misfit(_) | WorldFault::Full(_)) => Ok(()),
-        Err(WorldFault::Memory) => Err(AllocError),
-    }
-}
-
 /// Looks for `name`, which is declared by a token of `order`. The finding is the error of the declaration or of its expression, where there
 /// are as many of its kind as there may be if `are_many`.
 pub(crate) fn valued<B: Bounds>(
@@ -420,33 +300,6 @@ pub(crate) fn valued<B: Bounds>(
         found: declared.found,
         finding: least_of_both(declared.finding, finding),
     })
-}
-
-/// Returns the value of the unit's expression, whose names are used.
-pub fn value<B: Bounds>(
-    compilation: &mut Compilation<B>,
-    context: &Context<'_>,
-) -> Result<Value, AllocError>
-    ensures { IfOk result (λ value. let s = settled_of B.most (handed context.now) (work compilation.old) in
-        (value ≡ value_in (map tree_in (trees_at 0 Wanted.Constant s.operands (work compilation.old))))
-        × (work compilation.new ≡ record (work compilation.old) { output = s.out })) }
-{
-    let operands = settled(
-        compilation.alloc,
-        context.set,
-        &compilation.locals,
-        &compilation.unit.tokens,
-        compilation.unit.gathering.leaves(),
-        &mut compilation.output,
-    )?;
-    let forest = build(
-        compilation.alloc,
-        Wanted::Constant,
-        0,
-        compilation.unit.gathering.symbols(),
-        operands.as_slice(),
-    )?;
-    Ok(value_in(&forest))
 }
 
 /// Returns the meaning of the last name of the unit, where it is one of `kind`.
@@ -477,9 +330,7 @@ pub(crate) fn alias<B: Bounds>(
         alias_finding(&compilation.unit.tokens, meaning),
     );
     let stands = aliased(kind, meaning, finding);
-    compilation
-        .output
-        .declare(name.bytes(), name.place, stands)?;
+    declare(name, stands, &mut compilation.output)?;
     let declared = Declared {
         found: own.found,
         finding,

@@ -13,18 +13,18 @@ ghost use Rattle.inf_compilation.specs.Actions.{as_constant, constant, constant_
 ghost use Rattle.inf_compilation.specs.Actions.{constant_meaning, constant_of, constant_with, declared_meaning, is_declared};
 ghost use Rattle.inf_compilation.specs.Actions.{is_first_declared, leaf_meaning, named_leaf, new_stub, replace, stub, stub_locals, stubbed};
 ghost use Rattle.inf_compilation.specs.Actions.{words_of};
-ghost use Rattle.inf_statements.specs.Operands.{leaf_added};
 ghost use Rattle.inf_unit.specs.Directives.{Include, asked, weight_of};
 ghost use Rattle.inf_declarations.specs.Defaults.{default};
 ghost use Rattle.inf_compilation.specs.Meant.{again_as, found_as};
 ghost use Rattle.inf_compilation.specs.Works.{work};
 
+use crate::values::{add_leaf, constant_trees};
 use inf_area::Value;
 use inf_assembler::RoutineKind;
 use inf_compilation::compilation::Compilation;
 use inf_compilation::context::Context;
 use inf_compilation::findings::{Again, Findings, again_by, again_finding};
-use inf_expressions::{Finding, Forest, Wanted, build, constant as constant_in, least_of_both};
+use inf_expressions::{Finding, Forest, Wanted, constant as constant_in, least_of_both};
 use inf_gathering::gathering::Leaf;
 use inf_lexer::Place;
 use inf_names::meanings::Meaning;
@@ -33,7 +33,6 @@ use inf_names::symbols::{DeclareFault, Found};
 use inf_report::messages::FixedLimit;
 use inf_report::own_words::OwnWords;
 use inf_settings::bounds::Bounds;
-use inf_statements::operands::add_leaf as add_operand;
 use inf_unit::directives::{Request, weight_of};
 use inf_unit::kinds::number_of;
 use inf_unit::messages::location;
@@ -172,13 +171,7 @@ pub fn constant<B: Bounds>(
     };
     let operands = compilation.operands()?;
     let found = compilation.finding(0, Wanted::Constant, operands.as_slice())?;
-    let forest = build(
-        compilation.alloc,
-        Wanted::Constant,
-        0,
-        compilation.unit.gathering.symbols(),
-        operands.as_slice(),
-    )?;
+    let forest = constant_trees(compilation, operands.as_slice())?;
     let meaning = constant_of(compilation, &forest);
     declare_constant(compilation, context, first, name, meaning, found)
 }
@@ -309,25 +302,6 @@ fn constant_findings(order: u32, again: Option<Again>, finding: Option<Finding>)
         many: FixedLimit::Values,
         again,
     }
-}
-
-/// Adds the text or the word that a constant's expression is, and the actions that it names.
-pub(crate) fn add_leaf<B: Bounds>(
-    compilation: &mut Compilation<B>,
-    context: &Context<'_>,
-) -> Result<(), AllocError>
-    ensures { let before = work compilation.old in OnOk result (work compilation.new ≡ record before {
-      output = leaf_added B.most (handed context.now).set before.unit.tokens before.unit.gathering.leaves before.output;
-    }) }
-{
-    let leaves = compilation.unit.gathering.leaves();
-    add_operand(
-        compilation.alloc,
-        context.set,
-        &compilation.unit.tokens,
-        leaves,
-        &mut compilation.output,
-    )
 }
 
 /// Returns whether a name is declared, by the answer of its look-up.

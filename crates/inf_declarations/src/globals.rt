@@ -6,7 +6,8 @@ ghost use Rattle.inf_declarations.specs.Declarations.{global_added, global_ended
 ghost use Rattle.inf_declarations.specs.Declarations.{new_global, nothing_of, valued};
 ghost use Rattle.inf_compilation.specs.Works.{work};
 
-use crate::declarations::{Declared, end_declaration, nothing_of, value, valued};
+use crate::declarations::{Declared, FIRST_GLOBAL, declare, end_declaration, nothing_of, valued};
+use crate::values::value;
 use inf_area::Value;
 use inf_compilation::compilation::Compilation;
 use inf_compilation::context::Context;
@@ -16,12 +17,9 @@ use inf_names::meanings::Meaning;
 use inf_names::spellings::Name;
 use inf_report::messages::FixedLimit;
 use inf_settings::bounds::Bounds;
-use inf_unit::unit::order;
 use std::alloc::AllocError;
 
 const MOST_GLOBALS: usize = 235;
-
-pub(crate) const FIRST_GLOBAL: u8 = 16;
 
 /// Declares the first of these names as a global variable, with the value of the unit's expression, or 0.
 pub fn global_variable<B: Bounds>(
@@ -98,16 +96,15 @@ fn add_global<B: Bounds>(
         { output = global_added B.most (handed context.now) found (as_name name.now) before }) }
 {
     if found.is_some() {
-        compilation
-            .output
-            .declare(name.bytes(), name.place, nothing_of(FixedLimit::Globals))?;
-        return Ok(());
+        return declare(
+            name,
+            nothing_of(FixedLimit::Globals),
+            &mut compilation.output,
+        );
     }
     let value = value(compilation, context)?;
     let meaning = Meaning::Variable(FIRST_GLOBAL + compilation.output.tables.globals.len() as u8);
-    compilation
-        .output
-        .declare(name.bytes(), name.place, meaning)?;
+    declare(name, meaning, &mut compilation.output)?;
     new_global(compilation, value)
 }
 

@@ -7,18 +7,20 @@ ghost use Rattle.inf_declarations.specs.Declarations.{new_property, nothing_of, 
 ghost use Rattle.inf_declarations.specs.Declarations.{property_names, property_number, property_order, property_with, valued};
 ghost use Rattle.inf_compilation.specs.Works.{work};
 
-use crate::declarations::{Declared, alias, end_declaration, is_alias, nothing_of, value, valued};
+use crate::declarations::{
+    Declared, alias, declare, end_declaration, is_alias, nothing_of, valued,
+};
+use crate::values::value;
 use inf_area::Value;
 use inf_compilation::compilation::Compilation;
 use inf_compilation::context::Context;
-use inf_expressions::{Finding, Wanted, least_of_both};
+use inf_expressions::Finding;
 use inf_lexer::Place;
 use inf_names::meanings::Meaning;
 use inf_names::spellings::Name;
 use inf_report::messages::FixedLimit;
 use inf_settings::bounds::Bounds;
 use inf_tables::WorldFault;
-use inf_unit::unit::order;
 use inf_unit::unit_tokens::UnitTokens;
 use std::alloc::AllocError;
 
@@ -180,17 +182,18 @@ fn add_property<B: Bounds>(
         { output = property_added B.most (handed context.now) found (as_name name.now) is_additive before }) }
 {
     if found.is_some() {
-        compilation.output.declare(name.bytes(), name.place, nothing_of(FixedLimit::Properties))?;
-        return Ok(());
+        return declare(
+            name,
+            nothing_of(FixedLimit::Properties),
+            &mut compilation.output,
+        );
     }
     let value = value(compilation, context)?;
     let meaning = Meaning::Property {
         number: property_number(compilation),
         is_additive,
     };
-    compilation
-        .output
-        .declare(name.bytes(), name.place, meaning)?;
+    declare(name, meaning, &mut compilation.output)?;
     new_property(compilation, is_additive, value)
 }
 

@@ -7,8 +7,8 @@ ghost use Rattle.inf_declarations.specs.Switches.{has_code, letters_behind, misp
 
 use inf_compilation::compilation::Compilation;
 use inf_compilation::context::Context;
-use inf_compilation::findings::{Findings, MISPLACED_SWITCHES};
-use inf_expressions::Finding;
+use inf_compilation::findings::Findings;
+use inf_expressions::{Finding, UnitError};
 use inf_letters::Letters;
 use inf_lexer::Place;
 use inf_names::spellings::Name;
@@ -86,6 +86,6 @@ fn misplaced() -> Finding
 {
     Finding {
         order: 0,
-        number: MISPLACED_SWITCHES,
+        error: UnitError::MisplacedSwitches,
     }
 }

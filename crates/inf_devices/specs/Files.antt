@@ -27,6 +27,11 @@ last_count = 18446744073709551615
 abbrev pub Rose : ℕ → ℕ → Type 0
 Rose before now = (before < now) ⊎ (now ≡ last_count)
 
+-- whether an attempt to open a source says that the device failed
+abbrev pub tells_failure : Result Unit OpenFault → Bool
+tells_failure (Err fault.Device) = true
+tells_failure _ = false
+
 -- The openings in their order, and the places there of the sources that are open, the innermost last.
 pub record Openings : Type 0 where
   pub all : List Opening

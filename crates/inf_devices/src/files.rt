@@ -1,5 +1,6 @@
-ghost use Rattle.std.specs.Prelude.{◌≡◌, ℕ, ◌+◌, ◌<◌, ◌≤◌, Bool, IsTrue, IsErr, IfOk, IsErrOf, OnErr, is_ok, length, min, if◌then◌else◌};
-ghost use Rattle.inf_devices.specs.Files.{last_count, Sources, Openings, Opens, Reads, Closes, Rose};
+ghost use Rattle.std.specs.Prelude.{◌≡◌, ℕ, ◌+◌, ◌<◌, ◌≤◌, Bool, false, IsTrue, IsErr, IsOk, IfOk, IsErrOf, OnErr};
+ghost use Rattle.std.specs.Prelude.{is_ok, length, min, if◌then◌else◌};
+ghost use Rattle.inf_devices.specs.Files.{last_count, Sources, Openings, Opens, Reads, Closes, Rose, tells_failure};
 ghost use Rattle.inf_devices.specs.declared.files.OpenFault.TheVariants.{Memory};
 
 use std::alloc::{AllocError, AllocFailed};
@@ -73,7 +74,7 @@ pub trait Files {
         ensures depth { depth self.new ≡ (if is_ok result then depth self.old + 1 else depth self.old) }
         ensures opened { opened self.new ≡ (if is_ok result then min (opened self.old + 1) last_count else opened self.old) }
         ensures cause { IsErrOf result OpenFault.Device → Rose (faults self.old) (faults self.new) }
-        ensures faults { faults self.old ≤ faults self.new }
+        ensures faults { (faults self.old ≤ faults self.new) × (tells_failure result ≡ false → faults self.new ≡ faults self.old) }
         ensures given { given self.new ≡ given self.old }
         ensures sources { sources self.new ≡ sources self.old }
         ensures honesty { is_honest self.new ≡ is_honest self.old };
@@ -91,7 +92,7 @@ pub trait Files {
         ensures depth { depth self.new ≡ depth self.old }
         ensures opened { opened self.new ≡ opened self.old }
         ensures cause { IsErr result → Rose (faults self.old) (faults self.new) }
-        ensures faults { faults self.old ≤ faults self.new }
+        ensures faults { (faults self.old ≤ faults self.new) × (IsOk result → faults self.new ≡ faults self.old) }
         ensures sources { sources self.new ≡ sources self.old }
         ensures honesty { is_honest self.new ≡ is_honest self.old };
 

@@ -25,6 +25,7 @@ pub trait Sink {
         ensures count { IfOk result (λ n. n ≤ length bytes.now) }
         ensures failed { IsErr result → Rose (failures self.old) (failures self.new) }
         ensures nothing { result ≡ Ok 0 → Rose (failures self.old) (failures self.new) }
+        ensures quiet { IfOk result (λ n. 0 < n → failures self.new ≡ failures self.old) }
         ensures failures { failures self.old ≤ failures self.new };
 }
 
@@ -37,6 +38,7 @@ pub fn write_whole<S: Sink>(sink: &mut S, bytes: &[u8]) -> Result<(), usize>
     ensures short { IfErr result (λ n. n < length bytes.now) }
     ensures part { IfErr result (λ n. Takes (S.taken sink.old) (S.taken sink.new) (take n bytes.now)) }
     ensures failed { IsErr result → Rose (S.failures sink.old) (S.failures sink.new) }
+    ensures quiet { OnOk result (S.failures sink.new ≡ S.failures sink.old) }
     ensures failures { S.failures sink.old ≤ S.failures sink.new }
 {
     let mut done = 0;

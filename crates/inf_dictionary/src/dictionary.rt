@@ -1,5 +1,6 @@
 //! The words of a story, and how they are written.
-ghost use Rattle.std.specs.Prelude.{◌≡◌, ◌<◌, ◌≤◌, ◌++◌, ◌∷◌, [], None, OnOk, OnErr, IfOk, IfNone, IsNone, MatchResult, length, unwrap_or};
+ghost use Rattle.std.specs.Prelude.{◌≡◌, ◌<◌, ◌≤◌, ◌++◌, ◌∷◌, [], None, OnOk, OnErr, IfErr, IfOk, IfNone, IfSome, IsNone, MatchResult};
+ghost use Rattle.std.specs.Prelude.{length, unwrap_or};
 ghost use Rattle.inf_dictionary.specs.Words.{add_fault, dictionary_bytes, entry_bytes, first_misfit, is_misfit, verb_of, with_use, word_of};
 ghost use Rattle.inf_dictionary.specs.declared.dictionary.AddFault.TheVariants.{Memory};
 ghost use Rattle.inf_dictionary.specs.Texts.{AreRising, AreWhole, texts_of};
@@ -101,13 +102,14 @@ impl<B: Bounds> Dictionary<B> {
     /// Adds a use of the word with `text`, and joins the facts that it says to those of other uses.
     ///
     /// Returns an error, the first that applies: `OtherVerb` where a word of a verb would become one of another, `Full`
-    /// where the word is new and there are as many words as there may be, `Memory` where no memory is left. The words
-    /// then stay as they were.
+    /// where the word is new and there are as many words as there may be, `Memory` where it is new and no memory is left.
+    /// The words then stay as they were.
     pub fn add(&mut self, text: [u8; 6], word_use: WordUse, is_plural: bool) -> Result<(), AddFault>
         ensures ok { OnOk result (self.new ≡ with_use text word_use is_plural self.old) }
         ensures err { OnErr result (self.new ≡ self.old) }
         ensures fault { let fault = add_fault B.most (word_of text self.old.list) word_use self.old in
             MatchResult result (λ _. fault ≡ None) (λ refused. refused ≡ unwrap_or fault Memory) }
+        ensures memory { IfErr result (λ refused. refused ≡ Memory → word_of text self.old.list ≡ None) }
     {
         let before = self.word(&text);
         if let Some(fault) = self.add_fault(before, word_use) {
@@ -122,6 +124,7 @@ impl<B: Bounds> Dictionary<B> {
     fn add_fault(&self, before: Option<Word>, word_use: WordUse) -> Option<AddFault>
         ensures value { result ≡ add_fault B.most before word_use self.now }
         ensures room { IfNone result (IsNone before → length self.now.list < B.most setting.DictionaryEntries) }
+        ensures never { IfSome result (λ fault. fault ≡ Memory → ⊥) }
     {
         if is_of_other_verb(before, word_use) {
             return Some(AddFault::OtherVerb);

@@ -1,5 +1,5 @@
 -- Devices of the system: the answers of their calls, by the answers of the system.
-use Rattle.std.specs.Prelude.{◌≡◌, ⊤, ℕ, ◌-◌, length, slice_get, slice_set, List, [], ◌∷◌, ◌++◌, Option, Some, None, Result, Ok, Err}
+use Rattle.std.specs.Prelude.{◌≡◌, ◌⊎◌, ⊤, ℕ, ◌-◌, length, slice_get, slice_set, List, [], ◌∷◌, ◌++◌, Option, Some, None, Result, Ok, Err}
 use Rattle.std.specs.Io.KnownBytes.{ReadConsumes, WriteAppends}
 use Rattle.std.specs.declared.io.ErrorKind.{ErrorKind}
 use Rattle.std.specs.declared.io.ErrorKind.TheVariants as kind
@@ -16,11 +16,13 @@ fault_of_kind kind.OutOfMemory = fault.Memory
 fault_of_kind _ = fault.Device
 
 -- An opening that succeeds adds a file behind the open ones. Any other leaves them as they were, and has its fault by
--- the system's reason, which is kept; but for want of memory it may fail before the system is asked.
-abbrev pub OpensFile : {F : Type 0} → List F → List F → Option ErrorKind → Result Unit OpenFault → Type 0
-OpensFile {F} old new reason (Ok _) = (reason ≡ None) × (file : F) × (new ≡ old ++ file ∷ [])
-OpensFile old new reason (Err fault.Memory) = new ≡ old
-OpensFile old new reason (Err refused) =
+-- the system's reason, which is kept; but for want of memory it may fail before the system is asked, and then the reason
+-- that was kept before stays.
+abbrev pub OpensFile : {F : Type 0} → List F → List F → Option ErrorKind → Option ErrorKind → Result Unit OpenFault → Type 0
+OpensFile {F} old new before reason (Ok _) = (reason ≡ None) × (file : F) × (new ≡ old ++ file ∷ [])
+OpensFile old new before reason (Err fault.Memory) =
+    (new ≡ old) × ((reason ≡ before) ⊎ ((kind : ErrorKind) × (reason ≡ Some kind) × (fault_of_kind kind ≡ fault.Memory)))
+OpensFile old new before reason (Err refused) =
     (new ≡ old) × (kind : ErrorKind) × (reason ≡ Some kind) × (refused ≡ fault_of_kind kind)
 
 -- a read of the last of the open files, and no other changed

@@ -1,9 +1,10 @@
-ghost use Rattle.std.specs.Prelude.{◌≡◌, ◌==◌, ◌&&◌, IsTrue, ◌+◌, ◌<◌, ◌≤◌, [], ◌∷◌, ◌++◌, None, Some, Ok};
-ghost use Rattle.std.specs.Prelude.{true, IsErr, IsSome, IsErrOf, IfOk, OnOk, OnErr};
+ghost use Rattle.std.specs.Prelude.{◌≡◌, ◌==◌, ◌&&◌, IsTrue, ◌+◌, ◌<◌, ◌≤◌, [], ◌∷◌, ◌++◌, None, Some, Ok, Err};
+ghost use Rattle.std.specs.Prelude.{true, false, IsErr, IsOk, IsSome, IsErrOf, IfOk, OnOk, OnErr};
 ghost use Rattle.std.specs.Prelude.{is_ok, length, min, if◌then◌else◌};
 ghost use Rattle.std.specs.Fs.{new_options, with_write, with_create, with_truncate};
 ghost use Rattle.std.specs.Io.KnownBytes.{ReadConsumes, WriteAppends};
-ghost use Rattle.inf_devices.specs.Files.{Rose, last_count};
+ghost use Rattle.std.specs.IoError.{error_kind, raw_os_error};
+ghost use Rattle.inf_devices.specs.Files.{Rose, last_count, tells_failure};
 ghost use Rattle.inf_disk.specs.Disk.{fault_of_kind, OpensFile, ReadsLast, WritesMade};
 
 use inf_devices::failures::Failures;
@@ -13,7 +14,7 @@ use inf_devices::sinks::{Sink, SinkFault};
 use std::alloc::Global;
 use std::cell::Cell;
 use std::fs::{Metadata, OpenFile, OpenOptions};
-use std::io::{ErrorKind, Read, Write};
+use std::io::{self, ErrorKind, Read, Write};
 use std::os::unix::fs::MetadataExt;
 use std::{fs, rt};
 
@@ -33,6 +34,7 @@ impl Trouble {
     pub fn none() -> Trouble
         ensures failures { result.failures ≡ 0 }
         ensures reason { result.reason ≡ None }
+        ensures number { result.number ≡ None }
     {
         Trouble {
             failures: Failures::none(),
@@ -47,9 +49,57 @@ impl Trouble {
         ensures rose { Rose self.old.failures self.new.failures }
         ensures later { self.old.failures ≤ self.new.failures }
         ensures reason { self.new.reason ≡ Some reason }
+        ensures number { self.new.number ≡ self.old.number }
     {
         self.failures.add();
         self.reason = Some(reason);
+    }
+
+    /// Counts a failure of the system, and keeps its reason and number.
+    fn add_error(&mut self, error: &io::Error)
+        ensures rose { Rose self.old.failures self.new.failures }
+        ensures later { self.old.failures ≤ self.new.failures }
+        ensures reason { self.new.reason ≡ Some (error_kind error.now) }
+        ensures number { self.new.number ≡ raw_os_error error.now }
+    {
+        self.add(error.kind());
+        self.number = error.raw_os_error();
+    }
+
+    /// Keeps the reason of the system's error and its number, and counts no failure.
+    fn keep(&mut self, error: &io::Error)
+        ensures calm { self.new.failures ≡ self.old.failures }
+        ensures reason { self.new.reason ≡ Some (error_kind error.now) }
+        ensures number { self.new.number ≡ raw_os_error error.now }
+    {
+        self.reason = Some(error.kind());
+        self.number = error.raw_os_error();
+    }
+
+    /// Keeps the reason and the number for which the system opened no file, and returns the fault. A file that is absent, and want of
+    /// memory, are no failures.
+    fn refused(&mut self, error: &io::Error) -> OpenFault
+        ensures fault { result ≡ fault_of_kind (error_kind error.now) }
+        ensures reason { self.new.reason ≡ Some (error_kind error.now) }
+        ensures number { self.new.number ≡ raw_os_error error.now }
+        ensures rose { result ≡ OpenFault.Device → Rose self.old.failures self.new.failures }
+        ensures later { self.old.failures ≤ self.new.failures }
+        ensures calm { tells_failure (Err result) ≡ false → self.new.failures ≡ self.old.failures }
+    {
+        match open_fault(error.kind()) {
+            OpenFault::Device => {
+                self.add_error(error);
+                OpenFault::Device
+            }
+            OpenFault::Absent => {
+                self.keep(error);
+                OpenFault::Absent
+            }
+            OpenFault::Memory => {
+                self.keep(error);
+                OpenFault::Memory
+            }
+        }
     }
 }
 
@@ -183,7 +233,7 @@ fn read_some<F: Read>(
     ensures failed { IsErr result → Rose trouble.old.failures trouble.new.failures }
     ensures reason { IsErr result → IsSome trouble.new.reason }
     ensures patient { IsErr result → ¬ (trouble.new.reason ≡ Some ErrorKind.Interrupted) }
-    ensures kept { OnOk result (trouble.new.reason ≡ trouble.old.reason) }
+    ensures kept { OnOk result (trouble.new ≡ trouble.old) }
     ensures later { trouble.old.failures ≤ trouble.new.failures }
 {
     for _ in 0..u64::MAX {
@@ -193,9 +243,8 @@ fn read_some<F: Read>(
         };
         match error.kind() {
             ErrorKind::Interrupted => {}
-            reason => {
-                trouble.add(reason);
-                trouble.number = error.raw_os_error();
+            _ => {
+                trouble.add_error(&error);
                 return Err(ReadFault::Device);
             }
         }
@@ -222,14 +271,15 @@ impl<R: rt::Files> Files for DiskFiles<'_, R> {
     ghost opened = { λ f. f.opened };
 
     fn open(&mut self, name: &str) -> Result<(), OpenFault>
-        ensures opens { OpensFile self.old.open_files.items self.new.open_files.items
+        ensures opens { OpensFile self.old.open_files.items self.new.open_files.items self.old.trouble.reason
             self.new.trouble.reason result }
         ensures depth { length self.new.open_files.items ≡ (if is_ok result
             then length self.old.open_files.items + 1 else length self.old.open_files.items) }
         ensures opened { self.new.opened ≡ (if is_ok result then min (self.old.opened + 1) last_count else self.old.opened) }
         ensures cause { IsErrOf result OpenFault.Device →
             Rose self.old.trouble.failures self.new.trouble.failures }
-        ensures faults { self.old.trouble.failures ≤ self.new.trouble.failures }
+        ensures faults { (self.old.trouble.failures ≤ self.new.trouble.failures)
+            × (tells_failure result ≡ false → self.new.trouble.failures ≡ self.old.trouble.failures) }
         ensures given { self.new.given ≡ self.old.given }
     {
         self.open_files.reserve(1)?;
@@ -241,16 +291,7 @@ impl<R: rt::Files> Files for DiskFiles<'_, R> {
                 self.opened = self.opened.saturating_add(1);
                 Ok(())
             }
-            Err(error) => {
-                self.trouble.number = error.raw_os_error();
-                let fault = open_fault(error.kind());
-                if fault == OpenFault::Device {
-                    self.trouble.add(error.kind());
-                } else {
-                    self.trouble.reason = Some(error.kind());
-                }
-                Err(fault)
-            }
+            Err(error) => Err(self.trouble.refused(&error)),
         }
     }
 
@@ -267,7 +308,8 @@ impl<R: rt::Files> Files for DiskFiles<'_, R> {
         ensures reason { IsErr result → IsSome self.new.trouble.reason }
         ensures patient { IsErr result → ¬ (self.new.trouble.reason ≡ Some ErrorKind.Interrupted) }
         ensures kept { OnOk result (self.new.trouble.reason ≡ self.old.trouble.reason) }
-        ensures faults { self.old.trouble.failures ≤ self.new.trouble.failures }
+        ensures faults { (self.old.trouble.failures ≤ self.new.trouble.failures)
+            × (IsOk result → self.new.trouble.failures ≡ self.old.trouble.failures) }
     {
         let last = self.open_files.len() - 1;
         let count = read_some(&mut self.open_files[last], to, &mut self.trouble)?;
@@ -301,7 +343,8 @@ fn write_some<W: Write>(to: &mut W, bytes: &[u8], trouble: &mut Trouble) -> Resu
     ensures nothing { result ≡ Ok 0 → Rose trouble.old.failures trouble.new.failures }
     ensures empty { result ≡ Ok 0 → trouble.new.reason ≡ Some ErrorKind.WriteZero }
     ensures kept { IfOk result (λ n. 0 < n → trouble.new.reason ≡ trouble.old.reason) }
-    ensures later { trouble.old.failures ≤ trouble.new.failures }
+    ensures later { (trouble.old.failures ≤ trouble.new.failures)
+        × IfOk result (λ n. 0 < n → trouble.new.failures ≡ trouble.old.failures) }
 {
     for _ in 0..u64::MAX {
         let error = match to.write(bytes) {
@@ -314,9 +357,8 @@ fn write_some<W: Write>(to: &mut W, bytes: &[u8], trouble: &mut Trouble) -> Resu
         };
         match error.kind() {
             ErrorKind::Interrupted => continue,
-            reason => {
-                trouble.add(reason);
-                trouble.number = error.raw_os_error();
+            _ => {
+                trouble.add_error(&error);
                 return Err(SinkFault::Device);
             }
         }
@@ -366,7 +408,8 @@ impl<W: Write> Sink for OutputSink<W> {
             Rose self.old.trouble.failures self.new.trouble.failures }
         ensures empty { result ≡ Ok 0 → self.new.trouble.reason ≡ Some ErrorKind.WriteZero }
         ensures kept { IfOk result (λ n. 0 < n → self.new.trouble.reason ≡ self.old.trouble.reason) }
-        ensures failures { self.old.trouble.failures ≤ self.new.trouble.failures }
+        ensures failures { (self.old.trouble.failures ≤ self.new.trouble.failures)
+            × IfOk result (λ n. 0 < n → self.new.trouble.failures ≡ self.old.trouble.failures) }
     {
         write_some(&mut self.output, bytes, &mut self.trouble)
     }
@@ -399,34 +442,32 @@ impl<'r, R: rt::Files> StorySink<'r, R> {
         }
     }
 
-    /// Makes the file and writes to it, unless it is a source of the run, which is neither opened nor made then.
-    fn begin(&mut self, is_source: bool, bytes: &[u8]) -> Result<usize, SinkFault>
-        requires some { 0 < length bytes.now }
-        requires none { self.old.file ≡ None }
-        ensures spared { IsTrue is_source → IsErr result × (self.new.file ≡ None)
+    /// Makes the file where there is none yet, unless it is a source of the run, which is neither opened nor made then.
+    fn make(&mut self, is_source: bool) -> Result<(), SinkFault>
+        ensures made { OnOk result (IsSome self.new.file) }
+        ensures held { IsSome self.old.file → IsOk result × (self.new.file ≡ self.old.file) }
+        ensures none { IsErr result → self.new.file ≡ None }
+        ensures spared { IsTrue is_source → self.old.file ≡ None → IsErr result
             × (self.new.trouble.reason ≡ Some ErrorKind.ResourceBusy) }
-        ensures bytes { WritesMade (R.File.contents) self.old.file self.new.file result bytes.now }
-        ensures count { IfOk result (λ n. n ≤ length bytes.now) }
+        ensures kept { OnOk result (self.new.trouble ≡ self.old.trouble) }
         ensures failed { IsErr result → Rose self.old.trouble.failures self.new.trouble.failures }
         ensures reason { IsErr result → IsSome self.new.trouble.reason }
-        ensures nothing { result ≡ Ok 0 → Rose self.old.trouble.failures self.new.trouble.failures }
-        ensures empty { result ≡ Ok 0 → self.new.trouble.reason ≡ Some ErrorKind.WriteZero }
-        ensures kept { IfOk result (λ n. 0 < n → self.new.trouble.reason ≡ self.old.trouble.reason) }
-        ensures failures { self.old.trouble.failures ≤ self.new.trouble.failures }
+        ensures later { self.old.trouble.failures ≤ self.new.trouble.failures }
     {
+        if self.file.is_some() {
+            return Ok(());
+        }
         if is_source {
             self.trouble.add(ErrorKind::ResourceBusy);
             return Err(SinkFault::Device);
         }
         match story_options().open(self.system, self.place.name) {
-            Ok(mut file) => {
-                let answer = write_some(&mut file, bytes, &mut self.trouble);
+            Ok(file) => {
                 self.file = Some(file);
-                answer
+                Ok(())
             }
             Err(error) => {
-                self.trouble.add(error.kind());
-                self.trouble.number = error.raw_os_error();
+                self.trouble.add_error(&error);
                 Err(SinkFault::Device)
             }
         }
@@ -450,11 +491,14 @@ impl<R: rt::Files> Sink for StorySink<'_, R> {
             Rose self.old.trouble.failures self.new.trouble.failures }
         ensures empty { result ≡ Ok 0 → self.new.trouble.reason ≡ Some ErrorKind.WriteZero }
         ensures kept { IfOk result (λ n. 0 < n → self.new.trouble.reason ≡ self.old.trouble.reason) }
-        ensures failures { self.old.trouble.failures ≤ self.new.trouble.failures }
+        ensures failures { (self.old.trouble.failures ≤ self.new.trouble.failures)
+            × IfOk result (λ n. 0 < n → self.new.trouble.failures ≡ self.old.trouble.failures) }
+        ensures patient { IsErr result → self.new.trouble.reason ≡ Some ErrorKind.Interrupted → self.new.file ≡ None }
     {
-        if let Some(file) = &mut self.file {
-            return write_some(file, bytes, &mut self.trouble);
+        self.make(self.place.is_source())?;
+        match &mut self.file {
+            Some(file) => write_some(file, bytes, &mut self.trouble),
+            None => unreachable!(),
         }
-        self.begin(self.place.is_source(), bytes)
     }
 }

@@ -13,8 +13,8 @@
 #![tactic(auto)]
 
 pub use inf_expressions::{
-    Binary, Finding, Forest, Node, Nodes, Operand as Leaf, Root, Symbol, Unary, Wanted, build,
-    constant, judge, operand, range,
+    Binary, Finding, Forest, Node, Nodes, Operand as Leaf, Root, Symbol, Unary, UnitError, Wanted,
+    build, constant, judge, operand, range,
 };
 pub use inf_gathering::gathering::Gathering;
 pub use inf_templates::{

@@ -19,7 +19,7 @@ use Rattle.inf_expressions.specs.declared.symbols.Symbol.{Symbol}
 use Rattle.inf_expressions.specs.declared.symbols.Symbol.TheVariants.{Bracketed, Prefix, Suffix, Two, Comma, List as ListOf, Call}
 use Rattle.inf_expressions.specs.declared.symbols.Symbol.TheVariants as symbol
 use Rattle.inf_expressions.specs.declared.units.Wanted.TheVariants as wanted
-use Rattle.inf_expressions.specs.Findings.{no_constant, out_of_range, too_many_arguments, wrong_kind}
+use Rattle.inf_expressions.specs.Findings.{error_number, no_constant, out_of_range, too_many_arguments, wrong_kind}
 use Rattle.inf_expressions.specs.Trees as tree
 use Rattle.inf_expressions.specs.Trees.{Tree}
 use Rattle.inf_expressions.specs.Rooted.{Rooted}
@@ -228,6 +228,7 @@ first_of_two : found (leaf 10 x ∷ leaf 12 child ∷ op operation.Add ∷ leaf 
 first_of_two = refl
 
 least_number : judged wanted.Constant 10 operands (leaf 10 5 ∷ leaf 12 x ∷ Two binary.Assign ∷ []) ≡ Some (wrong_kind 10)
+unfolding error_number
 least_number = refl
 
 -- Numbers.

@@ -20,9 +20,7 @@ mod symbols;
 mod trees;
 mod units;
 
-pub use findings::{
-    Finding, NOT_CONSTANT, OUT_OF_RANGE, TOO_MANY_ARGUMENTS, WRONG_KIND, least, least_of_both,
-};
+pub use findings::{Finding, UnitError, least, least_of_both};
 pub use forest::Forest;
 pub use laws::{expressions_have_one_order, symbols_are_read_as_their_trees};
 pub use nodes::{Node, Nodes};

@@ -1,5 +1,5 @@
 -- A machine that runs the items of a routine, by the Z-Machine Standard 1.1 (sections 6, 14 and 15). It knows the opcodes that expressions
--- are laid with; at any other one, and at one whose operands do not fit, it has no next step.
+-- and loops are laid with; at any other one, and at one whose operands do not fit, it has no next step.
 use Rattle.std.specs.Prelude.{◌≡◌, ◌-◌, ℕ, zero, suc, ◌+◌, ◌*◌, ◌/◌, ◌%◌, nat_lt, not, ◌==◌, ◌||◌, Bool, true, false, List, [], ◌∷◌, ◌++◌}
 use Rattle.std.specs.Prelude.{bit_and, bit_or}
 use Rattle.std.specs.Prelude.{Option, Some, None, if◌then◌else◌}
@@ -140,6 +140,7 @@ pub data Action : Type 0 where
   Loads : Action
   Puts : Action
   Steps : ℕ → Action
+  Checks : Action
   Jumps : Action
   Calls : Action
   Unknown : Action
@@ -216,6 +217,7 @@ action_of w opcode.Load = Loads
 action_of w opcode.Store = Puts
 action_of w opcode.Inc = Steps 1
 action_of w opcode.Dec = Steps 65535
+action_of w opcode.IncChk = Checks
 action_of w opcode.Jump = Jumps
 action_of w opcode.Call1s = Calls
 action_of w opcode.Call2s = Calls
@@ -266,6 +268,11 @@ abbrev pub first_put : ℕ → List ℕ → Place → State → Option Machine
 first_put v (n ∷ []) rest s = Some (rest, put_in v n s)
 first_put v _ rest s = None
 
+-- A variable gets the number that it has become, and there is a branch where that is greater than the operand.
+abbrev pub checked : ℕ → ℕ → List ℕ → Option Branch → (Label → Place) → Place → State → Option Machine
+checked v n (m ∷ []) branch at rest s = branched branch (less m n) at rest (put_in v n s)
+checked v n _ branch at rest s = None
+
 -- the object that is found is stored, and there is a branch where it is one
 abbrev pub found_one : (ℕ → ℕ) → List ℕ → Option ℕ
 found_one f = of_one (λ a. Some (f a))
@@ -299,6 +306,9 @@ acted w at Pushes i rest s = operand_values w i.operands s then λ p. pushed p.0
 acted w at Loads i rest s = naming i.operands λ v operands. named v s then λ n. delivered i.store n rest s
 acted w at Puts i rest s = naming i.operands λ v operands. operand_values w operands s then λ p. first_put v p.0 rest p.1
 acted w at (Steps by) i rest s = naming i.operands λ v operands. named v s then λ n. Some (rest, put_in v ((n + by) % 65536) s)
+acted w at Checks i rest s =
+    naming i.operands λ v operands. operand_values w operands s then λ p. named v p.1 then λ n.
+    checked v ((n + 1) % 65536) p.0 i.branch at rest p.1
 acted w at Jumps i rest s = jumped i.operands at s
 acted w at Calls i rest s =
     operand_values w i.operands s then λ p. called w p.0 p.1.store then λ r.

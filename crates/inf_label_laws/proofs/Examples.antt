@@ -6,7 +6,7 @@ use Rattle.inf_label_laws.specs.Examples.{ExamplesAreEvaluated, WaitingValuesAre
 
 pub examples_are_evaluated : ExamplesAreEvaluated
 unfolding laid instruction naming marked jumped behind test_branch tests triple_tests single_tests and_branch assign_value
-examples_are_evaluated = (refl, refl, refl)
+examples_are_evaluated = (refl, refl, refl, refl)
 
 pub waiting_values_are_lost : WaitingValuesAreLost
 unfolding laid instruction naming marked jumped behind test_branch tests triple_tests single_tests

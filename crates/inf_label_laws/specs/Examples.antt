@@ -1,8 +1,9 @@
--- Some expressions at a store where `x` is 2 and `y` is 4: their meanings, and the stack of a machine behind their code.
+-- Some expressions at a store where `x` is 2, `y` is 4 and `words` is an array of 10, 20, 30 and 40: their meanings, and the stack of a
+-- machine behind their code. Each is a routine of `examples/order.inf`, of the name of its tree.
 use Rattle.std.specs.Prelude.{◌≡◌, ℕ, zero, suc, ◌==◌, false, List, [], ◌∷◌, Option, Some, None, if◌then◌else◌}
 use Rattle.inf_settings.specs.Bounds.{Limits}
 use Rattle.inf_opcode.specs.declared.instructions.Label.{Label}
-use Rattle.inf_expressions.specs.declared.operators.Operand.TheVariants.{Known, Variable}
+use Rattle.inf_expressions.specs.declared.operators.Operand.TheVariants.{Known, Later, Variable}
 use Rattle.inf_expressions.specs.declared.operators.Operation.{Operation}
 use Rattle.inf_expressions.specs.declared.operators.Operation.TheVariants as operation
 use Rattle.inf_expressions.specs.declared.operators.Test.{Test}
@@ -10,6 +11,7 @@ use Rattle.inf_expressions.specs.declared.operators.Test.TheVariants as test
 use Rattle.inf_expressions.specs.declared.operators.Binary.TheVariants as binary
 use Rattle.inf_expressions.specs.Trees.{Tree, Leaf, Two}
 use Rattle.inf_area.specs.declared.scale.Scale.TheVariants.{Four}
+use Rattle.inf_area.specs.declared.targets.Target.TheVariants as target
 use Rattle.inf_code.specs.Code.{no_routines}
 use Rattle.inf_names.specs.Symbols.{no_names}
 use Rattle.inf_output.specs.Strings.{no_strings}
@@ -40,7 +42,7 @@ empty = record {
   kept = None;
 }
 
--- no objects, and no routines
+-- no objects, no routines, and all that is known later is 0
 abbrev pub bare : World
 bare = record {
   later = λ t. 0;
@@ -63,14 +65,21 @@ bare = record {
   provides = λ s a b. false;
 }
 
+-- the bytes of the words 10, 20, 30 and 40, from address 0 on
+abbrev pub byte_of : ℕ → ℕ
+byte_of a = if a == 1 then 10 else if a == 3 then 20 else if a == 5 then 30 else if a == 7 then 40 else 0
+
 abbrev pub store : Store
-store = record { variables = λ v. if v == 1 then 2 else if v == 2 then 4 else 0; bytes = λ a. 0; chance = 0 }
+store = record { variables = λ v. if v == 1 then 2 else if v == 2 then 4 else 0; bytes = byte_of; chance = 0 }
 
 abbrev pub x : Tree
 x = Leaf (Variable 1)
 
 abbrev pub y : Tree
 y = Leaf (Variable 2)
+
+abbrev pub words : Tree
+words = Leaf (Later (target.Name 0))
 
 abbrev pub number : ℕ → Tree
 number n = Leaf (Known n)
@@ -108,13 +117,18 @@ rounded = operated operation.Divide (operated operation.Subtract x (number 9)) y
 abbrev pub condition : Tree
 condition = Two binary.And (tested test.Equal x (or_others (number 2) (number 3))) (tested test.Greater y (number 5))
 
--- `(x + 1 == 10 or 11 or 12 or (y + 1 == 1 or 2 or 3 or 4) or 3)`: the fourth alternative puts a value of its own into variable 255, where
--- `x + 1` waits for the fifth. So the laws do not cover it: it is true, and its code finds it false, as frotz does, which prints 0.
+-- `x + words-->(x = 3)`: the element is 40, and the variable is read last
+abbrev pub element : Tree
+element = operated operation.Add x (operated operation.Word words (Two binary.Assign x (number 3)))
+
+-- `y + 1 == 1 or 2 or 3 or 4`: the value waits for the fourth alternative in variable 255
 abbrev pub inner : Tree
 inner =
     tested test.Equal (operated operation.Add y (number 1))
     (or_others (number 1) (or_others (number 2) (or_others (number 3) (number 4))))
 
+-- `(x + 1 == 10 or 11 or 12 or (y + 1 == 1 or 2 or 3 or 4) or 3)`: the fourth alternative puts a value of its own into variable 255, where
+-- `x + 1` waits for the fifth. So the laws do not cover it: it is true, and its code finds it false, as frotz does, which prints 0.
 abbrev pub disturbed : Tree
 disturbed =
     tested test.Equal (operated operation.Add x (number 1))
@@ -124,9 +138,10 @@ abbrev pub WaitingValuesAreLost : Type 0
 WaitingValuesAreLost =
     ((t : Store) × (value_of bare disturbed store ≡ Some (1, t))) × (stack_behind disturbed ≡ Some (0 ∷ 77 ∷ []))
 
--- frotz prints 18, -1 and 0 for these, where `x` is 2 and `y` is 4.
+-- frotz prints 18, -1, 0 and 43 for these.
 abbrev pub ExamplesAreEvaluated : Type 0
 ExamplesAreEvaluated =
     (stack_behind late ≡ Some (18 ∷ 77 ∷ []))
     × (stack_behind rounded ≡ Some (65535 ∷ 77 ∷ []))
     × (stack_behind condition ≡ Some (0 ∷ 77 ∷ []))
+    × (stack_behind element ≡ Some (43 ∷ 77 ∷ []))

@@ -17,8 +17,8 @@ pub fn programs_compute()
     ensures pushed { ProgramsPush }
 {}
 
-/// States that three expressions, laid and run, leave on the stack the numbers that an interpreter prints of them. The
-/// laws do not cover a fourth one, whose code does not compute its meaning.
+/// States that four expressions, laid and run, leave on the stack the numbers that an interpreter prints of them. The
+/// laws do not cover a fifth one, whose code does not compute its meaning.
 pub fn examples_are_evaluated()
     ensures printed { ExamplesAreEvaluated }
     ensures lost { WaitingValuesAreLost }

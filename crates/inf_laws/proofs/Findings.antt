@@ -16,9 +16,9 @@ use Rattle.inf_names.specs.Locals.{Headed, Local, Repeated, earlier, local_of, m
 use Rattle.inf_unit.specs.Messages.{Diagnostic, FileNames}
 use Rattle.inf_names.specs.declared.symbols.DeclareFault.{DeclareFault}
 use Rattle.inf_unit.specs.Tokens.{SourceToken}
-use Rattle.inf_compilation.specs.Findings.{Again, again_by, again_local, again_told, header_findings as found_in_header, told_as}
+use Rattle.inf_compilation.specs.Findings.{Again, again_by, again_local, again_told, header_findings as found_in_header, told_as, told_by}
 use Rattle.inf_expressions.specs.declared.findings.Finding.{Finding as Found}
-use Rattle.inf_expressions.specs.Findings.{is_before}
+use Rattle.inf_expressions.specs.Findings.{error_number, is_before}
 use Rattle.inf_laws.specs.Findings.{Finding, HeadersTellTheFirst, IsBefore, IsLeast, IsLeastOf, IsTold, LeastsAreFound, UnitsTellTheLeast}
 use Rattle.inf_laws.specs.Findings.{declared_before, different, first_named, many_locals, repeated_local, repeated_locals, repeated_one}
 use Rattle.inf_laws.specs.Findings.{taken_as, taken_name, system_routine, too_many_locals}
@@ -336,6 +336,7 @@ header_fault files unit again h =
 
 header_fault_is : (files : FileNames) (tokens : List SourceToken) (unit : Place) (again : Option Again) (h : Headed) →
     told_as files tokens unit (found_in_header 1 again h) ≡ header_fault files unit again h
+unfolding told_by
 header_fault_is files tokens unit again h = go h.are_too_many again h.repeated
   where
     go : (many : Bool) (again : Option Again) (repeated : Option Repeated) →
@@ -402,22 +403,23 @@ headers_tell_the_first limits files tokens unit names name locals =
 
 -- Any unit
 
-earlier_than : (a b : Found) → is_before a b ≡ true → (a.order < b.order) ⊎ ((a.order ≡ b.order) × (a.number < b.number))
+earlier_than : (a b : Found) → is_before a b ≡ true →
+    (a.order < b.order) ⊎ ((a.order ≡ b.order) × (error_number a.error < error_number b.error))
 earlier_than a b e =
-    go (or_cases (ltb a.order b.order) (nat_eq a.order b.order && ltb a.number b.number) e)
+    go (or_cases (ltb a.order b.order) (nat_eq a.order b.order && ltb (error_number a.error) (error_number b.error)) e)
   where
-    go : (ltb a.order b.order ≡ true) ⊎ ((nat_eq a.order b.order && ltb a.number b.number) ≡ true) →
-        (a.order < b.order) ⊎ ((a.order ≡ b.order) × (a.number < b.number))
+    go : (ltb a.order b.order ≡ true) ⊎ ((nat_eq a.order b.order && ltb (error_number a.error) (error_number b.error)) ≡ true) →
+        (a.order < b.order) ⊎ ((a.order ≡ b.order) × (error_number a.error < error_number b.error))
     go (inl less) = inl (ltb-true a.order b.order less)
     go (inr same) =
-        let parts = and_parts (nat_eq a.order b.order) (ltb a.number b.number) same in
-        inr (eqb-true a.order b.order parts.0, ltb-true a.number b.number parts.1)
+        let parts = and_parts (nat_eq a.order b.order) (ltb (error_number a.error) (error_number b.error)) same in
+        inr (eqb-true a.order b.order parts.0, ltb-true (error_number a.error) (error_number b.error) parts.1)
 
 never_both : (a b : Found) → is_before a b ≡ true → is_before b a ≡ false
 never_both a b e = false_from_ne_true (is_before b a) (λ f. go (earlier_than a b e) (earlier_than b a f))
   where
-    go : (a.order < b.order) ⊎ ((a.order ≡ b.order) × (a.number < b.number)) →
-        (b.order < a.order) ⊎ ((b.order ≡ a.order) × (b.number < a.number)) → ⊥
+    go : (a.order < b.order) ⊎ ((a.order ≡ b.order) × (error_number a.error < error_number b.error)) →
+        (b.order < a.order) ⊎ ((b.order ≡ a.order) × (error_number b.error < error_number a.error)) → ⊥
     go (inl less) (inl more) = omega (arith, less, more)
     go (inl less) (inr same) = omega (arith, less, same.0)
     go (inr same) (inl more) = omega (arith, same.0, more)

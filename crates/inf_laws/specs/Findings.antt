@@ -1,5 +1,5 @@
--- The error that is told of a unit: of all that is found the first, by its token and then by its number. And all that the rules
--- find of a header.
+-- The error that is told of a unit: of all that is found the first, by its token and then by the number of its error. And all that the
+-- rules find of a header.
 use Rattle.std.specs.Prelude.{◌≡◌, ◌+◌, ◌<◌, ◌⊎◌, ℕ, List, [], ◌∷◌, ◌++◌, find, Contains, nat_lt, if◌then◌else◌, Bool, false, Option, Some}
 use Rattle.std.specs.Prelude.{None, is_some}
 use Rattle.std.specs.Str.{str_eq_ignore_ascii_case}
@@ -13,7 +13,9 @@ use Rattle.inf_report.specs.declared.messages.FixedLimit.TheVariants as countabl
 use Rattle.inf_names.specs.Spellings.{Name}
 use Rattle.inf_names.specs.Locals.{with_locals, no_locals}
 use Rattle.inf_expressions.specs.declared.findings.Finding.{Finding as Found}
-use Rattle.inf_expressions.specs.Findings.{is_before, least_of_both}
+use Rattle.inf_expressions.specs.declared.findings.UnitError.{UnitError}
+use Rattle.inf_expressions.specs.declared.findings.UnitError.TheVariants as unit_error
+use Rattle.inf_expressions.specs.Findings.{error_number, is_before, least_of_both}
 use Rattle.inf_output.specs.Output.{full}
 use Rattle.inf_unit.specs.Messages.{FileNames, Diagnostic, location, with_fault, with_full}
 use Rattle.inf_unit.specs.Tokens.{SourceToken}
@@ -21,16 +23,16 @@ use Rattle.inf_compilation.specs.Actions.{Compilation, unit_ended}
 use Rattle.inf_compilation.specs.Context.{Context}
 use Rattle.inf_compilation.specs.Findings.{Findings, again_by, header_findings as found_in_header, told_as}
 
--- The finding of a rule: the token of the unit at which it is, where the unit's first token is 0; the number of the kind of its
--- message; and the message at its place. The kinds: 8, a name that was declared before or is a system name; 19, too many locals.
+-- The finding of a rule: the token of the unit at which it is, where the unit's first token is 0; the error; and the message at its
+-- place.
 pub record Finding : Type 0 where
   pub token : ℕ
-  pub number : ℕ
+  pub error : UnitError
   pub blame : Diagnostic
 
--- one finding before another: by token, then by number
+-- one finding before another: by token, then by the number of the error
 abbrev pub IsBefore : Finding → Finding → Type 0
-IsBefore f g = (f.token < g.token) ⊎ ((f.token ≡ g.token) × (f.number < g.number))
+IsBefore f g = (f.token < g.token) ⊎ ((f.token ≡ g.token) × (error_number f.error < error_number g.error))
 
 -- The finding `f` is one of `all`, none of these comes before it, and each other one comes behind it.
 pub record IsLeast (f : Finding) (all : List Finding) : Type 0 where
@@ -47,8 +49,11 @@ IsTold (Some b) all = (f : Finding) × (f.blame ≡ b) × IsLeast f all
 
 -- the finding of a local that is an earlier name of the header, too
 abbrev pub repeated_local : FileNames → Name → ℕ → Name → Finding
-repeated_local files first token n =
-    record { token = token; number = 8; blame = record { place = n.place; message = Declared n.bytes (location files first.place) } }
+repeated_local files first token n = record {
+  token = token;
+  error = unit_error.Declared;
+  blame = record { place = n.place; message = Declared n.bytes (location files first.place) };
+}
 
 -- the first of some names that is this name, in any case
 abbrev pub first_named : List ℕ → List Name → Option Name
@@ -71,19 +76,23 @@ different before (n ∷ names) =
 
 -- the finding of more than 15 different locals, which is told at the bracket
 abbrev pub too_many_locals : Place → Finding
-too_many_locals unit = record { token = 0; number = 19; blame = record { place = unit; message = TooMany countable.Locals } }
+too_many_locals unit = record { token = 0; error = unit_error.TooMany; blame = record { place = unit; message = TooMany countable.Locals } }
 
 abbrev pub many_locals : Place → List Name → List Finding
 many_locals unit locals = if nat_lt 15 (different [] locals) then too_many_locals unit ∷ [] else []
 
 -- the finding of a routine's name, behind the bracket, that was declared before, at a place
 abbrev pub declared_before : FileNames → Place → Name → Finding
-declared_before files first name =
-    record { token = 1; number = 8; blame = record { place = name.place; message = Declared name.bytes (location files first) } }
+declared_before files first name = record {
+  token = 1;
+  error = unit_error.Declared;
+  blame = record { place = name.place; message = Declared name.bytes (location files first) };
+}
 
 -- the finding of a routine's name that is a system name, which the language itself declares
 abbrev pub system_routine : Name → Finding
-system_routine name = record { token = 1; number = 8; blame = record { place = name.place; message = SystemName name.bytes } }
+system_routine name =
+    record { token = 1; error = unit_error.Declared; blame = record { place = name.place; message = SystemName name.bytes } }
 
 -- The findings by the meaning of the name before its header. A new name that would be one too many is no finding.
 abbrev pub taken_as : FileNames → FoundName Place → Name → List Finding

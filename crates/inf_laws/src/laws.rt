@@ -19,8 +19,8 @@ pub fn first_errors_are_told()
     ensures { (limits : Limits) → HeadersTellTheFirst limits }
 {}
 
-/// Units tell at their end the least of all that is wrong with them, by the order of its token and then by its number. Where two
-/// rules find something, the least of both findings is one of them, and neither comes before it.
+/// Units tell at their end the least of all that is wrong with them, by the order of its token and then by the number of its error.
+/// Where two rules find something, the least of both findings is one of them, and neither comes before it.
 pub fn least_findings_are_told()
     ensures least { LeastsAreFound }
     ensures told { (limits : Limits) → UnitsTellTheLeast limits }

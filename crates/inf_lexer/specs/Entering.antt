@@ -71,3 +71,8 @@ is_of_opening _ = true
 abbrev pub is_absent : Result Reader EnterFault → Bool
 is_absent (Err fault.Absent) = true
 is_absent _ = false
+
+-- whether an answer says that the reader failed, or that a name was one too many
+abbrev pub tells_failure : {T : Type 0} → Result T EnterFault → Bool
+tells_failure (Err fault.Device) = true
+tells_failure _ = false

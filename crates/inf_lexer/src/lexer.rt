@@ -56,7 +56,8 @@ fn scan<F: Files>(
     ensures given { min (F.given files.old + (window.new.given - window.old.given)) last_count ≤ F.given files.new }
     ensures depth { F.depth files.new ≡ F.depth files.old }
     ensures opened { F.opened files.new ≡ F.opened files.old }
-    ensures faults { F.faults files.old ≤ F.faults files.new }
+    ensures faults { (F.faults files.old ≤ F.faults files.new) × OnOk result (F.faults files.new ≡ F.faults files.old)
+        × (IsErrOf result LexFault.Memory → F.faults files.new ≡ F.faults files.old) }
     ensures sources { F.sources files.new ≡ F.sources files.old }
     ensures honesty { F.is_honest files.new ≡ F.is_honest files.old }
 {
@@ -240,7 +241,8 @@ impl Lexer {
         ensures over { self.old.has_failed ≡ true → result ≡ Err LexFault.Read }
         ensures depth { F.depth files.new ≡ F.depth files.old }
         ensures opened { F.opened files.new ≡ F.opened files.old }
-        ensures faults { F.faults files.old ≤ F.faults files.new }
+        ensures faults { (F.faults files.old ≤ F.faults files.new) × OnOk result (F.faults files.new ≡ F.faults files.old)
+            × (IsErrOf result LexFault.Memory → F.faults files.new ≡ F.faults files.old) }
         ensures sources { F.sources files.new ≡ F.sources files.old }
         ensures honesty { F.is_honest files.new ≡ F.is_honest files.old }
     {

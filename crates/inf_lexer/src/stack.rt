@@ -5,7 +5,7 @@ ghost use Rattle.std.specs.Option.{option_copied};
 ghost use Rattle.std.specs.String.{string_bytes};
 ghost use Rattle.inf_devices.specs.Files.{Rose, Closes, last_count};
 ghost use Rattle.inf_lexer.specs.Names.{can_name, candidates, innermost_name, left, name_in, number_of};
-ghost use Rattle.inf_lexer.specs.Entering.{Enters, Leaves, WasTooMany, is_absent, is_of_opening};
+ghost use Rattle.inf_lexer.specs.Entering.{Enters, Leaves, WasTooMany, is_absent, is_of_opening, tells_failure};
 
 use crate::enter_faults::EnterFault;
 use crate::include_names::{fit_name, name_beside, name_in, without_sign};
@@ -106,7 +106,8 @@ impl Stack {
             (F.openings files.old) (F.openings files.new) (F.opened files.old) (F.opened files.new) }
         ensures opened { min (F.opened files.old + (if is_ok result then 1 else 0)) last_count ≤ F.opened files.new }
         ensures depth { F.depth files.new ≡ (if is_ok result then F.depth files.old + 1 else F.depth files.old) }
-        ensures faults { F.faults files.old ≤ F.faults files.new }
+        ensures faults { (F.faults files.old ≤ F.faults files.new)
+            × (tells_failure result ≡ false → F.faults files.new ≡ F.faults files.old) }
         ensures given { F.given files.new ≡ F.given files.old }
         ensures sources { F.sources files.new ≡ F.sources files.old }
         ensures honesty { F.is_honest files.new ≡ F.is_honest files.old }
@@ -155,7 +156,8 @@ impl Stack {
             (F.openings files.old) (F.openings files.new) (F.opened files.old) (F.opened files.new) }
         ensures opened { min (F.opened files.old + (if is_ok result then 1 else 0)) last_count ≤ F.opened files.new }
         ensures depth { F.depth files.new ≡ (if is_ok result then F.depth files.old + 1 else F.depth files.old) }
-        ensures faults { F.faults files.old ≤ F.faults files.new }
+        ensures faults { (F.faults files.old ≤ F.faults files.new)
+            × (tells_failure result ≡ false → F.faults files.new ≡ F.faults files.old) }
         ensures given { F.given files.new ≡ F.given files.old }
         ensures sources { F.sources files.new ≡ F.sources files.old }
         ensures honesty { F.is_honest files.new ≡ F.is_honest files.old }
@@ -205,7 +207,8 @@ impl Stack {
         ensures opened { min (F.opened files.old + (if is_ok result then 1 else 0)) last_count ≤ F.opened files.new }
         ensures named { is_of_opening result ≡ true }
         ensures depth { F.depth files.new ≡ (if is_ok result then F.depth files.old + 1 else F.depth files.old) }
-        ensures faults { F.faults files.old ≤ F.faults files.new }
+        ensures faults { (F.faults files.old ≤ F.faults files.new)
+            × (tells_failure result ≡ false → F.faults files.new ≡ F.faults files.old) }
         ensures given { F.given files.new ≡ F.given files.old }
         ensures sources { F.sources files.new ≡ F.sources files.old }
         ensures honesty { F.is_honest files.new ≡ F.is_honest files.old }
@@ -234,7 +237,8 @@ impl Stack {
         ensures opened { min (F.opened files.old + (if is_ok result then 1 else 0)) last_count ≤ F.opened files.new }
         ensures named { is_of_opening result ≡ true }
         ensures depth { F.depth files.new ≡ (if is_ok result then F.depth files.old + 1 else F.depth files.old) }
-        ensures faults { F.faults files.old ≤ F.faults files.new }
+        ensures faults { (F.faults files.old ≤ F.faults files.new)
+            × (tells_failure result ≡ false → F.faults files.new ≡ F.faults files.old) }
         ensures given { F.given files.new ≡ F.given files.old }
         ensures sources { F.sources files.new ≡ F.sources files.old }
         ensures honesty { F.is_honest files.new ≡ F.is_honest files.old }

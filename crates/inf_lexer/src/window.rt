@@ -1,5 +1,6 @@
 //! A source seen through a window.
-ghost use Rattle.std.specs.Prelude.{◌≡◌, ◌+◌, ◌-◌, ◌<◌, ◌≤◌, ◌^◌, ◌⊎◌, ◌∷◌, [], drop, length, min, false, true, IsTrue, IsErr, IfOk, IfErr};
+ghost use Rattle.std.specs.Prelude.{◌≡◌, ◌+◌, ◌-◌, ◌<◌, ◌≤◌, ◌^◌, ◌⊎◌, ◌∷◌, [], drop, length, min, false, true, IsTrue, IsErr, IfOk};
+ghost use Rattle.std.specs.Prelude.{IfErr, OnOk};
 ghost use Rattle.inf_devices.specs.Files.{Rose, last_count};
 ghost use Rattle.inf_lexer.specs.Unread.{Ends, ReadsOn, StillGives};
 
@@ -77,7 +78,7 @@ impl Window {
             ≤ F.given files.new }
         ensures depth { F.depth files.new ≡ F.depth files.old }
         ensures opened { F.opened files.new ≡ F.opened files.old }
-        ensures faults { F.faults files.old ≤ F.faults files.new }
+        ensures faults { (F.faults files.old ≤ F.faults files.new) × OnOk result (F.faults files.new ≡ F.faults files.old) }
         ensures sources { F.sources files.new ≡ F.sources files.old }
         ensures honesty { F.is_honest files.new ≡ F.is_honest files.old }
     {
@@ -121,7 +122,7 @@ impl Window {
             ≤ F.given files.new }
         ensures depth { F.depth files.new ≡ F.depth files.old }
         ensures opened { F.opened files.new ≡ F.opened files.old }
-        ensures faults { F.faults files.old ≤ F.faults files.new }
+        ensures faults { (F.faults files.old ≤ F.faults files.new) × OnOk result (F.faults files.new ≡ F.faults files.old) }
         ensures sources { F.sources files.new ≡ F.sources files.old }
         ensures honesty { F.is_honest files.new ≡ F.is_honest files.old }
     {

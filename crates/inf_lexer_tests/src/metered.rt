@@ -91,16 +91,19 @@ impl Files for Metered {
         if self.depth == usize::MAX {
             return Err(OpenFault::Memory);
         }
-        let answer = self.whole.open(name);
-        match answer {
+        match self.whole.open(name) {
             Ok(()) => {
                 self.depth += 1;
                 self.opened = self.opened.saturating_add(1);
+                Ok(())
             }
-            Err(OpenFault::Device) => self.failures.add(),
-            Err(OpenFault::Absent | OpenFault::Memory) => {}
+            Err(OpenFault::Device) => {
+                self.failures.add();
+                Err(OpenFault::Device)
+            }
+            Err(OpenFault::Absent) => Err(OpenFault::Absent),
+            Err(OpenFault::Memory) => Err(OpenFault::Memory),
         }
-        answer
     }
 
     fn read(&mut self, to: &mut [u8]) -> Result<usize, ReadFault> {

@@ -1,12 +1,7 @@
 -- Steps of a compilation whose messages grow, put together.
 use Rattle.std.proofs.Common.{◌≡◌, ℕ, List, Bool, true, false, refl, ◌∙◌, ap}
 use Rattle.std.specs.Prelude.{if◌then◌else◌}
-use Rattle.inf_output.specs.Output.{Out}
-use Rattle.inf_unit.specs.Units.{Unit}
-use Rattle.inf_constructs.specs.Constructs.{Laying}
-use Rattle.inf_constructs.specs.declared.constructs.Construct.{Construct}
 use Rattle.inf_compilation.specs.Actions.{Compilation}
-use Rattle.inf_compilation.specs.Parts.{constructs_laid}
 use Rattle.inf_message_laws.specs.Growing.{Grows, with_lines_before}
 
 -- A value of the compilation does not depend on what was reported.
@@ -36,22 +31,3 @@ pub if_grows : (b : Compilation → Bool) (f g : Compilation → Compilation) �
     → Grows (λ w. if b w then f w else g w)
 if_grows b f g stays first second =
     with_grows b (λ (c : Bool) (w : Compilation). if c then f w else g w) stays (λ c. either_grows c f g first second)
-
--- Steps that change a part of the compilation that is not the report
-
-pub unit_grows : (f : Unit → Unit) → Grows (λ w. record w { unit = f w.unit })
-unit_grows f = record { grows = λ lines w. refl }
-
-output_grows : (o : Out) → Grows (λ w. record w { output = o })
-output_grows o = record { grows = λ lines w. refl }
-
--- the output of the compilation is another one
-pub laid_grows : (o : Compilation → Out) → Stays o → Grows (λ w. record w { output = o w })
-laid_grows o stays = with_grows o (λ (new : Out) (w : Compilation). record w { output = new }) stays output_grows
-
-open_grows : (laying : Laying (List Construct)) → Grows (constructs_laid laying)
-open_grows laying = record { grows = λ lines w. refl }
-
--- the open statements of the compilation, and its output, are others
-pub constructs_grow : (laying : Compilation → Laying (List Construct)) → Stays laying → Grows (λ w. constructs_laid (laying w) w)
-constructs_grow laying stays = with_grows laying constructs_laid stays open_grows

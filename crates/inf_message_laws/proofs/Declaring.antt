@@ -1,4 +1,4 @@
--- Messages grow at the directives that declare attributes, properties and global variables.
+-- Nothing is asked, and messages grow, at the directives that declare attributes, properties and global variables.
 use Rattle.std.proofs.Common.{ℕ, List, [], ◌∷◌, Bool, true, false, Option, Some, None, refl}
 use Rattle.inf_settings.specs.Bounds.{Limits}
 use Rattle.inf_scanner.specs.declared.tokens.Place.{Place}
@@ -19,32 +19,32 @@ use Rattle.inf_declarations.specs.Declarations.{has_most_globals, has_most_prope
 use Rattle.inf_declarations.specs.Declarations.{property, property_added, property_ended, property_named, property_names, property_order}
 use Rattle.inf_declarations.specs.Declarations.{property_with, valued}
 use Rattle.inf_declarations.specs.declared.declarations.Declared.{Declared}
-use Rattle.inf_message_laws.specs.Growing.{Grows}
-use Rattle.inf_message_laws.proofs.Combined.{Stays, if_grows, laid_grows, then_grows, with_grows}
-use Rattle.inf_message_laws.proofs.Tokens.{end_grows, passed_grows}
+use Rattle.inf_message_laws.specs.Growing.{Keeps}
+use Rattle.inf_message_laws.proofs.Keeping.{Rests, if_keeps, laid_keeps, then_keeps, with_keeps}
+use Rattle.inf_message_laws.proofs.Tokens.{end_keeps, passed_keeps}
 
-pub declared_ended_grows : (limits : Limits) (context : Context) (first : Place) (has_last : Bool) (name : Name) (kind : FixedLimit)
+pub declared_ended_keeps : (limits : Limits) (context : Context) (first : Place) (has_last : Bool) (name : Name) (kind : FixedLimit)
     (d : Declared)
-    → Grows (declared_ended limits context first has_last name kind d)
-declared_ended_grows limits context first has_last name kind d =
-    end_grows limits context first has_last (declared_findings name kind d)
+    → Keeps (declared_ended limits context first has_last name kind d)
+declared_ended_keeps limits context first has_last name kind d =
+    end_keeps limits context first has_last (declared_findings name kind d)
 
 -- the end of a declaration whose output is a value that stays
-pub declaration_grows : (limits : Limits) (context : Context) (first : Place) (name : Name) (kind : FixedLimit) (d : Declared)
-    (o : Compilation → Out) → Stays o
-    → Grows (λ w. declaration_ended limits context first name kind d (record w { output = o w }))
-declaration_grows limits context first name kind d o stays =
-    then_grows (λ (w : Compilation). record w { output = o w }) (declaration_ended limits context first name kind d)
-    (laid_grows o stays) (declared_ended_grows limits context first true name kind d)
+pub declaration_keeps : (limits : Limits) (context : Context) (first : Place) (name : Name) (kind : FixedLimit) (d : Declared)
+    (o : Compilation → Out) → Rests o
+    → Keeps (λ w. declaration_ended limits context first name kind d (record w { output = o w }))
+declaration_keeps limits context first name kind d o stays =
+    then_keeps (λ (w : Compilation). record w { output = o w }) (declaration_ended limits context first name kind d)
+    (laid_keeps o stays) (declared_ended_keeps limits context first true name kind d)
 
 -- Other names
 
-alias_with_grows : (limits : Limits) (context : Context) (first : Place) (name : Name) (kind : FixedLimit) (m : Option Meaning)
+alias_with_keeps : (limits : Limits) (context : Context) (first : Place) (name : Name) (kind : FixedLimit) (m : Option Meaning)
     (d : Declared)
-    → Grows (alias_with limits context first name kind m d)
-alias_with_grows limits context first name kind m d =
-    declaration_grows limits context first name kind d
-    (λ (w : Compilation). declared limits name.bytes name.place (aliased kind m d.finding) w.output) (λ lines w. refl)
+    → Keeps (alias_with limits context first name kind m d)
+alias_with_keeps limits context first name kind m d =
+    declaration_keeps limits context first name kind d
+    (λ (w : Compilation). declared limits name.bytes name.place (aliased kind m d.finding) w.output) (λ b w. refl)
 
 -- the knowledge of another name
 abbrev alias_known : Option Meaning → Name → ℕ → Compilation → Declared
@@ -52,106 +52,106 @@ alias_known m name at w =
     let own = name_known name at false w in
     record { found = own.found; finding = least_of_both own.finding (alias_finding w.unit.tokens m) }
 
-alias_by_grows : (limits : Limits) (m : Option Meaning) (context : Context) (first : Place) (name : Name) (at : ℕ) (kind : FixedLimit)
-    → Grows (alias_by limits m context first name at kind)
-alias_by_grows limits m context first name at kind =
-    with_grows (alias_known m name at) (alias_with limits context first name kind m) (λ lines w. refl)
-    (alias_with_grows limits context first name kind m)
+alias_by_keeps : (limits : Limits) (m : Option Meaning) (context : Context) (first : Place) (name : Name) (at : ℕ) (kind : FixedLimit)
+    → Keeps (alias_by limits m context first name at kind)
+alias_by_keeps limits m context first name at kind =
+    with_keeps (alias_known m name at) (alias_with limits context first name kind m) (λ b w. refl)
+    (alias_with_keeps limits context first name kind m)
 
-alias_grows : (limits : Limits) (context : Context) (first : Place) (name : Name) (at : ℕ) (kind : FixedLimit)
-    → Grows (alias_told limits context first name at kind)
-alias_grows limits context first name at kind =
-    with_grows (last_meaning kind) (λ (m : Option Meaning) (w : Compilation). alias_by limits m context first name at kind w)
-    (λ lines w. refl) (λ m. alias_by_grows limits m context first name at kind)
+alias_keeps : (limits : Limits) (context : Context) (first : Place) (name : Name) (at : ℕ) (kind : FixedLimit)
+    → Keeps (alias_told limits context first name at kind)
+alias_keeps limits context first name at kind =
+    with_keeps (last_meaning kind) (λ (m : Option Meaning) (w : Compilation). alias_by limits m context first name at kind w)
+    (λ b w. refl) (λ m. alias_by_keeps limits m context first name at kind)
 
 -- Attributes
 
 attribute_out_stays : (limits : Limits) (finding : Option Finding) (name : Name)
-    → Stays (λ w. attribute_added limits finding name w.output)
-attribute_out_stays limits finding name lines w = refl
+    → Rests (λ w. attribute_added limits finding name w.output)
+attribute_out_stays limits finding name b w = refl
 
-attribute_ended_grows : (limits : Limits) (context : Context) (first : Place) (name : Name) (d : Declared)
-    → Grows (attribute_ended limits context first name d)
-attribute_ended_grows limits context first name d =
-    declaration_grows limits context first name countable.Attributes d
+attribute_ended_keeps : (limits : Limits) (context : Context) (first : Place) (name : Name) (d : Declared)
+    → Keeps (attribute_ended limits context first name d)
+attribute_ended_keeps limits context first name d =
+    declaration_keeps limits context first name countable.Attributes d
     (λ (w : Compilation). attribute_added limits d.finding name w.output) (attribute_out_stays limits d.finding name)
 
-attribute_with_grows : (limits : Limits) (context : Context) (first : Place) (name : Name)
-    → Grows (attribute_with limits context first name)
-attribute_with_grows limits context first name =
-    with_grows (λ (w : Compilation). name_known name (name_order w.unit.tokens) (has_most_attributes w.output) w)
-    (attribute_ended limits context first name) (λ lines w. refl) (attribute_ended_grows limits context first name)
+attribute_with_keeps : (limits : Limits) (context : Context) (first : Place) (name : Name)
+    → Keeps (attribute_with limits context first name)
+attribute_with_keeps limits context first name =
+    with_keeps (λ (w : Compilation). name_known name (name_order w.unit.tokens) (has_most_attributes w.output) w)
+    (attribute_ended limits context first name) (λ b w. refl) (attribute_ended_keeps limits context first name)
 
-pub attribute_grows : (limits : Limits) (context : Context) (first : Place) (names : List Name)
-    → Grows (attribute limits context first names)
-attribute_grows limits context first [] = passed_grows true
-attribute_grows limits context first (name ∷ names) =
-    if_grows (λ (w : Compilation). is_alias names w.unit.gathering.leaves)
+pub attribute_keeps : (limits : Limits) (context : Context) (first : Place) (names : List Name)
+    → Keeps (attribute limits context first names)
+attribute_keeps limits context first [] = passed_keeps true
+attribute_keeps limits context first (name ∷ names) =
+    if_keeps (λ (w : Compilation). is_alias names w.unit.gathering.leaves)
     (λ (w : Compilation). alias_told limits context first name (name_order w.unit.tokens) countable.Attributes w)
-    (attribute_with limits context first name) (λ lines w. refl)
-    (with_grows (λ (w : Compilation). name_order w.unit.tokens)
-    (λ (at : ℕ) (w : Compilation). alias_told limits context first name at countable.Attributes w) (λ lines w. refl)
-    (λ at. alias_grows limits context first name at countable.Attributes))
-    (attribute_with_grows limits context first name)
+    (attribute_with limits context first name) (λ b w. refl)
+    (with_keeps (λ (w : Compilation). name_order w.unit.tokens)
+    (λ (at : ℕ) (w : Compilation). alias_told limits context first name at countable.Attributes w) (λ b w. refl)
+    (λ at. alias_keeps limits context first name at countable.Attributes))
+    (attribute_with_keeps limits context first name)
 
 -- Properties
 
 property_out_stays : (limits : Limits) (context : Context) (finding : Option Finding) (name : Name) (is_additive : Bool)
-    → Stays (property_added limits context finding name is_additive)
-property_out_stays limits context (Some f) name is_additive lines w = refl
-property_out_stays limits context None name is_additive lines w = refl
+    → Rests (property_added limits context finding name is_additive)
+property_out_stays limits context (Some f) name is_additive b w = refl
+property_out_stays limits context None name is_additive b w = refl
 
-property_ended_grows : (limits : Limits) (context : Context) (first : Place) (is_additive : Bool) (name : Name) (d : Declared)
-    → Grows (property_ended limits context first is_additive name d)
-property_ended_grows limits context first is_additive name d =
-    declaration_grows limits context first name countable.Properties d (property_added limits context d.finding name is_additive)
+property_ended_keeps : (limits : Limits) (context : Context) (first : Place) (is_additive : Bool) (name : Name) (d : Declared)
+    → Keeps (property_ended limits context first is_additive name d)
+property_ended_keeps limits context first is_additive name d =
+    declaration_keeps limits context first name countable.Properties d (property_added limits context d.finding name is_additive)
     (property_out_stays limits context d.finding name is_additive)
 
 -- the knowledge of the name of a property
 abbrev property_known : Bool → Name → Compilation → Declared
 property_known is_additive name w = valued name (property_order w.unit.tokens is_additive) (has_most_properties w.output) w
 
-property_with_grows : (limits : Limits) (context : Context) (first : Place) (is_additive : Bool) (name : Name)
-    → Grows (property_with limits context first is_additive name)
-property_with_grows limits context first is_additive name =
-    with_grows (property_known is_additive name) (property_ended limits context first is_additive name) (λ lines w. refl)
-    (property_ended_grows limits context first is_additive name)
+property_with_keeps : (limits : Limits) (context : Context) (first : Place) (is_additive : Bool) (name : Name)
+    → Keeps (property_with limits context first is_additive name)
+property_with_keeps limits context first is_additive name =
+    with_keeps (property_known is_additive name) (property_ended limits context first is_additive name) (λ b w. refl)
+    (property_ended_keeps limits context first is_additive name)
 
-property_named_grows : (limits : Limits) (context : Context) (first : Place) (is_additive : Bool) (names : List Name)
-    → Grows (property_named limits context first is_additive names)
-property_named_grows limits context first is_additive [] = passed_grows true
-property_named_grows limits context first is_additive (name ∷ names) =
-    if_grows (λ (w : Compilation). is_alias names w.unit.gathering.leaves)
+property_named_keeps : (limits : Limits) (context : Context) (first : Place) (is_additive : Bool) (names : List Name)
+    → Keeps (property_named limits context first is_additive names)
+property_named_keeps limits context first is_additive [] = passed_keeps true
+property_named_keeps limits context first is_additive (name ∷ names) =
+    if_keeps (λ (w : Compilation). is_alias names w.unit.gathering.leaves)
     (λ (w : Compilation). alias_told limits context first name (property_order w.unit.tokens is_additive) countable.Properties w)
-    (property_with limits context first is_additive name) (λ lines w. refl)
-    (with_grows (λ (w : Compilation). property_order w.unit.tokens is_additive)
-    (λ (at : ℕ) (w : Compilation). alias_told limits context first name at countable.Properties w) (λ lines w. refl)
-    (λ at. alias_grows limits context first name at countable.Properties))
-    (property_with_grows limits context first is_additive name)
+    (property_with limits context first is_additive name) (λ b w. refl)
+    (with_keeps (λ (w : Compilation). property_order w.unit.tokens is_additive)
+    (λ (at : ℕ) (w : Compilation). alias_told limits context first name at countable.Properties w) (λ b w. refl)
+    (λ at. alias_keeps limits context first name at countable.Properties))
+    (property_with_keeps limits context first is_additive name)
 
-pub property_grows : (limits : Limits) (context : Context) (first : Place) (names : List Name)
-    → Grows (property limits context first names)
-property_grows limits context first names = property_named_grows limits context first (is_additive names) (property_names names)
+pub property_keeps : (limits : Limits) (context : Context) (first : Place) (names : List Name)
+    → Keeps (property limits context first names)
+property_keeps limits context first names = property_named_keeps limits context first (is_additive names) (property_names names)
 
 -- Global variables
 
 global_out_stays : (limits : Limits) (context : Context) (finding : Option Finding) (name : Name)
-    → Stays (global_added limits context finding name)
-global_out_stays limits context (Some f) name lines w = refl
-global_out_stays limits context None name lines w = refl
+    → Rests (global_added limits context finding name)
+global_out_stays limits context (Some f) name b w = refl
+global_out_stays limits context None name b w = refl
 
-global_ended_grows : (limits : Limits) (context : Context) (first : Place) (name : Name) (d : Declared)
-    → Grows (global_ended limits context first name d)
-global_ended_grows limits context first name d =
-    declaration_grows limits context first name countable.Globals d (global_added limits context d.finding name)
+global_ended_keeps : (limits : Limits) (context : Context) (first : Place) (name : Name) (d : Declared)
+    → Keeps (global_ended limits context first name d)
+global_ended_keeps limits context first name d =
+    declaration_keeps limits context first name countable.Globals d (global_added limits context d.finding name)
     (global_out_stays limits context d.finding name)
 
-global_with_grows : (limits : Limits) (context : Context) (first : Place) (name : Name) → Grows (global_with limits context first name)
-global_with_grows limits context first name =
-    with_grows (λ (w : Compilation). valued name (name_order w.unit.tokens) (has_most_globals w.output) w)
-    (global_ended limits context first name) (λ lines w. refl) (global_ended_grows limits context first name)
+global_with_keeps : (limits : Limits) (context : Context) (first : Place) (name : Name) → Keeps (global_with limits context first name)
+global_with_keeps limits context first name =
+    with_keeps (λ (w : Compilation). valued name (name_order w.unit.tokens) (has_most_globals w.output) w)
+    (global_ended limits context first name) (λ b w. refl) (global_ended_keeps limits context first name)
 
-pub global_grows : (limits : Limits) (context : Context) (first : Place) (names : List Name)
-    → Grows (global_variable limits context first names)
-global_grows limits context first [] = passed_grows true
-global_grows limits context first (name ∷ names) = global_with_grows limits context first name
+pub global_keeps : (limits : Limits) (context : Context) (first : Place) (names : List Name)
+    → Keeps (global_variable limits context first names)
+global_keeps limits context first [] = passed_keeps true
+global_keeps limits context first (name ∷ names) = global_with_keeps limits context first name

@@ -7,9 +7,10 @@ use Rattle.inf_reader.specs.Acting.{act}
 use Rattle.inf_statement_laws.specs.Happenings.{Acts, Between, Happening, Takes}
 use Rattle.inf_statement_laws.specs.Laid.{next_comes, passed, run}
 use Rattle.inf_message_laws.specs.Growing.{AllOnlyAdd, Grows, MessagesGrow, OnlyAdds}
-use Rattle.inf_message_laws.proofs.Actions.{act_grows, cut_at_grows}
+use Rattle.inf_message_laws.proofs.Actions.{act_grows, act_keeps, cut_at_grows, cut_at_keeps}
 use Rattle.inf_message_laws.proofs.Combined.{nothing_grows, then_grows}
-use Rattle.inf_message_laws.proofs.Tokens.{took_grows}
+use Rattle.inf_message_laws.proofs.Keeping.{asks_nothing}
+use Rattle.inf_message_laws.proofs.Tokens.{took_grows, took_keeps}
 
 between_grows : (m : Between) → OnlyAdds m → Grows (passed m)
 between_grows m adds = record {
@@ -39,4 +40,9 @@ messages_grow limits = record {
   action = act_grows limits;
   cut = cut_at_grows limits;
   all = all_grow limits;
+  asks = record {
+    token = λ context t w. asks_nothing (took_keeps context t) w;
+    action = λ context place a w other. asks_nothing (act_keeps limits context place a other) w;
+    cut = λ context place w. asks_nothing (cut_at_keeps limits context place) w;
+  };
 }

@@ -1,5 +1,6 @@
 pub mod Combined
 pub mod Told
+pub mod Keeping
 pub mod Tokens
 pub mod Notes
 pub mod Parts
@@ -14,5 +15,6 @@ pub mod Bodies
 pub mod Values
 pub mod Lines
 pub mod Directives
+pub mod Headings
 pub mod Actions
 pub mod Happened

@@ -1,4 +1,4 @@
--- Messages grow at the headers of classes and objects.
+-- Nothing is asked, and messages grow, at the headers of classes and objects.
 use Rattle.std.proofs.Common.{ℕ, List, false, Option, Some, None, refl, ◌∙◌, ap}
 use Rattle.std.specs.Prelude.{unwrap_or}
 use Rattle.inf_settings.specs.Bounds.{Limits}
@@ -21,73 +21,73 @@ use Rattle.inf_bodies.specs.Objects.{object_header, object_known, object_lost, o
 use Rattle.inf_bodies.specs.Objects.{own_name, parent_finding, parent_in}
 use Rattle.inf_bodies.specs.ShortNames.{header_text, name_packed, packed_name, short_by, short_text}
 use Rattle.inf_bodies.specs.declared.headers.Header.{Header}
-use Rattle.inf_message_laws.specs.Growing.{Grows, with_lines_before}
-use Rattle.inf_message_laws.proofs.Combined.{Stays, laid_grows, then_grows, with_grows}
-use Rattle.inf_message_laws.proofs.Declaring.{declared_ended_grows}
-use Rattle.inf_message_laws.proofs.Tokens.{end_grows}
+use Rattle.inf_message_laws.specs.Growing.{Keeps, with_before}
+use Rattle.inf_message_laws.proofs.Keeping.{Rests, laid_keeps, then_keeps, with_keeps}
+use Rattle.inf_message_laws.proofs.Declaring.{declared_ended_keeps}
+use Rattle.inf_message_laws.proofs.Tokens.{end_keeps}
 
-pub entry_grows : (limits : Limits) (context : Context) (first : Place) (f : Option Finding) → Grows (entry_told limits context first f)
-entry_grows limits context first f = end_grows limits context first false (found_alone f)
+pub entry_keeps : (limits : Limits) (context : Context) (first : Place) (f : Option Finding) → Keeps (entry_told limits context first f)
+entry_keeps limits context first f = end_keeps limits context first false (found_alone f)
 
 -- Classes
 
-class_opened_grows : (limits : Limits) (context : Context) (found : Option Finding) (name : Name)
-    → Grows (class_opened limits context found name)
-class_opened_grows limits context None name = record { grows = λ lines w. refl }
-class_opened_grows limits context (Some f) name =
-    laid_grows (λ (w : Compilation). class_lost limits name w.output) (λ lines w. refl)
+class_opened_keeps : (limits : Limits) (context : Context) (found : Option Finding) (name : Name)
+    → Keeps (class_opened limits context found name)
+class_opened_keeps limits context None name = record { keeps = λ b w. refl }
+class_opened_keeps limits context (Some f) name =
+    laid_keeps (λ (w : Compilation). class_lost limits name w.output) (λ b w. refl)
 
-class_with_grows : (limits : Limits) (context : Context) (first : Place) (name : Name) (d : Declared)
-    → Grows (class_with limits context first name d)
-class_with_grows limits context first name d =
-    then_grows (class_opened limits context d.finding name) (declared_ended limits context first false name countable.Globals d)
-    (class_opened_grows limits context d.finding name) (declared_ended_grows limits context first false name countable.Globals d)
+class_with_keeps : (limits : Limits) (context : Context) (first : Place) (name : Name) (d : Declared)
+    → Keeps (class_with limits context first name d)
+class_with_keeps limits context first name d =
+    then_keeps (class_opened limits context d.finding name) (declared_ended limits context first false name countable.Globals d)
+    (class_opened_keeps limits context d.finding name) (declared_ended_keeps limits context first false name countable.Globals d)
 
-pub class_grows : (limits : Limits) (context : Context) (first : Place) (name : Name) → Grows (class_header limits context first name)
-class_grows limits context first name =
-    with_grows (λ (w : Compilation). plainly_known name (name_order w.unit.tokens) w) (class_with limits context first name)
-    (λ lines w. refl) (class_with_grows limits context first name)
+pub class_keeps : (limits : Limits) (context : Context) (first : Place) (name : Name) → Keeps (class_header limits context first name)
+class_keeps limits context first name =
+    with_keeps (λ (w : Compilation). plainly_known name (name_order w.unit.tokens) w) (class_with limits context first name)
+    (λ b w. refl) (class_with_keeps limits context first name)
 
 -- The knowledge of an object does not depend on what was reported.
 
-above_stays : (at : Option ℕ) (arrows : ℕ) → Stays (above_finding at arrows)
-above_stays None arrows lines w = refl
-above_stays (Some at) arrows lines w = refl
+above_stays : (at : Option ℕ) (arrows : ℕ) → Rests (above_finding at arrows)
+above_stays None arrows b w = refl
+above_stays (Some at) arrows b w = refl
 
-named_stays : (at arrow : Option ℕ) → Stays (named_parent_finding at arrow)
-named_stays None arrow lines w = refl
-named_stays (Some at) arrow lines w = refl
+named_stays : (at arrow : Option ℕ) → Rests (named_parent_finding at arrow)
+named_stays None arrow b w = refl
+named_stays (Some at) arrow b w = refl
 
-parent_stays : (h : Header) → Stays (parent_finding h)
-parent_stays h lines w =
-    ap (λ f. least_of_both f (named_parent_finding h.parent h.arrow (with_lines_before lines w))) (above_stays h.arrow h.arrows lines w)
-    ∙ ap (least_of_both (above_finding h.arrow h.arrows w)) (named_stays h.parent h.arrow lines w)
+parent_stays : (h : Header) → Rests (parent_finding h)
+parent_stays h b w =
+    ap (λ f. least_of_both f (named_parent_finding h.parent h.arrow (with_before b w))) (above_stays h.arrow h.arrows b w)
+    ∙ ap (least_of_both (above_finding h.arrow h.arrows w)) (named_stays h.parent h.arrow b w)
 
-headed_stays : (h : Header) → Stays (headed_finding h)
-headed_stays h lines w =
-    ap (least_of_both (many_finding (has_most_classes (class_of_word w) w.output))) (parent_stays h lines w)
+headed_stays : (h : Header) → Rests (headed_finding h)
+headed_stays h b w =
+    ap (least_of_both (many_finding (has_most_classes (class_of_word w) w.output))) (parent_stays h b w)
 
-known_stays : (context : Context) (h : Header) (name : Option Name) → Stays (object_known context h name)
-known_stays context h None lines w =
-    let d = object_known context h None w in ap (λ (f : Option Finding). record d { finding = f }) (headed_stays h lines w)
-known_stays context h (Some name) lines w =
+known_stays : (context : Context) (h : Header) (name : Option Name) → Rests (object_known context h name)
+known_stays context h None b w =
+    let d = object_known context h None w in ap (λ (f : Option Finding). record d { finding = f }) (headed_stays h b w)
+known_stays context h (Some name) b w =
     let d = plainly_known name (order (unwrap_or h.own 0)) w in
-    ap (λ (f : Option Finding). record d { finding = least_of_both d.finding f }) (headed_stays h lines w)
+    ap (λ (f : Option Finding). record d { finding = least_of_both d.finding f }) (headed_stays h b w)
 
-parent_in_stays : (at : Option ℕ) (arrows : ℕ) → Stays (parent_in at arrows)
-parent_in_stays None arrows lines w = refl
-parent_in_stays (Some at) arrows lines w = refl
+parent_in_stays : (at : Option ℕ) (arrows : ℕ) → Rests (parent_in at arrows)
+parent_in_stays None arrows b w = refl
+parent_in_stays (Some at) arrows b w = refl
 
-text_stays : (context : Context) (at : Option ℕ) → Stays (header_text context at)
-text_stays context None lines w = refl
-text_stays context (Some at) lines w = refl
+text_stays : (context : Context) (at : Option ℕ) → Rests (header_text context at)
+text_stays context None b w = refl
+text_stays context (Some at) b w = refl
 
-short_stays : (context : Context) (h : Header) (name : Option Name) → Stays (short_text context h name)
-short_stays context h name lines w = ap (λ t. short_by context.set t name) (text_stays context h.text lines w)
+short_stays : (context : Context) (h : Header) (name : Option Name) → Rests (short_text context h name)
+short_stays context h name b w = ap (λ t. short_by context.set t name) (text_stays context h.text b w)
 
-own_stays : (at : Option ℕ) → Stays (own_name at)
-own_stays None lines w = refl
-own_stays (Some at) lines w = refl
+own_stays : (at : Option ℕ) → Rests (own_name at)
+own_stays None b w = refl
+own_stays (Some at) b w = refl
 
 -- Objects
 
@@ -97,50 +97,50 @@ new_below limits name text p w = record w {
   output = object_begun limits p (packed_name text w.output.texts) (class_of_word w) name (name_packed text w.output);
 }
 
-below_grows : (limits : Limits) (name : Option Name) (text : Option (List TextItem)) (p : Parent)
-    → Grows (new_below limits name text p)
-below_grows limits name text p = record { grows = λ lines w. refl }
+below_keeps : (limits : Limits) (name : Option Name) (text : Option (List TextItem)) (p : Parent)
+    → Keeps (new_below limits name text p)
+below_keeps limits name text p = record { keeps = λ b w. refl }
 
 -- a new object with a short name
 abbrev new_named : Limits → Header → Option Name → Option (List TextItem) → Compilation → Compilation
 new_named limits h name text w = new_below limits name text (parent_in h.parent h.arrows w) w
 
-new_named_grows : (limits : Limits) (h : Header) (name : Option Name) (text : Option (List TextItem))
-    → Grows (new_named limits h name text)
-new_named_grows limits h name text =
-    with_grows (parent_in h.parent h.arrows) (new_below limits name text) (parent_in_stays h.parent h.arrows)
-    (below_grows limits name text)
+new_named_keeps : (limits : Limits) (h : Header) (name : Option Name) (text : Option (List TextItem))
+    → Keeps (new_named limits h name text)
+new_named_keeps limits h name text =
+    with_keeps (parent_in h.parent h.arrows) (new_below limits name text) (parent_in_stays h.parent h.arrows)
+    (below_keeps limits name text)
 
-new_grows : (limits : Limits) (context : Context) (h : Header) (name : Option Name) → Grows (object_new limits context h name)
-new_grows limits context h name =
-    with_grows (short_text context h name) (new_named limits h name) (short_stays context h name) (new_named_grows limits h name)
+new_keeps : (limits : Limits) (context : Context) (h : Header) (name : Option Name) → Keeps (object_new limits context h name)
+new_keeps limits context h name =
+    with_keeps (short_text context h name) (new_named limits h name) (short_stays context h name) (new_named_keeps limits h name)
 
-opened_grows : (limits : Limits) (context : Context) (found : Option Finding) (h : Header) (name : Option Name)
-    → Grows (object_opened limits context found h name)
-opened_grows limits context None h name = new_grows limits context h name
-opened_grows limits context (Some f) h name =
-    laid_grows (λ (w : Compilation). object_lost limits name w.output) (λ lines w. refl)
+opened_keeps : (limits : Limits) (context : Context) (found : Option Finding) (h : Header) (name : Option Name)
+    → Keeps (object_opened limits context found h name)
+opened_keeps limits context None h name = new_keeps limits context h name
+opened_keeps limits context (Some f) h name =
+    laid_keeps (λ (w : Compilation). object_lost limits name w.output) (λ b w. refl)
 
-ended_grows : (limits : Limits) (context : Context) (first : Place) (name : Option Name) (d : Declared)
-    → Grows (object_ended limits context first name d)
-ended_grows limits context first None d = entry_grows limits context first d.finding
-ended_grows limits context first (Some name) d = declared_ended_grows limits context first false name countable.Values d
+ended_keeps : (limits : Limits) (context : Context) (first : Place) (name : Option Name) (d : Declared)
+    → Keeps (object_ended limits context first name d)
+ended_keeps limits context first None d = entry_keeps limits context first d.finding
+ended_keeps limits context first (Some name) d = declared_ended_keeps limits context first false name countable.Values d
 
-with_known_grows : (limits : Limits) (context : Context) (first : Place) (h : Header) (name : Option Name) (d : Declared)
-    → Grows (object_with_known limits context first h name d)
-with_known_grows limits context first h name d =
-    then_grows (object_opened limits context d.finding h name) (object_ended limits context first name d)
-    (opened_grows limits context d.finding h name) (ended_grows limits context first name d)
+with_known_keeps : (limits : Limits) (context : Context) (first : Place) (h : Header) (name : Option Name) (d : Declared)
+    → Keeps (object_with_known limits context first h name d)
+with_known_keeps limits context first h name d =
+    then_keeps (object_opened limits context d.finding h name) (object_ended limits context first name d)
+    (opened_keeps limits context d.finding h name) (ended_keeps limits context first name d)
 
-object_with_grows : (limits : Limits) (context : Context) (first : Place) (h : Header) (name : Option Name)
-    → Grows (object_with limits context first h name)
-object_with_grows limits context first h name =
-    with_grows (object_known context h name) (object_with_known limits context first h name) (known_stays context h name)
-    (with_known_grows limits context first h name)
+object_with_keeps : (limits : Limits) (context : Context) (first : Place) (h : Header) (name : Option Name)
+    → Keeps (object_with limits context first h name)
+object_with_keeps limits context first h name =
+    with_keeps (object_known context h name) (object_with_known limits context first h name) (known_stays context h name)
+    (with_known_keeps limits context first h name)
 
-pub object_grows : (limits : Limits) (context : Context) (first : Place) → Grows (object_header limits context first)
-object_grows limits context first =
-    with_grows (λ (w : Compilation). header_in w.unit.tokens)
-    (λ (h : Header) (w : Compilation). object_with limits context first h (own_name h.own w) w) (λ lines w. refl)
-    (λ h. with_grows (own_name h.own) (object_with limits context first h) (own_stays h.own)
-    (object_with_grows limits context first h))
+pub object_keeps : (limits : Limits) (context : Context) (first : Place) → Keeps (object_header limits context first)
+object_keeps limits context first =
+    with_keeps (λ (w : Compilation). header_in w.unit.tokens)
+    (λ (h : Header) (w : Compilation). object_with limits context first h (own_name h.own w) w) (λ b w. refl)
+    (λ h. with_keeps (own_name h.own) (object_with limits context first h) (own_stays h.own)
+    (object_with_keeps limits context first h))

@@ -1,4 +1,4 @@
--- Messages grow at the header and at the end of a routine.
+-- Nothing is asked, and messages grow, at the header and at the end of a routine.
 use Rattle.std.proofs.Common.{List, [], ◌∷◌, length, true, false, refl}
 use Rattle.std.specs.Prelude.{is_some, max}
 use Rattle.inf_settings.specs.Bounds.{Limits}
@@ -18,10 +18,11 @@ use Rattle.inf_compilation.specs.Actions.{Compilation, cases_ended, close, close
 use Rattle.inf_compilation.specs.Actions.{header_of, header_with, is_to_be_replaced, kind_ended, opened_with, passed, routine_declared}
 use Rattle.inf_compilation.specs.Actions.{unit_ended, with_all_unused, with_routine_fault}
 use Rattle.inf_compilation.specs.Findings.{Findings, again_by, header_findings, nothing_found}
-use Rattle.inf_message_laws.specs.Growing.{Grows}
-use Rattle.inf_message_laws.proofs.Combined.{constructs_grow, if_grows, laid_grows, then_grows, with_grows}
-use Rattle.inf_message_laws.proofs.Told.{Adds, all_unused_add, routine_adds, telling_grows, then_adds}
-use Rattle.inf_message_laws.proofs.Tokens.{end_grows, passed_grows}
+use Rattle.inf_message_laws.specs.Growing.{Keeps}
+use Rattle.inf_message_laws.proofs.Keeping.{constructs_keep, if_keeps, laid_keeps, then_keeps, with_keeps}
+use Rattle.inf_message_laws.proofs.Keeping.{telling_keeps}
+use Rattle.inf_message_laws.proofs.Told.{Adds, all_unused_add, routine_adds, then_adds}
+use Rattle.inf_message_laws.proofs.Tokens.{end_keeps, passed_keeps}
 
 -- Headers
 
@@ -34,62 +35,62 @@ with_open limits h found w = record w {
   labels = [];
 }
 
-open_grows : (limits : Limits) (h : Headed) (found : Findings) → Grows (with_open limits h found)
-open_grows limits h found = record { grows = λ lines w. refl }
+open_keeps : (limits : Limits) (h : Headed) (found : Findings) → Keeps (with_open limits h found)
+open_keeps limits h found = record { keeps = λ b w. refl }
 
-pub opened_grows : (limits : Limits) (context : Context) (first : Place) (h : Headed) (found : Findings)
-    → Grows (opened_with limits context first h found)
-opened_grows limits context first h found =
-    then_grows (with_open limits h found) (unit_ended limits context first true found) (open_grows limits h found)
-    (end_grows limits context first true found)
+pub opened_keeps : (limits : Limits) (context : Context) (first : Place) (h : Headed) (found : Findings)
+    → Keeps (opened_with limits context first h found)
+opened_keeps limits context first h found =
+    then_keeps (with_open limits h found) (unit_ended limits context first true found) (open_keeps limits h found)
+    (end_keeps limits context first true found)
 
-pub declared_grows : (limits : Limits) (name : Name) → Grows (routine_declared limits name)
-declared_grows limits name =
-    laid_grows
+pub declared_keeps : (limits : Limits) (name : Name) → Keeps (routine_declared limits name)
+declared_keeps limits name =
+    laid_keeps
     (λ (w : Compilation). declared limits name.bytes name.place (meaning.Routine (place_behind w.output.code.finished)) w.output)
-    (λ lines w. refl)
+    (λ b w. refl)
 
-header_grows : (limits : Limits) (context : Context) (first : Place) (name : Name) (h : Headed)
-    → Grows (header_with limits context first name h)
-header_grows limits context first name h =
-    with_grows (λ (w : Compilation). header_findings 1 (again_by name (declare_fault limits name.bytes w.output.names)) h)
+header_keeps : (limits : Limits) (context : Context) (first : Place) (name : Name) (h : Headed)
+    → Keeps (header_with limits context first name h)
+header_keeps limits context first name h =
+    with_keeps (λ (w : Compilation). header_findings 1 (again_by name (declare_fault limits name.bytes w.output.names)) h)
     (λ (found : Findings) (w : Compilation). opened_with limits context first h found (routine_declared limits name w))
-    (λ lines w. refl)
-    (λ found. then_grows (routine_declared limits name) (opened_with limits context first h found) (declared_grows limits name)
-    (opened_grows limits context first h found))
+    (λ b w. refl)
+    (λ found. then_keeps (routine_declared limits name) (opened_with limits context first h found) (declared_keeps limits name)
+    (opened_keeps limits context first h found))
 
 -- a routine that is not to be replaced begins
 abbrev kept : Compilation → Compilation
 kept w = record w { is_replaced = false; is_embedded = false }
 
-kept_grows : Grows kept
-kept_grows = record { grows = λ lines w. refl }
+kept_keeps : Keeps kept
+kept_keeps = record { keeps = λ b w. refl }
 
 -- one that is to be replaced begins
 abbrev replaced : Compilation → Compilation
 replaced w = record w { is_replaced = true; is_embedded = false; constructs = [] }
 
-replaced_grows : Grows replaced
-replaced_grows = record { grows = λ lines w. refl }
+replaced_keeps : Keeps replaced
+replaced_keeps = record { keeps = λ b w. refl }
 
-named_grows : (limits : Limits) (context : Context) (first : Place) (name : Name) → Grows (header_named limits context first name)
-named_grows limits context first name =
-    if_grows (is_to_be_replaced name) (λ (w : Compilation). passed true (replaced w))
-    (λ (w : Compilation). header_with limits context first name w.unit.headed (kept w)) (λ lines w. refl)
-    (then_grows replaced (passed true) replaced_grows (passed_grows true))
-    (with_grows (λ (w : Compilation). w.unit.headed)
-    (λ (h : Headed) (w : Compilation). header_with limits context first name h (kept w)) (λ lines w. refl)
-    (λ h. then_grows kept (header_with limits context first name h) kept_grows (header_grows limits context first name h)))
+named_keeps : (limits : Limits) (context : Context) (first : Place) (name : Name) → Keeps (header_named limits context first name)
+named_keeps limits context first name =
+    if_keeps (is_to_be_replaced name) (λ (w : Compilation). passed true (replaced w))
+    (λ (w : Compilation). header_with limits context first name w.unit.headed (kept w)) (λ b w. refl)
+    (then_keeps replaced (passed true) replaced_keeps (passed_keeps true))
+    (with_keeps (λ (w : Compilation). w.unit.headed)
+    (λ (h : Headed) (w : Compilation). header_with limits context first name h (kept w)) (λ b w. refl)
+    (λ h. then_keeps kept (header_with limits context first name h) kept_keeps (header_keeps limits context first name h)))
 
-names_grow : (limits : Limits) (context : Context) (first : Place) (names : List Name) → Grows (header_of limits context first names)
-names_grow limits context first [] = passed_grows true
-names_grow limits context first (name ∷ names) = named_grows limits context first name
+names_grow : (limits : Limits) (context : Context) (first : Place) (names : List Name) → Keeps (header_of limits context first names)
+names_grow limits context first [] = passed_keeps true
+names_grow limits context first (name ∷ names) = named_keeps limits context first name
 
-pub header_end_grows : (limits : Limits) (context : Context) (place : Place) → Grows (header_end limits context place)
-header_end_grows limits context place =
-    with_grows (λ (w : Compilation). first_place w.unit.tokens place)
-    (λ (first : Place) (w : Compilation). header_of limits context first (names_in w.unit.tokens) w) (λ lines w. refl)
-    (λ first. with_grows (λ (w : Compilation). names_in w.unit.tokens) (header_of limits context first) (λ lines w. refl)
+pub header_end_keeps : (limits : Limits) (context : Context) (place : Place) → Keeps (header_end limits context place)
+header_end_keeps limits context place =
+    with_keeps (λ (w : Compilation). first_place w.unit.tokens place)
+    (λ (first : Place) (w : Compilation). header_of limits context first (names_in w.unit.tokens) w) (λ b w. refl)
+    (λ first. with_keeps (λ (w : Compilation). names_in w.unit.tokens) (header_of limits context first) (λ b w. refl)
     (names_grow limits context first))
 
 -- Ends
@@ -109,10 +110,10 @@ end_adds limits how context place w =
 abbrev told_at_end : Limits → RoutineKind → Context → Place → Compilation → Compilation
 told_at_end limits how context place w = record w { report = end_told limits how context place w w.report }
 
-told_at_end_grows : (limits : Limits) (how : RoutineKind) (context : Context) (place : Place)
-    → Grows (told_at_end limits how context place)
-told_at_end_grows limits how context place =
-    telling_grows (end_told limits how context place) (λ lines w. refl) (end_adds limits how context place)
+told_at_end_keeps : (limits : Limits) (how : RoutineKind) (context : Context) (place : Place)
+    → Keeps (told_at_end limits how context place)
+told_at_end_keeps limits how context place =
+    telling_keeps (end_told limits how context place) (λ b w. refl) (end_adds limits how context place)
 
 -- the code of a routine is closed, and its locals are forgotten
 abbrev code_ended : Limits → RoutineKind → Compilation → Compilation
@@ -123,28 +124,28 @@ code_ended limits how w = record w {
   is_embedded = false;
 }
 
-code_ended_grows : (limits : Limits) (how : RoutineKind) → Grows (code_ended limits how)
-code_ended_grows limits how = record { grows = λ lines w. refl }
+code_ended_keeps : (limits : Limits) (how : RoutineKind) → Keeps (code_ended limits how)
+code_ended_keeps limits how = record { keeps = λ b w. refl }
 
-close_as_grows : (limits : Limits) (how : RoutineKind) (context : Context) (place : Place) → Grows (close_as limits how context place)
-close_as_grows limits how context place =
-    then_grows (λ (w : Compilation). code_ended limits how (told_at_end limits how context place w))
+close_as_keeps : (limits : Limits) (how : RoutineKind) (context : Context) (place : Place) → Keeps (close_as limits how context place)
+close_as_keeps limits how context place =
+    then_keeps (λ (w : Compilation). code_ended limits how (told_at_end limits how context place w))
     (unit_ended limits context place true nothing_found)
-    (then_grows (told_at_end limits how context place) (code_ended limits how) (told_at_end_grows limits how context place)
-    (code_ended_grows limits how))
-    (end_grows limits context place true nothing_found)
+    (then_keeps (told_at_end limits how context place) (code_ended limits how) (told_at_end_keeps limits how context place)
+    (code_ended_keeps limits how))
+    (end_keeps limits context place true nothing_found)
 
-code_closed_grows : (limits : Limits) (context : Context) (place : Place) → Grows (code_closed limits context place)
-code_closed_grows limits context place =
-    with_grows (λ (w : Compilation). kind_ended w.is_embedded)
-    (λ (how : RoutineKind) (w : Compilation). close_as limits how context place w) (λ lines w. refl)
-    (λ how. close_as_grows limits how context place)
+code_closed_keeps : (limits : Limits) (context : Context) (place : Place) → Keeps (code_closed limits context place)
+code_closed_keeps limits context place =
+    with_keeps (λ (w : Compilation). kind_ended w.is_embedded)
+    (λ (how : RoutineKind) (w : Compilation). close_as limits how context place w) (λ b w. refl)
+    (λ how. close_as_keeps limits how context place)
 
-cases_ended_grows : (limits : Limits) → Grows (cases_ended limits)
-cases_ended_grows limits = constructs_grow (λ (w : Compilation). ended limits w.constructs) (λ lines w. refl)
+cases_ended_keeps : (limits : Limits) → Keeps (cases_ended limits)
+cases_ended_keeps limits = constructs_keep (λ (w : Compilation). ended limits w.constructs) (λ b w. refl)
 
-pub close_grows : (limits : Limits) (context : Context) (place : Place) → Grows (close limits context place)
-close_grows limits context place =
-    if_grows (λ (w : Compilation). w.is_replaced) (passed true) (close_open limits context place) (λ lines w. refl) (passed_grows true)
-    (then_grows (cases_ended limits) (code_closed limits context place) (cases_ended_grows limits)
-    (code_closed_grows limits context place))
+pub close_keeps : (limits : Limits) (context : Context) (place : Place) → Keeps (close limits context place)
+close_keeps limits context place =
+    if_keeps (λ (w : Compilation). w.is_replaced) (passed true) (close_open limits context place) (λ b w. refl) (passed_keeps true)
+    (then_keeps (cases_ended limits) (code_closed limits context place) (cases_ended_keeps limits)
+    (code_closed_keeps limits context place))

@@ -1,4 +1,4 @@
--- Messages grow where a token is taken, and where a unit ends.
+-- Nothing is asked, and messages grow, where a token is taken, and where a unit ends.
 use Rattle.std.proofs.Common.{Bool, true, false, Option, Some, None, refl}
 use Rattle.std.specs.Prelude.{◌&&◌, max}
 use Rattle.inf_settings.specs.Bounds.{Limits}
@@ -15,50 +15,54 @@ use Rattle.inf_compilation.specs.Context.{Context, longest}
 use Rattle.inf_compilation.specs.Actions.{Compilation, code_begun, is_deep, nested, opens, passed, sized, stopped, token_checked, took}
 use Rattle.inf_compilation.specs.Actions.{unit_ended}
 use Rattle.inf_compilation.specs.Findings.{Findings, told_as}
-use Rattle.inf_message_laws.specs.Growing.{Grows}
-use Rattle.inf_message_laws.proofs.Combined.{laid_grows, then_grows, unit_grows, with_grows}
-use Rattle.inf_message_laws.proofs.Told.{end_adds, fatal_adds, told_grows}
+use Rattle.inf_message_laws.specs.Growing.{Grows, Keeps}
+use Rattle.inf_message_laws.proofs.Keeping.{grows_of, laid_keeps, then_keeps, unit_keeps, with_keeps}
+use Rattle.inf_message_laws.proofs.Keeping.{told_keeps}
+use Rattle.inf_message_laws.proofs.Told.{end_adds, fatal_adds}
 
 -- Tokens
 
-stopped_grows : (context : Context) (place : Option Place) → Grows (stopped context place)
-stopped_grows context None = record { grows = λ lines w. refl }
-stopped_grows context (Some place) =
-    told_grows (with_fatal (location context.names place) (Exceeded setting.ExpressionNodes))
+stopped_keeps : (context : Context) (place : Option Place) → Keeps (stopped context place)
+stopped_keeps context None = record { keeps = λ b w. refl }
+stopped_keeps context (Some place) =
+    told_keeps (with_fatal (location context.names place) (Exceeded setting.ExpressionNodes))
     (fatal_adds (location context.names place) (Exceeded setting.ExpressionNodes))
 
-pub sized_grows : (context : Context) → Grows (sized context)
-sized_grows context =
-    with_grows (λ (w : Compilation). long_at (longest context) w.unit) (stopped context) (λ lines w. refl) (stopped_grows context)
+pub sized_keeps : (context : Context) → Keeps (sized context)
+sized_keeps context =
+    with_keeps (λ (w : Compilation). long_at (longest context) w.unit) (stopped context) (λ b w. refl) (stopped_keeps context)
 
-nested_grows : (context : Context) (place : Place) (is_deep : Bool) → Grows (nested context place is_deep)
-nested_grows context place true =
-    told_grows (with_fatal (location context.names place) DeepNesting) (fatal_adds (location context.names place) DeepNesting)
-nested_grows context place false = record { grows = λ lines w. refl }
+nested_keeps : (context : Context) (place : Place) (is_deep : Bool) → Keeps (nested context place is_deep)
+nested_keeps context place true =
+    told_keeps (with_fatal (location context.names place) DeepNesting) (fatal_adds (location context.names place) DeepNesting)
+nested_keeps context place false = record { keeps = λ b w. refl }
 
 -- one more bracket, brace or statement
-pub deeper_grows : (context : Context) (place : Place) → Grows (λ w. nested context place (is_deep w 1) w)
-deeper_grows context place =
-    with_grows (λ (w : Compilation). is_deep w 1) (nested context place) (λ lines w. refl) (nested_grows context place)
+pub deeper_keeps : (context : Context) (place : Place) → Keeps (λ w. nested context place (is_deep w 1) w)
+deeper_keeps context place =
+    with_keeps (λ (w : Compilation). is_deep w 1) (nested context place) (λ b w. refl) (nested_keeps context place)
 
-checked_grows : (context : Context) (t : SourceToken) → Grows (token_checked context t)
-checked_grows context t =
-    with_grows (λ (w : Compilation). opens t.kind && is_deep w 0) (nested context t.place) (λ lines w. refl)
-    (nested_grows context t.place)
+checked_keeps : (context : Context) (t : SourceToken) → Keeps (token_checked context t)
+checked_keeps context t =
+    with_keeps (λ (w : Compilation). opens t.kind && is_deep w 0) (nested context t.place) (λ b w. refl)
+    (nested_keeps context t.place)
+
+pub took_keeps : (context : Context) (t : SourceToken) → Keeps (took context t)
+took_keeps context t =
+    then_keeps (λ (w : Compilation). sized context (record w { unit = taken t w.unit })) (token_checked context t)
+    (then_keeps (λ (w : Compilation). record w { unit = taken t w.unit }) (sized context) (unit_keeps (taken t)) (sized_keeps context))
+    (checked_keeps context t)
 
 pub took_grows : (context : Context) (t : SourceToken) → Grows (took context t)
-took_grows context t =
-    then_grows (λ (w : Compilation). sized context (record w { unit = taken t w.unit })) (token_checked context t)
-    (then_grows (λ (w : Compilation). record w { unit = taken t w.unit }) (sized context) (unit_grows (taken t)) (sized_grows context))
-    (checked_grows context t)
+took_grows context t = grows_of (took_keeps context t)
 
 -- Units
 
-pub passed_grows : (has_last : Bool) → Grows (passed has_last)
-passed_grows has_last = unit_grows (over has_last)
+pub passed_keeps : (has_last : Bool) → Keeps (passed has_last)
+passed_keeps has_last = unit_keeps (over has_last)
 
-pub begun_grows : (limits : Limits) → Grows (code_begun limits)
-begun_grows limits = laid_grows (λ (w : Compilation). begun limits w.output) (λ lines w. refl)
+pub begun_keeps : (limits : Limits) → Keeps (code_begun limits)
+begun_keeps limits = laid_keeps (λ (w : Compilation). begun limits w.output) (λ b w. refl)
 
 -- the end of a unit, by the messages about it
 abbrev ended_with : Context → Place → Bool → Option Diagnostic → Option Setting → Compilation → Compilation
@@ -68,20 +72,20 @@ ended_with context first has_last blame limit w = record w {
   report = with_full context.names first limit (with_fault context.names first blame w.report);
 }
 
-told_end_grows : (context : Context) (first : Place) (has_last : Bool) (blame : Option Diagnostic) (limit : Option Setting)
-    → Grows (ended_with context first has_last blame limit)
-told_end_grows context first has_last blame limit =
-    then_grows
+told_end_keeps : (context : Context) (first : Place) (has_last : Bool) (blame : Option Diagnostic) (limit : Option Setting)
+    → Keeps (ended_with context first has_last blame limit)
+told_end_keeps context first has_last blame limit =
+    then_keeps
     (λ (w : Compilation). record w { report = with_full context.names first limit (with_fault context.names first blame w.report) })
     (λ (w : Compilation). record w { unit = over has_last w.unit; most_labels = max w.most_labels (labels_of w.output.code) })
-    (told_grows (λ r. with_full context.names first limit (with_fault context.names first blame r))
+    (told_keeps (λ r. with_full context.names first limit (with_fault context.names first blame r))
     (end_adds context.names first blame limit))
-    (record { grows = λ lines w. refl })
+    (record { keeps = λ b w. refl })
 
-pub end_grows : (limits : Limits) (context : Context) (first : Place) (has_last : Bool) (found : Findings)
-    → Grows (unit_ended limits context first has_last found)
-end_grows limits context first has_last found =
-    with_grows (λ (w : Compilation). told_as context.names w.unit.tokens first found)
-    (λ (blame : Option Diagnostic) (w : Compilation). ended_with context first has_last blame (full limits w.output) w) (λ lines w. refl)
-    (λ blame. with_grows (λ (w : Compilation). full limits w.output) (ended_with context first has_last blame) (λ lines w. refl)
-    (λ limit. told_end_grows context first has_last blame limit))
+pub end_keeps : (limits : Limits) (context : Context) (first : Place) (has_last : Bool) (found : Findings)
+    → Keeps (unit_ended limits context first has_last found)
+end_keeps limits context first has_last found =
+    with_keeps (λ (w : Compilation). told_as context.names w.unit.tokens first found)
+    (λ (blame : Option Diagnostic) (w : Compilation). ended_with context first has_last blame (full limits w.output) w) (λ b w. refl)
+    (λ blame. with_keeps (λ (w : Compilation). full limits w.output) (ended_with context first has_last blame) (λ b w. refl)
+    (λ limit. told_end_keeps context first has_last blame limit))

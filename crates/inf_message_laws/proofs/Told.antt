@@ -17,9 +17,8 @@ use Rattle.inf_report.specs.declared.messages.Kind.TheVariants as weight
 use Rattle.inf_unit.specs.Messages.{Diagnostic, FileNames, Reported, location, with_error, with_fatal, with_fault, with_full, with_plain}
 use Rattle.inf_unit.specs.Messages.{with_warning, with_words}
 use Rattle.inf_compilation.specs.Context.{Context}
-use Rattle.inf_compilation.specs.Actions.{Compilation, with_all_unused, with_branch_fault, with_fault_or, with_routine_fault, with_unused}
+use Rattle.inf_compilation.specs.Actions.{with_all_unused, with_branch_fault, with_fault_or, with_routine_fault, with_unused}
 use Rattle.inf_message_laws.specs.Growing.{Grows, told_before}
-use Rattle.inf_message_laws.proofs.Combined.{Stays}
 
 -- A change of the report does not depend on its lines, and leaves them unchanged before its own.
 pub record Adds (tell : Reported → Reported) : Type 0 where
@@ -35,14 +34,6 @@ then_adds f g first second = record { adds = λ lines r. ap g (first.adds lines 
 pub told_grows : (tell : Reported → Reported) → Adds tell → Grows (λ w. record w { report = tell w.report })
 told_grows tell only = record {
   grows = λ lines w. ap (λ (r : Reported). record w { report = r }) (only.adds lines w.report);
-}
-
--- one whose change depends on values that stay
-pub telling_grows : (tell : Compilation → Reported → Reported) → Stays tell → ((w : Compilation) → Adds (tell w))
-    → Grows (λ w. record w { report = tell w w.report })
-telling_grows tell stays each = record {
-  grows = λ lines w. ap (λ (t : Reported → Reported). record w { report = t (told_before lines w.report) }) (stays lines w)
-      ∙ ap (λ (r : Reported). record w { report = r }) ((each w).adds lines w.report);
 }
 
 -- lines behind those of the report, and counts, which both depend on the counts alone

@@ -1,4 +1,4 @@
--- Messages grow at the values of properties: words of the dictionary, expressions, and the headers of routines.
+-- Nothing is asked, and messages grow, at the values of properties: words of the dictionary, expressions, and the headers of routines.
 use Rattle.std.proofs.Common.{ℕ, List, Bool, true, false, length, Option, Some, None, refl, ◌∙◌, ap}
 use Rattle.std.specs.Prelude.{is_some}
 use Rattle.inf_settings.specs.Bounds.{Limits}
@@ -28,238 +28,238 @@ use Rattle.inf_bodies.specs.Values.{next_routine, place_before, routine_placed, 
 use Rattle.inf_bodies.specs.Values.{text_finding_by, text_placed_by, text_value, value_by, value_finding, value_finding_by, value_placed}
 use Rattle.inf_bodies.specs.Values.{value_read, value_read_at, value_with, value_with_finding, word_leaf, word_text, word_text_by}
 use Rattle.inf_bodies.specs.Values.{word_used, wrong_if}
-use Rattle.inf_message_laws.specs.Growing.{Grows, with_lines_before}
-use Rattle.inf_message_laws.proofs.Bodies.{place_stays, placed_finding_stays, placed_grows}
-use Rattle.inf_message_laws.proofs.Combined.{Stays, laid_grows, nothing_grows, then_grows, with_grows}
-use Rattle.inf_message_laws.proofs.Objects.{entry_grows}
-use Rattle.inf_message_laws.proofs.Routines.{opened_grows}
+use Rattle.inf_message_laws.specs.Growing.{Keeps, with_before}
+use Rattle.inf_message_laws.proofs.Bodies.{place_stays, placed_finding_stays, placed_keeps}
+use Rattle.inf_message_laws.proofs.Keeping.{Rests, laid_keeps, nothing_keeps, then_keeps, with_keeps}
+use Rattle.inf_message_laws.proofs.Objects.{entry_keeps}
+use Rattle.inf_message_laws.proofs.Routines.{opened_keeps}
 
 -- The text of a word does not depend on what was reported.
 
-takes_stays : (name : Option ℕ) → Stays (takes_words name)
-takes_stays None lines w = refl
-takes_stays (Some at) lines w = refl
+takes_stays : (name : Option ℕ) → Rests (takes_words name)
+takes_stays None b w = refl
+takes_stays (Some at) b w = refl
 
-leaf_stays : (context : Context) (l : Leaf) → Stays (leaf_text context l)
-leaf_stays context (leaf.Char c) lines w = refl
-leaf_stays context (leaf.Text at) lines w = refl
-leaf_stays context _ lines w = refl
+leaf_stays : (context : Context) (l : Leaf) → Rests (leaf_text context l)
+leaf_stays context (leaf.Char c) b w = refl
+leaf_stays context (leaf.Text at) b w = refl
+leaf_stays context _ b w = refl
 
-word_by_stays : (context : Context) (l : Option Leaf) → Stays (word_text_by context l)
-word_by_stays context None lines w = refl
-word_by_stays context (Some l) lines w = leaf_stays context l lines w
+word_by_stays : (context : Context) (l : Option Leaf) → Rests (word_text_by context l)
+word_by_stays context None b w = refl
+word_by_stays context (Some l) b w = leaf_stays context l b w
 
-word_stays : (context : Context) (takes : Bool) → Stays (word_text context takes)
-word_stays context takes lines w = word_by_stays context (word_leaf takes w) lines w
+word_stays : (context : Context) (takes : Bool) → Rests (word_text context takes)
+word_stays context takes b w = word_by_stays context (word_leaf takes w) b w
 
 -- the text of a value that is a word
 abbrev own_text : Context → Option ℕ → Compilation → Option (List TextItem)
 own_text context name w = word_text context (takes_words name w) w
 
-own_text_stays : (context : Context) (name : Option ℕ) → Stays (own_text context name)
-own_text_stays context name lines w =
-    ap (λ b. word_text context b (with_lines_before lines w)) (takes_stays name lines w) ∙ word_stays context (takes_words name w) lines w
+own_text_stays : (context : Context) (name : Option ℕ) → Rests (own_text context name)
+own_text_stays context name b w =
+    ap (λ takes. word_text context takes (with_before b w)) (takes_stays name b w) ∙ word_stays context (takes_words name w) b w
 
 -- Words
 
-word_used_grows : (limits : Limits) (f : Option Finding) (items : List TextItem) → Grows (word_used limits f items)
-word_used_grows limits None items =
-    laid_grows (λ (w : Compilation). with_word limits (dictionary_bytes items) word_use.Other false w.output) (λ lines w. refl)
-word_used_grows limits (Some f) items = nothing_grows
+word_used_keeps : (limits : Limits) (f : Option Finding) (items : List TextItem) → Keeps (word_used limits f items)
+word_used_keeps limits None items =
+    laid_keeps (λ (w : Compilation). with_word limits (dictionary_bytes items) word_use.Other false w.output) (λ b w. refl)
+word_used_keeps limits (Some f) items = nothing_keeps
 
 text_by_stays : (limits : Limits) (is_wrong : Bool) (name : Option ℕ) (items : List TextItem)
-    → Stays (text_finding_by limits is_wrong name items)
-text_by_stays limits is_wrong name items lines w =
-    placed_finding_stays limits name (text_value is_wrong items) (wrong_if is_wrong) lines w
+    → Rests (text_finding_by limits is_wrong name items)
+text_by_stays limits is_wrong name items b w =
+    placed_finding_stays limits name (text_value is_wrong items) (wrong_if is_wrong) b w
 
 -- a word with its finding
 abbrev word_placed : Limits → Bool → Option ℕ → List TextItem → Option Finding → Compilation → Compilation
 word_placed limits is_wrong name items f w =
     word_used limits f items (placed limits name (text_value is_wrong items) (wrong_if is_wrong) w)
 
-word_placed_grows : (limits : Limits) (is_wrong : Bool) (name : Option ℕ) (items : List TextItem) (f : Option Finding)
-    → Grows (word_placed limits is_wrong name items f)
-word_placed_grows limits is_wrong name items f =
-    then_grows (placed limits name (text_value is_wrong items) (wrong_if is_wrong)) (word_used limits f items)
-    (placed_grows limits name (text_value is_wrong items) (wrong_if is_wrong)) (word_used_grows limits f items)
+word_placed_keeps : (limits : Limits) (is_wrong : Bool) (name : Option ℕ) (items : List TextItem) (f : Option Finding)
+    → Keeps (word_placed limits is_wrong name items f)
+word_placed_keeps limits is_wrong name items f =
+    then_keeps (placed limits name (text_value is_wrong items) (wrong_if is_wrong)) (word_used limits f items)
+    (placed_keeps limits name (text_value is_wrong items) (wrong_if is_wrong)) (word_used_keeps limits f items)
 
-text_by_grows : (limits : Limits) (is_wrong : Bool) (name : Option ℕ) (items : List TextItem)
-    → Grows (text_placed_by limits is_wrong name items)
-text_by_grows limits is_wrong name items =
-    with_grows (text_finding_by limits is_wrong name items) (word_placed limits is_wrong name items)
-    (text_by_stays limits is_wrong name items) (word_placed_grows limits is_wrong name items)
+text_by_keeps : (limits : Limits) (is_wrong : Bool) (name : Option ℕ) (items : List TextItem)
+    → Keeps (text_placed_by limits is_wrong name items)
+text_by_keeps limits is_wrong name items =
+    with_keeps (text_finding_by limits is_wrong name items) (word_placed limits is_wrong name items)
+    (text_by_stays limits is_wrong name items) (word_placed_keeps limits is_wrong name items)
 
 -- Expressions
 
-settled_work_grows : (limits : Limits) (context : Context) → Grows (settled_work limits context)
-settled_work_grows limits context = record { grows = λ lines w. refl }
+settled_work_keeps : (limits : Limits) (context : Context) → Keeps (settled_work limits context)
+settled_work_keeps limits context = record { keeps = λ b w. refl }
 
-settled_stays : (limits : Limits) (context : Context) (name : Option ℕ) → Stays (settled_finding limits context name)
-settled_stays limits context name lines w =
-    placed_finding_stays limits name (value_of limits context w) None lines (settled_work limits context w)
+settled_stays : (limits : Limits) (context : Context) (name : Option ℕ) → Rests (settled_finding limits context name)
+settled_stays limits context name b w =
+    placed_finding_stays limits name (value_of limits context w) None b (settled_work limits context w)
 
-settled_grows : (limits : Limits) (context : Context) (name : Option ℕ) → Grows (settled_placed limits context name)
-settled_grows limits context name =
-    with_grows (value_of limits context)
-    (λ (v : Value) (w : Compilation). placed limits name v None (settled_work limits context w)) (λ lines w. refl)
-    (λ v. then_grows (settled_work limits context) (placed limits name v None) (settled_work_grows limits context)
-    (placed_grows limits name v None))
+settled_keeps : (limits : Limits) (context : Context) (name : Option ℕ) → Keeps (settled_placed limits context name)
+settled_keeps limits context name =
+    with_keeps (value_of limits context)
+    (λ (v : Value) (w : Compilation). placed limits name v None (settled_work limits context w)) (λ b w. refl)
+    (λ v. then_keeps (settled_work limits context) (placed limits name v None) (settled_work_keeps limits context)
+    (placed_keeps limits name v None))
 
 value_by_stays : (limits : Limits) (context : Context) (f : Option Finding) (name : Option ℕ) (judged : Option Finding) (looked : Value)
-    → Stays (value_finding_by limits context f name judged looked)
-value_by_stays limits context None name judged looked lines w = settled_stays limits context name lines w
-value_by_stays limits context (Some f) name judged looked lines w = placed_finding_stays limits name looked judged lines w
+    → Rests (value_finding_by limits context f name judged looked)
+value_by_stays limits context None name judged looked b w = settled_stays limits context name b w
+value_by_stays limits context (Some f) name judged looked b w = placed_finding_stays limits name looked judged b w
 
-value_by_grows : (limits : Limits) (context : Context) (f : Option Finding) (name : Option ℕ) (judged : Option Finding) (looked : Value)
-    → Grows (value_by limits context f name judged looked)
-value_by_grows limits context None name judged looked = settled_grows limits context name
-value_by_grows limits context (Some f) name judged looked = placed_grows limits name looked judged
+value_by_keeps : (limits : Limits) (context : Context) (f : Option Finding) (name : Option ℕ) (judged : Option Finding) (looked : Value)
+    → Keeps (value_by limits context f name judged looked)
+value_by_keeps limits context None name judged looked = settled_keeps limits context name
+value_by_keeps limits context (Some f) name judged looked = placed_keeps limits name looked judged
 
 value_with_stays : (limits : Limits) (context : Context) (name : Option ℕ) (judged : Option Finding) (looked : Value)
-    → Stays (value_with_finding limits context name judged looked)
-value_with_stays limits context name judged looked lines w =
-    ap (λ f. value_finding_by limits context (least_of_both judged f) name judged looked (with_lines_before lines w))
-    (place_stays limits name looked lines w)
-    ∙ value_by_stays limits context (least_of_both judged (place_finding limits name looked w)) name judged looked lines w
+    → Rests (value_with_finding limits context name judged looked)
+value_with_stays limits context name judged looked b w =
+    ap (λ f. value_finding_by limits context (least_of_both judged f) name judged looked (with_before b w))
+    (place_stays limits name looked b w)
+    ∙ value_by_stays limits context (least_of_both judged (place_finding limits name looked w)) name judged looked b w
 
 -- the finding about an expression whose value is looked up
 abbrev looked_finding : Limits → Option ℕ → Option Finding → Value → Compilation → Option Finding
 looked_finding limits name judged looked w = least_of_both judged (place_finding limits name looked w)
 
 looked_stays : (limits : Limits) (name : Option ℕ) (judged : Option Finding) (looked : Value)
-    → Stays (looked_finding limits name judged looked)
-looked_stays limits name judged looked lines w = ap (least_of_both judged) (place_stays limits name looked lines w)
+    → Rests (looked_finding limits name judged looked)
+looked_stays limits name judged looked b w = ap (least_of_both judged) (place_stays limits name looked b w)
 
-value_with_grows : (limits : Limits) (context : Context) (name : Option ℕ) (judged : Option Finding) (looked : Value)
-    → Grows (value_with limits context name judged looked)
-value_with_grows limits context name judged looked =
-    with_grows (looked_finding limits name judged looked)
+value_with_keeps : (limits : Limits) (context : Context) (name : Option ℕ) (judged : Option Finding) (looked : Value)
+    → Keeps (value_with limits context name judged looked)
+value_with_keeps limits context name judged looked =
+    with_keeps (looked_finding limits name judged looked)
     (λ (f : Option Finding) (w : Compilation). value_by limits context f name judged looked w)
-    (looked_stays limits name judged looked) (λ f. value_by_grows limits context f name judged looked)
+    (looked_stays limits name judged looked) (λ f. value_by_keeps limits context f name judged looked)
 
-expression_stays : (limits : Limits) (context : Context) (name : Option ℕ) → Stays (expression_finding limits context name)
-expression_stays limits context name lines w =
-    value_with_stays limits context name (finding_at 0 wanted.Constant w) (looked_value w) lines w
+expression_stays : (limits : Limits) (context : Context) (name : Option ℕ) → Rests (expression_finding limits context name)
+expression_stays limits context name b w =
+    value_with_stays limits context name (finding_at 0 wanted.Constant w) (looked_value w) b w
 
-expression_grows : (limits : Limits) (context : Context) (name : Option ℕ) → Grows (expression_placed limits context name)
-expression_grows limits context name =
-    with_grows (finding_at 0 wanted.Constant)
-    (λ (judged : Option Finding) (w : Compilation). value_with limits context name judged (looked_value w) w) (λ lines w. refl)
-    (λ judged. with_grows looked_value (value_with limits context name judged) (λ lines w. refl)
-    (value_with_grows limits context name judged))
+expression_keeps : (limits : Limits) (context : Context) (name : Option ℕ) → Keeps (expression_placed limits context name)
+expression_keeps limits context name =
+    with_keeps (finding_at 0 wanted.Constant)
+    (λ (judged : Option Finding) (w : Compilation). value_with limits context name judged (looked_value w) w) (λ b w. refl)
+    (λ judged. with_keeps looked_value (value_with limits context name judged) (λ b w. refl)
+    (value_with_keeps limits context name judged))
 
 -- Values
 
 any_stays : (limits : Limits) (context : Context) (text : Option (List TextItem)) (name : Option ℕ)
-    → Stays (any_finding limits context text name)
-any_stays limits context None name lines w = expression_stays limits context name lines w
-any_stays limits context (Some items) name lines w = text_by_stays limits (variables_from items false) name items lines w
+    → Rests (any_finding limits context text name)
+any_stays limits context None name b w = expression_stays limits context name b w
+any_stays limits context (Some items) name b w = text_by_stays limits (variables_from items false) name items b w
 
-any_grows : (limits : Limits) (context : Context) (text : Option (List TextItem)) (name : Option ℕ)
-    → Grows (any_placed limits context text name)
-any_grows limits context None name = expression_grows limits context name
-any_grows limits context (Some items) name = text_by_grows limits (variables_from items false) name items
+any_keeps : (limits : Limits) (context : Context) (text : Option (List TextItem)) (name : Option ℕ)
+    → Keeps (any_placed limits context text name)
+any_keeps limits context None name = expression_keeps limits context name
+any_keeps limits context (Some items) name = text_by_keeps limits (variables_from items false) name items
 
-value_stays : (limits : Limits) (context : Context) (name : Option ℕ) → Stays (value_finding limits context name)
-value_stays limits context name lines w =
-    ap (λ t. any_finding limits context t name (with_lines_before lines w)) (own_text_stays context name lines w)
-    ∙ any_stays limits context (own_text context name w) name lines w
+value_stays : (limits : Limits) (context : Context) (name : Option ℕ) → Rests (value_finding limits context name)
+value_stays limits context name b w =
+    ap (λ t. any_finding limits context t name (with_before b w)) (own_text_stays context name b w)
+    ∙ any_stays limits context (own_text context name w) name b w
 
-value_grows : (limits : Limits) (context : Context) (name : Option ℕ) → Grows (value_placed limits context name)
-value_grows limits context name =
-    with_grows (own_text context name)
+value_keeps : (limits : Limits) (context : Context) (name : Option ℕ) → Keeps (value_placed limits context name)
+value_keeps limits context name =
+    with_keeps (own_text context name)
     (λ (t : Option (List TextItem)) (w : Compilation). any_placed limits context t name w) (own_text_stays context name)
-    (λ t. any_grows limits context t name)
+    (λ t. any_keeps limits context t name)
 
 -- a value by its finding
 abbrev value_told : Limits → Context → Place → Option ℕ → Option Finding → Compilation → Compilation
 value_told limits context first name f w = entry_told limits context first f (value_placed limits context name w)
 
-value_told_grows : (limits : Limits) (context : Context) (first : Place) (name : Option ℕ) (f : Option Finding)
-    → Grows (value_told limits context first name f)
-value_told_grows limits context first name f =
-    then_grows (value_placed limits context name) (entry_told limits context first f) (value_grows limits context name)
-    (entry_grows limits context first f)
+value_told_keeps : (limits : Limits) (context : Context) (first : Place) (name : Option ℕ) (f : Option Finding)
+    → Keeps (value_told limits context first name f)
+value_told_keeps limits context first name f =
+    then_keeps (value_placed limits context name) (entry_told limits context first f) (value_keeps limits context name)
+    (entry_keeps limits context first f)
 
-value_at_grows : (limits : Limits) (context : Context) (first : Place) (name : Option ℕ)
-    → Grows (value_read_at limits context first name)
-value_at_grows limits context first name =
-    with_grows (value_finding limits context name) (value_told limits context first name) (value_stays limits context name)
-    (value_told_grows limits context first name)
+value_at_keeps : (limits : Limits) (context : Context) (first : Place) (name : Option ℕ)
+    → Keeps (value_read_at limits context first name)
+value_at_keeps limits context first name =
+    with_keeps (value_finding limits context name) (value_told limits context first name) (value_stays limits context name)
+    (value_told_keeps limits context first name)
 
-pub value_read_grows : (limits : Limits) (context : Context) (place : Place) → Grows (value_read limits context place)
-value_read_grows limits context place =
-    with_grows (λ (w : Compilation). first_place w.unit.tokens place)
-    (λ (first : Place) (w : Compilation). value_read_at limits context first (name_place w.unit.outer) w) (λ lines w. refl)
-    (λ first. with_grows (λ (w : Compilation). name_place w.unit.outer) (value_read_at limits context first) (λ lines w. refl)
-    (value_at_grows limits context first))
+pub value_read_keeps : (limits : Limits) (context : Context) (place : Place) → Keeps (value_read limits context place)
+value_read_keeps limits context place =
+    with_keeps (λ (w : Compilation). first_place w.unit.tokens place)
+    (λ (first : Place) (w : Compilation). value_read_at limits context first (name_place w.unit.outer) w) (λ b w. refl)
+    (λ first. with_keeps (λ (w : Compilation). name_place w.unit.outer) (value_read_at limits context first) (λ b w. refl)
+    (value_at_keeps limits context first))
 
 -- Routines
 
-embedded_stays : (limits : Limits) (name : Option ℕ) (h : Headed) → Stays (found_embedded limits name h)
-embedded_stays limits name h lines w =
+embedded_stays : (limits : Limits) (name : Option ℕ) (h : Headed) → Rests (found_embedded limits name h)
+embedded_stays limits name h b w =
     ap (λ f. embedded_findings f h.are_too_many (header_findings (order (length w.unit.tokens)) None h))
-    (place_stays limits name (next_routine w) lines w)
+    (place_stays limits name (next_routine w) b w)
 
-routine_grows : (limits : Limits) (name : Option ℕ) (is_lost : Bool) → Grows (routine_placed limits name is_lost)
-routine_grows limits name is_lost =
-    with_grows next_routine (λ (v : Value) (w : Compilation). placed limits name v (wrong_if is_lost) w) (λ lines w. refl)
-    (λ v. placed_grows limits name v (wrong_if is_lost))
+routine_keeps : (limits : Limits) (name : Option ℕ) (is_lost : Bool) → Keeps (routine_placed limits name is_lost)
+routine_keeps limits name is_lost =
+    with_keeps next_routine (λ (v : Value) (w : Compilation). placed limits name v (wrong_if is_lost) w) (λ b w. refl)
+    (λ v. placed_keeps limits name v (wrong_if is_lost))
 
 -- the routine at hand is a value of a property
 abbrev within : Compilation → Compilation
 within w = record w { is_embedded = true; is_replaced = false }
 
-within_grows : Grows within
-within_grows = record { grows = λ lines w. refl }
+within_keeps : Keeps within
+within_keeps = record { keeps = λ b w. refl }
 
-embedded_opened_grows : (limits : Limits) (context : Context) (first : Place) (h : Headed) (found : Findings)
-    → Grows (embedded_opened limits context first h found)
-embedded_opened_grows limits context first h found =
-    then_grows within (opened_with limits context first h found) within_grows (opened_grows limits context first h found)
+embedded_opened_keeps : (limits : Limits) (context : Context) (first : Place) (h : Headed) (found : Findings)
+    → Keeps (embedded_opened limits context first h found)
+embedded_opened_keeps limits context first h found =
+    then_keeps within (opened_with limits context first h found) within_keeps (opened_keeps limits context first h found)
 
-embedded_begun_grows : (limits : Limits) (context : Context) (first : Place) (name : Option ℕ) (h : Headed) (found : Findings)
-    → Grows (embedded_begun limits context first name h found)
-embedded_begun_grows limits context first name h found =
-    then_grows (routine_placed limits name (is_some found.least)) (embedded_opened limits context first h found)
-    (routine_grows limits name (is_some found.least)) (embedded_opened_grows limits context first h found)
+embedded_begun_keeps : (limits : Limits) (context : Context) (first : Place) (name : Option ℕ) (h : Headed) (found : Findings)
+    → Keeps (embedded_begun limits context first name h found)
+embedded_begun_keeps limits context first name h found =
+    then_keeps (routine_placed limits name (is_some found.least)) (embedded_opened limits context first h found)
+    (routine_keeps limits name (is_some found.least)) (embedded_opened_keeps limits context first h found)
 
-embedded_grows : (limits : Limits) (context : Context) (first : Place) (name : Option ℕ) (h : Headed)
-    → Grows (embedded limits context first name h)
+embedded_keeps : (limits : Limits) (context : Context) (first : Place) (name : Option ℕ) (h : Headed)
+    → Keeps (embedded limits context first name h)
 unfolding embedded
-embedded_grows limits context first name h =
-    with_grows (found_embedded limits name h) (embedded_begun limits context first name h) (embedded_stays limits name h)
-    (embedded_begun_grows limits context first name h)
+embedded_keeps limits context first name h =
+    with_keeps (found_embedded limits name h) (embedded_begun limits context first name h) (embedded_stays limits name h)
+    (embedded_begun_keeps limits context first name h)
 
 -- the locals of the header are taken from the unit
 abbrev unheaded : Compilation → Compilation
 unheaded w = record w { unit = record w.unit { headed = no_locals } }
 
-unheaded_grows : Grows unheaded
-unheaded_grows = record { grows = λ lines w. refl }
+unheaded_keeps : Keeps unheaded
+unheaded_keeps = record { keeps = λ b w. refl }
 
 -- the routine of a header at a place, behind the name of its property
 abbrev embedded_named : Limits → Context → Place → Option ℕ → Headed → Compilation → Compilation
 embedded_named limits context first name h w = embedded limits context first name h (unheaded w)
 
-embedded_named_grows : (limits : Limits) (context : Context) (first : Place) (name : Option ℕ) (h : Headed)
-    → Grows (embedded_named limits context first name h)
-embedded_named_grows limits context first name h =
-    then_grows unheaded (embedded limits context first name h) unheaded_grows (embedded_grows limits context first name h)
+embedded_named_keeps : (limits : Limits) (context : Context) (first : Place) (name : Option ℕ) (h : Headed)
+    → Keeps (embedded_named limits context first name h)
+embedded_named_keeps limits context first name h =
+    then_keeps unheaded (embedded limits context first name h) unheaded_keeps (embedded_keeps limits context first name h)
 
 abbrev embedded_at : Limits → Context → Place → Option ℕ → Compilation → Compilation
 embedded_at limits context first name w = embedded_named limits context first name w.unit.headed w
 
-embedded_at_grows : (limits : Limits) (context : Context) (first : Place) (name : Option ℕ)
-    → Grows (embedded_at limits context first name)
-embedded_at_grows limits context first name =
-    with_grows (λ (w : Compilation). w.unit.headed) (embedded_named limits context first name) (λ lines w. refl)
-    (embedded_named_grows limits context first name)
+embedded_at_keeps : (limits : Limits) (context : Context) (first : Place) (name : Option ℕ)
+    → Keeps (embedded_at limits context first name)
+embedded_at_keeps limits context first name =
+    with_keeps (λ (w : Compilation). w.unit.headed) (embedded_named limits context first name) (λ b w. refl)
+    (embedded_named_keeps limits context first name)
 
-pub embedded_read_grows : (limits : Limits) (context : Context) (place : Place) → Grows (embedded_read limits context place)
-embedded_read_grows limits context place =
-    with_grows (λ (w : Compilation). first_place w.unit.tokens place)
+pub embedded_read_keeps : (limits : Limits) (context : Context) (place : Place) → Keeps (embedded_read limits context place)
+embedded_read_keeps limits context place =
+    with_keeps (λ (w : Compilation). first_place w.unit.tokens place)
     (λ (first : Place) (w : Compilation). embedded_at limits context first (place_before (bracket_in w.unit.tokens)) w)
-    (λ lines w. refl)
-    (λ first. with_grows (λ (w : Compilation). place_before (bracket_in w.unit.tokens)) (embedded_at limits context first)
-    (λ lines w. refl) (embedded_at_grows limits context first))
+    (λ b w. refl)
+    (λ first. with_keeps (λ (w : Compilation). place_before (bracket_in w.unit.tokens)) (embedded_at limits context first)
+    (λ b w. refl) (embedded_at_keeps limits context first))

@@ -4,8 +4,12 @@ use Rattle.inf_settings.specs.Bounds.{Limits}
 use Rattle.inf_scanner.specs.declared.tokens.Place.{Place}
 use Rattle.inf_syntax.specs.declared.actions.Action.{Action}
 use Rattle.inf_output.specs.Output.{Out}
+use Rattle.inf_unit.specs.Directives.{Request}
 use Rattle.inf_unit.specs.Messages.{Reported}
+use Rattle.inf_unit.specs.Roles.{role_of}
 use Rattle.inf_unit.specs.Tokens.{SourceToken}
+use Rattle.inf_unit.specs.declared.roles.Ending.TheVariants as ending
+use Rattle.inf_unit.specs.declared.roles.Role.TheVariants as role
 use Rattle.inf_compilation.specs.Context.{Context}
 use Rattle.inf_compilation.specs.Actions.{Compilation, took}
 use Rattle.inf_reader.specs.Acting.{act, cut_at}
@@ -23,6 +27,18 @@ with_lines_before lines w = record w { report = told_before lines w.report }
 pub record Grows (step : Compilation → Compilation) : Type 0 where
   pub grows : (lines : List ℕ) (w : Compilation) → step (with_lines_before lines w) ≡ with_lines_before lines (step w)
 
+-- A change before a step: there are lines before those of the report, and something else is asked, or the same.
+pub record Before : Type 0 where
+  pub lines : List ℕ
+  pub ask : Request → Request
+
+abbrev pub with_before : Before → Compilation → Compilation
+with_before b w = record w { report = told_before b.lines w.report; asked = b.ask w.asked }
+
+-- A step depends neither on such lines nor on what is asked, and changes neither.
+pub record Keeps (step : Compilation → Compilation) : Type 0 where
+  pub keeps : (b : Before) (w : Compilation) → step (with_before b w) ≡ with_before b (step w)
+
 -- Conditional directives between two tokens add lines to the report, and change none.
 abbrev pub OnlyAdds : Between → Type 0
 OnlyAdds m = (lines : List ℕ) (o : Out) (r : Reported) → m.report o (told_before lines r) ≡ told_before lines (m.report o r)
@@ -32,9 +48,21 @@ AllOnlyAdd [] = Unit {0}
 AllOnlyAdd (Acts at a ∷ happenings) = OnlyAdds at.behind × AllOnlyAdd happenings
 AllOnlyAdd (Takes t m ∷ happenings) = OnlyAdds m × AllOnlyAdd happenings
 
+-- Tells whether an action is not the end of a directive.
+abbrev pub EndsNoDirective : Action → Type 0
+EndsNoDirective a = role_of a ≡ role.End ending.Directive → ⊥
+
+-- Nothing is asked where a token is taken, where any action acts but the end of a directive, and where a bad token cuts a unit.
+pub record AsksAtDirectives (limits : Limits) : Type 0 where
+  pub token : (context : Context) (t : SourceToken) (w : Compilation) → (took context t w).asked ≡ w.asked
+  pub action : (context : Context) (place : Place) (a : Action) (w : Compilation) → EndsNoDirective a
+      → (act limits context place a w).asked ≡ w.asked
+  pub cut : (context : Context) (place : Place) (w : Compilation) → (cut_at limits context place w).asked ≡ w.asked
+
 -- Messages grow where a token is taken, where an action of the grammar acts, where a bad token cuts a unit, and over all happenings.
 pub record MessagesGrow (limits : Limits) : Type 0 where
   pub token : (context : Context) (t : SourceToken) → Grows (took context t)
   pub action : (context : Context) (place : Place) (a : Action) → Grows (act limits context place a)
   pub cut : (context : Context) (place : Place) → Grows (cut_at limits context place)
   pub all : (context : Context) (happenings : List Happening) → AllOnlyAdd happenings → Grows (run limits context happenings)
+  pub asks : AsksAtDirectives limits

@@ -11,10 +11,15 @@ use Rattle.std.specs.Str.{bytes_eq}
 use Rattle.arrayvec.specs.declared.array_vec.ArrayVec.{ArrayVec}
 use Rattle.indexmap.specs.IndexMap.{insert_entry}
 use Rattle.inf_names.specs.Entries.{as_named, standing}
-use Rattle.inf_names.specs.Symbols.{Named, Standing, IsDeclared, IsUsed, Table, declarations, declare_fault_by, found_as, folded, index_of}
-use Rattle.inf_names.specs.Symbols.{number_among, number_by, put, refer_fault_by, standing_at, standing_of, with_used_by}
+use Rattle.inf_names.specs.Symbols.{Named, Standing, IsDeclared, IsUsed, Table, declarations, declare_fault_by, declare_refusal, found_as}
+use Rattle.inf_names.specs.Symbols.{folded, index_of, number_among, number_by, put, refer_fault_by, refer_refusal, standing_at}
+use Rattle.inf_names.specs.Symbols.{standing_of, with_used_by}
 use Rattle.inf_names.specs.declared.meanings.Meaning.{Meaning}
+use Rattle.inf_names.specs.declared.symbols.DeclareFault.TheVariants as declaring
 use Rattle.inf_names.specs.declared.symbols.Entry.{Entry}
+use Rattle.inf_names.specs.declared.symbols.Found.{Found}
+use Rattle.inf_names.specs.declared.symbols.Found.TheVariants as found
+use Rattle.inf_names.specs.declared.symbols.ReferFault.TheVariants as referring
 
 abbrev pub Key : Type 0
 Key = ArrayVec ℕ 35 Unit
@@ -182,6 +187,51 @@ pub known_fault : {P : Type 0} (system : Option Meaning) (s : Option (Standing P
 known_fault system None full is = cc
 known_fault system (Some (IsUsed spelling first)) full is = refl
 known_fault system (Some (IsDeclared number meaning first)) full is = refl
+
+-- a name that the language lacks, and that was neither declared nor used, is unknown
+pub unknown_where : {P : Type 0} (system : Option Meaning) (s : Option (Standing P)) → is_some system ≡ false → is_some s ≡ false →
+    found_as system s ≡ found.Unknown
+unknown_where None None free absent = refl
+unknown_where (Some meaning) s free absent = cc
+unknown_where None (Some s) free absent = cc
+
+-- a name that is not there is unknown where it has no fault
+pub unknown_where_fit : {P : Type 0} (system : Option Meaning) (s : Option (Standing P)) (full : Bool) →
+    declare_fault_by (found_as system s) full ≡ None → is_some s ≡ false → found_as system s ≡ found.Unknown
+unknown_where_fit None None full is absent = refl
+unknown_where_fit (Some meaning) None full is absent = cc
+unknown_where_fit system (Some s) full is absent = cc
+
+-- want of memory is no fault that is found
+pub never_lacks : {P : Type 0} (f : Found P) (full : Bool) → Some declaring.Memory ≡ declare_fault_by f full → ⊥
+never_lacks (found.System meaning) full is = cc
+never_lacks (found.Declared meaning place) full is = cc
+never_lacks found.Used full is = cc
+never_lacks found.Unknown true is = cc
+never_lacks found.Unknown false is = cc
+
+-- where want of memory is told, nothing is wrong with a name that is to be declared
+pub fit_where_memory : {P : Type 0} (f : Found P) (full : Bool) → declaring.Memory ≡ declare_refusal (declare_fault_by f full) →
+    declare_fault_by f full ≡ None
+fit_where_memory (found.System meaning) full is = cc
+fit_where_memory (found.Declared meaning place) full is = cc
+fit_where_memory found.Used full is = refl
+fit_where_memory found.Unknown true is = cc
+fit_where_memory found.Unknown false is = refl
+
+-- nor with one that is to be used
+pub used_where_memory : {P : Type 0} (f : Found P) (full : Bool) → referring.Memory ≡ refer_refusal (refer_fault_by f full) →
+    refer_fault_by f full ≡ None
+used_where_memory (found.System meaning) full is = refl
+used_where_memory (found.Declared meaning place) full is = refl
+used_where_memory found.Used full is = refl
+used_where_memory found.Unknown true is = cc
+used_where_memory found.Unknown false is = refl
+
+-- a key that a map lacks is that of no name
+pub absent_key : {P : Type 0} (key : List ℕ) (es : List (Key × Entry P)) → lookup (has key) es ≡ None →
+    is_some (standing_of key (map as_named es)) ≡ false
+absent_key key es lacks = ap is_some (standing_of-lookup key es ∙ ap (option_map standing) lacks)
 
 -- a number that was found is the number of a name
 module _ {P : Type 0} (key : List ℕ) (names : List (Named P)) where

@@ -1,4 +1,6 @@
 //! How names are hashed.
+ghost use Rattle.std.specs.Prelude.{◌≡◌};
+ghost use Rattle.std.specs.Hash.FoldHasher.{initial, write};
 
 use std::hash::{BuildHasher, FoldHasher, Hasher};
 
@@ -11,7 +13,9 @@ pub struct NameHashing {
 
 impl NameHashing {
     /// Returns the hashing behind the bytes `secret`, of which 16 that nobody knows are enough.
-    pub fn new(secret: &[u8]) -> NameHashing {
+    pub fn new(secret: &[u8]) -> NameHashing
+        ensures { result.seeded ≡ write initial secret.now }
+    {
         let mut seeded = FoldHasher::default();
         seeded.write(secret);
         NameHashing { seeded }

@@ -1,5 +1,5 @@
 //! Names of which nothing is known but that they were given.
-ghost use Rattle.std.specs.Prelude.{◌≡◌, ◌≤◌, OnErr, OnOk, [], length};
+ghost use Rattle.std.specs.Prelude.{◌≡◌, ◌≤◌, OnErr, OnOk, [], false, length};
 ghost use Rattle.inf_names.specs.NameSets.{is_among, with_name};
 
 use crate::hashing::NameHashing;
@@ -41,11 +41,13 @@ impl NameSet {
         self.keys.contains(&key)
     }
 
-    /// Adds `name`, given in any case, unless it is in the set. It has at most 35 bytes. Where memory runs out the set stays as it was.
+    /// Adds `name`, given in any case, unless it is in the set. It has at most 35 bytes. Where memory runs out, the name is new, and
+    /// the set stays as it was.
     pub fn add(&mut self, name: &[u8]) -> Result<(), AllocError>
         requires { length name.now ≤ 35 }
         ensures ok { OnOk result (self.new ≡ with_name name.now self.old) }
         ensures err { OnErr result (self.new ≡ self.old) }
+        ensures memory { OnErr result (is_among name.now self.old ≡ false) }
     {
         self.keys.insert(Key::of(name))?;
         Ok(())

@@ -1,5 +1,5 @@
 //! The names that a source declares or uses.
-ghost use Rattle.std.specs.Prelude.{◌≡◌, ◌≤◌, ◌+◌, IfOk, OnOk, OnErr, MatchResult, None, Some, length, option_map};
+ghost use Rattle.std.specs.Prelude.{◌≡◌, ◌≤◌, ◌+◌, IfErr, IfOk, OnOk, OnErr, MatchResult, None, Some, length, option_map};
 ghost use Rattle.inf_settings.specs.declared.setting.Setting.TheVariants as setting;
 
 use crate::hashing::NameHashing;
@@ -188,7 +188,7 @@ impl<P: Copy, B: Bounds> Symbols<P, B> {
     /// Declares the name `name`, given in any case, at `place` with a meaning, and returns the number of names that are then declared.
     ///
     /// Refuses a name that the language has or that was declared, then a new one where there are as many names as there may be,
-    /// then where memory runs out. The names then stay as they were.
+    /// then a new one where memory runs out. The names then stay as they were.
     pub fn declare(
         &mut self,
         name: &[u8],
@@ -201,6 +201,7 @@ impl<P: Copy, B: Bounds> Symbols<P, B> {
         ensures err { OnErr result (self.new ≡ self.old) }
         ensures fault { let fault = declare_fault B.most name.now self.old in
             MatchResult result (λ _. fault ≡ None) (λ refused. refused ≡ declare_refusal fault) }
+        ensures memory { IfErr result (λ fault. fault ≡ DeclareFault.Memory → found_in name.now self.old ≡ Found.Unknown) }
     {
         if let Some(fault) = self.declare_fault(name) {
             return Err(fault);
@@ -214,7 +215,8 @@ impl<P: Copy, B: Bounds> Symbols<P, B> {
     /// Uses the name `name`, as it is spelled at `place`, and returns the number by which references name it: how many names came
     /// before it. There is no number for a name that the language has.
     ///
-    /// Refuses a new name where there are as many as there may be, then where memory runs out. The names then stay as they were.
+    /// Refuses a new name where there are as many as there may be, then where memory runs out, and no other. The names then stay as they
+    /// were.
     pub fn refer(&mut self, name: &[u8], place: P) -> Result<Option<usize>, ReferFault>
         requires { length name.now ≤ 35 }
         ensures ok { OnOk result (self.new ≡ with_used name.now place self.old) }
@@ -222,6 +224,7 @@ impl<P: Copy, B: Bounds> Symbols<P, B> {
         ensures err { OnErr result (self.new ≡ self.old) }
         ensures fault { let fault = refer_fault B.most name.now self.old in
             MatchResult result (λ _. fault ≡ None) (λ refused. refused ≡ refer_refusal fault) }
+        ensures memory { IfErr result (λ fault. fault ≡ ReferFault.Memory → found_in name.now self.old ≡ Found.Unknown) }
     {
         let (_, number) = self.find_and_refer(name, place)?;
         Ok(number)
@@ -240,6 +243,7 @@ impl<P: Copy, B: Bounds> Symbols<P, B> {
         ensures err { OnErr result (self.new ≡ self.old) }
         ensures fault { let fault = refer_fault B.most name.now self.old in
             MatchResult result (λ _. fault ≡ None) (λ refused. refused ≡ refer_refusal fault) }
+        ensures memory { IfErr result (λ fault. fault ≡ ReferFault.Memory → found_in name.now self.old ≡ Found.Unknown) }
     {
         let key = Key::of(name);
         if let Some(number) = self.number(&key) {

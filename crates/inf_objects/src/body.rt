@@ -1,5 +1,5 @@
 //! The part of an object or a class that was read so far.
-ghost use Rattle.std.specs.Prelude.{◌≡◌, ◌+◌, ◌<◌, ◌≤◌, ◌^◌, IfOk, OnOk, OnErr, MatchResult, None, Some, length};
+ghost use Rattle.std.specs.Prelude.{◌≡◌, ◌+◌, ◌<◌, ◌≤◌, ◌^◌, IfOk, OnOk, OnErr, MatchResult, None, Some, false, length};
 ghost use Rattle.inf_objects.specs.Objects.{begun, ended, head_bytes, is_passed, join_fault, list_bytes, nothing_read, object_bytes};
 ghost use Rattle.inf_objects.specs.Objects.{object_fixups, with_named_class, with_said};
 ghost use Rattle.inf_properties.specs.Open.{class_refused};
@@ -148,6 +148,7 @@ impl Body {
         ensures err { OnErr result (self.new ≡ self.old) }
         ensures fault { let fault = join_fault number class.now room self.old in
             MatchResult result (λ _. fault ≡ None) (class_refused fault) }
+        ensures passed { OnErr result (is_passed number self.old ≡ false) }
     {
         if self.properties.owner() == Owner::Nothing || self.classes.has(number) {
             return Ok(());

@@ -1,5 +1,6 @@
 //! The code that is laid into an output: instructions, labels, and items that were kept apart.
-ghost use Rattle.std.specs.Prelude.{◌≡◌, OnErr, OnOk, is_some, length};
+ghost use Rattle.std.specs.Prelude.{◌≡◌, IsErr, IsNone, None, OnErr, OnOk, is_some, length};
+ghost use Rattle.inf_code.specs.Code.{full_label, full_with};
 ghost use Rattle.inf_opcode.specs.Counts.{counts_of};
 ghost use Rattle.inf_opcode.specs.Instructions.{IsProper, front_cells};
 ghost use Rattle.inf_opcode.specs.PartsOf.{parts_of};
@@ -73,6 +74,8 @@ impl<B: Bounds> Output<B> {
         requires { IsProper (parts_of instruction.now) }
         ensures ok { OnOk result (self.new ≡ laid B.most (item.Instruction (parts_of instruction.now)) self.old) }
         ensures err { OnErr result (self.new ≡ self.old) }
+        ensures memory { IsErr result → IsNone self.old.kept → IsNone self.old.past
+            × (full_with (parts_of instruction.now) self.old.code ≡ None) }
     {
         match &mut self.kept {
             Some(kept) => kept.instruction(instruction),
@@ -81,11 +84,12 @@ impl<B: Bounds> Output<B> {
     }
 
     /// Lays `instruction` in the open routine; it is counted alone where a limit is or would be passed.
-    #[tactic(auto, using(crate::proofs::Limits::is_passed))]
+    #[tactic(auto, using(crate::proofs::Limits::is_passed, crate::proofs::Limits::none_where_memory))]
     fn emit_in_routine(&mut self, instruction: &Instruction<'_>) -> Result<(), AllocError>
         requires { IsProper (parts_of instruction.now) }
         ensures ok { OnOk result (self.new ≡ in_routine B.most self.old.past (item.Instruction (parts_of instruction.now)) self.old) }
         ensures err { OnErr result (self.new ≡ self.old) }
+        ensures memory { IsErr result → IsNone self.old.past × (full_with (parts_of instruction.now) self.old.code ≡ None) }
     {
         if self.past.is_some() {
             self.pass(instruction);
@@ -106,6 +110,7 @@ impl<B: Bounds> Output<B> {
     pub fn mark(&mut self, label: Label) -> Result<(), AllocError>
         ensures ok { OnOk result (self.new ≡ marked B.most label self.old) }
         ensures err { OnErr result (self.new ≡ self.old) }
+        ensures memory { IsErr result → IsNone self.old.kept → IsNone self.old.past × (full_label self.old.code ≡ None) }
     {
         match &mut self.kept {
             Some(kept) => kept.mark(label),
@@ -114,10 +119,11 @@ impl<B: Bounds> Output<B> {
     }
 
     /// Lays the place of `label` in the open routine; it is counted alone where a limit is or would be passed.
-    #[tactic(auto, using(crate::proofs::Limits::is_passed))]
+    #[tactic(auto, using(crate::proofs::Limits::is_passed, crate::proofs::Limits::none_where_memory))]
     fn mark_in_routine(&mut self, label: Label) -> Result<(), AllocError>
         ensures ok { OnOk result (self.new ≡ in_routine B.most self.old.past (item.Mark label) self.old) }
         ensures err { OnErr result (self.new ≡ self.old) }
+        ensures memory { IsErr result → IsNone self.old.past × (full_label self.old.code ≡ None) }
     {
         if self.past.is_some() {
             self.pass_mark(label);

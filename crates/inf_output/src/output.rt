@@ -1,11 +1,15 @@
 //! Output that units are laid into.
 ghost use Rattle.std.specs.Prelude.{◌≡◌, ◌≤◌, [], IfOk, None, OnErr, OnOk, length, true};
-ghost use Rattle.inf_code.specs.Code.{fault_closed};
-ghost use Rattle.inf_names.specs.Symbols.{declare_fault};
+ghost use Rattle.inf_code.specs.Code.{fault_closed, full_opened};
+ghost use Rattle.inf_dictionary.specs.Words.{add_fault, word_of};
+ghost use Rattle.inf_names.specs.Symbols.{declare_fault, refer_fault};
 ghost use Rattle.inf_names.specs.declared.meanings.Meaning.{Meaning as Standing};
 ghost use Rattle.inf_output.specs.Output.{begun, closed, code_closed, declared, found_simple, full, low_string_at, opened, passed_table};
 ghost use Rattle.inf_output.specs.Output.{past_of, referred, referred_as, routine, simple_by, standing_simple, string_at, symbols_passed};
 ghost use Rattle.inf_output.specs.Output.{used, with_low_text, with_scale, with_text, with_word};
+ghost use Rattle.inf_output.specs.Strings.{fits};
+ghost use Rattle.inf_output.specs.Veneer.{name_of};
+ghost use Rattle.inf_tables.specs.LowStrings.{low_fits};
 
 use crate::items::Items;
 use crate::operands::Simple;
@@ -230,9 +234,11 @@ impl<B: Bounds> Output<B> {
 
     /// Opens a routine of `locals` locals, at most 15, whose labels are counted from 0; it is lost if `is_lost`. Where that would
     /// pass a limit none is open, and the limit is passed. A routine that is open is given up.
+    #[tactic(auto, using(crate::proofs::Limits::none_where_memory))]
     pub fn open(&mut self, alloc: Global, locals: u8, is_lost: bool) -> Result<(), AllocError>
         requires { locals ≤ 15 }
-        ensures { OnOk result (self.new ≡ opened B.most locals is_lost self.old) }
+        ensures ok { OnOk result (self.new ≡ opened B.most locals is_lost self.old) }
+        ensures memory { OnErr result (full_opened B.most is_lost self.old.code ≡ None) }
     {
         self.next = 0;
         match self.code.open(alloc, locals, is_lost) {
@@ -309,6 +315,7 @@ impl<B: Bounds> Output<B> {
         ensures value { OnOk result (self.new ≡ declared B.most name.now place meaning self.old) }
         ensures err { OnErr result (self.new ≡ self.old) }
         ensures fault { IfOk result (λ fault. fault ≡ declare_fault B.most name.now self.old.names) }
+        ensures memory { OnErr result (declare_fault B.most name.now self.old.names ≡ None) }
     {
         match self.names.declare(name, place, meaning) {
             Ok(_) => Ok(None),
@@ -332,6 +339,7 @@ impl<B: Bounds> Output<B> {
         ensures value { OnOk result (self.new ≡ referred B.most name.now place self.old) }
         ensures err { OnErr result (self.new ≡ self.old) }
         ensures found { IfOk result (λ found. found ≡ referred_as B.most name.now self.old) }
+        ensures memory { OnErr result (refer_fault B.most name.now self.old.names ≡ None) }
     {
         match self.names.find_and_refer(name, place) {
             Ok(found) => Ok(Some(found)),
@@ -359,6 +367,7 @@ impl<B: Bounds> Output<B> {
         ensures target { IfOk result (λ target. target ≡ string_at self.old) }
         ensures value { OnOk result (self.new ≡ with_text B.most text.now self.old) }
         ensures err { OnErr result (self.new ≡ self.old) }
+        ensures memory { OnErr result (fits B.most text.now self.old.strings ≡ true) }
     {
         let place = self.strings.len();
         if !self.strings.add(text)? {
@@ -376,6 +385,7 @@ impl<B: Bounds> Output<B> {
         ensures target { IfOk result (λ target. target ≡ low_string_at self.old) }
         ensures value { OnOk result (self.new ≡ with_low_text B.most text.now self.old) }
         ensures err { OnErr result (self.new ≡ self.old) }
+        ensures memory { OnErr result (low_fits B.most text.now self.old.tables.low_strings ≡ true) }
     {
         let place = self.tables.low_strings.len();
         if !self.tables.low_strings.add(text)? {
@@ -399,7 +409,9 @@ impl<B: Bounds> Output<B> {
         word_use: WordUse,
         is_plural: bool,
     ) -> Result<(), AllocError>
-        ensures { OnOk result (self.new ≡ with_word B.most text word_use is_plural self.old) }
+        ensures ok { OnOk result (self.new ≡ with_word B.most text word_use is_plural self.old) }
+        ensures memory { let dictionary = self.old.tables.dictionary in
+            OnErr result (add_fault B.most (word_of text dictionary.list) word_use dictionary ≡ None) }
     {
         match self.tables.dictionary.add(text, word_use, is_plural) {
             Ok(()) | Err(WordFault::OtherVerb) => Ok(()),
@@ -416,6 +428,7 @@ impl<B: Bounds> Output<B> {
     pub fn routine(&mut self, veneer: Veneer) -> Result<Simple, AllocError>
         ensures operand { IfOk result (λ operand. operand ≡ routine B.most veneer self.old) }
         ensures used { OnOk result (self.new ≡ used B.most veneer self.old) }
+        ensures memory { OnErr result (refer_fault B.most (name_of veneer) self.old.names ≡ None) }
     {
         match self
             .names

@@ -1,5 +1,5 @@
 //! The strings of a story.
-ghost use Rattle.std.specs.Prelude.{◌≡◌, ◌≤◌, IfOk, OnErr, if◌then◌else◌, length};
+ghost use Rattle.std.specs.Prelude.{◌≡◌, ◌≤◌, IfOk, OnErr, if◌then◌else◌, length, true};
 ghost use Rattle.inf_output.specs.Strings.{fits, with_string};
 ghost use Rattle.inf_settings.specs.declared.setting.Setting.TheVariants as setting;
 
@@ -63,12 +63,13 @@ impl<B: Bounds> Strings<B> {
     }
 
     /// Adds a string of the bytes `text` and returns true; returns false, and adds nothing, where it would pass the limit. Where
-    /// memory runs out the strings stay as they were.
+    /// there is room and memory runs out the strings stay as they were.
     #[tactic(auto, using(crate::proofs::Cutting::cut_behind))]
     pub fn add(&mut self, text: &[u8]) -> Result<bool, AllocError>
         ensures value { IfOk result (λ added. (added ≡ fits B.most text.now self.old)
             × (self.new ≡ if fits B.most text.now self.old then with_string text.now self.old else self.old)) }
         ensures err { OnErr result (self.new ≡ self.old) }
+        ensures memory { OnErr result (fits B.most text.now self.old ≡ true) }
     {
         let zeros: &[u8] = &[0, 0, 0, 0, 0, 0, 0];
         let behind = &zeros[..self.scale.gap(text.len())];

@@ -321,7 +321,7 @@ impl OpenProperties {
         Ok(())
     }
 
-    /// Adds `value` to the property that was given last. Behind a property that was lost it adds nothing.
+    /// Adds `value` to the property that was given last. Behind a property that was lost it adds nothing, and refuses nothing.
     ///
     /// Refuses the value where the property would have more than 32 with those of additive classes, then where there is no room,
     /// then where no memory is left.
@@ -330,6 +330,7 @@ impl OpenProperties {
         ensures err { OnErr result (self.new ≡ self.old) }
         ensures fault { let fault = value_fault value room self.old in
             MatchResult result (λ _. fault ≡ None) (λ refused. refused ≡ refusal fault) }
+        ensures takes { OnErr result (self.old.takes_values ≡ true) }
     {
         if !self.takes_values {
             return Ok(());

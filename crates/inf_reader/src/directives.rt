@@ -12,7 +12,7 @@ use inf_compilation::compilation::Compilation;
 use inf_compilation::context::Context;
 use inf_compilation::findings::Findings;
 use inf_declarations::abbreviations::low_string;
-use inf_declarations::declarations::attribute;
+use inf_declarations::attributes::attribute;
 use inf_declarations::directives::{constant, default, inclusion, message, replace, stub};
 use inf_declarations::globals::global_variable;
 use inf_declarations::headers::{release, serial};

@@ -1,5 +1,5 @@
 //! The reading of a source: the machine of the grammar, and the passing over of bad pieces.
-ghost use Rattle.std.specs.Prelude.{◌≡◌, [], IfOk, OnOk, false, true};
+ghost use Rattle.std.specs.Prelude.{◌≡◌, [], IfOk, OnErr, OnOk, false, true};
 ghost use Rattle.inf_grammar.specs.Language.{grammar, known};
 ghost use Rattle.inf_machine.specs.Machine.{fits, taken};
 ghost use Rattle.inf_reader.specs.Reading.{between, passed, skip_of, piece_begun};
@@ -37,7 +37,8 @@ impl Reader {
         self.machine.start(PIECE)
     }
 
-    /// Returns whether a token fits, and takes it where it does, with the actions on the way to it.
+    /// Returns whether a token fits, and takes it where it does, with the actions on the way to it. Where it does not fit, and where memory
+    /// runs out, the reading stays as it was.
     pub fn read(&mut self, atom: u8, actions: &mut Vec<Action>) -> Result<bool, AllocError>
         ensures fits { IfOk result (λ is_taken. is_taken ≡ fits grammar known atom (reading self.old).stack) }
         ensures reading { let before = reading self.old in IfOk result (λ is_taken. is_taken ≡ true →
@@ -45,6 +46,7 @@ impl Reader {
         ensures actions { IfOk result (λ is_taken. is_taken ≡ true →
             actions.new.items ≡ (taken grammar known atom (reading self.old).stack).actions) }
         ensures same { IfOk result (λ is_taken. is_taken ≡ false → reading self.new ≡ reading self.old) }
+        ensures err { OnErr result (reading self.new ≡ reading self.old) }
     {
         actions.clear();
         self.machine.read(atom, actions)

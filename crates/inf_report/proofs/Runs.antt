@@ -11,12 +11,12 @@ use Rattle.inf_report.specs.Writing.{TakesPart, Writes}
 use Rattle.inf_report.specs.declared.pieces.ReportFault.{ReportFault}
 use Rattle.inf_report.specs.OwnWords.{is_alike, shown_behind, shown_run, spaced}
 
--- All so far was shown of a text, and the rest is left.
+-- All so far was shown of a text, with no failure, and the rest is left.
 pub record Shows (old new : Option (List ℕ)) (before after : ℕ) (set : CharSet) (whole rest : List ℕ) : Type 0 where
   pub done : List ℕ
   pub takes : Takes old new done
   pub is_cut : shown_behind set [] whole ≡ done ++ shown_behind set [] rest
-  pub later : before ≤ after
+  pub quiet : after ≡ before
 
 one_more : (n : ℕ) → 1 + n ≡ suc n
 one_more n = omega arith
@@ -86,14 +86,14 @@ cut_of set is_space whole rest behind piece done run cut =
 -- a run that was written is shown, too
 pub shows_next : (old mid new : Option (List ℕ)) (a b c : ℕ) (set : CharSet) (is_space : Bool) (whole rest behind piece : List ℕ) →
     IsRun set is_space rest behind piece
-    → Shows old mid a b set whole rest → Takes mid new piece × (b ≤ c) → Shows old new a c set whole behind
+    → Shows old mid a b set whole rest → Takes mid new piece × (c ≡ b) → Shows old new a c set whole behind
 shows_next old mid new a b c set is_space whole rest behind piece run shows next =
-    let both = both_whole old mid new a b c shows.done piece (shows.takes, shows.later) next in
+    let both = both_whole old mid new a b c shows.done piece (shows.takes, shows.quiet) next in
     record {
       done = shows.done ++ piece;
       takes = both.0;
       is_cut = cut_of set is_space whole rest behind piece shows.done run shows.is_cut;
-      later = both.1;
+      quiet = both.1;
     }
 
 -- a run that was not written leaves a part shown
@@ -104,4 +104,4 @@ shows_failed old mid new a b c set is_space whole rest behind piece r is run sho
     let cut = cut_of set is_space whole rest behind piece shows.done run shows.is_cut in
     rw cut
     (with_more old new a c (shows.done ++ piece) (shown_behind set [] behind) r is
-    (goes_on old mid new a b c shows.done piece r (shows.takes, shows.later) (failed mid new b c piece r is next)))
+    (goes_on old mid new a b c shows.done piece r (shows.takes, shows.quiet) (failed mid new b c piece r is next)))

@@ -1,5 +1,5 @@
 -- Writing one thing behind the other.
-use Rattle.std.proofs.Common.{ℕ, ◌≤◌, ◌++◌, List, length-append, append_assoc, Option, Result, Ok, Err, IsErr, sym, ap, ◌∙◌, inl, inr}
+use Rattle.std.proofs.Common.{◌≡◌, ℕ, ◌≤◌, ◌++◌, List, length-append, append_assoc, Option, Result, Ok, Err, IsErr, sym, ap, ◌∙◌, inl, inr}
 use Rattle.std.proofs.Common.{arith}
 use Rattle.inf_devices.specs.Sinks.{Takes}
 use Rattle.inf_devices.proofs.TakenBytes.{Takes-append}
@@ -31,11 +31,11 @@ rose_since : (a b c : ℕ) → a ≤ b → Rose b c → Rose a c
 rose_since a b c le rose = elim rose [ inl less ↦ inl (omega (arith, le, less)) | inr last ↦ inr last ]
 
 -- writing goes on behind what was written
-pub goes_on : (old mid new : Option (List ℕ)) (a b c : ℕ) (xs ys : List ℕ) (r : Result Unit ReportFault) → Takes old mid xs × (a ≤ b) →
+pub goes_on : (old mid new : Option (List ℕ)) (a b c : ℕ) (xs ys : List ℕ) (r : Result Unit ReportFault) → Takes old mid xs × (b ≡ a) →
     Writes mid new b c ys r → Writes old new a c (xs ++ ys) r
-goes_on old mid new a b c xs ys (Ok _) first next = (Takes-append old mid new xs ys first.0 next.0, omega (arith, first.1, next.1))
+goes_on old mid new a b c xs ys (Ok _) first next = (Takes-append old mid new xs ys first.0 next.0, next.1 ∙ first.1)
 goes_on old mid new a b c xs ys (Err _) first next =
-    (part_behind old mid new xs ys first.0 next.0, omega (arith, first.1, next.1), rose_since a b c first.1 next.2)
+    (part_behind old mid new xs ys first.0 next.0, omega (arith, first.1, next.1), rose_since a b c (omega (arith, first.1)) next.2)
 
 -- writing ends where the sink failed, whatever was to follow
 pub stops : (old new : Option (List ℕ)) (a c : ℕ) (xs ys : List ℕ) (r : Result Unit ReportFault) → IsErr r →
@@ -56,6 +56,6 @@ with_more old new a c xs ys (Ok _) is writes = cc
 with_more old new a c xs ys (Err e) is writes = stops old new a c xs ys (Err e) is writes
 
 -- two writes that went well are one
-pub both_whole : (old mid new : Option (List ℕ)) (a b c : ℕ) (xs ys : List ℕ) → Takes old mid xs × (a ≤ b) → Takes mid new ys × (b ≤ c) →
-    Takes old new (xs ++ ys) × (a ≤ c)
-both_whole old mid new a b c xs ys first next = (Takes-append old mid new xs ys first.0 next.0, omega (arith, first.1, next.1))
+pub both_whole : (old mid new : Option (List ℕ)) (a b c : ℕ) (xs ys : List ℕ) → Takes old mid xs × (b ≡ a) → Takes mid new ys × (c ≡ b) →
+    Takes old new (xs ++ ys) × (c ≡ a)
+both_whole old mid new a b c xs ys first next = (Takes-append old mid new xs ys first.0 next.0, next.1 ∙ first.1)

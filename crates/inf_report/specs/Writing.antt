@@ -12,8 +12,8 @@ pub record TakesPart (old new : Option (List ℕ)) (bytes : List ℕ) : Type 0 w
   pub is_short : 0 < length rest
   pub takes : Takes old new front
 
--- The bytes taken and the count of failures, before and after a write, by its result: all bytes were taken, or the sink failed and took a
--- part.
+-- The bytes taken and the count of failures, before and after a write, by its result: all bytes were taken and no failure was counted, or
+-- the sink failed and took a part.
 abbrev pub Writes : Option (List ℕ) → Option (List ℕ) → ℕ → ℕ → List ℕ → Result Unit ReportFault → Type 0
-Writes old new before after bytes (Ok _) = Takes old new bytes × (before ≤ after)
+Writes old new before after bytes (Ok _) = Takes old new bytes × (after ≡ before)
 Writes old new before after bytes (Err _) = TakesPart old new bytes × (before ≤ after) × Rose before after

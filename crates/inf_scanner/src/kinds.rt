@@ -1,5 +1,7 @@
 //! The kind of a token, once its bytes are known.
-ghost use Rattle.std.specs.Prelude.{◌≡◌, ◌<◌, ◌≤◌, ◌+◌, ◌*◌, true, IsErr, IfOk, IfSome};
+ghost use Rattle.std.specs.Prelude.{◌≡◌, ◌<◌, ◌≤◌, ◌+◌, ◌*◌, true, IsErr, IsOk, IfOk, IfSome};
+ghost use Rattle.std.specs.List.{list_all};
+ghost use Rattle.inf_characters.specs.Reading.{is_plain};
 ghost use Rattle.inf_scanner.specs.Scanning.{is_quoted};
 ghost use Rattle.inf_scanner.specs.Kinds.{digit_of, kind_of, number_of, quote_kind, quoted_kind, refusal, signed_kind, text_kind};
 ghost use Rattle.inf_scanner.specs.Kinds.{value_from, value_of, word_of};
@@ -78,6 +80,7 @@ fn refused(fault: TextFault) -> Result<TokenKind, AllocError>
 /// Returns the kind of a token with these bytes between double quotes. Most texts are plain, which are read without more.
 fn text_kind(alloc: Global, set: CharSet, bytes: &[u8]) -> Result<TokenKind, AllocError>
     ensures ok { IfOk result (λ kind. kind ≡ text_kind set bytes.now) }
+    ensures plain { list_all is_plain bytes.now ≡ true → IsOk result }
 {
     if are_plain(bytes) {
         return Ok(TokenKind::Text);
@@ -139,7 +142,7 @@ fn quote_kind(alloc: Global, set: CharSet, bytes: &[u8]) -> Result<TokenKind, Al
     signed_kind(alloc, set, bytes, Sign::None)
 }
 
-/// Returns the kind of a token, by its ending and its bytes.
+/// Returns the kind of a token, by its ending and its bytes. Only a quote, and a text that is not plain, take memory.
 pub fn kind_of(
     alloc: Global,
     set: CharSet,
@@ -148,6 +151,7 @@ pub fn kind_of(
 ) -> Result<TokenKind, AllocError>
     ensures ok { IfOk result (λ kind. kind ≡ kind_of set ending spelling.now) }
     ensures memory { IsErr result → is_quoted ending ≡ true }
+    ensures plain { ending ≡ Ending.Text → list_all is_plain spelling.now.bytes ≡ true → IsOk result }
 {
     let is_cut = spelling.is_cut();
     match ending {

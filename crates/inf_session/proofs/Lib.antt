@@ -12,3 +12,4 @@ pub mod Delivering
 pub mod Supplying
 pub mod TextTurns
 pub mod Parting
+pub mod Quiet

@@ -1,5 +1,5 @@
 -- The causes of a fault of each kind.
-use Rattle.std.specs.Prelude.{ℕ, List, string_bytes}
+use Rattle.std.specs.Prelude.{◌≡◌, ℕ, List, string_bytes, IfErr, OnOk, Result}
 use Rattle.inf_session.specs.declared.faults.Fault.{Fault}
 use Rattle.inf_session.specs.declared.faults.Fault.TheVariants as fault
 
@@ -28,3 +28,13 @@ UnlessStory (fault.Story n) P = Unit {0}
 UnlessStory fault.Memory P = P
 UnlessStory (fault.Read name) P = P
 UnlessStory fault.Messages P = P
+
+abbrev pub UnlessMessages : Fault → Type 0 → Type 0
+UnlessMessages fault.Messages P = Unit {0}
+UnlessMessages fault.Memory P = P
+UnlessMessages (fault.Read name) P = P
+UnlessMessages (fault.Story n) P = P
+
+-- Only a call that answers that messages could not be written counts a failure to write them.
+abbrev pub HidesNoFailure : {T : Type 0} → Result T Fault → ℕ → ℕ → Type 0
+HidesNoFailure answer before now = OnOk answer (now ≡ before) × IfErr answer (λ fault. UnlessMessages fault (now ≡ before))

@@ -1,10 +1,10 @@
 //! The results of a compilation, and the end of one.
-ghost use Rattle.std.specs.Prelude.{◌≡◌, None, IfOk, IfErr, OnErr};
+ghost use Rattle.std.specs.Prelude.{◌≡◌, None, IfOk, IfErr, IsErrOf, OnErr};
 ghost use Rattle.inf_devices.specs.Files.{Rose};
 ghost use Rattle.inf_compilation.specs.Works.{work as work_of};
 ghost use Rattle.inf_session.specs.Delivered.{Appends, Delivers, EndsClean, TakesFront};
 ghost use Rattle.inf_session.specs.Ending.{finished, seen};
-ghost use Rattle.inf_session.specs.Faults.{Caused};
+ghost use Rattle.inf_session.specs.Faults.{Caused, HidesNoFailure};
 
 use crate::ending::{Outcome, finish};
 use crate::faults::Fault;
@@ -30,7 +30,7 @@ pub struct Compiled {
     pub status: Status,
 }
 
-/// Ends the compilation of sources that were read, and writes its last messages.
+/// Ends the compilation of sources that were read, and writes its last messages. Memory is taken only before the first of them is written.
 pub(crate) fn conclude<M: Sink, B: Bounds>(
     alloc: Global,
     names: &Stack,
@@ -45,18 +45,22 @@ pub(crate) fn conclude<M: Sink, B: Bounds>(
     ensures errors { IfOk result (λ compiled. compiled.status ≡ Status.Errors → compiled.story ≡ None) }
     ensures clean { IfOk result (λ compiled. compiled.status ≡ Status.Success → EndsClean (M.taken messages.old) (M.taken messages.new)) }
     ensures fault { IfErr result (λ fault. Caused fault (λ name. ⊥) (Rose (M.failures messages.old) (M.failures messages.new))) }
-    ensures wrote { Appends M.Sink messages.old messages.new }
+    ensures memory { IsErrOf result Fault.Memory → messages.new ≡ messages.old }
+    ensures wrote { Appends M.Sink messages.old messages.new
+        × HidesNoFailure result (M.failures messages.old) (M.failures messages.new) }
 {
     let ending = finish(alloc, names, serial, work)?;
     written(ending, messages)
 }
 
-/// Writes the last messages of a compilation.
+/// Writes the last messages of a compilation. The only fault is that they could not be written.
 pub fn written<M: Sink>(ending: Outcome, messages: &mut M) -> Result<Compiled, Fault>
     ensures ok { IfOk result (λ compiled. Delivers (seen ending) compiled (M.taken messages.old) (M.taken messages.new)) }
     ensures err { OnErr result (TakesFront (seen ending).messages (M.taken messages.old) (M.taken messages.new)) }
     ensures fault { IfErr result (λ fault. Caused fault (λ name. ⊥) (Rose (M.failures messages.old) (M.failures messages.new))) }
-    ensures wrote { Appends M.Sink messages.old messages.new }
+    ensures only { IfErr result (λ fault. fault ≡ Fault.Messages) }
+    ensures wrote { Appends M.Sink messages.old messages.new
+        × HidesNoFailure result (M.failures messages.old) (M.failures messages.new) }
 {
     match write_whole(messages, ending.messages.as_slice()) {
         Ok(()) => Ok(Compiled {

@@ -1,5 +1,6 @@
 //! The reading of a main source and of the files that it includes.
-ghost use Rattle.std.specs.Prelude.{◌≡◌, ℕ, ◌<◌, ◌≤◌, ◌⊎◌, List, Ok, OnOk, OnErr, IfErr, IfOk, IsTrue, None, false, true, length};
+ghost use Rattle.std.specs.Prelude.{◌≡◌, ℕ, ◌<◌, ◌≤◌, ◌⊎◌, List, Ok, OnOk, OnErr, IfErr, IfOk};
+ghost use Rattle.std.specs.Prelude.{IsErrOf, IsTrue, None, false, true, length};
 ghost use Rattle.inf_devices.specs.Files.{Openings, Rose, Sources};
 ghost use Rattle.inf_reader.specs.Reading.{has_ended_at, is_mode_ended};
 ghost use Rattle.inf_reader.specs.Standing.{standing};
@@ -7,7 +8,7 @@ ghost use Rattle.inf_lexer.specs.Names.{can_name};
 ghost use Rattle.inf_sources.specs.Calls.{Honestly, IsUnreadable, StaysFit, Went};
 ghost use Rattle.inf_sources.specs.Open.{nesting, opened_since};
 ghost use Rattle.inf_session.specs.Choices.{chosen, most_quoted};
-ghost use Rattle.inf_session.specs.Faults.{Caused, IfRead};
+ghost use Rattle.inf_session.specs.Faults.{Caused, HidesNoFailure, IfRead};
 ghost use Rattle.inf_session.specs.Delivered.{Appends, Delivers, EndsClean, TakesFront};
 ghost use Rattle.inf_session.specs.Ending.{finished};
 ghost use Rattle.inf_settings.specs.Bounds.{AreSet};
@@ -145,7 +146,8 @@ impl<'a, B: Bounds> Session<'a, B> {
             start (F.openings files.new) self.new.open_files name))) }
         ensures fits { OnOk result (StaysFit F.Files files.old files.new self.old.open_files) }
         ensures setup { self.new.setup ≡ self.old.setup }
-        ensures wrote { Appends M.Sink messages.old messages.new }
+        ensures wrote { Appends M.Sink messages.old messages.new
+            × HidesNoFailure result (M.failures messages.old) (M.failures messages.new) }
     {
         while !self.has_ended() {
             self.read_part(files, messages)?;
@@ -204,7 +206,8 @@ impl<'a, B: Bounds> Session<'a, B> {
             start (F.openings files.new) self.new.open_files name))) }
         ensures fits { OnOk result (StaysFit F.Files files.old files.new self.old.open_files) }
         ensures setup { self.new.setup ≡ self.old.setup }
-        ensures wrote { Appends M.Sink messages.old messages.new }
+        ensures wrote { Appends M.Sink messages.old messages.new
+            × HidesNoFailure result (M.failures messages.old) (M.failures messages.new) }
     {
         if self.has_ended() {
             return Ok(self.came_to(true));
@@ -219,7 +222,8 @@ impl<'a, B: Bounds> Session<'a, B> {
     /// Ends the compilation behind the last step: writes the last messages, and returns the story, where no error was found. The
     /// serial number has six digits. The files that are still open are given back.
     ///
-    /// The faults are those of `translate`, but for that of reading and that of the story.
+    /// The faults are those of `translate`, but for that of reading and that of the story. Memory is taken only before the first message is
+    /// written.
     pub fn finish<M: Sink>(
         self,
         serial: &[u8; 6],
@@ -236,7 +240,9 @@ impl<'a, B: Bounds> Session<'a, B> {
         ensures clean { IfOk result.1 (λ compiled. compiled.status ≡ Status.Success → EndsClean (M.taken messages.old)
             (M.taken messages.new)) }
         ensures fault { IfErr result.1 (λ fault. Caused fault (λ name. ⊥) (Rose (M.failures messages.old) (M.failures messages.new))) }
-        ensures wrote { Appends M.Sink messages.old messages.new }
+        ensures memory { IsErrOf result.1 Fault.Memory → messages.new ≡ messages.old }
+        ensures wrote { Appends M.Sink messages.old messages.new
+            × HidesNoFailure result.1 (M.failures messages.old) (M.failures messages.new) }
     {
         let Session {
             alloc,
@@ -342,7 +348,8 @@ impl<'a, B: Bounds> Session<'a, B> {
             (state (F.sources files.old) start (F.openings files.old) self.old told) start (F.openings files.new) self.new.open_files
             name))) }
         ensures fits { OnOk result (StaysFit F.Files files.old files.new self.old.open_files) }
-        ensures wrote { Appends M.Sink messages.old messages.new }
+        ensures wrote { Appends M.Sink messages.old messages.new
+            × HidesNoFailure result (M.failures messages.old) (M.failures messages.new) }
     {
         self.take_token(files)?;
         self.follow(files)?;

@@ -5,7 +5,7 @@ ghost use Rattle.inf_sources.specs.Calls.{Honestly, IsUnreadable, StaysFit, Went
 ghost use Rattle.inf_sources.specs.Open.{opened_since};
 ghost use Rattle.inf_session.specs.Choices.{chosen};
 ghost use Rattle.inf_session.specs.Delivered.{Appends};
-ghost use Rattle.inf_session.specs.Faults.{Caused, IfRead};
+ghost use Rattle.inf_session.specs.Faults.{Caused, HidesNoFailure, IfRead};
 ghost use Rattle.inf_session.specs.Leading.{CutsShort, GivenUp, OpensAll, Writes};
 ghost use Rattle.inf_session.specs.Session.{part, run};
 ghost use Rattle.inf_session.specs.Standing.{IsBounded, IsSet, came_to, ended, is_done, parted, state};
@@ -83,7 +83,8 @@ impl<'a, B: Bounds> Session<'a, B> {
             (Rose (M.failures messages.old) (M.failures messages.new))) }
         ensures fits { OnOk result (StaysFit F.Files files.old files.new self.old.open_files) }
         ensures setup { self.new.setup ≡ self.old.setup }
-        ensures wrote { Appends M.Sink messages.old messages.new }
+        ensures wrote { Appends M.Sink messages.old messages.new
+            × HidesNoFailure result (M.failures messages.old) (M.failures messages.new) }
     {
         if self.has_ended() {
             return self.step_veneer(messages);

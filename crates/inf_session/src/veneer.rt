@@ -4,7 +4,7 @@ ghost use Rattle.std.specs.Prelude.{OnOk, false, is_none, is_some, length, true}
 ghost use Rattle.inf_devices.specs.Files.{Openings, Rose, Sources};
 ghost use Rattle.inf_session.specs.Choices.{chosen, most_quoted};
 ghost use Rattle.inf_session.specs.Delivered.{Appends};
-ghost use Rattle.inf_session.specs.Faults.{Caused};
+ghost use Rattle.inf_session.specs.Faults.{Caused, HidesNoFailure};
 ghost use Rattle.inf_session.specs.Leading.{CutsShort, Writes};
 ghost use Rattle.inf_session.specs.Session.{rested, stepped};
 ghost use Rattle.inf_session.specs.Standing.{came_to, ended, next_of, state};
@@ -49,7 +49,8 @@ impl<'a, B: Bounds> Session<'a, B> {
             (M.taken messages.old) (M.taken messages.new)) }
         ensures files { self.new.open_files ≡ self.old.open_files }
         ensures fault { IfErr result (λ fault. Caused fault (λ name. ⊥) (Rose (M.failures messages.old) (M.failures messages.new))) }
-        ensures wrote { Appends M.Sink messages.old messages.new }
+        ensures wrote { Appends M.Sink messages.old messages.new
+            × HidesNoFailure result (M.failures messages.old) (M.failures messages.new) }
     {
         let mut was_read = true;
         while was_read {
@@ -77,7 +78,8 @@ impl<'a, B: Bounds> Session<'a, B> {
         ensures files { self.new.open_files ≡ self.old.open_files }
         ensures setup { self.new.setup ≡ self.old.setup }
         ensures fault { IfErr result (λ fault. Caused fault (λ name. ⊥) (Rose (M.failures messages.old) (M.failures messages.new))) }
-        ensures wrote { Appends M.Sink messages.old messages.new }
+        ensures wrote { Appends M.Sink messages.old messages.new
+            × HidesNoFailure result (M.failures messages.old) (M.failures messages.new) }
     {
         let was_read = self.read_veneer(messages)?;
         Ok(self.came_to(!was_read))
@@ -101,7 +103,8 @@ impl<'a, B: Bounds> Session<'a, B> {
         ensures files { self.new.open_files ≡ self.old.open_files }
         ensures setup { self.new.setup ≡ self.old.setup }
         ensures fault { IfErr result (λ fault. Caused fault (λ name. ⊥) (Rose (M.failures messages.old) (M.failures messages.new))) }
-        ensures wrote { Appends M.Sink messages.old messages.new }
+        ensures wrote { Appends M.Sink messages.old messages.new
+            × HidesNoFailure result (M.failures messages.old) (M.failures messages.new) }
     {
         match self.next_wanted() {
             Some(number) => {
@@ -156,7 +159,8 @@ impl<'a, B: Bounds> Session<'a, B> {
         ensures files { self.new.open_files ≡ self.old.open_files }
         ensures setup { self.new.setup ≡ self.old.setup }
         ensures fault { IfErr result (λ fault. Caused fault (λ name. ⊥) (Rose (M.failures messages.old) (M.failures messages.new))) }
-        ensures wrote { Appends M.Sink messages.old messages.new }
+        ensures wrote { Appends M.Sink messages.old messages.new
+            × HidesNoFailure result (M.failures messages.old) (M.failures messages.new) }
     {
         let text = text_of(number);
         let set = self.open_files.characters();

@@ -3,16 +3,17 @@ ghost use Rattle.std.specs.Prelude.{◌≡◌, ◌≢◌, ◌+◌, ◌-◌, min,
 ghost use Rattle.std.specs.Prelude.{IfNone, IfOk, IfSome, OnOk, OnErr, IsErrOf, IsOk, IsTrue, None, Some, length, map, reverse, slice_get};
 ghost use Rattle.std.specs.Prelude.{ℕ, IsErr, is_err, unwrap_or};
 ghost use Rattle.inf_devices.specs.Files.{Openings, Rose, Sources, last_count};
+ghost use Rattle.inf_lexer.specs.Entering.{tells_failure};
 ghost use Rattle.inf_lexer.specs.Heads.{goes_on_at, is_behind};
 ghost use Rattle.inf_lexer.specs.Names.{can_name, innermost_name};
 ghost use Rattle.inf_lexer.specs.Readers.{Took, TookWord, at_front};
-ghost use Rattle.inf_lexer.specs.Unread.{IsAtEnd, unread};
+ghost use Rattle.inf_lexer.specs.Unread.{IsAtEnd, to_come, unread};
 ghost use Rattle.inf_sources.specs.Calls.{AskedTooMany, Honestly, Kept, StaysFit, Went, given_all};
 ghost use Rattle.inf_sources.specs.Choosing.{chosen, file_with, nesting_chosen, nesting_with, open_with};
 ghost use Rattle.inf_sources.specs.Cursors.{Unfinished};
 ghost use Rattle.inf_sources.specs.Heading.{ReadsHead, UnfinishedHead};
 ghost use Rattle.inf_sources.specs.Inclusions.{OpenedInVain, OpensTooMany, answer_of, closed, inclusion, main_opened, nested_by};
-ghost use Rattle.inf_sources.specs.Quoted.{KeepsFew};
+ghost use Rattle.inf_sources.specs.Quoted.{KeepsFew, comes_quoted};
 ghost use Rattle.inf_sources.specs.Open.{AllGiven, Each, Fits, IsNested, Reads, closed_to, nesting, opened_since, waits};
 
 use crate::faults::IncludeFault;
@@ -97,9 +98,11 @@ impl OpenFiles {
             OnOk result (Each Fits (length (F.openings files.old).all) (F.openings files.new).all) }
         ensures absent { IsTrue (F.is_honest files.old) → IsErrOf result EnterFault.Absent → F.sources files.old name.now ≡ None }
         ensures unopened { IsTrue (F.is_honest files.old) → OnErr result (F.openings files.new ≡ F.openings files.old) }
-        ensures empty { IsErrOf result EnterFault.BadName → length name.now ≡ 0 }
+        ensures empty { (IsErrOf result EnterFault.BadName → length name.now ≡ 0)
+            × (length name.now ≡ 0 → IsErrOf result EnterFault.BadName × (files.new ≡ files.old)) }
         ensures never { IsErrOf result EnterFault.TooDeep → ⊥ }
-        ensures cause { IsErrOf result EnterFault.Device → Rose (F.faults files.old) (F.faults files.new) }
+        ensures cause { (IsErrOf result EnterFault.Device → Rose (F.faults files.old) (F.faults files.new))
+            × (tells_failure result ≡ false → F.faults files.new ≡ F.faults files.old) }
         ensures depth { F.depth files.new ≡ (if is_ok result then F.depth files.old + 1 else F.depth files.old) }
         ensures given { F.given files.new ≡ F.given files.old }
         ensures kept { Kept F.Files files.old files.new }
@@ -204,8 +207,11 @@ impl OpenFiles {
         // The lexer was given at most 4,096 bytes behind the token.
         ensures window { length self.new.lexer.window.left ≤ 4096 }
         ensures few { OnOk result (self.new.lexer.window.given ≤ 16777216) }
-        ensures cause { IsErrOf result LexFault.Read → Rose (F.faults files.old) (F.faults files.new)
-            ⊎ (16777216 < self.new.lexer.window.given) }
+        ensures cause { (IsErrOf result LexFault.Read → Rose (F.faults files.old) (F.faults files.new)
+            ⊎ (16777216 < self.new.lexer.window.given))
+            × (IsErrOf result LexFault.Memory → F.faults files.new ≡ F.faults files.old)
+            × (IsErrOf result LexFault.Memory → IsTrue (F.is_honest files.old) → comes_quoted self.old.lexer
+            (to_come (F.sources files.old) (F.openings files.old) self.old.lexer.window) ≡ true) }
     {
         let token = self.lexer.next(files)?;
         Ok(token)
@@ -299,11 +305,12 @@ impl OpenFiles {
         ensures unmoved { OnErr result ((conditionals.new ≡ conditionals.old) × (is_system.new ≡ is_system.old)) }
         ensures goes { OnOk result (self.new.lexer.has_failed ≡ false) }
         ensures settings { (self.new.nest.set ≡ self.old.nest.set) × (self.new.nest.limit ≡ self.old.nest.limit) }
-        ensures cause { IsErrOf result IncludeFault.Device → Rose (F.faults files.old) (F.faults files.new)
+        ensures cause { (IsErrOf result IncludeFault.Device → Rose (F.faults files.old) (F.faults files.new)
             ⊎ (AskedTooMany F.Files files.old files.new self.old self.new × Honestly F.Files files.old self.old (λ start.
             let was = nesting (F.sources files.old) start (F.openings files.old) self.old in
             OpensTooMany (inclusion (F.sources files.old) (map (λ d. d.now) directories.now) text.now was) was
-            (opened_since start (F.openings files.new)))) }
+            (opened_since start (F.openings files.new)))))
+            × (IsErrOf result IncludeFault.Memory → F.faults files.new ≡ F.faults files.old) }
         ensures named { IsErrOf result IncludeFault.Device → can_name text.now ≡ true }
         ensures given { F.given files.new ≡ F.given files.old }
     {

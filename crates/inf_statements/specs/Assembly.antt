@@ -13,6 +13,7 @@ use Rattle.inf_opcode.specs.declared.instructions.Label.{Label}
 use Rattle.inf_opcode.specs.declared.opcodes.Opcode.{Opcode}
 use Rattle.inf_opcode.specs.declared.opcodes.OpcodeRow.{OpcodeRow}
 use Rattle.inf_expressions.specs.declared.findings.Finding.{Finding}
+use Rattle.inf_expressions.specs.declared.findings.UnitError.TheVariants as unit_error
 use Rattle.inf_expressions.specs.declared.operators.Operand.{Operand}
 use Rattle.inf_expressions.specs.declared.operators.Operand.TheVariants as operand
 use Rattle.inf_expressions.specs.Findings.{least_of_both, wrong_kind}
@@ -106,7 +107,7 @@ fits_some limits None trees e = false
 fits_some limits (Some op) trees e = fits limits op trees e
 
 abbrev pub wrong_opcode : ℕ → Finding
-wrong_opcode at = record { order = at; number = 15 }
+wrong_opcode at = record { order = at; error = unit_error.WrongOpcode }
 
 abbrev pub stored_in : Operand → Option ℕ
 stored_in (operand.Variable v) = Some v

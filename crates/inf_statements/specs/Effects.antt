@@ -6,6 +6,7 @@ use Rattle.inf_characters.specs.declared.texts.TextItem.{TextItem}
 use Rattle.inf_scanner.specs.declared.tokens.Place.{Place}
 use Rattle.inf_opcode.specs.declared.opcodes.Opcode.TheVariants as opcode
 use Rattle.inf_expressions.specs.declared.findings.Finding.{Finding}
+use Rattle.inf_expressions.specs.declared.findings.UnitError.TheVariants as unit_error
 use Rattle.inf_expressions.specs.declared.units.Wanted.{Wanted}
 use Rattle.inf_expressions.specs.declared.units.Wanted.TheVariants as wanted
 use Rattle.inf_expressions.specs.Findings.{wrong_kind}
@@ -44,15 +45,15 @@ name_behind s = bytes_at s.tokens (next_place s.begun)
 
 -- The findings
 
--- `Label is given twice`, `No loop or switch to leave or continue`, `default must come once and last`
+-- a label is given again; there is nothing to leave or continue; a default does not come once and last
 abbrev pub given_twice : ℕ → Finding
-given_twice at = record { order = at; number = 16 }
+given_twice at = record { order = at; error = unit_error.LabelTwice }
 
 abbrev pub nothing_to_leave : ℕ → Finding
-nothing_to_leave at = record { order = at; number = 17 }
+nothing_to_leave at = record { order = at; error = unit_error.NothingToLeave }
 
 abbrev pub misplaced_default : Finding
-misplaced_default = record { order = 0; number = 24 }
+misplaced_default = record { order = 0; error = unit_error.MisplacedDefault }
 
 abbrev pub unless_some : {A : Type 0} → Option A → Finding → Option Finding
 unless_some None f = Some f

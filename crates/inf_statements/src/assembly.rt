@@ -11,12 +11,11 @@ ghost use Rattle.inf_statements.specs.Assembly.{with_end, wrong_opcode};
 ghost use Rattle.inf_constructs.specs.Roots.{trees_from};
 ghost use Rattle.inf_statements.specs.Statements.{PrintsText};
 
-use crate::effects::WRONG_OPCODE;
 use crate::operands::{is_stack, looked_name};
 use crate::printing::print_text;
 use arrayvec::ArrayVec;
 use inf_constructs::labels::Labels;
-use inf_expressions::{Finding, Nodes, Operand, Root, least_of_both};
+use inf_expressions::{Finding, Nodes, Operand, Root, UnitError, least_of_both};
 use inf_names::locals::Locals;
 use inf_names::symbols::Symbols;
 use inf_opcode::{Branch, Destination, Label, MOST_OPERANDS, Opcode, OpcodeRow};
@@ -263,7 +262,7 @@ impl Line<'_> {
         }
         let wrong = Finding {
             order: order(behind),
-            number: WRONG_OPCODE,
+            error: UnitError::WrongOpcode,
         };
         least_of_both(stores, Some(wrong))
     }

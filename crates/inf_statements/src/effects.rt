@@ -19,7 +19,7 @@ use crate::statements::{
 };
 use inf_constructs::constructs::Constructs;
 use inf_constructs::labels::Labels;
-use inf_expressions::{Finding, Forest, Nodes, Root, Wanted};
+use inf_expressions::{Finding, Forest, Nodes, Root, UnitError, Wanted};
 use inf_names::locals::Locals;
 use inf_names::symbols::Symbols;
 use inf_opcode::{Label, Opcode};
@@ -34,18 +34,6 @@ use inf_unit::texts::text_of;
 use inf_unit::unit::{next_place, order};
 use inf_unit::unit_tokens::UnitTokens;
 use std::alloc::{AllocError, Global};
-
-/// The number of the message `Wrong opcode or operands`.
-pub const WRONG_OPCODE: u8 = 15;
-
-/// The number of the message `Label .. is given twice`.
-pub const GIVEN_TWICE: u8 = 16;
-
-/// The number of the message `No loop or switch to leave or continue`.
-pub const NOTHING_TO_LEAVE: u8 = 17;
-
-/// The number of the message `default must come once and last`.
-pub const MISPLACED_DEFAULT: u8 = 24;
 
 /// The site of a statement: all that it goes by beside the trees of its expressions.
 #[derive(Clone, Copy)]
@@ -63,13 +51,13 @@ pub struct Site<'a> {
     pub constructs: &'a Constructs,
 }
 
-/// Returns a finding of `number` at `order`, unless something was found.
-fn unless_some(found: Option<Label>, order: u32, number: u8) -> Option<Finding>
-    ensures { result ≡ unless_some found (record { order = order; number = number }) }
+/// Returns the finding of `error` at `order`, unless something was found.
+fn unless_some(found: Option<Label>, order: u32, error: UnitError) -> Option<Finding>
+    ensures { result ≡ unless_some found (record { order = order; error = error }) }
 {
     match found {
         Some(_) => None,
-        None => Some(Finding { order, number }),
+        None => Some(Finding { order, error }),
     }
 }
 
@@ -119,7 +107,7 @@ impl Site<'_> {
         }
         Some(Finding {
             order: order(next_place(self.begun)),
-            number: GIVEN_TWICE,
+            error: UnitError::LabelTwice,
         })
     }
 
@@ -141,12 +129,16 @@ impl Site<'_> {
     {
         let first = order(self.begun);
         match statement {
-            Statement::Break => {
-                unless_some(self.constructs.left_to(false), first, NOTHING_TO_LEAVE)
-            }
-            Statement::Continue => {
-                unless_some(self.constructs.left_to(true), first, NOTHING_TO_LEAVE)
-            }
+            Statement::Break => unless_some(
+                self.constructs.left_to(false),
+                first,
+                UnitError::NothingToLeave,
+            ),
+            Statement::Continue => unless_some(
+                self.constructs.left_to(true),
+                first,
+                UnitError::NothingToLeave,
+            ),
             Statement::Place => self.label_finding(labels),
             Statement::Style => self.style_finding(),
             _ => None,

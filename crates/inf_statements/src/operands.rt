@@ -78,8 +78,9 @@ fn operand_by(known: Option<Operand>, number: Option<usize>) -> Operand
     }
 }
 
-/// Returns the operand of a name, by `found`, the result of looking for it, and `number`, its number among the names.
-fn found_operand(found: Found<Place>, number: Option<usize>) -> Operand
+/// Returns the operand of a name, by `found`, the result of looking for it, and `number`, its number among the names; without one the operand
+/// of a name that is known later is any reference.
+pub fn found_operand(found: Found<Place>, number: Option<usize>) -> Operand
     ensures { result ≡ found_operand found number }
 {
     match found {

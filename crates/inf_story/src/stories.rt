@@ -15,7 +15,7 @@ use std::alloc::Global;
 /// called first, and `names` are the values of the names.
 ///
 /// Refuses first where code would begin at an address over 65,534, then where the story would be longer than one of its version may
-/// be, and else only where no memory is left.
+/// be. The areas are made before they are measured, so want of memory may come in place of each of these.
 pub fn story<B: Bounds>(
     alloc: Global,
     fields: HeaderFields,

@@ -49,7 +49,8 @@ pub enum WorldSetting {
     PropertyTables,
 }
 
-/// The reason for which something was not added. `Full` is told where no limit or misfit is found, and `Memory` last.
+/// The reason for which something was not added. `Full` is told where no limit or misfit is found, and `Memory` last; of
+/// a class, whose lists are made first, `Memory` may come before a limit of values or room.
 #[derive(Clone, Copy, Debug, PartialEq, Eq)]
 pub enum WorldFault {
     Limit(Limit),

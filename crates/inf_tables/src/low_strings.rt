@@ -1,5 +1,5 @@
 //! The low strings of a story.
-ghost use Rattle.std.specs.Prelude.{◌≡◌, ◌≤◌, IfOk, OnErr, if◌then◌else◌, max};
+ghost use Rattle.std.specs.Prelude.{◌≡◌, ◌≤◌, IfOk, OnErr, if◌then◌else◌, max, true};
 ghost use Rattle.inf_tables.specs.LowStrings.{low_fits, low_size, with_abbreviation, with_low};
 ghost use Rattle.inf_settings.specs.declared.setting.Setting.TheVariants as setting;
 
@@ -68,11 +68,12 @@ impl<B: Bounds> LowStrings<B> {
     }
 
     /// Adds a low string of the bytes `text`, and returns `true`; or returns `false` where it would pass the limit.
-    /// Where memory runs out the low strings stay as they were.
+    /// Where there is room and memory runs out the low strings stay as they were.
     pub fn add(&mut self, text: &[u8]) -> Result<bool, AllocError>
         ensures value { IfOk result (λ added. (added ≡ low_fits B.most text.now self.old)
             × (self.new ≡ if low_fits B.most text.now self.old then with_low text.now self.old else self.old)) }
         ensures err { OnErr result (self.new ≡ self.old) }
+        ensures memory { OnErr result (low_fits B.most text.now self.old ≡ true) }
     {
         if !self.fits(text) {
             return Ok(false);
@@ -86,6 +87,7 @@ impl<B: Bounds> LowStrings<B> {
         ensures value { IfOk result (λ added. (added ≡ low_fits B.most packed.now self.old)
             × (self.new ≡ if low_fits B.most packed.now self.old then with_abbreviation packed.now self.old else self.old)) }
         ensures err { OnErr result (self.new ≡ self.old) }
+        ensures memory { OnErr result (low_fits B.most packed.now self.old ≡ true) }
     {
         if !self.fits(packed) {
             return Ok(false);

@@ -1,11 +1,11 @@
 //! The world of a story, as far as its source was read.
 ghost use Rattle.std.specs.Prelude.{◌≡◌, ◌+◌, ◌<◌, ◌≤◌, ◌^◌, max, List, ℕ, [], ◌∷◌, None, Some, false, true, length, unwrap_or, option_map};
-ghost use Rattle.std.specs.Prelude.{slice_get, sum_by, IfOk, IsSome, OnOk, OnErr, MatchResult};
+ghost use Rattle.std.specs.Prelude.{slice_get, sum_by, IfErr, IfOk, IsSome, OnOk, OnErr, MatchResult};
 ghost use Rattle.inf_properties.specs.Properties.{has, is_reserved};
 ghost use Rattle.inf_properties.specs.declared.sizes.Owner.TheVariants as owner;
 ghost use Rattle.inf_properties.specs.Open.{give_fault, given_first, with_given};
-ghost use Rattle.inf_objects.specs.Objects.{begun, is_lost, object_bytes, object_fixups};
-ghost use Rattle.inf_tables.specs.Objects.{IsReached, is_object, latest_with};
+ghost use Rattle.inf_objects.specs.Objects.{begun, is_lost, is_passed, object_bytes, object_fixups};
+ghost use Rattle.inf_tables.specs.Objects.{IsReached, class_at, is_object, latest_with};
 ghost use Rattle.inf_tables.specs.World.{AreHung, IsRefused, attribute_fault, bytes_now, class_header_fault, class_of_fault, fixups_now};
 ghost use Rattle.inf_tables.specs.World.{full_fault, further_value_fault, given_property_fault, individual_fault, kind_of, lost_given};
 ghost use Rattle.inf_tables.specs.World.{lost_given_fault, lost_header_fault, no_body_fault, no_world, object_count, object_header_fault};
@@ -329,6 +329,7 @@ impl<B: Bounds> World<B> {
         ensures err { OnErr result (self.new ≡ self.old) }
         ensures fault { let fault = further_value_fault B.most value self.old in
             MatchResult result (λ _. fault ≡ None) (λ refused. refused ≡ unwrap_or fault Memory) }
+        ensures memory { IfErr result (λ refused. refused ≡ Memory → self.old.body.properties.takes_values ≡ true) }
     {
         if !self.is_open {
             return Err(WorldFault::Misfit(Misfit::NoBody));
@@ -402,6 +403,8 @@ impl<B: Bounds> World<B> {
         ensures err { OnErr result (self.new ≡ self.old) }
         ensures fault { let fault = class_of_fault B.most number self.old in
             MatchResult result (λ _. fault ≡ None) (IsRefused fault) }
+        ensures memory { IfErr result (λ refused. refused ≡ Memory → (self.old.is_open ≡ true)
+            × IsSome (class_at number self.old.objects) × (is_passed number self.old.body ≡ false)) }
     {
         if !self.is_open {
             return Err(WorldFault::Misfit(Misfit::NoBody));
@@ -427,6 +430,7 @@ impl<B: Bounds> World<B> {
         ensures err { OnErr result (self.new ≡ self.old) }
         ensures fault { let fault = no_body_fault self.old in
             MatchResult result (λ _. fault ≡ None) (λ refused. refused ≡ unwrap_or fault Memory) }
+        ensures memory { IfErr result (λ refused. refused ≡ Memory → is_lost self.old.body.properties.owner ≡ false) }
     {
         if !self.is_open {
             return Err(WorldFault::Misfit(Misfit::NoBody));

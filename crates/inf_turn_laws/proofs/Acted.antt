@@ -1,31 +1,41 @@
--- Turns through a piece have the effect of the events of its text.
-use Rattle.std.proofs.Common.{◌≡◌, ℕ, zero, suc, ◌-◌, max, ◌&&◌, Option, Some, None, arith, List, [], ◌∷◌, true, false, refl, sym, ◌∙◌, ap}
-use Rattle.std.proofs.Common.{subst, true≢false}
+-- Turns through a piece have the effect of the happenings of its text, also where conditional directives close statements ahead.
+use Rattle.std.proofs.Common.{◌≡◌, ℕ, suc, Some, None, arith, List, [], ◌∷◌, true, false, refl, sym, ◌∙◌, ap, subst, true≢false}
 use Rattle.std.proofs.lemmas.Bool.{and_parts}
 use Rattle.inf_settings.specs.Bounds.{Limits}
-use Rattle.inf_machine.specs.Machine.{fits, taken}
+use Rattle.inf_devices.specs.Files.{Sources}
+use Rattle.inf_machine.specs.Grammar.{Event, IsText, Leads}
+use Rattle.inf_machine.specs.Laws.{IsSpaced}
+use Rattle.inf_machine.specs.Machine.{fits, taken, work}
 use Rattle.inf_machine.specs.declared.symbols.Symbol.{Symbol}
 use Rattle.inf_machine.specs.declared.symbols.Symbol.TheVariants.{Rule}
+use Rattle.inf_machine.proofs.Taking.{spaced_left}
 use Rattle.inf_syntax.specs.declared.actions.Action.{Action}
+use Rattle.inf_grammar.specs.Evaluated.{language_is_decided}
 use Rattle.inf_grammar.specs.Language.{grammar, known}
-use Rattle.inf_unit.specs.Tokens.{atom_of}
-use Rattle.inf_compilation.specs.Actions.{Compilation, piece_begun as work_begun, took as took_work}
-use Rattle.inf_compilation.specs.Parts.{closed_ahead}
-use Rattle.inf_reader.specs.Acting.{all_acted}
 use Rattle.inf_grammar.specs.Routines.{closings}
+use Rattle.inf_unit.specs.Tokens.{SourceToken, atom_of, is_end}
+use Rattle.inf_compilation.specs.Actions.{Compilation, piece_begun as work_begun, took as took_work}
 use Rattle.inf_compilation.specs.Context.{Context}
+use Rattle.inf_reader.specs.Acting.{acted}
 use Rattle.inf_reader.specs.Handing.{is_empty}
-use Rattle.inf_reader.specs.Reading.{ReaderState, piece_rule, took}
+use Rattle.inf_reader.specs.Reading.{ReaderState, between, piece_rule, took}
 use Rattle.inf_reader.specs.declared.recovery.Recovery.TheVariants as mode
-use Rattle.inf_session.specs.Session.{context_of}
+use Rattle.inf_session.specs.Choices.{Choices}
+use Rattle.inf_session.specs.Session.{State, context_of, stepped}
 use Rattle.inf_laws.specs.KeptTokens.{Kept, Unfit}
-use Rattle.inf_statement_laws.specs.Laid.{next_comes, passed}
 use Rattle.inf_statement_laws.specs.Happenings.{Between}
-use Rattle.inf_statement_laws.specs.Readings.{Seen, all_fit, all_taken, behind_token, directed}
-use Rattle.inf_language.proofs.TextsActed.{texts_do_their_actions}
-use Rattle.inf_turn_laws.specs.Acted.{AllKept, PiecesDoTheirActions, directive_by, folded, seen_in}
-use Rattle.inf_turn_laws.specs.Pieces.{AllFit, Ends, IsFit, Passes, Reads, Step, grouped, piece_first, step_by}
-use Rattle.inf_turn_laws.proofs.Grouping.{closed_once, step_fit, whole_piece}
+use Rattle.inf_statement_laws.specs.Laid.{next_comes, passed, run}
+use Rattle.inf_statement_laws.specs.Readings.{Seen, all_fit, all_taken, behind_ends, behind_token, directed, token_happenings}
+use Rattle.inf_statement_laws.proofs.Laying.{run_then}
+use Rattle.inf_language.specs.Texts.{atoms_of}
+use Rattle.inf_language.proofs.TextsActed.{rule_is_spaced, texts_do_their_actions}
+use Rattle.inf_turn_laws.specs.Acted.{AllKept, PiecesDoTheirActions, seen_in, text_happenings}
+use Rattle.inf_turn_laws.specs.Pieces.{AllFit, AreQuiet, Ends, IsFit, Passes, Reads, Step, all_steps, grouped, piece_first, step_by}
+use Rattle.inf_turn_laws.specs.Writing.{silent_turned}
+use Rattle.inf_turn_laws.proofs.Ahead.{Further, actions_happen, onward, starts}
+use Rattle.inf_turn_laws.proofs.Chosen.{EndWithToken, none_left, pieces_end}
+use Rattle.inf_turn_laws.proofs.Derived.{First, first_by, no_tokens, plain_happenings}
+use Rattle.inf_turn_laws.proofs.Grouping.{step_fit, whole_piece}
 
 -- Nothing fits where no piece is at hand.
 fits_inside : (atom : ℕ) (stack : List (Symbol Action)) → fits grammar known atom stack ≡ true → is_empty stack ≡ false
@@ -33,7 +43,7 @@ fits_inside atom [] fit = absurd (true≢false (sym fit))
 fits_inside atom (symbol ∷ symbols) fit = refl
 
 -- Kept tokens that fit one behind the other by the machine fit as steps.
-all_fit_by : (limits : Limits) (context : Context) (steps : List Step) (s : ReaderState) → s.reading.mode ≡ mode.Reads → AllKept steps
+pub all_fit_by : (limits : Limits) (context : Context) (steps : List Step) (s : ReaderState) → s.reading.mode ≡ mode.Reads → AllKept steps
     → all_fit (grouped steps).seen s.reading.stack ≡ true → AllFit limits context steps s
 all_fit_by limits context [] s reads kept fit = tt
 all_fit_by limits context (Passes m ∷ steps) s reads kept fit =
@@ -52,52 +62,62 @@ all_fit_by limits context (Reads (Kept t) ∷ steps) s reads kept fit =
           (all_fit_by limits context steps (took limits context t s.reading s.work) reads kept both.1),
     )
 
--- Effects that are moved behind their tokens
+-- Texts
 
-nothing_ahead : (limits : Limits) (w : Compilation) → closed_ahead limits 0 w ≡ w
-nothing_ahead limits w = closed_once limits 0 w (none_less w.closed) (most_alone w.closed)
-  where
-    none_less : (n : ℕ) → 0 - n ≡ 0
-    none_less n = omega arith
+none_over : (symbols : List (Symbol Action)) (count : ℕ) → symbols ≡ [] → closings symbols ≡ suc count → ⊥
+none_over symbols count none over = let zero_is : 0 ≡ suc count = sym (ap closings none) ∙ over in absurd (omega (arith, zero_is))
 
-    most_alone : (n : ℕ) → max n 0 ≡ n
-    most_alone n = omega arith
-
-one_folded : (limits : Limits) (count : ℕ) (d : Option Between) (b : Between) (w : Compilation)
-    → directed limits (directive_by count d) count (passed (behind_token d count b) w) ≡ directed limits d count (passed b w)
-one_folded limits zero None b w = refl
-one_folded limits zero (Some m) b w = ap (passed m) (sym (nothing_ahead limits (passed b w)))
-one_folded limits (suc count) None b w = refl
-one_folded limits (suc count) (Some m) b w = refl
-
-folded_taken : (limits : Limits) (context : Context) (seen : List Seen) (symbols : List (Symbol Action)) (w : Compilation)
-    → all_taken limits context (folded seen symbols) symbols w ≡ all_taken limits context seen symbols w
-folded_taken limits context [] symbols w = refl
-folded_taken limits context (s ∷ seen) symbols w =
+text_runs : (limits : Limits) (context : Context) (seen : List Seen) (symbols : List (Symbol Action)) (events : List (Event Action))
+    (leads : Leads grammar symbols (atoms_of seen) events []) → IsSpaced grammar known symbols → EndWithToken symbols
+    → Further limits context seen symbols (text_happenings leads seen)
+text_runs limits context [] symbols events leads spaced ends None w waits =
+    ap (λ hs. run limits context hs (next_comes w)) (sym (no_tokens leads))
+text_runs limits context [] symbols events leads spaced ends (Some m) w waits =
+    absurd (none_over symbols waits.0 (none_left leads ends) waits.1)
+text_runs limits context (s ∷ seen) symbols events leads spaced ends d w waits =
+    let f : First symbols (s.atom ∷ atoms_of seen) [] (λ x xs. text_happenings leads (x ∷ xs)) = first_by leads spaced ends in
+    let on = f.1 in
     let now = taken grammar known s.atom symbols in
-    let count = closings now.left in
-    let v = took_work context s.token (all_acted limits context s.token.place now.actions w) in
-    folded_taken limits context seen now.left
-    (directed limits (directive_by count s.directive) count (passed (behind_token s.directive count s.behind) v))
-    ∙ ap (all_taken limits context seen now.left) (one_folded limits count s.directive s.behind v)
+    let own = behind_token s.directive (closings now.left) s.behind in
+    let others = behind_ends s.directive (closings now.left) (text_happenings on.leads seen) in
+    let still_spaced = spaced_left grammar known language_is_decided s.atom (work known s.atom symbols) symbols f.0 spaced in
+    let st = starts limits context d s own symbols others w waits in
+    let acted_on = acted limits context s.token.place st.rest st.from in
+    ap (λ (v : Compilation). next_comes (all_taken limits context seen now.left
+    (directed limits s.directive (closings now.left) (passed s.behind (took_work context s.token v))))) st.acts
+    ∙ (onward limits context seen now.left (text_happenings on.leads seen)
+    (text_runs limits context seen now.left on.rest on.leads still_spaced on.ends) s.directive s.behind (took_work context s.token acted_on)
+    (closings now.left) refl
+    ∙ (ap (run limits context others) (actions_happen limits context s.token own st.rest st.from)
+    ∙ (sym (run_then limits context (token_happenings s.token own st.rest) others st.from)
+    ∙ (sym st.runs ∙ ap (λ hs. run limits context (behind_ends d (closings symbols) hs) (next_comes w)) (sym (on.are s seen))))))
 
-folded_fit : (seen : List Seen) (symbols : List (Symbol Action)) → all_fit seen symbols ≡ all_fit (folded seen symbols) symbols
-folded_fit [] symbols = refl
-folded_fit (s ∷ seen) symbols =
-    ap (λ b. fits grammar known s.atom symbols && b) (folded_fit seen (taken grammar known s.atom symbols).left)
+texts_act : (limits : Limits) (seen : List Seen) (events : List (Event Action))
+    (text : IsText grammar (Rule piece_rule ∷ []) (atoms_of seen) events) (context : Context) (w : Compilation)
+    → next_comes (all_taken limits context seen (Rule piece_rule ∷ []) w) ≡ run limits context (text_happenings text seen) (next_comes w)
+texts_act limits seen events text context w =
+    text_runs limits context seen (Rule piece_rule ∷ []) events text (rule_is_spaced piece_rule) pieces_end None w tt
 
 -- Whole pieces
 
-pub pieces_do_their_actions : (limits : Limits) → PiecesDoTheirActions limits
-pieces_do_their_actions limits sources o n s m t steps events fresh is_no_end quiet all kept text none_ahead =
+turns_act : (limits : Limits) (sources : Sources) (o : Choices) (n : ℕ) (s : State) (m : Between) (t : SourceToken) (steps : List Step)
+    (events : List (Event Action)) (text : IsText grammar (Rule piece_rule ∷ []) (atoms_of (seen_in t steps)) events)
+    → s.reading ≡ between mode.Reads → is_end t.kind ≡ false → AreQuiet limits sources o n s
+    → all_steps limits sources o n s ≡ Passes m ∷ Reads (Kept t) ∷ steps → AllKept steps
+    → next_comes (stepped limits o (silent_turned limits sources o n s)).work
+    ≡ run limits (context_of o s) (text_happenings text (seen_in t steps)) (next_comes (work_begun (passed m s.work)))
+turns_act limits sources o n s m t steps events text fresh is_no_end quiet all kept =
     let context = context_of o s in
-    let seen = (grouped (Reads (Kept t) ∷ steps)).seen in
-    let piece : List (Symbol Action) = Rule piece_rule ∷ [] in
-    let first = work_begun (passed m s.work) in
     let law = texts_do_their_actions limits in
     let fit : AllFit limits context (Reads (Kept t) ∷ steps) (piece_first m s.work) =
     all_fit_by limits context (Reads (Kept t) ∷ steps) (piece_first m s.work) refl kept
-    (folded_fit seen piece ∙ law.fit piece_rule (seen_in t steps) events text) in
-    ap next_comes (whole_piece limits sources o n s m t steps fresh is_no_end quiet all fit
-    ∙ sym (folded_taken limits context seen piece first))
-    ∙ law.act piece_rule (seen_in t steps) events text none_ahead context first
+    (law.fit piece_rule (seen_in t steps) events text) in
+    ap next_comes (whole_piece limits sources o n s m t steps fresh is_no_end quiet all fit)
+    ∙ texts_act limits (seen_in t steps) events text context (work_begun (passed m s.work))
+
+pub pieces_do_their_actions : (limits : Limits) → PiecesDoTheirActions limits
+pieces_do_their_actions limits = record {
+  texts = texts_act limits;
+  plain = λ seen events text none. plain_happenings text seen none;
+  turns = turns_act limits;
+}

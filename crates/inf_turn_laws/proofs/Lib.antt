@@ -5,4 +5,8 @@ pub mod Followed
 pub mod Turns
 pub mod Stepping
 pub mod Grouping
+pub mod Chosen
+pub mod Derived
+pub mod Ahead
 pub mod Acted
+pub mod Routines

@@ -1,24 +1,25 @@
--- Turns through a piece have the effect of the actions and tokens of its text, with no machine that reads them.
-use Rattle.std.specs.Prelude.{◌≡◌, ℕ, zero, suc, List, [], ◌∷◌, false, Option, None}
+-- Turns through a piece have the effect of the actions and tokens of its text, with the conditional directives between them, and with no
+-- machine that reads them.
+use Rattle.std.specs.Prelude.{◌≡◌, ℕ, List, [], ◌∷◌, false}
 use Rattle.inf_settings.specs.Bounds.{Limits}
 use Rattle.inf_devices.specs.Files.{Sources}
-use Rattle.inf_machine.specs.Grammar.{Event, IsText}
-use Rattle.inf_machine.specs.Machine.{taken}
+use Rattle.inf_machine.specs.Grammar.{Event, IsText, Leads, action, here, row, token}
 use Rattle.inf_machine.specs.declared.symbols.Symbol.{Symbol}
 use Rattle.inf_machine.specs.declared.symbols.Symbol.TheVariants.{Rule}
 use Rattle.inf_syntax.specs.declared.actions.Action.{Action}
-use Rattle.inf_grammar.specs.Language.{grammar, known}
+use Rattle.inf_grammar.specs.Language.{grammar}
 use Rattle.inf_grammar.specs.Routines.{closings}
 use Rattle.inf_unit.specs.Tokens.{SourceToken, is_end}
-use Rattle.inf_compilation.specs.Actions.{piece_begun as work_begun}
+use Rattle.inf_compilation.specs.Actions.{Compilation, piece_begun as work_begun}
+use Rattle.inf_compilation.specs.Context.{Context}
 use Rattle.inf_reader.specs.Reading.{between, piece_rule}
 use Rattle.inf_reader.specs.declared.recovery.Recovery.TheVariants as mode
 use Rattle.inf_session.specs.Choices.{Choices}
 use Rattle.inf_session.specs.Session.{State, context_of, stepped}
 use Rattle.inf_laws.specs.KeptTokens.{Kept, Unfit}
-use Rattle.inf_statement_laws.specs.Happenings.{Between}
+use Rattle.inf_statement_laws.specs.Happenings.{Acts, Between, Happening, Takes}
 use Rattle.inf_statement_laws.specs.Laid.{next_comes, passed, run}
-use Rattle.inf_statement_laws.specs.Readings.{Seen, behind_token}
+use Rattle.inf_statement_laws.specs.Readings.{Seen, all_taken, behind_ends, behind_token, plainly_at}
 use Rattle.inf_language.specs.Texts.{NoneClosesAhead, atoms_of, happenings_of}
 use Rattle.inf_turn_laws.specs.Pieces.{AreQuiet, Ends, Passes, Reads, Step, all_steps, grouped}
 use Rattle.inf_turn_laws.specs.Writing.{silent_turned}
@@ -31,34 +32,37 @@ AllKept (Reads (Unfit t) ∷ steps) = ⊥
 AllKept (Passes m ∷ steps) = AllKept steps
 AllKept (Ends m ∷ steps) = AllKept steps
 
--- A conditional directive behind which no statement is closed ahead has its effect behind the token.
-abbrev pub directive_by : ℕ → Option Between → Option Between
-directive_by zero d = None
-directive_by (suc count) d = d
-
-abbrev pub folded : List Seen → List (Symbol Action) → List Seen
-folded [] symbols = []
-folded (s ∷ seen) symbols =
-    let left = (taken grammar known s.atom symbols).left in
-    record {
-      token = s.token;
-      atom = s.atom;
-      behind = behind_token s.directive (closings left) s.behind;
-      directive = directive_by (closings left) s.directive;
-    } ∷ folded seen left
-
 -- the tokens of a piece that begins with a token, each with the effect behind it
 abbrev pub seen_in : SourceToken → List Step → List Seen
-seen_in t steps = folded (grouped (Reads (Kept t) ∷ steps)).seen (Rule piece_rule ∷ [])
+seen_in t steps = (grouped (Reads (Kept t) ∷ steps)).seen
 
--- Turns from where a piece begins, behind which nothing else happens up to the last, and whose kept tokens are the text of a piece with
--- some events, have the effect of these events, where no conditional directive closes statements ahead.
-abbrev pub PiecesDoTheirActions : Limits → Type 0
-PiecesDoTheirActions limits =
-    (sources : Sources) (o : Choices) (n : ℕ) (s : State) (m : Between) (t : SourceToken) (steps : List Step)
-    (events : List (Event Action))
-    → s.reading ≡ between mode.Reads → is_end t.kind ≡ false → AreQuiet limits sources o n s
-    → all_steps limits sources o n s ≡ Passes m ∷ Reads (Kept t) ∷ steps → AllKept steps
-    → IsText grammar (Rule piece_rule ∷ []) (atoms_of (seen_in t steps)) events → NoneClosesAhead (seen_in t steps)
-    → next_comes (stepped limits o (silent_turned limits sources o n s)).work
-    ≡ run limits (context_of o s) (happenings_of events (seen_in t steps)) (next_comes (work_begun (passed m s.work)))
+-- The happenings of a text and its tokens, by the derivation of the text: an action acts at the place of the next token, and each token is
+-- taken with the effect behind it. The symbols behind a token begin with the ends of the statements that are over, whatever the next token
+-- is. From where a conditional directive ends behind the token, its effect comes behind these ends, and behind the token where there are
+-- none. No action comes behind the last token.
+abbrev pub text_happenings : {symbols : List (Symbol Action)} {atoms : List ℕ} {events : List (Event Action)} {left : List (Symbol Action)}
+    → Leads grammar symbols atoms events left → List Seen → List Happening
+text_happenings here seen = []
+text_happenings (token is_in leads) [] = []
+text_happenings (token {symbols} is_in leads) (s ∷ seen) =
+    Takes s.token (behind_token s.directive (closings symbols) s.behind)
+    ∷ behind_ends s.directive (closings symbols) (text_happenings leads seen)
+text_happenings (action leads) [] = []
+text_happenings (action {a} leads) (s ∷ seen) = Acts (plainly_at s.token.place) a ∷ text_happenings leads (s ∷ seen)
+text_happenings (row is_row free leads) seen = text_happenings leads seen
+
+-- Tokens that are the text of a piece have the effect of the happenings of the text, wherever conditional directives end between them
+-- (`texts`); where none ends, these are the happenings of the text's events (`plain`). Turns from where a piece begins, behind which
+-- nothing else happens up to the last, and whose kept tokens are the text of a piece, have the effect of the text's happenings (`turns`).
+pub record PiecesDoTheirActions (limits : Limits) : Type 0 where
+  pub texts : (seen : List Seen) (events : List (Event Action)) (text : IsText grammar (Rule piece_rule ∷ []) (atoms_of seen) events)
+      (context : Context) (w : Compilation)
+      → next_comes (all_taken limits context seen (Rule piece_rule ∷ []) w) ≡ run limits context (text_happenings text seen) (next_comes w)
+  pub plain : (seen : List Seen) (events : List (Event Action)) (text : IsText grammar (Rule piece_rule ∷ []) (atoms_of seen) events)
+      → NoneClosesAhead seen → text_happenings text seen ≡ happenings_of events seen
+  pub turns : (sources : Sources) (o : Choices) (n : ℕ) (s : State) (m : Between) (t : SourceToken) (steps : List Step)
+      (events : List (Event Action)) (text : IsText grammar (Rule piece_rule ∷ []) (atoms_of (seen_in t steps)) events)
+      → s.reading ≡ between mode.Reads → is_end t.kind ≡ false → AreQuiet limits sources o n s
+      → all_steps limits sources o n s ≡ Passes m ∷ Reads (Kept t) ∷ steps → AllKept steps
+      → next_comes (stepped limits o (silent_turned limits sources o n s)).work
+      ≡ run limits (context_of o s) (text_happenings text (seen_in t steps)) (next_comes (work_begun (passed m s.work)))

@@ -2,6 +2,7 @@
 ghost use Rattle.inf_settings.specs.Bounds.{Limits};
 ghost use Rattle.inf_turn_laws.specs.Acted.{PiecesDoTheirActions};
 ghost use Rattle.inf_turn_laws.specs.Pieces.{TurnsTakeTokens};
+ghost use Rattle.inf_turn_laws.specs.Routines.{TurnsReadRoutinesWhole};
 ghost use Rattle.inf_turn_laws.specs.Writing.{LinesAreWrittenAtAnyTime};
 
 /// Shows that turns which write their messages lead to the same state as turns which write none, but that there all lines are still
@@ -18,7 +19,14 @@ pub fn turns_take_tokens()
 {}
 
 /// Shows that turns through a piece, whose kept tokens are a text of the grammar, have the effect of the text's actions, each at the
-/// place of the token that comes next, and of the tokens, which are taken in their order.
+/// place of the token that comes next, and of the tokens, which are taken in their order; and that conditional directives between them
+/// have their effect behind the ends of the statements that are over there, whatever the next token is.
 pub fn pieces_do_their_actions()
     ensures { (limits : Limits) → PiecesDoTheirActions limits }
+{}
+
+/// Shows that turns through a piece that begins with a bracket, whose kept tokens are a text of the grammar, lay a routine as a whole: its
+/// header, its statements as they are nested, and its end.
+pub fn turns_read_routines_whole()
+    ensures { (limits : Limits) → TurnsReadRoutinesWhole limits }
 {}

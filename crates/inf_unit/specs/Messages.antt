@@ -5,8 +5,14 @@ use Rattle.inf_assembler.specs.declared.routines.Limit.{Limit as CodeLimit}
 use Rattle.inf_assembler.specs.declared.routines.Limit.TheVariants as code_setting
 use Rattle.inf_settings.specs.declared.setting.Setting.{Setting}
 use Rattle.inf_settings.specs.declared.setting.Setting.TheVariants as setting
-use Rattle.inf_report.specs.Messages.{Location, Message, ErrorText, WarningText, Exceeded, FatalText, veneer_line}
+use Rattle.inf_expressions.specs.declared.findings.UnitError.{UnitError}
+use Rattle.inf_expressions.specs.declared.findings.UnitError.TheVariants as unit_error
+use Rattle.inf_report.specs.Messages.{Location, Message, ErrorText, WarningText, Exceeded, FatalText, Told, veneer_line}
+use Rattle.inf_report.specs.Messages.{ConstantOutOfRange, LabelTwice, MisplacedDefault, MisplacedSwitches, NotConstant, NothingToLeave}
+use Rattle.inf_report.specs.Messages.{NoZscii, NumberOutOfRange, SystemName, TooMany, TooManyArguments, UnknownEscape, UsedBefore}
+use Rattle.inf_report.specs.Messages.{WrongAbbreviation, WrongKind, WrongOpcode, WrongVerb}
 use Rattle.inf_report.specs.OwnWords.{Words}
+use Rattle.inf_report.specs.declared.messages.FixedLimit.TheVariants as countable
 use Rattle.inf_report.specs.declared.messages.Kind.{Kind}
 use Rattle.inf_report.specs.declared.messages.Kind.TheVariants as weight
 use Rattle.inf_report.specs.Reports.{Counts, no_counts, error_lines, warning_lines, fatal_lines, plain_lines, statistic_lines}
@@ -30,6 +36,28 @@ location files p =
 pub record Diagnostic : Type 0 where
   pub place : Place
   pub message : Message
+
+-- Message of an error at a token, as messages name it, with these bytes. A token does not show where a name was
+-- declared first, nor of what there are too many: these two errors are told where it is known. Here the name is one of the language, and
+-- there are too many values.
+unfoldable pub message_of : UnitError → Told → List ℕ → Message
+message_of unit_error.NumberOutOfRange t bytes = NumberOutOfRange
+message_of unit_error.UnknownEscape t bytes = UnknownEscape
+message_of unit_error.NoZscii t bytes = NoZscii
+message_of unit_error.Declared t bytes = SystemName bytes
+message_of unit_error.WrongKind t bytes = WrongKind t
+message_of unit_error.UsedBefore t bytes = UsedBefore bytes
+message_of unit_error.NotConstant t bytes = NotConstant
+message_of unit_error.ConstantOutOfRange t bytes = ConstantOutOfRange
+message_of unit_error.TooManyArguments t bytes = TooManyArguments
+message_of unit_error.WrongOpcode t bytes = WrongOpcode bytes
+message_of unit_error.LabelTwice t bytes = LabelTwice bytes
+message_of unit_error.NothingToLeave t bytes = NothingToLeave
+message_of unit_error.TooMany t bytes = TooMany countable.Values
+message_of unit_error.MisplacedSwitches t bytes = MisplacedSwitches
+message_of unit_error.WrongAbbreviation t bytes = WrongAbbreviation
+message_of unit_error.WrongVerb t bytes = WrongVerb t
+message_of unit_error.MisplacedDefault t bytes = MisplacedDefault
 
 -- Lines so far, and the counts of the messages in them.
 pub record Reported : Type 0 where

@@ -2,7 +2,7 @@
 //!
 //! Such a line passes that setting, if nothing is wrong with it. For a further token it matters only whether something is wrong
 //! with it, and whether it passes a setting that is told before that one: there are more names, or more words, than there may be.
-ghost use Rattle.std.specs.Prelude.{◌≡◌, ◌≤◌, IfOk, None, length};
+ghost use Rattle.std.specs.Prelude.{◌≡◌, ◌≤◌, IfOk, None, OnErr, length};
 ghost use Rattle.inf_unit.specs.LongLines.{name_added, no_tokens, word_added};
 
 use inf_names::hashing::NameHashing;
@@ -51,10 +51,11 @@ impl LongLine {
     }
 
     /// Adds `name`, which has at most 35 bytes, where a unit may have `most` names. Returns true if it is new and at most `most` names came
-    /// before.
+    /// before. Where memory runs out the line stays as it was.
     pub fn add_name(&mut self, name: &[u8], most: u32) -> Result<bool, AllocError>
         requires { length name.now ≤ 35 }
-        ensures { IfOk result (λ is_new. (self.new, is_new) ≡ name_added name.now most self.old) }
+        ensures added { IfOk result (λ is_new. (self.new, is_new) ≡ name_added name.now most self.old) }
+        ensures err { OnErr result (self.new ≡ self.old) }
     {
         let count = self.names.len();
         if count > most as usize {
@@ -66,9 +67,11 @@ impl LongLine {
         }
     }
 
-    /// Adds the word `text`, where a unit may have `most` words. Returns true if it is new and at most `most` words came before.
+    /// Adds the word `text`, where a unit may have `most` words. Returns true if it is new and at most `most` words came before. Where
+    /// memory runs out the line stays as it was.
     pub fn add_word(&mut self, text: [u8; 6], most: u32) -> Result<bool, AllocError>
-        ensures { IfOk result (λ is_new. (self.new, is_new) ≡ word_added text most self.old) }
+        ensures added { IfOk result (λ is_new. (self.new, is_new) ≡ word_added text most self.old) }
+        ensures err { OnErr result (self.new ≡ self.old) }
     {
         if self.words.len() > most as usize || self.words.contains_key(&text) {
             return Ok(false);

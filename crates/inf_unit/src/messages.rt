@@ -1,16 +1,19 @@
 //! Messages of a compilation so far, and their places.
 ghost use Rattle.std.specs.Prelude.{◌≡◌, IsOk, OnErr, OnOk, option_map};
-ghost use Rattle.inf_report.specs.Meant.{located, meant, worded};
+ghost use Rattle.inf_report.specs.Meant.{located, meant, named, worded};
+ghost use Rattle.inf_report.specs.Messages.{number_of};
 ghost use Rattle.inf_report.specs.Writing.{Writes};
+ghost use Rattle.inf_expressions.specs.Findings.{error_number};
 ghost use Rattle.inf_unit.specs.Diagnostics.{blamed};
-ghost use Rattle.inf_unit.specs.Messages.{flushed, location, none_reported, setting_of, with_closing, with_error, with_fatal, with_fault};
-ghost use Rattle.inf_unit.specs.Messages.{warnings_chosen, with_full, with_plain, with_statistic, with_warning, with_words};
+ghost use Rattle.inf_unit.specs.Messages.{flushed, location, message_of, none_reported, setting_of, with_closing, with_error, with_fatal};
+ghost use Rattle.inf_unit.specs.Messages.{warnings_chosen, with_fault, with_full, with_plain, with_statistic, with_warning, with_words};
 
 use inf_assembler::Limit as CodeLimit;
 use inf_devices::memory_sink::MemorySink;
 use inf_devices::sinks::{Sink, write_whole};
+use inf_expressions::UnitError;
 use inf_lexer::{Place, Stack};
-use inf_report::messages::{Kind, Location, Message};
+use inf_report::messages::{FixedLimit, Kind, Location, Message, Told};
 use inf_report::own_words::OwnWords;
 use inf_report::report::{Report, ReportFault};
 use inf_settings::setting::Setting;
@@ -41,6 +44,36 @@ pub fn location(files: &Stack, place: Place) -> Location<'_>
     Location {
         file,
         line: place.line,
+    }
+}
+
+/// Returns the message of `error` at a token, which messages name as `token` and which has these bytes.
+///
+/// A token does not show where a name was declared first, nor of what there are too many: these two errors are told where it is known. Here
+/// the name is one of the language, and there are too many values.
+#[tactic(auto, unfolding(crate::specs::Messages::message_of, inf_expressions::specs::Findings::error_number))]
+pub fn message_of<'t>(error: UnitError, token: Told<'t>, bytes: &'t [u8]) -> Message<'t>
+    ensures message { meant result ≡ message_of error (named token.entry) bytes.now }
+    ensures number { number_of (meant result) ≡ error_number error }
+{
+    match error {
+        UnitError::NumberOutOfRange => Message::NumberOutOfRange,
+        UnitError::UnknownEscape => Message::UnknownEscape,
+        UnitError::NoZscii => Message::NoZscii,
+        UnitError::Declared => Message::SystemName(bytes),
+        UnitError::WrongKind => Message::WrongKind(token),
+        UnitError::UsedBefore => Message::UsedBefore(bytes),
+        UnitError::NotConstant => Message::NotConstant,
+        UnitError::ConstantOutOfRange => Message::ConstantOutOfRange,
+        UnitError::TooManyArguments => Message::TooManyArguments,
+        UnitError::WrongOpcode => Message::WrongOpcode(bytes),
+        UnitError::LabelTwice => Message::LabelTwice(bytes),
+        UnitError::NothingToLeave => Message::NothingToLeave,
+        UnitError::TooMany => Message::TooMany(FixedLimit::Values),
+        UnitError::MisplacedSwitches => Message::MisplacedSwitches,
+        UnitError::WrongAbbreviation => Message::WrongAbbreviation,
+        UnitError::WrongVerb => Message::WrongVerb(token),
+        UnitError::MisplacedDefault => Message::MisplacedDefault,
     }
 }
 

@@ -1,5 +1,5 @@
 //! The tokens of a unit.
-ghost use Rattle.std.specs.Prelude.{◌≡◌, ◌≤◌, [], ◌∷◌, ◌++◌, drop, IfOk, IfSome, OnOk, length, map, option_map, slice_get, take};
+ghost use Rattle.std.specs.Prelude.{◌≡◌, ◌≤◌, [], ◌∷◌, ◌++◌, drop, IfOk, IfSome, OnErr, OnOk, length, map, option_map, slice_get, take};
 ghost use Rattle.inf_names.specs.Spellings.{as_name};
 ghost use Rattle.inf_unit.specs.Kept.{as_spelled};
 ghost use Rattle.inf_unit.specs.NameTokens.{named};
@@ -107,10 +107,11 @@ impl UnitTokens {
         self.kept.len()
     }
 
-    /// Adds `token` behind the others.
+    /// Adds `token` behind the others, which stay as they were where memory runs out.
     #[inline(always)]
     pub fn add(&mut self, token: &SourceToken<'_>) -> Result<(), AllocError>
-        ensures { OnOk result (self.new ≡ self.old ++ spelled token.now ∷ []) }
+        ensures added { OnOk result (self.new ≡ self.old ++ spelled token.now ∷ []) }
+        ensures err { OnErr result (self.new ≡ self.old) }
     {
         self.kept.push(Kept::new(self.alloc, token)?)?;
         Ok(())

@@ -9,6 +9,7 @@ use Rattle.inf_dictionary.specs.Words.{first_misfit, verb_of}
 use Rattle.inf_dictionary.specs.declared.uses.WordUse.{WordUse}
 use Rattle.inf_dictionary.specs.declared.uses.WordUse.TheVariants as word_use
 use Rattle.inf_expressions.specs.declared.findings.Finding.{Finding}
+use Rattle.inf_expressions.specs.declared.findings.UnitError.TheVariants as unit_error
 use Rattle.inf_expressions.specs.Findings.{least_of_both, wrong_kind}
 use Rattle.inf_names.specs.Symbols.{Table, found_in}
 use Rattle.inf_names.specs.declared.meanings.Meaning.{Meaning}
@@ -83,7 +84,7 @@ verb_ended limits context first found w = unit_ended limits context first false 
 
 -- the finding that the word at a place should, or should not, be one of a verb
 abbrev pub wrong_verb : ℕ → Finding
-wrong_verb at = record { order = order at; number = 22 }
+wrong_verb at = record { order = order at; error = unit_error.WrongVerb }
 
 -- The header of `Verb`: behind its word `meta` may come, then there are words, and at its end `=` and a word may come, whose verb gets
 -- more words.

@@ -15,10 +15,8 @@ ghost use Rattle.inf_compilation.specs.Works.{work};
 
 use inf_compilation::compilation::{Compilation, Extending};
 use inf_compilation::context::Context;
-use inf_compilation::findings::{
-    Again, Findings, TOO_MANY, WRONG_VERB, again_by, again_finding, many_finding,
-};
-use inf_expressions::{Finding, least_of_both};
+use inf_compilation::findings::{Again, Findings, again_by, again_finding, many_finding};
+use inf_expressions::{Finding, UnitError, least_of_both};
 use inf_lexer::Place;
 use inf_names::spellings::Name;
 use inf_output::Output;
@@ -116,7 +114,7 @@ fn wrong_verb(at: usize) -> Finding
 {
     Finding {
         order: order(at),
-        number: WRONG_VERB,
+        error: UnitError::WrongVerb,
     }
 }
 

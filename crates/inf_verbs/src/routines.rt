@@ -1,10 +1,12 @@
 //! Routines that a grammar names, by number.
-ghost use Rattle.std.specs.Prelude.{◌≡◌, ◌<◌, ◌≤◌, ◌+◌, ◌++◌, ◌%◌, [], None, OnOk, OnErr, IfOk, IfErr, MatchResult, length, unwrap_or};
+ghost use Rattle.std.specs.Prelude.{◌≡◌, ◌<◌, ◌≤◌, ◌+◌, ◌++◌, ◌%◌, [], false, None, OnOk, OnErr, IfOk, IfErr, MatchResult};
+ghost use Rattle.std.specs.Prelude.{length, unwrap_or};
 ghost use Rattle.inf_area.specs.Fixups.{with_fixups};
 ghost use Rattle.inf_area.specs.declared.targets.AreaName.TheVariants as area_name;
 ghost use Rattle.inf_area.specs.Cells.{bytes_of, fixups_of};
 ghost use Rattle.inf_area.specs.declared.cells.WriteFault.TheVariants as write_fault;
-ghost use Rattle.inf_verbs.specs.Routines.{action_fault, number_in, number_of, routines_cells, with_action, with_fake, with_routine};
+ghost use Rattle.inf_verbs.specs.Routines.{action_fault, is_among, number_in, number_of, routines_cells, with_action, with_fake};
+ghost use Rattle.inf_verbs.specs.Routines.{with_routine};
 ghost use Rattle.inf_verbs.specs.declared.routines.ActionFault.TheVariants.{Memory};
 ghost use Rattle.inf_settings.specs.declared.setting.Setting.TheVariants as setting;
 
@@ -102,6 +104,7 @@ impl<B: Bounds> Actions<B> {
         ensures err { OnErr result (self.new ≡ self.old) }
         ensures fault { let fault = action_fault B.most routine self.old in
             MatchResult result (λ _. fault ≡ None) (λ refused. refused ≡ unwrap_or fault Memory) }
+        ensures memory { IfErr result (λ refused. refused ≡ Memory → is_among routine self.old.routines ≡ false) }
     {
         if !self.routines.contains(&routine) && self.routines.len() >= self.limit {
             return Err(ActionFault::Full);
@@ -177,14 +180,15 @@ impl ParsingRoutines {
     }
 
     /// Adds a routine where it is new, and returns its number, modulo 65536, which counts the routines named before it.
-    /// Where no memory is left, returns an error, and all routines stay as they were.
+    /// Where it is new and no memory is left, returns an error, and all routines stay as they were.
     pub fn add(&mut self, routine: usize) -> Result<u16, AllocError>
         ensures ok { OnOk result (self.new ≡ with_routine routine self.old) }
         ensures number { IfOk result (λ number. number ≡ number_of routine self.old) }
         ensures err { OnErr result (self.new ≡ self.old) }
+        ensures memory { OnErr result (is_among routine self.old ≡ false) }
     {
-        let (place, _) = self.routines.insert_full(routine)?;
-        Ok((place % 65536) as u16)
+        let (before, _) = self.routines.insert_full(routine)?;
+        Ok((before % 65536) as u16)
     }
 
     /// Appends a place for the packed address of each routine to the area of parsing routines, and their fixups to

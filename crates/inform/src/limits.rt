@@ -144,13 +144,17 @@ impl<S: Sink> Sink for Limited<S> {
             return Err(SinkFault::Device);
         }
         match self.sink.write(bytes) {
-            Ok(count) if count > 0 => {
+            Ok(0) => {
+                self.failures.add();
+                Ok(0)
+            }
+            Ok(count) => {
                 self.room = self.room.saturating_sub(count as u64);
                 Ok(count)
             }
-            answer => {
+            Err(fault) => {
                 self.failures.add();
-                answer
+                Err(fault)
             }
         }
     }

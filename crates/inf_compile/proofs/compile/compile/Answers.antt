@@ -11,7 +11,7 @@ use Rattle.inf_session.specs.Faults.{IfRead, IfStory}
 use Rattle.inf_session.specs.declared.compiled.Status.TheVariants as status
 use Rattle.inf_compile.specs.Compiling.{Compiles, DeliversPart, HasCause, chosen_by, named_by}
 use Rattle.inf_compile.proofs.Delivering.{all_named, more_caused, none_clean, none_read, none_told, refused_begins, refused_compiles}
-use Rattle.inf_compile.proofs.Delivering.{refused_opens, untouched_always}
+use Rattle.inf_compile.proofs.Delivering.{refused_opens, unfailed_always}
 use Rattle.inf_compile.proofs.compile.compile.Goals as goal
 
 pub returns-then-names_nothing-clause-headline : goal.returns-then-names_nothing-clause-headline
@@ -68,7 +68,7 @@ returns-then-names_nothing-clause-part g c =
 
 pub returns-then-names_nothing-clause-untouched : goal.returns-then-names_nothing-clause-untouched
 returns-then-names_nothing-clause-untouched g c =
-    IfErr-weaker c.refuse.result _ _ (λ fault cause. untouched_always fault _) c.refuse.ensures.fault
+    IfErr-weaker c.refuse.result _ _ (λ fault cause. unfailed_always fault _ _) c.refuse.ensures.fault
 
 pub returns-clause-headline : goal.returns-clause-headline
 returns-clause-headline g c = λ honest.

@@ -1,8 +1,10 @@
-use Rattle.std.proofs.Common.{ℕ, List, ap, ◌∙◌}
+use Rattle.std.proofs.Common.{rules, ◌≡◌, ℕ, List, IfErr, refl, ap, ◌∙◌}
 use Rattle.inf_opcode.proofs.Growing.{on_err}
 use Rattle.inf_compile.specs.Chosen.{chosen_for}
 use Rattle.inf_compile.specs.Compiling.{chosen_by}
 use Rattle.inf_compile.proofs.Delivering.{begins_whole, clean_where_delivered, opened_whole}
+use Rattle.inf_session.specs.Faults.{UnlessMessages}
+use Rattle.inf_session.proofs.Quiet.{hides_always, hides_behind, hides_none}
 use Rattle.inf_compile.proofs.compile.compile_named.Goals as goal
 
 pub returns-clause-begins : goal.returns-clause-begins
@@ -36,3 +38,19 @@ returns-clause-clean g c =
     clean_where_delivered _ c.deliver.result c.in_ok-compiled.compiled (g.M.Sink.taken c.args.messages.now)
     (g.M.Sink.taken c.translate.new.messages) (g.S.Sink.taken c.args.story.now) (g.S.Sink.taken c.deliver.new.story)
     c.deliver.ensures.status c.deliver.ensures.story c.in_ok-compiled.ensures.errors c.in_ok-compiled.ensures.clean
+
+pub returns-in_err-name-clause-quiet : goal.returns-in_err-name-clause-quiet
+returns-in_err-name-clause-quiet g c = hides_none c.from_residual.result (g.M.Sink.failures c.args.messages.now)
+
+pub returns-in_err-compiled-clause-quiet : goal.returns-in_err-compiled-clause-quiet
+returns-in_err-compiled-clause-quiet g c =
+    let first = g.M.Sink.failures c.args.messages.now in
+    let now = g.M.Sink.failures c.translate.new.messages in
+    let told : IfErr c.translate.result (λ fault. UnlessMessages fault (now ≡ first)) = c.translate.ensures.quiet.1 in
+    let passed : IfErr c.from_residual-in_err-compiled.result (λ fault. UnlessMessages fault (now ≡ first)) = search rules in
+    hides_behind c.from_residual-in_err-compiled.result first first now c.from_residual-in_err-compiled.ensures.0 refl passed
+
+pub returns-clause-quiet : goal.returns-clause-quiet
+returns-clause-quiet g c =
+    hides_always c.deliver.result (g.M.Sink.failures c.args.messages.now) (g.M.Sink.failures c.translate.new.messages)
+    c.in_ok-compiled.ensures.quiet.0

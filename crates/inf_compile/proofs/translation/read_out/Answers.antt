@@ -11,6 +11,7 @@ use Rattle.inf_compile.proofs.Concluding.{breaks_off_at, concludes, ends_at, if_
 use Rattle.inf_compile.proofs.Concluding.{stops_reading}
 use Rattle.inf_session.proofs.Delivering.{ends_behind, if_ok_more}
 use Rattle.inf_session.proofs.Leadings.{opened_behind}
+use Rattle.inf_session.proofs.Quiet.{hides_then}
 use Rattle.inf_compile.proofs.translation.read_out.Goals as goal
 
 pub returns-in-Ok-clause-concludes : goal.returns-in-Ok-clause-concludes
@@ -103,4 +104,10 @@ returns-in-Ok-clause-clean g c =
     let new = c.supply_out.new.messages in
     if_ok_more c.supply_out.result.1 (λ x. x.status ≡ status.Success → EndsClean (m.taken mid) (m.taken new))
     (λ x. x.status ≡ status.Success → EndsClean (m.taken old) (m.taken new))
-    (λ x p is. ends_behind m old mid new c.read.ensures.wrote (p is)) c.supply_out.ensures.clean
+    (λ x p is. ends_behind m old mid new c.read.ensures.wrote.0 (p is)) c.supply_out.ensures.clean
+
+pub returns-in-Ok-clause-quiet : goal.returns-in-Ok-clause-quiet
+returns-in-Ok-clause-quiet g c =
+    let m = g.M.Sink in
+    hides_then c.supply_out.result.1 (m.failures c.args.messages.now) (m.failures c.read.new.messages)
+    (m.failures c.supply_out.new.messages) c.in-Ok.ensures.wrote.1.0 c.supply_out.ensures.quiet

@@ -7,6 +7,7 @@ use Rattle.inf_session.specs.declared.compiled.Status.TheVariants as status
 use Rattle.inf_session.proofs.Delivering.{ends_behind, if_ok_more}
 use Rattle.inf_compile.specs.Comes.{BreaksOffAll, EndsAll}
 use Rattle.inf_compile.proofs.Concluding.{breaks_off_all, breaks_off_part, ends_all, on_err_leads}
+use Rattle.inf_session.proofs.Quiet.{hides_then}
 use Rattle.inf_compile.proofs.translation.supply_out.Goals as goal
 
 pub returns-in-Ok-clause-ok : goal.returns-in-Ok-clause-ok
@@ -46,4 +47,10 @@ returns-in-Ok-clause-clean g c =
     let new = c.finish.new.messages in
     if_ok_more c.finish.result.1 (λ x. x.status ≡ status.Success → EndsClean (m.taken mid) (m.taken new))
     (λ x. x.status ≡ status.Success → EndsClean (m.taken old) (m.taken new))
-    (λ x p is. ends_behind m old mid new c.supply_all.ensures.wrote (p is)) c.finish.ensures.clean
+    (λ x p is. ends_behind m old mid new c.supply_all.ensures.wrote.0 (p is)) c.finish.ensures.clean
+
+pub returns-in-Ok-clause-quiet : goal.returns-in-Ok-clause-quiet
+returns-in-Ok-clause-quiet g c =
+    let m = g.M.Sink in
+    hides_then c.finish.result.1 (m.failures c.args.messages.now) (m.failures c.supply_all.new.messages) (m.failures c.finish.new.messages)
+    c.in-Ok.ensures.wrote.1.0 c.finish.ensures.wrote.1

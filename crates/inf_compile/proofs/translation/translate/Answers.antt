@@ -1,4 +1,5 @@
-use Rattle.std.proofs.Common.{rules, ◌≡◌, ◌+◌, ◌≤◌, ℕ, List, [], Err, inr, IsTrue, IfErr, IfOk, length, min, refl, ap, subst, sym, ◌∙◌}
+use Rattle.std.proofs.Common.{rules, ◌≡◌, ◌+◌, ◌≤◌, ℕ, List, [], Result, Err, inr, IsTrue, IfErr, IfOk, length, min, refl, ap, subst, sym}
+use Rattle.std.proofs.Common.{◌∙◌}
 use Rattle.std.proofs.lemmas.Result.{on_err_weaker}
 use Rattle.inf_devices.specs.Files.{Rose, Sources, last_count}
 use Rattle.inf_lexer.proofs.Candidates.{rose_earlier}
@@ -17,6 +18,8 @@ use Rattle.inf_compile.specs.Chosen.{begun_at, chosen_at, chosen_for}
 use Rattle.inf_compile.specs.Comes.{Begins, Comes, Concludes, GivenUpFrom, Heard, IsUnread, Stops}
 use Rattle.inf_compile.proofs.Concluding.{begins_missing, begins_none, begins_of, comes_of, if_ok_both, on_err_leads}
 use Rattle.inf_compile.proofs.GivingUp.{given_up_from_between, heard_from, heard_none, none_given, opened_some, unread_by}
+use Rattle.inf_session.specs.declared.faults.Fault.{Fault}
+use Rattle.inf_session.proofs.Quiet.{hides_none}
 use Rattle.inf_compile.proofs.translation.translate.Goals as goal
 
 pub returns-clause-comes : goal.returns-clause-comes
@@ -212,3 +215,14 @@ returns-in-Err-BadName-clause-heard g c = λ honest.
     read_caused c.unread.result (λ told. told ≡ name) (λ told. Heard failed s o name old new taken taken told) ⊥
     (λ told is. heard_none failed s o name old new taken taken told rose (c.in-Err-BadName.ensures.unopened honest) refl is)
     c.unread.ensures
+
+pub returns-clause-quiet : goal.returns-clause-quiet
+returns-clause-quiet g c = c.translate_opened-open_files.ensures.quiet
+
+pub returns-in-Err-BadName-clause-quiet : goal.returns-in-Err-BadName-clause-quiet
+returns-in-Err-BadName-clause-quiet g c =
+    let answer : Result ℕ Fault = Err c.unread.result in
+    hides_none answer (g.M.Sink.failures c.args.messages.now)
+
+pub returns-in_err-no_file-in-Err-Absent-clause-quiet : goal.returns-in_err-no_file-in-Err-Absent-clause-quiet
+returns-in_err-no_file-in-Err-Absent-clause-quiet g c = hides_none c.from_residual.result (g.M.Sink.failures c.args.messages.now)

@@ -1,4 +1,4 @@
-use Rattle.std.proofs.Common.{◌≡◌, [], ℕ, zero, inl, inr, IfErr, IfOk, IsTrue, map, refl, ap, subst, sym, ◌∙◌}
+use Rattle.std.proofs.Common.{◌≡◌, [], ℕ, zero, Result, Err, inl, inr, IfErr, IfOk, IsTrue, map, refl, ap, subst, sym, ◌∙◌}
 use Rattle.std.proofs.lemmas.Result.{on_err_weaker}
 use Rattle.inf_devices.specs.Files.{Rose, Sources}
 use Rattle.inf_lexer.proofs.Candidates.{rose_earlier}
@@ -21,6 +21,8 @@ use Rattle.inf_compile.specs.Comes.{Concludes, GivenUpFrom, Stops}
 use Rattle.inf_compile.proofs.Concluding.{stops_none}
 use Rattle.inf_compile.proofs.GivingUp.{given_up_between}
 use Rattle.inf_compile.proofs.Heading.{chosen_is, chosen_over_is, given_up_there, made, read_as_is, unread_there, went_chosen}
+use Rattle.inf_session.specs.declared.faults.Fault.{Fault}
+use Rattle.inf_session.proofs.Quiet.{hides_none}
 use Rattle.inf_compile.proofs.translation.translate_opened.Goals as goal
 
 pub returns-clause-concludes : goal.returns-clause-concludes
@@ -270,3 +272,8 @@ pub returns-in_default-clause-went : goal.returns-in_default-clause-went
 returns-in_default-clause-went g c =
     went_chosen g.F.Files c.args.files.now c.read_head.new.files c.args.open_files c.read_head.new.open_files c.choose.new.self c.set.result
     c.of.result c.choose.ensures.value c.choose.ensures.given c.choose.ensures.nested c.choose.ensures.given_all c.read_head.ensures.went
+
+pub returns-in-Err-clause-quiet : goal.returns-in-Err-clause-quiet
+returns-in-Err-clause-quiet g c =
+    let answer : Result ℕ Fault = Err c.unread-fault.result in
+    hides_none answer (g.M.Sink.failures c.args.messages.now)

@@ -1,4 +1,4 @@
-use Rattle.std.proofs.Common.{length-drop, arith}
+use Rattle.std.proofs.Common.{length-drop, ◌∙◌, arith}
 use Rattle.inf_devices.proofs.TakenBytes.{Takes-more, take-drop_all}
 use Rattle.inf_devices.proofs.sinks.write_whole.Goals as goal
 
@@ -10,5 +10,5 @@ loop-done-preserved g c =
       Takes-more (g.S.Sink.taken c.args.sink.now) (g.S.Sink.taken c.loop-done.sink) (g.S.Sink.taken c.write.new.self) c.args.bytes.now
           c.loop-done.done c.in-Ok.count
           c.loop-done.invariant.1 (rw all at c.in-Ok.ensures.writes),
-      omega (arith, c.loop-done.invariant.2, c.write.ensures.failures),
+      c.in-Ok.ensures.quiet (omega arith) ∙ c.loop-done.invariant.2,
     )

@@ -64,7 +64,7 @@ windows-preserved g c =
       given = omega (arith, c.pass.ensures.given, inv.more, filled.more, inv.given, filled.given);
       depth = filled.depth ∙ inv.depth;
       opened = filled.opened ∙ inv.opened;
-      faults = omega (arith, filled.faults, inv.faults);
+      faults = omega (arith, filled.faults.0, inv.faults);
       sources = filled.sources ∙ inv.sources;
       honesty = filled.honesty ∙ inv.honesty;
     }

@@ -14,5 +14,6 @@ write-tells g c = record {
   count = c.ensures.count;
   failed = c.ensures.failed;
   nothing = c.ensures.nothing;
-  failures = c.ensures.failures;
+  quiet = c.ensures.failures.1;
+  failures = c.ensures.failures.0;
 }

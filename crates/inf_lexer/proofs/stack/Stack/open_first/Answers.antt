@@ -49,7 +49,7 @@ returns-then-not-is_absent-clause-cause g c = λ device.
     elim told as (λ _. Rose faults new ⊎ WasTooMany (files.sources start) (files.is_honest start) c.args.self.now.names names
     (files.openings start) after
     (files.opened start) (files.opened c.open_named-answer.new.files)) [
-      | inl rose ↦ inl (rose_earlier faults (files.faults c.loop-directory.files) new inv.faults rose)
+      | inl rose ↦ inl (rose_earlier faults (files.faults c.loop-directory.files) new (omega (arith, inv.faults)) rose)
       | inr many ↦ inr (record {
         is_named = too_many_in c.args.self.now.names names c.loop-directory.directory-index name here
             (ap (λ (n : Nest). has_one_too_many n.names (name ∷ [])) (sym inv.same) ∙ many.is_named);

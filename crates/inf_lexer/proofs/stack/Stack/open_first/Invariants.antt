@@ -16,7 +16,7 @@ invariant-loop-directory g l =
           ≡ first_there (files.sources l.fn.files) (map (λ d. name_in d.now l.file) l.directories);
       depth : files.depth l.files ≡ files.depth l.fn.files;
       opened : min (files.opened l.fn.files) last_count ≤ files.opened l.files;
-      faults : files.faults l.fn.files ≤ files.faults l.files;
+      faults : files.faults l.files ≡ files.faults l.fn.files;
       given : files.given l.files ≡ files.given l.fn.files;
       sources : files.sources l.files ≡ files.sources l.fn.files;
       honesty : files.is_honest l.files ≡ files.is_honest l.fn.files;

@@ -1,13 +1,17 @@
 -- A name is declared in its place or behind the others, and one more name is declared then.
-use Rattle.std.proofs.Common.{◌≡◌, ◌+◌, cond, List, sym, ◌∙◌, ap, arith, false, length, map, None}
+use Rattle.std.proofs.Common.{◌≡◌, ◌+◌, cond, List, sym, ◌∙◌, ap, arith, false, length, map, None, Some}
 use Rattle.std.proofs.lemmas.List.{length-map}
-use Rattle.std.specs.Prelude.{is_some, nat_le}
+use Rattle.std.proofs.lemmas.Result.{MatchResult-from_err}
+use Rattle.std.specs.Prelude.{⊤, is_some, nat_le}
 use Rattle.inf_names.specs.Entries.{as_named}
 use Rattle.inf_names.specs.SystemNames.{system_meaning}
 use Rattle.inf_settings.specs.declared.setting.Setting.TheVariants as setting
-use Rattle.inf_names.specs.Symbols.{Named, IsDeclared, declarations, declare_fault, folded, put, standing_of, with_declared}
+use Rattle.inf_names.specs.Symbols.{Named, IsDeclared, Table, declarations, declare_fault, folded, found_in, is_full, put, standing_of}
+use Rattle.inf_names.specs.Symbols.{with_declared}
+use Rattle.inf_names.specs.declared.symbols.DeclareFault.TheVariants as declaring
+use Rattle.inf_names.specs.declared.symbols.Found.TheVariants as found
 use Rattle.inf_names.proofs.Putting.{declarations-declared, declarations-few, fits_behind, length-put, open_where_fit, put-insert}
-use Rattle.inf_names.proofs.Putting.{room_where_fit}
+use Rattle.inf_names.proofs.Putting.{absent_key, never_lacks, room_where_fit, unknown_where_fit}
 use Rattle.inf_names.proofs.symbols.Symbols.declare.Goals as goal
 
 pub overflow_add-self : goal.overflow_add-self
@@ -69,3 +73,23 @@ returns-clause-ok g c =
           inside.is_debugging;
     }) is
     ∙ ap (with_declared c.args.name.now c.args.place c.args.meaning) c.self.view_is
+
+pub returns-in-Some-clause-memory : goal.returns-in-Some-clause-memory
+returns-in-Some-clause-memory g c = λ memory.
+    let t = c.args.self.now in
+    absurd (never_lacks (found_in c.args.name.now t) (is_full g.B.Bounds.most t) (ap Some (sym memory) ∙ c.in-Some.ensures))
+
+pub returns-in_err-insert-clause-memory : goal.returns-in_err-insert-clause-memory
+returns-in_err-insert-clause-memory g c =
+    let t = c.args.self.now in
+    let key = folded c.args.name.now in
+    let gone : is_some (standing_of c.of.result.items (map as_named c.self.inside.entries.entries)) ≡ false =
+    absent_key c.of.result.items c.self.inside.entries.entries c.in_err-insert.ensures.absent in
+    let absent : is_some (standing_of key t.names) ≡ false =
+    ap (λ (t : Table _). is_some (standing_of key t.names)) (sym c.self.view_is)
+    ∙ ap (λ k. is_some (standing_of k (map as_named c.self.inside.entries.entries))) (sym c.of.ensures) ∙ gone in
+    let unknown : found_in c.args.name.now t ≡ found.Unknown =
+    unknown_where_fit (system_meaning t.is_debugging c.args.name.now) (standing_of key t.names) (is_full g.B.Bounds.most t)
+    (sym c.in_default.ensures) absent in
+    MatchResult-from_err c.from_residual.result (λ _. ⊤) (λ f. f ≡ declaring.Memory → found_in c.args.name.now t ≡ found.Unknown)
+    c.from_residual.ensures.0 (λ f memory. unknown)

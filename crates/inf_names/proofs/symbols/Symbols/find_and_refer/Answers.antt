@@ -1,13 +1,17 @@
 -- A new name is used behind the others.
 use Rattle.std.proofs.Common.{◌≡◌, ◌+◌, cond, List, sym, ◌∙◌, ap, false, length, map, Some}
 use Rattle.std.proofs.lemmas.List.{length-map}
-use Rattle.std.specs.Prelude.{is_some, nat_le}
+use Rattle.std.proofs.lemmas.Result.{MatchResult-from_err}
+use Rattle.std.specs.Prelude.{⊤, is_some, nat_le}
 use Rattle.inf_names.specs.Entries.{as_named}
 use Rattle.inf_names.specs.SystemNames.{system_meaning}
-use Rattle.inf_names.specs.Symbols.{Named, Table, IsUsed, declarations, folded, is_full, number_among, number_of, put, standing_of}
+use Rattle.inf_names.specs.Symbols.{Named, Table, IsUsed, declarations, folded, found_in, is_full, number_among, number_of, put}
+use Rattle.inf_names.specs.Symbols.{standing_of}
 use Rattle.inf_names.specs.Symbols.{with_used}
+use Rattle.inf_names.specs.declared.symbols.Found.TheVariants as found
+use Rattle.inf_names.specs.declared.symbols.ReferFault.TheVariants as referring
 use Rattle.inf_names.proofs.Putting.{declarations-used, fits_behind, found_at_number, index_of-absent, length-put, new_number, new_used}
-use Rattle.inf_names.proofs.Putting.{not_numbered, put-insert}
+use Rattle.inf_names.proofs.Putting.{not_numbered, put-insert, unknown_where}
 use Rattle.inf_names.proofs.symbols.Symbols.find_and_refer.Goals as goal
 
 pub invariant_of-self-2 : goal.invariant_of-self-2
@@ -61,6 +65,20 @@ returns-clause-ok g c =
     }) is
     ∙ sym (new_used c.args.name.now c.args.place t system (standing_of key names) free absent)
     ∙ ap (with_used c.args.name.now c.args.place) c.self.view_is
+
+pub returns-in_err-insert-clause-memory : goal.returns-in_err-insert-clause-memory
+returns-in_err-insert-clause-memory g c =
+    let t = c.args.self.now in
+    let key = folded c.args.name.now in
+    let absent : is_some (standing_of key t.names) ≡ false =
+    not_numbered key t.names (c.in_default.ensures ∙ ap (λ k. number_among k t.names) c.of-key.ensures) in
+    let free : is_some (system_meaning t.is_debugging c.args.name.now) ≡ false =
+    ap (λ (t : Table _). is_some (system_meaning t.is_debugging c.args.name.now)) (sym c.self.view_is)
+    ∙ ap is_some (sym c.in_default-system_meaning.ensures) in
+    let unknown : found_in c.args.name.now t ≡ found.Unknown =
+    unknown_where (system_meaning t.is_debugging c.args.name.now) (standing_of key t.names) free absent in
+    MatchResult-from_err c.from_residual.result (λ _. ⊤) (λ f. f ≡ referring.Memory → found_in c.args.name.now t ≡ found.Unknown)
+    c.from_residual.ensures.0 (λ f memory. unknown)
 
 pub returns-clause-number : goal.returns-clause-number
 returns-clause-number g c =

@@ -15,7 +15,7 @@ returns-in-Err-Device-clause-fault g c =
     let before = c.args.self.now.open_files in
     let unreadable = IsUnreadable files c.args.files.now c.include.new.files before c.include.new.self in
     let cause : unreadable =
-    elim (c.in-Err-Device.ensures.cause (ap (λ f. Err f) c.in-Err-Device.field-0-is)) [
+    elim (c.in-Err-Device.ensures.cause.0 (ap (λ f. Err f) c.in-Err-Device.field-0-is)) [
       | inl rose ↦ inl rose
       | inr many ↦ inr (inr many.0)
     ] in
@@ -33,7 +33,7 @@ returns-in-Err-Device-clause-stops g c = λ honest start nested.
     let failed = Rose (files.faults c.args.files.now) (files.faults c.include.new.files) in
     let device = ap (λ f. Err f) c.in-Err-Device.field-0-is in
     let cause : failed ⊎ OpensTooMany (inclusion s directories text was) was opened =
-    elim (c.in-Err-Device.ensures.cause device) [
+    elim (c.in-Err-Device.ensures.cause.0 device) [
       | inl rose ↦ inl rose
       | inr many ↦ inr (many.1 honest start nested)
     ] in

@@ -1,4 +1,4 @@
-use Rattle.std.proofs.Common.{rules, ℕ, List, ◌+◌, IfErr, IsTrue, ap, refl, sym, subst, ◌∙◌}
+use Rattle.std.proofs.Common.{rules, ◌≡◌, ℕ, List, ◌+◌, IfErr, IsTrue, ap, refl, sym, subst, ◌∙◌}
 use Rattle.inf_opcode.proofs.Growing.{on_err}
 use Rattle.inf_devices.specs.Files.{Rose, Sources}
 use Rattle.inf_lexer.proofs.Candidates.{rose_earlier}
@@ -6,13 +6,14 @@ use Rattle.inf_sources.specs.Open.{opened_since}
 use Rattle.inf_sources.specs.Calls.{IsUnreadable}
 use Rattle.inf_sources.proofs.Calls.{fit_none, fit_then, unreadable_then, went_none, went_then}
 use Rattle.inf_session.specs.Choices.{Choices, chosen}
-use Rattle.inf_session.specs.Faults.{Caused, IfRead}
+use Rattle.inf_session.specs.Faults.{Caused, IfRead, UnlessMessages}
 use Rattle.inf_session.specs.Leading.{CutsShort, GivenUp, OpensAll, Writes}
 use Rattle.inf_session.specs.Session.{run}
 use Rattle.inf_session.specs.Standing.{state}
 use Rattle.inf_session.proofs.Delivering.{appends_none, appends_then}
 use Rattle.inf_session.proofs.Leadings.{cuts_on, given_up_on, opened_on, run_sum, writes_none, writes_on}
 use Rattle.inf_session.proofs.Standings.{if_caused_more, if_read_more}
+use Rattle.inf_session.proofs.Quiet.{hides_behind}
 use Rattle.inf_session.proofs.session.Session.read.Goals as goal
 
 pub loop-self-init : goal.loop-self-init
@@ -32,6 +33,7 @@ loop-self-init g c =
       setup = refl;
       fits = fit_none files c.args.files.now c.args.self.now.open_files;
       wrote = appends_none g.M.Sink c.args.messages.now;
+      quiet = refl;
     }
 
 pub loop-self-preserved : goal.loop-self-preserved
@@ -77,7 +79,9 @@ loop-self-preserved g c =
       setup = c.read_part.ensures.setup ∙ inv.setup;
       fits = fit_then files c.args.files.now c.loop-self.files c.read_part.new.files c.args.self.now.open_files c.loop-self.self.open_files
           inv.went inv.fits took.fits;
-      wrote = appends_then g.M.Sink c.args.messages.now c.loop-self.messages c.read_part.new.messages inv.wrote c.read_part.ensures.wrote;
+      wrote = appends_then g.M.Sink c.args.messages.now c.loop-self.messages c.read_part.new.messages inv.wrote
+          c.read_part.ensures.wrote.0;
+      quiet = took.wrote.1.0 ∙ inv.quiet;
     }
 
 pub returns-in_err-read_part-clause-cut : goal.returns-in_err-read_part-clause-cut
@@ -192,5 +196,15 @@ returns-in_err-read_part-clause-opened g c = λ honest start nested.
 
 pub returns-in_err-read_part-clause-wrote : goal.returns-in_err-read_part-clause-wrote
 returns-in_err-read_part-clause-wrote g c =
-    appends_then g.M.Sink c.args.messages.now c.loop-self.messages c.read_part.new.messages c.loop-self.invariant.wrote
-    c.read_part.ensures.wrote
+    let first = g.M.Sink.failures c.args.messages.now in
+    let before = g.M.Sink.failures c.loop-self.messages in
+    let now = g.M.Sink.failures c.read_part.new.messages in
+    let told : IfErr c.read_part.result (λ fault. UnlessMessages fault (now ≡ before)) = c.read_part.ensures.wrote.1.1 in
+    let passed : IfErr c.from_residual.result (λ fault. UnlessMessages fault (now ≡ before)) = search rules in (
+      appends_then g.M.Sink c.args.messages.now c.loop-self.messages c.read_part.new.messages c.loop-self.invariant.wrote
+          c.read_part.ensures.wrote.0,
+      hides_behind c.from_residual.result first before now c.from_residual.ensures.0 c.loop-self.invariant.quiet passed,
+    )
+
+pub returns-clause-wrote : goal.returns-clause-wrote
+returns-clause-wrote g c = (c.loop-self.invariant.wrote, (c.loop-self.invariant.quiet, tt))

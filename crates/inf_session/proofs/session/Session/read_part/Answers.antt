@@ -6,7 +6,7 @@ use Rattle.inf_sources.specs.Open.{opened_since}
 use Rattle.inf_sources.specs.Calls.{IsUnreadable}
 use Rattle.inf_sources.proofs.Calls.{fit_then, unreadable_then, went_then}
 use Rattle.inf_session.specs.Choices.{Choices, chosen, most_quoted}
-use Rattle.inf_session.specs.Faults.{Caused, IfRead}
+use Rattle.inf_session.specs.Faults.{Caused, IfRead, UnlessMessages}
 use Rattle.inf_session.specs.Leading.{CutsShort, GivenUp, OpensWithin, StopsFor, Writes}
 use Rattle.inf_session.specs.Session.{has_ended, turn}
 use Rattle.inf_session.specs.Standing.{came_to, ended, parted, state}
@@ -18,6 +18,7 @@ use Rattle.inf_session.proofs.Bounds.{bounded_still}
 use Rattle.inf_session.proofs.Standings.{if_caused_more, if_read_both}
 use Rattle.inf_session.proofs.Weighing.{ends_or_falls, falls_then}
 use Rattle.inf_session.specs.Weights.{weight}
+use Rattle.inf_session.proofs.Quiet.{hides_behind}
 use Rattle.inf_session.proofs.session.Session.read_part.Goals as goal
 
 pub loop-self-init : goal.loop-self-init
@@ -49,7 +50,8 @@ loop-self-init g c =
       longest = took.longest;
       setup = c.turn.ensures.setup;
       fits = took.fits;
-      wrote = c.turn.ensures.wrote;
+      wrote = c.turn.ensures.wrote.0;
+      quiet = took.wrote.1.0;
     }
 
 pub loop-self-preserved : goal.loop-self-preserved
@@ -108,7 +110,8 @@ loop-self-preserved g c =
       fits = fit_then files c.args.files.now c.loop-self.files c.turn-in-loop-self.new.files c.args.self.now.open_files
           c.loop-self.self.open_files inv.went inv.fits took.fits;
       wrote = appends_then g.M.Sink c.args.messages.now c.loop-self.messages c.turn-in-loop-self.new.messages inv.wrote
-          c.turn-in-loop-self.ensures.wrote;
+          c.turn-in-loop-self.ensures.wrote.0;
+      quiet = took.wrote.1.0 ∙ inv.quiet;
     }
 
 pub returns-in_err-turn-2-clause-cut : goal.returns-in_err-turn-2-clause-cut
@@ -309,7 +312,26 @@ returns-then-has_ended-clause-came g c =
     let over : ended c.args.self.now ≡ true = sym c.has_ended.ensures ∙ c.if-has_ended.true in
     c.came_to.ensures ∙ ap (λ b. came_to b c.args.self.now) (sym over)
 
+pub returns-in_err-turn-clause-wrote : goal.returns-in_err-turn-clause-wrote
+returns-in_err-turn-clause-wrote g c =
+    let first = g.M.Sink.failures c.args.messages.now in
+    let now = g.M.Sink.failures c.turn.new.messages in
+    let told : IfErr c.turn.result (λ fault. UnlessMessages fault (now ≡ first)) = c.turn.ensures.wrote.1.1 in
+    let passed : IfErr c.from_residual.result (λ fault. UnlessMessages fault (now ≡ first)) = search rules in
+    (c.turn.ensures.wrote.0, hides_behind c.from_residual.result first first now c.from_residual.ensures.0 refl passed)
+
 pub returns-in_err-turn-2-clause-wrote : goal.returns-in_err-turn-2-clause-wrote
 returns-in_err-turn-2-clause-wrote g c =
-    appends_then g.M.Sink c.args.messages.now c.loop-self.messages c.turn-in-loop-self.new.messages c.loop-self.invariant.wrote
-    c.turn-in-loop-self.ensures.wrote
+    let first = g.M.Sink.failures c.args.messages.now in
+    let before = g.M.Sink.failures c.loop-self.messages in
+    let now = g.M.Sink.failures c.turn-in-loop-self.new.messages in
+    let told : IfErr c.turn-in-loop-self.result (λ fault. UnlessMessages fault (now ≡ before)) = c.turn-in-loop-self.ensures.wrote.1.1 in
+    let passed : IfErr c.from_residual-in_err-turn-2.result (λ fault. UnlessMessages fault (now ≡ before)) = search rules in (
+      appends_then g.M.Sink c.args.messages.now c.loop-self.messages c.turn-in-loop-self.new.messages c.loop-self.invariant.wrote
+          c.turn-in-loop-self.ensures.wrote.0,
+      hides_behind c.from_residual-in_err-turn-2.result first before now c.from_residual-in_err-turn-2.ensures.0
+          c.loop-self.invariant.quiet passed,
+    )
+
+pub returns-clause-wrote : goal.returns-clause-wrote
+returns-clause-wrote g c = (c.loop-self.invariant.wrote, (c.loop-self.invariant.quiet, tt))

@@ -30,6 +30,7 @@ invariant-loop-self g l =
       setup : l.self.setup ≡ l.fn.self.setup;
       fits : StaysFit files l.fn.files l.files l.fn.self.open_files;
       wrote : Appends g.M.Sink l.fn.messages l.messages;
+      quiet : g.M.Sink.failures l.messages ≡ g.M.Sink.failures l.fn.messages;
     }
 
 abbrev pub decreases-loop-self : goal.decreases-loop-self

@@ -7,6 +7,8 @@ use Rattle.inf_session.specs.Standing.{state}
 use Rattle.inf_session.specs.Veneer.{in_text, text_front, text_read, text_turns, veneer_text}
 use Rattle.inf_session.proofs.Supplying.{cut_nothing, text_begins, text_cut, text_front_is, text_leads, text_turned_is}
 use Rattle.inf_session.proofs.Supplying.{text_writes}
+use Rattle.inf_session.proofs.Delivering.{appends_none}
+use Rattle.inf_session.proofs.Quiet.{hides_none, hides_told}
 use Rattle.inf_session.proofs.session.Session.read_text.Goals as goal
 
 pub new-requires : goal.new-requires
@@ -84,3 +86,30 @@ returns-in_err-flush-clause-cut g c = λ sources start now.
     bytes (ap chosen c.in_ok-begin_text.ensures.setup) (c.in_ok-take_text.ensures.turned sources start now told))
     (ap (λ (f : Open). nesting sources start now f) (c.in_ok-take_text.ensures.files ∙ c.in_ok-begin_text.ensures.files)))
     (λ told. refl) part.is_cut part.takes)
+
+pub returns-in_err-lexer-clause-wrote : goal.returns-in_err-lexer-clause-wrote
+returns-in_err-lexer-clause-wrote g c =
+    (appends_none g.M.Sink c.args.messages.now, hides_none c.from_residual.result (g.M.Sink.failures c.args.messages.now))
+
+pub returns-in_err-begin_text-clause-wrote : goal.returns-in_err-begin_text-clause-wrote
+returns-in_err-begin_text-clause-wrote g c =
+    (appends_none g.M.Sink c.args.messages.now, hides_none c.from_residual-in_err-begin_text.result (g.M.Sink.failures c.args.messages.now))
+
+pub returns-in_err-take_text-clause-wrote : goal.returns-in_err-take_text-clause-wrote
+returns-in_err-take_text-clause-wrote g c =
+    (appends_none g.M.Sink c.args.messages.now, hides_none c.from_residual-in_err-take_text.result (g.M.Sink.failures c.args.messages.now))
+
+pub returns-in_err-flush-clause-wrote : goal.returns-in_err-flush-clause-wrote
+returns-in_err-flush-clause-wrote g c =
+    let w = c.in_err-flush.ensures.writes in (
+      record { lines = w.0.front; takes = w.0.takes; failures = w.1 },
+      hides_told c.from_residual-in_err-flush.result (g.M.Sink.failures c.args.messages.now) (g.M.Sink.failures c.flush.new.to)
+          c.from_residual-in_err-flush.ensures.1,
+    )
+
+pub returns-clause-wrote : goal.returns-clause-wrote
+returns-clause-wrote g c =
+    let w = c.in_ok-flush.ensures.writes in (
+      record { lines = c.take_text.new.self.progress.work.report.lines; takes = w.0; failures = omega (arith, w.1) },
+      (w.1, tt),
+    )

@@ -4,13 +4,14 @@ use Rattle.inf_opcode.proofs.Growing.{on_err}
 use Rattle.inf_devices.specs.Files.{Rose}
 use Rattle.inf_lexer.proofs.Candidates.{rose_earlier}
 use Rattle.inf_session.specs.Choices.{Choices, chosen}
-use Rattle.inf_session.specs.Faults.{Caused}
+use Rattle.inf_session.specs.Faults.{Caused, UnlessMessages}
 use Rattle.inf_session.specs.Leading.{CutsShort, Writes}
 use Rattle.inf_session.specs.Standing.{next_of, state}
 use Rattle.inf_session.specs.Veneer.{next_supplied, supplied}
 use Rattle.inf_session.proofs.Delivering.{appends_none, appends_then}
 use Rattle.inf_session.proofs.Standings.{if_caused_more}
 use Rattle.inf_session.proofs.Supplying.{leads_all, leads_cut, leads_none, leads_then, left_less, none_is}
+use Rattle.inf_session.proofs.Quiet.{hides_behind}
 use Rattle.inf_session.proofs.session.Session.supply.Goals as goal
 
 pub loop-was_read-init : goal.loop-was_read-init
@@ -21,6 +22,7 @@ loop-was_read-init g c = record {
   files = refl;
   setup = refl;
   wrote = appends_none g.M.Sink c.args.messages.now;
+  quiet = refl;
 }
 
 pub loop-was_read-preserved : goal.loop-was_read-preserved
@@ -44,7 +46,8 @@ loop-was_read-preserved g c =
       files = c.read_veneer.ensures.files ∙ inv.files;
       setup = c.read_veneer.ensures.setup ∙ inv.setup;
       wrote = appends_then g.M.Sink c.args.messages.now c.loop-was_read.messages c.read_veneer.new.messages inv.wrote
-          c.read_veneer.ensures.wrote;
+          c.read_veneer.ensures.wrote.0;
+      quiet = took.wrote.1.0 ∙ inv.quiet;
     }
 
 pub loop-was_read-smaller : goal.loop-was_read-smaller
@@ -85,5 +88,15 @@ returns-in_err-was_read-clause-fault g c =
 
 pub returns-in_err-was_read-clause-wrote : goal.returns-in_err-was_read-clause-wrote
 returns-in_err-was_read-clause-wrote g c =
-    appends_then g.M.Sink c.args.messages.now c.loop-was_read.messages c.read_veneer.new.messages c.loop-was_read.invariant.wrote
-    c.read_veneer.ensures.wrote
+    let first = g.M.Sink.failures c.args.messages.now in
+    let before = g.M.Sink.failures c.loop-was_read.messages in
+    let now = g.M.Sink.failures c.read_veneer.new.messages in
+    let told : IfErr c.read_veneer.result (λ fault. UnlessMessages fault (now ≡ before)) = c.read_veneer.ensures.wrote.1.1 in
+    let passed : IfErr c.from_residual.result (λ fault. UnlessMessages fault (now ≡ before)) = search rules in (
+      appends_then g.M.Sink c.args.messages.now c.loop-was_read.messages c.read_veneer.new.messages c.loop-was_read.invariant.wrote
+          c.read_veneer.ensures.wrote.0,
+      hides_behind c.from_residual.result first before now c.from_residual.ensures.0 c.loop-was_read.invariant.quiet passed,
+    )
+
+pub returns-clause-wrote : goal.returns-clause-wrote
+returns-clause-wrote g c = (c.loop-was_read.invariant.wrote, (c.loop-was_read.invariant.quiet, tt))

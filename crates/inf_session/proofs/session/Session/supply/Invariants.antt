@@ -17,6 +17,7 @@ invariant-loop-was_read g l = record {
   files : l.self.open_files ≡ l.fn.self.open_files;
   setup : l.self.setup ≡ l.fn.self.setup;
   wrote : Appends g.M.Sink l.fn.messages l.messages;
+  quiet : g.M.Sink.failures l.messages ≡ g.M.Sink.failures l.fn.messages;
 }
 
 abbrev pub decreases-loop-was_read : goal.decreases-loop-was_read

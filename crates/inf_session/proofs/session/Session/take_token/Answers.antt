@@ -53,7 +53,7 @@ returns-in-Err-Read-clause-stops g c = λ honest start nested.
     read_caused c.unread.result (λ told. told ≡ c.innermost.result.now)
     (λ name. (told : List ℕ) → StopsInToken failed s (was told) start now after name) ⊥
     (λ name is told. record {
-      cause = next.cause read;
+      cause = next.cause.0 read;
       not_ended = next.unfinished honest start read;
       goes_on = next.on read;
       openings = c.next.ensures.opened honest start nested;

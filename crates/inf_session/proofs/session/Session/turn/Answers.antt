@@ -1,4 +1,4 @@
-use Rattle.std.proofs.Common.{rules, List, ℕ, ◌≤◌, IfErr, inl, inr, ◌||◌, IsTrue, ap, refl, sym, subst, ◌∙◌}
+use Rattle.std.proofs.Common.{rules, arith, List, ℕ, ◌≤◌, IfErr, inl, inr, ◌||◌, IsTrue, ap, refl, sym, subst, ◌∙◌}
 use Rattle.inf_opcode.proofs.Growing.{on_err}
 use Rattle.inf_devices.specs.Files.{Rose, Sources}
 use Rattle.inf_lexer.proofs.Candidates.{rose_earlier}
@@ -17,6 +17,7 @@ use Rattle.inf_session.proofs.Delivering.{appends_none}
 use Rattle.inf_session.proofs.Leadings.{cut_at_once, stops_at_more}
 use Rattle.inf_session.proofs.Standings.{as_before, if_caused_more, if_read_more, turn_cut, turn_writes}
 use Rattle.inf_session.proofs.Weighing.{falls}
+use Rattle.inf_session.proofs.Quiet.{hides_none, hides_told}
 use Rattle.inf_session.proofs.session.Session.turn.Goals as goal
 
 pub returns-in_err-take_token-clause-cut : goal.returns-in_err-take_token-clause-cut
@@ -223,17 +224,24 @@ returns-in_err-follow-clause-fault g c =
     (λ name why. unreadable_then f a b d x y z c.take_token.ensures.went why) (λ never. absurd never) caused
 
 pub returns-in_err-take_token-clause-wrote : goal.returns-in_err-take_token-clause-wrote
-returns-in_err-take_token-clause-wrote g c = appends_none g.M.Sink c.args.messages.now
+returns-in_err-take_token-clause-wrote g c =
+    (appends_none g.M.Sink c.args.messages.now, hides_none c.from_residual.result (g.M.Sink.failures c.args.messages.now))
 
 pub returns-in_err-follow-clause-wrote : goal.returns-in_err-follow-clause-wrote
-returns-in_err-follow-clause-wrote g c = appends_none g.M.Sink c.args.messages.now
+returns-in_err-follow-clause-wrote g c =
+    (appends_none g.M.Sink c.args.messages.now, hides_none c.from_residual-in_err-follow.result (g.M.Sink.failures c.args.messages.now))
 
 pub returns-in_err-flush-clause-wrote : goal.returns-in_err-flush-clause-wrote
 returns-in_err-flush-clause-wrote g c =
-    let w = c.in_err-flush.ensures.writes in
-    record { lines = w.0.front; takes = w.0.takes; failures = w.1 }
+    let w = c.in_err-flush.ensures.writes in (
+      record { lines = w.0.front; takes = w.0.takes; failures = w.1 },
+      hides_told c.from_residual-in_err-flush.result (g.M.Sink.failures c.args.messages.now) (g.M.Sink.failures c.flush.new.to)
+          c.from_residual-in_err-flush.ensures.1,
+    )
 
 pub returns-clause-wrote : goal.returns-clause-wrote
 returns-clause-wrote g c =
-    let w = c.in_ok-flush.ensures.writes in
-    record { lines = c.follow.new.self.progress.work.report.lines; takes = w.0; failures = w.1 }
+    let w = c.in_ok-flush.ensures.writes in (
+      record { lines = c.follow.new.self.progress.work.report.lines; takes = w.0; failures = omega (arith, w.1) },
+      (w.1, tt),
+    )

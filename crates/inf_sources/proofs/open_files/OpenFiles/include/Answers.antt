@@ -103,7 +103,7 @@ returns-in-Ok-clause-went g c =
     ∙ ap (λ fs. fs ++ waits c.self.inside.lexer c.args.conditionals.now c.args.is_system.now ∷ []) c.in_ok-reserve.ensures.items in
     let front = ap (λ (r : Reader). r.window.given) (c.replace.ensures.after ∙ e.is_entered.1) in
     subst (λ (o : Open). Went files c.args.files.now c.enter.new.files o after) c.self.view_is
-    (went_in files c.args.files.now c.enter.new.files before after enter.sources enter.honesty enter.faults enter.depth enter.given
+    (went_in files c.args.files.now c.enter.new.files before after enter.sources enter.honesty enter.faults.0 enter.depth enter.given
     enter.opened (waits c.self.inside.lexer c.args.conditionals.now c.args.is_system.now) refl outer front
     (entered_counts e.name before.nest after.nest e.is_entered.0)
     (λ honest start n. entered_nested_of start old new before e.name c.enter.new.self c.replace.new.dest
@@ -224,7 +224,7 @@ returns-in-Err-Device-clause-went g c =
     ∙ ap (λ (fs : List OpenFile). record { nest = c.self.inside.names; lexer = c.self.inside.lexer; outer = fs })
     c.in_ok-reserve.ensures.items in
     subst (λ (o : Open). Went files c.args.files.now c.enter.new.files o after) c.self.view_is
-    (went_by files c.args.files.now c.enter.new.files before after enter.sources enter.honesty enter.faults enter.depth enter.given
+    (went_by files c.args.files.now c.enter.new.files before after enter.sources enter.honesty enter.faults.0 enter.depth enter.given
     enter.opened same
     (λ honest start n. failed_nested s before.nest.names names start old new before n (left honest))
     (λ honest start n all. failed_given s before.nest.names names start old new before n (left honest) all))
@@ -261,36 +261,39 @@ returns-in-Err-Device-clause-in_vain g c = λ honest start nested.
     (λ n. opened_in_vain s directories text start old new before n c.self.invariant.0 fit flat left) nested
 
 pub returns-in-Err-Device-clause-cause : goal.returns-in-Err-Device-clause-cause
-returns-in-Err-Device-clause-cause g c = λ device.
-    let files = g.F.Files in
-    let s = files.sources c.args.files.now in
-    let old = files.openings c.args.files.now in
-    let new = files.openings c.enter.new.files in
-    let before : Open = record { nest = c.self.inside.names; lexer = c.self.inside.lexer; outer = c.self.inside.outer.items } in
-    let after : Open = record { nest = c.enter.new.self; lexer = c.self.inside.lexer; outer = c.reserve.new.self.items } in
-    let directories = map (λ d. d.now) c.args.directories.now in
-    let text = c.args.text.now in
-    let fit : can_name text ≡ false → ⊥ = λ h. let never = (c.in-Err-Device.ensures.bad_name h).0 in cc in
-    let flat : 16 ≤ length before.nest.open_files → ⊥ =
-    λ h. let never = (c.in-Err-Device.ensures.too_deep (is_true (can_name text) fit) h).0 in cc in
-    elim (c.in-Err-Device.ensures.cause (ap (λ f. Err f) c.in-Err-Device.field-0-is))
-    as (λ _. Rose (files.faults c.args.files.now) (files.faults c.enter.new.files)
-    ⊎ (AskedTooMany files c.args.files.now c.enter.new.files c.args.self.now after × Honestly files c.args.files.now c.args.self.now
-    (λ start.
-    OpensTooMany (inclusion s directories text (nesting s start old c.args.self.now)) (nesting s start old c.args.self.now)
-    (opened_since start new)))) [
-      | inl rose ↦ inl rose
-      | inr many ↦ inr (
-        subst (λ (o : Open). AskedTooMany files c.args.files.now c.enter.new.files o after) c.self.view_is
-            (asked_too_many files c.args.files.now c.enter.new.files before after (candidates directories (innermost_name before.nest) text)
-            c.in-Err-Device.ensures.err many.is_named many.counted),
-        subst (λ (o : Open). Honestly files c.args.files.now o (λ start.
-            OpensTooMany (inclusion s directories text (nesting s start old o)) (nesting s start old o) (opened_since start new)))
-            c.self.view_is
-            (λ honest start n. opens_too_many s directories text start old new before n c.self.invariant.0 fit flat
-            (many.is_closed honest)),
-      )
-    ]
+returns-in-Err-Device-clause-cause g c = (
+  λ device.
+      let files = g.F.Files in
+      let s = files.sources c.args.files.now in
+      let old = files.openings c.args.files.now in
+      let new = files.openings c.enter.new.files in
+      let before : Open = record { nest = c.self.inside.names; lexer = c.self.inside.lexer; outer = c.self.inside.outer.items } in
+      let after : Open = record { nest = c.enter.new.self; lexer = c.self.inside.lexer; outer = c.reserve.new.self.items } in
+      let directories = map (λ d. d.now) c.args.directories.now in
+      let text = c.args.text.now in
+      let fit : can_name text ≡ false → ⊥ = λ h. let never = (c.in-Err-Device.ensures.bad_name h).0 in cc in
+      let flat : 16 ≤ length before.nest.open_files → ⊥ =
+      λ h. let never = (c.in-Err-Device.ensures.too_deep (is_true (can_name text) fit) h).0 in cc in
+      elim (c.in-Err-Device.ensures.cause (ap (λ f. Err f) c.in-Err-Device.field-0-is))
+      as (λ _. Rose (files.faults c.args.files.now) (files.faults c.enter.new.files)
+      ⊎ (AskedTooMany files c.args.files.now c.enter.new.files c.args.self.now after × Honestly files c.args.files.now c.args.self.now
+      (λ start.
+      OpensTooMany (inclusion s directories text (nesting s start old c.args.self.now)) (nesting s start old c.args.self.now)
+      (opened_since start new)))) [
+        | inl rose ↦ inl rose
+        | inr many ↦ inr (
+          subst (λ (o : Open). AskedTooMany files c.args.files.now c.enter.new.files o after) c.self.view_is
+              (asked_too_many files c.args.files.now c.enter.new.files before after (candidates directories (innermost_name before.nest) text)
+              c.in-Err-Device.ensures.err many.is_named many.counted),
+          subst (λ (o : Open). Honestly files c.args.files.now o (λ start.
+              OpensTooMany (inclusion s directories text (nesting s start old o)) (nesting s start old o) (opened_since start new)))
+              c.self.view_is
+              (λ honest start n. opens_too_many s directories text start old new before n c.self.invariant.0 fit flat
+              (many.is_closed honest)),
+        )
+      ],
+  λ memory. cc,
+)
 
 pub returns-in-Err-Device-clause-named : goal.returns-in-Err-Device-clause-named
 returns-in-Err-Device-clause-named g c = λ device.

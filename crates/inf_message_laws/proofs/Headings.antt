@@ -1,0 +1,56 @@
+-- Nothing is asked, and messages grow, at the header of each directive.
+use Rattle.std.proofs.Common.{List, [], ◌∷◌, false, refl}
+use Rattle.inf_settings.specs.Bounds.{Limits}
+use Rattle.inf_scanner.specs.declared.tokens.Place.{Place}
+use Rattle.inf_names.specs.Spellings.{Name}
+use Rattle.inf_unit.specs.Units.{directive_word, first_place, names_in}
+use Rattle.inf_compilation.specs.Context.{Context}
+use Rattle.inf_compilation.specs.Actions.{Compilation, code_begun}
+use Rattle.inf_reader.specs.Headers.{class_named, header_as, header_ended, directive_header, heading_of}
+use Rattle.inf_reader.specs.declared.headers.Heading.{Heading}
+use Rattle.inf_reader.specs.declared.headers.Heading.TheVariants as heading
+use Rattle.inf_message_laws.proofs.Choosing.{abbreviate_keeps}
+use Rattle.inf_message_laws.proofs.Keeping.{then_keeps, with_keeps}
+use Rattle.inf_message_laws.proofs.Lines.{extend_keeps, verb_keeps}
+use Rattle.inf_message_laws.proofs.Listed.{array_keeps}
+use Rattle.inf_message_laws.proofs.Objects.{class_keeps, object_keeps}
+use Rattle.inf_message_laws.proofs.Tokens.{begun_keeps, passed_keeps}
+use Rattle.inf_message_laws.specs.Growing.{Keeps}
+
+class_named_keeps : (limits : Limits) (context : Context) (first : Place) (names : List Name)
+    → Keeps (class_named limits context first names)
+class_named_keeps limits context first [] = passed_keeps false
+class_named_keeps limits context first (name ∷ names) = class_keeps limits context first name
+
+heading_keeps : (limits : Limits) (h : Heading) (context : Context) (first : Place) (names : List Name)
+    → Keeps (header_as limits h context first names)
+heading_keeps limits heading.Array context first names = array_keeps limits context first names
+heading_keeps limits heading.Class context first names = class_named_keeps limits context first names
+heading_keeps limits heading.Object context first names = object_keeps limits context first
+heading_keeps limits heading.Verb context first names = verb_keeps limits context first
+heading_keeps limits heading.Extend context first names = extend_keeps limits context first
+heading_keeps limits heading.Abbreviate context first names = abbreviate_keeps limits context first
+
+header_names_keep : (limits : Limits) (context : Context) (first : Place) (names : List Name)
+    → Keeps (directive_header limits context first names)
+header_names_keep limits context first [] = passed_keeps false
+header_names_keep limits context first (word ∷ names) =
+    with_keeps (λ (w : Compilation). heading_of (directive_word w.unit.tokens))
+    (λ (h : Heading) (w : Compilation). header_as limits h context first names w) (λ b w. refl)
+    (λ h. heading_keeps limits h context first names)
+
+-- the header of a directive with its names, behind the beginning of code
+abbrev begun_at : Limits → Context → Place → List Name → Compilation → Compilation
+begun_at limits context first names w = directive_header limits context first names (code_begun limits w)
+
+begun_at_keeps : (limits : Limits) (context : Context) (first : Place) (names : List Name) → Keeps (begun_at limits context first names)
+begun_at_keeps limits context first names =
+    then_keeps (code_begun limits) (directive_header limits context first names) (begun_keeps limits)
+    (header_names_keep limits context first names)
+
+pub header_keeps : (limits : Limits) (context : Context) (place : Place) → Keeps (header_ended limits context place)
+header_keeps limits context place =
+    with_keeps (λ (w : Compilation). first_place w.unit.tokens place)
+    (λ (first : Place) (w : Compilation). begun_at limits context first (names_in w.unit.tokens) w) (λ b w. refl)
+    (λ first. with_keeps (λ (w : Compilation). names_in w.unit.tokens) (begun_at limits context first) (λ b w. refl)
+    (begun_at_keeps limits context first))

@@ -1,0 +1,17 @@
+-- Where memory lacks, nothing is wrong with the name.
+use Rattle.std.proofs.Common.{◌≡◌, List, ℕ, sym, ◌∙◌, ap}
+use Rattle.inf_names.specs.Symbols.{found_in, is_full, refer_fault}
+use Rattle.inf_names.proofs.Putting.{used_where_memory}
+use Rattle.inf_output.specs.Output.{Out}
+use Rattle.inf_output.specs.Veneer.{name_of}
+use Rattle.inf_output.proofs.output.Output.routine.Goals as goal
+
+pub returns-in-Err-Memory-clause-memory : goal.returns-in-Err-Memory-clause-memory
+returns-in-Err-Memory-clause-memory g c =
+    let names = c.self.inside.names in
+    let name = c.as_bytes.result.now in
+    let is : name ≡ name_of c.args.veneer = c.as_bytes.ensures.value ∙ c.name.ensures.value in
+    ap (λ (o : Out). refer_fault g.B.Bounds.most (name_of c.args.veneer) o.names) (sym c.self.view_is)
+    ∙ ap (λ (n : List ℕ). refer_fault g.B.Bounds.most n names) (sym is)
+    ∙ used_where_memory (found_in name names) (is_full g.B.Bounds.most names)
+    (sym c.in-Err-Memory.field-0-is ∙ c.in-Err-Memory.ensures.fault)

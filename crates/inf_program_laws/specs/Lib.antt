@@ -1,0 +1,5 @@
+pub mod NextToken
+pub mod Fronts
+pub mod BadPieces
+pub mod Program
+pub mod Laws

@@ -1,0 +1,2 @@
+pub mod Regular
+pub mod Laws

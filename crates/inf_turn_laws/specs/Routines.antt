@@ -1,0 +1,44 @@
+-- Turns through a routine have the effect of the routine as a whole: its header, its statements as they are nested, and its end.
+use Rattle.std.specs.Prelude.{◌≡◌, ℕ, List, [], ◌∷◌, false}
+use Rattle.inf_settings.specs.Bounds.{Limits}
+use Rattle.inf_scanner.specs.declared.tokens.Mark.TheVariants as mark
+use Rattle.inf_devices.specs.Files.{Sources}
+use Rattle.inf_machine.specs.Grammar.{Event, IsText}
+use Rattle.inf_machine.specs.declared.symbols.Symbol.TheVariants.{Rule}
+use Rattle.inf_syntax.specs.Atoms.{mark_atom}
+use Rattle.inf_syntax.specs.Parts.{directive}
+use Rattle.inf_syntax.specs.declared.actions.Action.{Action}
+use Rattle.inf_grammar.specs.Language.{grammar}
+use Rattle.inf_unit.specs.Tokens.{SourceToken, atom_of, is_end}
+use Rattle.inf_compilation.specs.Actions.{Compilation, piece_begun as work_begun}
+use Rattle.inf_compilation.specs.Context.{Context}
+use Rattle.inf_reader.specs.Reading.{between, piece_rule}
+use Rattle.inf_reader.specs.declared.recovery.Recovery.TheVariants as mode
+use Rattle.inf_session.specs.Choices.{Choices}
+use Rattle.inf_session.specs.Session.{State, context_of, stepped}
+use Rattle.inf_laws.specs.KeptTokens.{Kept}
+use Rattle.inf_statement_laws.specs.Happenings.{Between}
+use Rattle.inf_statement_laws.specs.Laid.{next_comes, passed}
+use Rattle.inf_statement_laws.specs.Readings.{Routine, Seen, all_happenings, routine_happenings, routine_laid}
+use Rattle.inf_language.specs.Texts.{atoms_of}
+use Rattle.inf_turn_laws.specs.Acted.{AllKept, seen_in}
+use Rattle.inf_turn_laws.specs.Pieces.{AreQuiet, Passes, Reads, Step, all_steps}
+use Rattle.inf_turn_laws.specs.Writing.{silent_turned}
+
+-- Tells whether tokens are those of a routine, which leads as a whole from one compilation to another.
+pub record LaysRoutine (limits : Limits) (context : Context) (seen : List Seen) (before after : Compilation) : Type 0 where
+  pub routine : Routine
+  pub same : routine_happenings routine ≡ all_happenings seen (directive ∷ [])
+  pub lays : next_comes after ≡ routine_laid limits context routine (next_comes before)
+
+-- Turns from where a piece begins, behind which nothing else happens up to the last, and whose kept tokens are the text of a piece that
+-- begins with a bracket, lay a routine as a whole, wherever conditional directives end between the tokens.
+abbrev pub TurnsReadRoutinesWhole : Limits → Type 0
+TurnsReadRoutinesWhole limits =
+    (sources : Sources) (o : Choices) (n : ℕ) (s : State) (m : Between) (t : SourceToken) (steps : List Step)
+    (events : List (Event Action))
+    → s.reading ≡ between mode.Reads → is_end t.kind ≡ false → AreQuiet limits sources o n s
+    → all_steps limits sources o n s ≡ Passes m ∷ Reads (Kept t) ∷ steps → AllKept steps
+    → IsText grammar (Rule piece_rule ∷ []) (atoms_of (seen_in t steps)) events → atom_of t ≡ mark_atom mark.OpenBracket
+    → LaysRoutine limits (context_of o s) (seen_in t steps) (work_begun (passed m s.work))
+    (stepped limits o (silent_turned limits sources o n s)).work

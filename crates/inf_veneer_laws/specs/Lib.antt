@@ -1,0 +1,15 @@
+pub mod Calling
+pub mod Classes
+pub mod Outcomes
+pub mod Covered
+pub mod Events
+pub mod Gathered
+pub mod Laws
+pub mod Message
+pub mod Sending
+pub mod Kept
+pub mod Properties
+pub mod Routines
+pub mod Running
+pub mod Sources
+pub mod Worlds
