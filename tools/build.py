@@ -4,8 +4,8 @@
 usage: tools/build.py RT FOLDER LOG [--anew]
 
 RT is the toolchain's command. FOLDER has a crates.txt and the crates that it names, and nothing else. What RT says goes to LOG.
-Its gate (`rt ci`) proves crates that do not stand on each other side by side, as many as processors and memory allow, keeps on
-this machine what it proved, and takes what it kept (but with --anew): so a build that was interrupted goes on where it was.
+Its gate (`rt ci`) proves crates that do not stand on each other side by side, as many as processors and memory allow. A toolchain
+that keeps what it proved takes that over (but with --anew): then a build that was interrupted goes on where it was.
 
 tools/checks.tsv has a line for each crate that was measured: its name, how many functions the prover names in it, and how many
 seconds of a processor their proof takes from nothing, with tabs between them. What is not there, or left empty, is guessed from the
@@ -146,7 +146,7 @@ def main(rt, folder, path, *words):
         try:
             return follow(build, log, progress)
         except KeyboardInterrupt:
-            print("\ninform: the build was interrupted; what it proved so far is kept", file=sys.stderr)
+            print("\ninform: the build was interrupted", file=sys.stderr)
             return 130
         finally:
             if build.poll() is None:

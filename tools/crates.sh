@@ -15,6 +15,11 @@ find_rt() {
     fi
 }
 
+# The word with which a toolchain's gate proves everything anew, for a toolchain that otherwise takes over what it proved before.
+word_for_anew() {
+    grep -q -e "--anew" "$(readlink -f "$1")" && echo --anew || true
+}
+
 # A crate with those of this repository that it stands on, lowest first, a line each.
 crates_below() {
     awk -v top="$1" -F '[: ]+' '
