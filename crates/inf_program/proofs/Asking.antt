@@ -1,5 +1,5 @@
 -- A directive asks for something at the end of its piece alone: no other action asks for anything, and it ends before the last token.
-use Rattle.std.proofs.Common.{◌≡◌, List, [], ◌∷◌, ◌++◌, ◌&&◌, ◌||◌, Bool, true, false, Option, Some, None, refl, sym, ◌∙◌, ap, subst, true≢false}
+use Rattle.std.proofs.Common.{◌≡◌, List, [], ◌∷◌, ◌&&◌, ◌||◌, Bool, true, false, None, refl, sym, ◌∙◌, ap, true≢false}
 use Rattle.std.specs.Prelude.{if◌then◌else◌}
 use Rattle.inf_settings.specs.Bounds.{Limits}
 use Rattle.inf_scanner.specs.declared.tokens.Mark.TheVariants as mark
@@ -19,13 +19,12 @@ use Rattle.inf_unit.specs.Directives.{Nothing}
 use Rattle.inf_unit.specs.Roles.{role_of}
 use Rattle.inf_unit.specs.Tokens.{SourceToken, atom_of, is_end}
 use Rattle.inf_unit.specs.declared.roles.Ending.TheVariants as ending
-use Rattle.inf_unit.specs.declared.roles.Role.{Role}
 use Rattle.inf_unit.specs.declared.roles.Role.TheVariants as role
 use Rattle.inf_compilation.specs.Actions.{Compilation, piece_begun as work_begun}
 use Rattle.inf_compilation.specs.Context.{Context}
 use Rattle.inf_reader.specs.Acting.{act, acted, all_acted}
 use Rattle.inf_reader.specs.Handing.{is_between, is_empty, reads, unfit_in}
-use Rattle.inf_reader.specs.Reading.{Reading, ReaderState, bad, judged, piece_begun, piece_rule, read_at, step, step_in, took}
+use Rattle.inf_reader.specs.Reading.{Reading, ReaderState, bad, judged, piece_begun, piece_rule, read_at, step_in, took}
 use Rattle.inf_reader.specs.declared.recovery.Recovery.{Recovery}
 use Rattle.inf_reader.specs.declared.recovery.Recovery.TheVariants as mode
 use Rattle.inf_laws.specs.KeptTokens.{Given, Kept, Unfit, token_in}

@@ -3,7 +3,7 @@
 use Rattle.std.proofs.Common.{◌≡◌, ℕ, zero, suc, ◌+◌, ◌-◌, List, [], ◌∷◌, ◌++◌, ◌&&◌, ◌||◌, ◌==◌, Bool, true, false, Option, Some, None}
 use Rattle.std.proofs.Common.{refl, sym, ◌∙◌, ap, append-nil}
 use Rattle.std.specs.Prelude.{if◌then◌else◌, not}
-use Rattle.inf_settings.specs.Bounds.{Limits, limits_of}
+use Rattle.inf_settings.specs.Bounds.{Limits}
 use Rattle.inf_settings.specs.declared.setting.Setting.{Setting}
 use Rattle.inf_scanner.specs.declared.tokens.Place.{Place}
 use Rattle.inf_devices.specs.Files.{Sources}
@@ -12,13 +12,13 @@ use Rattle.inf_output.specs.Output.{Out, begun, full}
 use Rattle.inf_report.specs.Messages.{Exceeded, Location, Message, NoMain, TooManyErrors, Undeclared, line_of}
 use Rattle.inf_report.specs.Reports.{Counts, closing, is_last}
 use Rattle.inf_report.specs.declared.messages.Kind.TheVariants as kind
-use Rattle.inf_unit.specs.Messages.{FileNames, Reported, location, with_error, with_fatal, with_full}
+use Rattle.inf_unit.specs.Messages.{FileNames, Reported, location, with_error, with_full}
 use Rattle.inf_unit.specs.Names.{main_of, with_all_undeclared, with_undeclared}
 use Rattle.inf_compilation.specs.Actions.{Compilation, begun_at}
 use Rattle.inf_session.specs.Choices.{Choices}
 use Rattle.inf_session.specs.Ending.{Outcome, begun as outcome_begun, finished, first_line, laid, refused, told_of}
 use Rattle.inf_session.specs.Session.{State, first_place, has_ended, start, told_out}
-use Rattle.inf_session.specs.Veneer.{is_wanted, most_texts, supplied, supplied_by, text_read}
+use Rattle.inf_session.specs.Veneer.{is_wanted, most_texts, supplied_by, text_read}
 use Rattle.inf_session.specs.declared.compiled.Status.TheVariants as status
 use Rattle.inf_session.specs.declared.ending.Telling.{Telling}
 use Rattle.inf_compile.specs.Outcome.{ending_of}

@@ -7,7 +7,7 @@ use Rattle.inf_devices.specs.Files.{Sources}
 use Rattle.inf_unit.specs.Tokens.{SourceToken, is_end}
 use Rattle.inf_compilation.specs.Context.{Context}
 use Rattle.inf_conditionals.specs.Judging.{Behind}
-use Rattle.inf_reader.specs.Reading.{Reading, ReaderState, between}
+use Rattle.inf_reader.specs.Reading.{between}
 use Rattle.inf_reader.specs.declared.recovery.Recovery.TheVariants as mode
 use Rattle.inf_session.specs.Choices.{Choices}
 use Rattle.inf_session.specs.Session.{State, context_of, followed, has_ended, stepped}
@@ -16,9 +16,9 @@ use Rattle.inf_laws.proofs.KeptTokens.{no_token}
 use Rattle.inf_statement_laws.specs.Happenings.{Between}
 use Rattle.inf_program.specs.definition.Steps.{AllKept}
 use Rattle.inf_program.specs.definition.Steps.{Passes, Reads, Step}
-use Rattle.inf_program.specs.Turns.{AllFit, steps_of}
+use Rattle.inf_program.specs.Turns.{AllFit}
 use Rattle.inf_program.specs.Writing.{silent_run, silent_turned}
-use Rattle.inf_program.specs.definition.NextToken.{Position, afresh, at_front, coming, judged_at, steps_at}
+use Rattle.inf_program.specs.definition.NextToken.{afresh, at_front, coming, judged_at, steps_at}
 use Rattle.inf_program.specs.definition.BadPieces.{IsNoEnd}
 use Rattle.inf_program.specs.Programs.{EndsAs}
 use Rattle.inf_program.specs.definition.Program.{Conditional, Continues, FileEnd, FileEnds, IsOver, NoneGiven}
@@ -30,8 +30,6 @@ use Rattle.inf_program.proofs.Programs.{same_end, turns_do_programs}
 use Rattle.inf_program.proofs.Shapes.{CutFirst, CutSecond, Fit, NoToken, OneToken, Shape, Sorted, TwoTokens, shape_of, sorted}
 use Rattle.inf_program.proofs.Soundness.{All, HasProgram, Main, Regular, Search, Skip, bad_on, behind_end, ended_on, followed_reads}
 use Rattle.inf_program.proofs.Soundness.{never_ends, open_on, quiet_within, run_on, search_by, skip_all, skip_more}
-use Rattle.inf_program.proofs.Stepping.{position_of, stand}
-use Rattle.inf_program.proofs.Walking.{first_step}
 
 -- The first turn
 

@@ -1,5 +1,5 @@
 -- Each turn of a reading is regular: a directive asks for something at the end of its piece alone.
-use Rattle.std.proofs.Common.{◌≡◌, ◌⊎◌, inl, inr, ℕ, zero, suc, List, [], ◌∷◌, ◌++◌, ◌&&◌, ◌||◌, Bool, true, false, Option, Some, None, refl}
+use Rattle.std.proofs.Common.{◌≡◌, ℕ, zero, suc, List, [], ◌∷◌, ◌++◌, ◌&&◌, ◌||◌, Bool, true, false, Option, Some, None, refl}
 use Rattle.std.proofs.Common.{sym, ◌∙◌, ap, cond, subst, true≢false}
 use Rattle.std.specs.Prelude.{if◌then◌else◌}
 use Rattle.inf_settings.specs.Bounds.{Limits}
@@ -24,19 +24,17 @@ use Rattle.inf_reader.specs.declared.recovery.Recovery.TheVariants as mode
 use Rattle.inf_session.specs.Choices.{Choices}
 use Rattle.inf_session.specs.Session.{State, answered, asked_nothing, carried_out, context_of, file_closed, followed, has_ended, included_by}
 use Rattle.inf_session.specs.Session.{is_resting, left, left_by, none_included, piece_closed, rested, stand_of, start, stepped, token_of}
-use Rattle.inf_laws.specs.KeptTokens.{Given, given_sign, given_token, token_in}
-use Rattle.inf_laws.proofs.KeptTurns.{carried_out_reading, rested_reading}
+use Rattle.inf_laws.specs.KeptTokens.{Given, given_sign, given_token}
 use Rattle.inf_statement_laws.specs.Happenings.{Between}
 use Rattle.inf_program.specs.definition.Steps.{Ends, Passes, Reads, Step, end_steps, given_steps, judged_steps}
 use Rattle.inf_program.specs.Turns.{judgement, judgement_said}
 use Rattle.inf_program.specs.definition.Steps.{lone_between, steps_behind}
 use Rattle.inf_program.specs.Turns.{step_by, steps_by, steps_of}
-use Rattle.inf_program.specs.Writing.{silent_turn}
 use Rattle.inf_program.proofs.TurnSteps.{turns_are_steps}
 use Rattle.inf_program.specs.definition.Program.{NoneGiven}
 use Rattle.inf_program.proofs.Stepping.{followed_over, over_ends}
 use Rattle.inf_program.specs.Regular.{AreRegular}
-use Rattle.inf_program.proofs.Asking.{Calm, Settled, given_settled}
+use Rattle.inf_program.proofs.Asking.{Calm, given_settled}
 use Rattle.inf_program.proofs.EndStacks.{ends_last}
 use Rattle.inf_program.proofs.Shapes.{NoToken, OneToken, Shape, TwoTokens, shape_of}
 

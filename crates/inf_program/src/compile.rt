@@ -8,8 +8,7 @@ ghost use Rattle.inf_compile.specs.Compiling.{HasCause, chosen_by, named_by};
 ghost use Rattle.inf_program.specs.Compiling.{Begins, Compiles, DeliversPart};
 
 use inf_command::command_line::Options;
-use inf_compile::compile::compile as compile_by_turns;
-use inf_compile::{Fault, NameHashing, Status};
+use inf_compile::{Fault, NameHashing, Status, compile as turns};
 use inf_devices::files::Files;
 use inf_devices::sinks::Sink;
 use std::alloc::Global;
@@ -90,5 +89,5 @@ pub fn compile<F: Files, M: Sink, S: Sink>(
         UnlessStory fault ((S.taken story.new ≡ S.taken story.old) × (S.failures story.new ≡ S.failures story.old))) }
     ensures quiet { HidesNoFailure result (M.failures messages.old) (M.failures messages.new) }
 {
-    compile_by_turns(alloc, options, date, hashing, files, messages, story)
+    turns::compile(alloc, options, date, hashing, files, messages, story)
 }
