@@ -1,2 +1,4 @@
 pub mod Sides
 pub mod Judged
+pub mod Rests
+pub mod Runs

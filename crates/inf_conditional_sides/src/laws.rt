@@ -1,5 +1,7 @@
 //! Laws of tokens: their results are the same by the sides that are open as by the conditionals of the compiler.
 ghost use Rattle.inf_conditional_sides.specs.Judged.{SidesAreJudged};
+ghost use Rattle.inf_conditional_sides.specs.Rests.{TokensRest};
+ghost use Rattle.inf_conditional_sides.specs.Runs.{TokensGoBySides};
 
 /// Shows that no side is open before the first token, as no conditional is. Where sides agree with the conditionals
 /// that are open, a token is handed on in the same way by both, and both report the same directives that have ended, or
@@ -8,4 +10,17 @@ ghost use Rattle.inf_conditional_sides.specs.Judged.{SidesAreJudged};
 /// that are open inside of the directive at hand.
 pub fn sides_are_judged()
     ensures { SidesAreJudged }
+{}
+
+/// Shows that a side is left out behind others for a moment alone: where a token leads there, it hands nothing on, no directive is
+/// being read behind it, and the reading is between two directives. While one is being read, no token is handed on.
+pub fn tokens_rest()
+    ensures { TokensRest }
+{}
+
+/// Shows that each token of a file is handed on by the sides that are open as by the conditionals of the compiler, from where nothing is
+/// open, and the same directives are reported: as long as reading stands still where no token is handed on, and the file has fewer
+/// than 4,294,967,295 tokens.
+pub fn tokens_go_by_sides()
+    ensures { TokensGoBySides }
 {}

@@ -5,4 +5,4 @@
 
 mod laws;
 
-pub use laws::sides_are_judged;
+pub use laws::{sides_are_judged, tokens_go_by_sides, tokens_rest};
