@@ -6,3 +6,5 @@ pub mod Same
 pub mod Resting
 pub mod Seating
 pub mod Running
+pub mod Ending
+pub mod Keeping

@@ -1,5 +1,7 @@
 //! Laws of tokens: their results are the same by the sides that are open as by the conditionals of the compiler.
+ghost use Rattle.inf_conditional_sides.specs.Ends.{EndsAreToldBySides};
 ghost use Rattle.inf_conditional_sides.specs.Judged.{SidesAreJudged};
+ghost use Rattle.inf_conditional_sides.specs.Keeping.{SidesKeepTokens};
 ghost use Rattle.inf_conditional_sides.specs.Rests.{TokensRest};
 ghost use Rattle.inf_conditional_sides.specs.Runs.{TokensGoBySides};
 
@@ -23,4 +25,17 @@ pub fn tokens_rest()
 /// than 4,294,967,295 tokens.
 pub fn tokens_go_by_sides()
     ensures { TokensGoBySides }
+{}
+
+/// Shows that at the end of a directive, and of a file, those conditionals are reported that are open there by their sides, in order of
+/// opening, but for those that were opened in a side that is left out.
+pub fn ends_are_told_by_sides()
+    ensures { EndsAreToldBySides }
+{}
+
+/// Shows that nothing is given of a token around which a side is left out, that a token around which all sides stay is kept where no
+/// conditional directive is being read, that of a conditional the second side stays where the first did not, and that a directive is
+/// reported that turns or ends a conditional where there is none.
+pub fn sides_keep_tokens()
+    ensures { SidesKeepTokens }
 {}
