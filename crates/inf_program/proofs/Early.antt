@@ -20,7 +20,6 @@ use Rattle.inf_session.specs.Ending.{Outcome, begun as outcome_begun, finished, 
 use Rattle.inf_session.specs.Session.{State, first_place, has_ended, start, told_out}
 use Rattle.inf_session.specs.Veneer.{is_wanted, most_texts, supplied_by, text_read}
 use Rattle.inf_session.specs.declared.compiled.Status.TheVariants as status
-use Rattle.inf_session.specs.declared.ending.Telling.{Telling}
 use Rattle.inf_compile.specs.Outcome.{ending_of}
 
 -- A report that is over
@@ -70,12 +69,12 @@ refused_over r over =
     ap (λ (b : Bool). with_messages (r.lines ++ (if b then [] else closing r.counts.errors r.counts.warnings))) over
     ∙ ap with_messages (append-nil r.lines)
 
-begun_over : (t : Telling) (files : FileNames) (o : Out) (r : Reported) (main : Option ℕ) → IsOver r
-    → outcome_begun t files o r main ≡ with_messages r.lines
-begun_over t files o r None over =
+begun_over : (serial : List ℕ) (w : Compilation) (files : FileNames) (o : Out) (r : Reported) (main : Option ℕ) → IsOver r
+    → outcome_begun (told_of serial w) files o r main ≡ with_messages r.lines
+begun_over serial w files o r None over =
     ap refused (error_stays (first_line files) (first_line files) NoMain r over) ∙ refused_over r over
-begun_over t files o r (Some main) over =
-    ap (λ (b : Bool). if not b && (r.counts.errors == 0) then laid t files main o r else refused r) over ∙ refused_over r over
+begun_over serial w files o r (Some main) over =
+    ap (λ (b : Bool). if not b && (r.counts.errors == 0) then laid (told_of serial w) files main o r else refused r) over ∙ refused_over r over
 
 finished_over : (limits : Limits) (serial : List ℕ) (files : FileNames) (w : Compilation) → IsOver w.report
     → finished limits serial files w ≡ with_messages w.report.lines
@@ -86,7 +85,7 @@ finished_over limits serial files w over =
     ap (with_all_undeclared files o.names.names) (full_stays files first_place (full limits o) w.report over)
     ∙ all_undeclared_stay files o.names.names w.report over in
     ap (λ (r : Reported). outcome_begun (told_of serial x) files o r (main_of o.names)) same
-    ∙ begun_over (told_of serial x) files o w.report (main_of o.names) over
+    ∙ begun_over serial x files o w.report (main_of o.names) over
 
 -- States
 

@@ -40,7 +40,7 @@ use Rattle.inf_program.proofs.Shapes.{NoToken, OneToken, Shape, TwoTokens, shape
 
 -- Conditional directives ask for nothing.
 
-abbrev AllMild : List Step → Type 0
+abbrev pub AllMild : List Step → Type 0
 AllMild [] = Unit {0}
 AllMild (Reads given ∷ steps) = AllMild steps
 AllMild (Passes m ∷ steps) = ((a : Request) → m.asked a ≡ a) × AllMild steps
@@ -61,7 +61,7 @@ behind_mild limits files None ended j e =
 behind_mild limits files (Some place) ended j e =
     ((λ a. ap (λ (u : Option Place). (lone_between files u).asked a) e), ends_mild limits files j.ended)
 
-judged_mild : (limits : Limits) (context : Context) (t : SourceToken) (said : Option Said) (j : Filtered)
+pub judged_mild : (limits : Limits) (context : Context) (t : SourceToken) (said : Option Said) (j : Filtered)
     → AllMild (judged_steps limits context t said j)
 judged_mild limits context t said j = (
   (λ a. refl),
@@ -71,7 +71,7 @@ judged_mild limits context t said j = (
 )
 
 -- steps that hand nothing on
-none_asked : (limits : Limits) (context : Context) (steps : List Step) (x : ReaderState) → NoneGiven steps → AllMild steps
+pub none_asked : (limits : Limits) (context : Context) (steps : List Step) (x : ReaderState) → NoneGiven steps → AllMild steps
     → (steps_by limits context steps x).work.asked ≡ x.work.asked
 none_asked limits context [] x free mild = refl
 none_asked limits context (Passes m ∷ steps) x free mild =
@@ -80,7 +80,7 @@ none_asked limits context (Ends m ∷ steps) x free mild =
     none_asked limits context steps (step_by limits context (Ends m) x) free mild.1 ∙ mild.0 x.work.asked
 none_asked limits context (Reads given ∷ steps) x free mild = absurd free
 
-none_read : (limits : Limits) (context : Context) (steps : List Step) (x : ReaderState) → NoneGiven steps
+pub none_read : (limits : Limits) (context : Context) (steps : List Step) (x : ReaderState) → NoneGiven steps
     → (steps_by limits context steps x).reading ≡ x.reading
 none_read limits context [] x free = refl
 none_read limits context (Passes m ∷ steps) x free = none_read limits context steps (step_by limits context (Passes m) x) free
@@ -130,7 +130,7 @@ turn_by limits context steps x mild (TwoTokens m given next rest is is_hash free
     (rests_on limits context rest (step_by limits context (Reads next) z) free mild2.1
     (record { inside = s.inside; last = s.last; spaced = s.spaced }))
 
-turn_rests : (limits : Limits) (sources : Sources) (o : Choices) (s : State) → Calm (stand_of s) → Rests (stand_of (stepped limits o s))
+pub turn_rests : (limits : Limits) (sources : Sources) (o : Choices) (s : State) → Calm (stand_of s) → Rests (stand_of (stepped limits o s))
 turn_rests limits sources o s c =
     subst (λ (x : ReaderState). Rests x) (sym (turns_are_steps limits sources o zero s tt))
     (turn_by limits (context_of o s) (steps_of limits o s) (stand_of s)
@@ -183,7 +183,7 @@ gone_calm sources o x r true e =
 gone_calm sources o x r false e =
     answered_calm x.work.asked sources o (asked_nothing x) (record { asks = refl; last = r.last; spaced = r.spaced })
 
-followed_calm : (sources : Sources) (o : Choices) (x : State) → Rests (stand_of x) → (b : Bool) → x.work.report.counts.is_over ≡ b
+pub followed_calm : (sources : Sources) (o : Choices) (x : State) → Rests (stand_of x) → (b : Bool) → x.work.report.counts.is_over ≡ b
     → has_ended (followed sources o x) ≡ false → Calm (stand_of (followed sources o x))
 followed_calm sources o x r true over going =
     absurd (true≢false (sym (ap has_ended (followed_over sources o x over) ∙ over_ends x over) ∙ going))

@@ -51,10 +51,10 @@ followed_reads sources o x reading =
     rested_reading (carried_out sources o x)
     ∙ (carried_out_reading sources o x (ap (λ (r : Reading). is_mode_ended r.mode) reading) ∙ reading)
 
-over_rested : (s : State) → has_ended s ≡ true → has_ended (rested s) ≡ true
+pub over_rested : (s : State) → has_ended s ≡ true → has_ended (rested s) ≡ true
 over_rested s e = ap has_ended (ap (λ b. if b then s else if is_resting s then piece_closed s else s) e) ∙ e
 
-mode_ended : (s : State) → is_mode_ended s.reading.mode ≡ true → has_ended s ≡ true
+pub mode_ended : (s : State) → is_mode_ended s.reading.mode ≡ true → has_ended s ≡ true
 mode_ended s e = third s.is_over s.work.report.counts.is_over (is_mode_ended s.reading.mode) e
   where
     third : (a b c : Bool) → c ≡ true → (a || (b || c)) ≡ true
