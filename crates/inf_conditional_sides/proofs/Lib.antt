@@ -3,3 +3,8 @@ pub mod Kept
 pub mod Signed
 pub mod Left
 pub mod Same
+pub mod Resting
+pub mod Seating
+pub mod Running
+pub mod Ending
+pub mod Keeping

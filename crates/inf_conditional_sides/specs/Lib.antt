@@ -1,2 +1,6 @@
 pub mod Sides
 pub mod Judged
+pub mod Rests
+pub mod Runs
+pub mod Ends
+pub mod Keeping

@@ -1,5 +1,9 @@
 //! Laws of tokens: their results are the same by the sides that are open as by the conditionals of the compiler.
+ghost use Rattle.inf_conditional_sides.specs.Ends.{EndsAreToldBySides};
 ghost use Rattle.inf_conditional_sides.specs.Judged.{SidesAreJudged};
+ghost use Rattle.inf_conditional_sides.specs.Keeping.{SidesKeepTokens};
+ghost use Rattle.inf_conditional_sides.specs.Rests.{TokensRest};
+ghost use Rattle.inf_conditional_sides.specs.Runs.{TokensGoBySides};
 
 /// Shows that no side is open before the first token, as no conditional is. Where sides agree with the conditionals
 /// that are open, a token is handed on in the same way by both, and both report the same directives that have ended, or
@@ -8,4 +12,30 @@ ghost use Rattle.inf_conditional_sides.specs.Judged.{SidesAreJudged};
 /// that are open inside of the directive at hand.
 pub fn sides_are_judged()
     ensures { SidesAreJudged }
+{}
+
+/// Shows that a side is left out behind others for a moment alone: where a token leads there, it hands nothing on, no directive is
+/// being read behind it, and the reading is between two directives. While one is being read, no token is handed on.
+pub fn tokens_rest()
+    ensures { TokensRest }
+{}
+
+/// Shows that each token of a file is handed on by the sides that are open as by the conditionals of the compiler, from where nothing is
+/// open, and the same directives are reported: as long as reading stands still where no token is handed on, and the file has fewer
+/// than 4,294,967,295 tokens.
+pub fn tokens_go_by_sides()
+    ensures { TokensGoBySides }
+{}
+
+/// Shows that at the end of a directive, and of a file, those conditionals are reported that are open there by their sides, in order of
+/// opening, but for those that were opened in a side that is left out.
+pub fn ends_are_told_by_sides()
+    ensures { EndsAreToldBySides }
+{}
+
+/// Shows that nothing is given of a token around which a side is left out, that a token around which all sides stay is kept where no
+/// conditional directive is being read, that of a conditional the second side stays where the first did not, and that a directive is
+/// reported that turns or ends a conditional where there is none.
+pub fn sides_keep_tokens()
+    ensures { SidesKeepTokens }
 {}

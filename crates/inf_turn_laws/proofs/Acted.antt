@@ -29,13 +29,15 @@ use Rattle.inf_statement_laws.specs.Readings.{Seen, all_fit, all_taken, behind_e
 use Rattle.inf_statement_laws.proofs.Laying.{run_then}
 use Rattle.inf_language.specs.Texts.{atoms_of}
 use Rattle.inf_language.proofs.TextsActed.{rule_is_spaced, texts_do_their_actions}
-use Rattle.inf_turn_laws.specs.Acted.{AllKept, PiecesDoTheirActions, seen_in, text_happenings}
-use Rattle.inf_turn_laws.specs.Pieces.{AllFit, AreQuiet, Ends, IsFit, Passes, Reads, Step, all_steps, grouped, piece_first, step_by}
-use Rattle.inf_turn_laws.specs.Writing.{silent_turned}
+use Rattle.inf_program.specs.definition.Steps.{AllKept}
+use Rattle.inf_turn_laws.specs.Acted.{PiecesDoTheirActions, seen_in, text_happenings}
+use Rattle.inf_program.specs.definition.Steps.{Ends, Passes, Reads, Step}
+use Rattle.inf_program.specs.Turns.{AllFit, AreQuiet, IsFit, all_steps, grouped, piece_first, step_by}
+use Rattle.inf_program.specs.Writing.{silent_turned}
 use Rattle.inf_turn_laws.proofs.Ahead.{Further, actions_happen, onward, starts}
-use Rattle.inf_turn_laws.proofs.Chosen.{EndWithToken, none_left, pieces_end}
+use Rattle.inf_program.proofs.Chosen.{EndWithToken, none_left, pieces_end}
 use Rattle.inf_turn_laws.proofs.Derived.{First, first_by, no_tokens, plain_happenings}
-use Rattle.inf_turn_laws.proofs.Grouping.{step_fit, whole_piece}
+use Rattle.inf_program.proofs.Grouping.{step_fit, whole_piece}
 
 -- Nothing fits where no piece is at hand.
 fits_inside : (atom : ℕ) (stack : List (Symbol Action)) → fits grammar known atom stack ≡ true → is_empty stack ≡ false

@@ -22,7 +22,7 @@ use Rattle.inf_statement_laws.specs.Happenings.{Between, Happening}
 use Rattle.inf_statement_laws.specs.Laid.{next_comes, passed, run}
 use Rattle.inf_statement_laws.specs.Readings.{Seen, all_taken, behind_ends, behind_some, behind_token, directed, token_happenings}
 use Rattle.inf_statement_laws.proofs.Laying.{ahead_is, closing_open, next_ahead, next_passed}
-use Rattle.inf_turn_laws.proofs.Grouping.{closed_once}
+use Rattle.inf_program.proofs.Grouping.{closed_once}
 
 -- One statement ends
 

@@ -15,7 +15,7 @@ use Rattle.inf_statement_laws.specs.Happenings.{Acts, Between, Happening, Takes}
 use Rattle.inf_statement_laws.specs.Readings.{Seen, behind_ends, behind_token, plainly_at, token_happenings}
 use Rattle.inf_language.specs.Texts.{NoneClosesAhead, happenings_of}
 use Rattle.inf_turn_laws.specs.Acted.{text_happenings}
-use Rattle.inf_turn_laws.proofs.Chosen.{EndWithToken, ends_behind, only, row_ends}
+use Rattle.inf_program.proofs.Chosen.{EndWithToken, ends_behind, only, row_ends}
 
 -- The first token of a derivation, which is taken as `now`. The happenings of the derivation, by its first token and the others, are those
 -- of the token and then those of the derivation that goes on behind it.

@@ -1,11 +1,3 @@
-pub mod Readers
-pub mod Handed
-pub mod States
-pub mod Followed
-pub mod Turns
-pub mod Stepping
-pub mod Grouping
-pub mod Chosen
 pub mod Derived
 pub mod Ahead
 pub mod Acted

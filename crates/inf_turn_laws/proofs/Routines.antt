@@ -28,12 +28,13 @@ use Rattle.inf_statement_laws.proofs.Reading.{routines_are_read_whole}
 use Rattle.inf_language.specs.Texts.{atoms_of}
 use Rattle.inf_language.proofs.TextsActed.{rule_is_spaced, texts_do_their_actions}
 use Rattle.inf_turn_laws.specs.Acted.{seen_in, text_happenings}
-use Rattle.inf_turn_laws.specs.Pieces.{AllFit, Reads, grouped, piece_first}
+use Rattle.inf_program.specs.definition.Steps.{Reads}
+use Rattle.inf_program.specs.Turns.{AllFit, grouped, piece_first}
 use Rattle.inf_turn_laws.specs.Routines.{LaysRoutine, TurnsReadRoutinesWhole}
 use Rattle.inf_turn_laws.proofs.Acted.{all_fit_by}
-use Rattle.inf_turn_laws.proofs.Chosen.{EndWithToken, none_left, pieces_end}
+use Rattle.inf_program.proofs.Chosen.{EndWithToken, none_left, pieces_end}
 use Rattle.inf_turn_laws.proofs.Derived.{First, first_by}
-use Rattle.inf_turn_laws.proofs.Grouping.{whole_piece}
+use Rattle.inf_program.proofs.Grouping.{whole_piece}
 
 -- No symbol is left behind a text that ends with a token.
 nothing_left : (seen : List Seen) (symbols : List (Symbol Action)) (events : List (Event Action))

@@ -16,21 +16,14 @@ use Rattle.inf_reader.specs.Reading.{between, piece_rule}
 use Rattle.inf_reader.specs.declared.recovery.Recovery.TheVariants as mode
 use Rattle.inf_session.specs.Choices.{Choices}
 use Rattle.inf_session.specs.Session.{State, context_of, stepped}
-use Rattle.inf_laws.specs.KeptTokens.{Kept, Unfit}
+use Rattle.inf_laws.specs.KeptTokens.{Kept}
 use Rattle.inf_statement_laws.specs.Happenings.{Acts, Between, Happening, Takes}
 use Rattle.inf_statement_laws.specs.Laid.{next_comes, passed, run}
 use Rattle.inf_statement_laws.specs.Readings.{Seen, all_taken, behind_ends, behind_token, plainly_at}
 use Rattle.inf_language.specs.Texts.{NoneClosesAhead, atoms_of, happenings_of}
-use Rattle.inf_turn_laws.specs.Pieces.{AreQuiet, Ends, Passes, Reads, Step, all_steps, grouped}
-use Rattle.inf_turn_laws.specs.Writing.{silent_turned}
-
--- all tokens are kept
-abbrev pub AllKept : List Step → Type 0
-AllKept [] = Unit {0}
-AllKept (Reads (Kept t) ∷ steps) = AllKept steps
-AllKept (Reads (Unfit t) ∷ steps) = ⊥
-AllKept (Passes m ∷ steps) = AllKept steps
-AllKept (Ends m ∷ steps) = AllKept steps
+use Rattle.inf_program.specs.definition.Steps.{Passes, Reads, Step}
+use Rattle.inf_program.specs.Turns.{AreQuiet, all_steps, grouped}
+use Rattle.inf_program.specs.Writing.{silent_turned}
 
 -- the tokens of a piece that begins with a token, each with the effect behind it
 abbrev pub seen_in : SourceToken → List Step → List Seen

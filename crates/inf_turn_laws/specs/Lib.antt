@@ -1,4 +1,2 @@
-pub mod Writing
-pub mod Pieces
 pub mod Acted
 pub mod Routines

@@ -21,9 +21,11 @@ use Rattle.inf_statement_laws.specs.Happenings.{Between}
 use Rattle.inf_statement_laws.specs.Laid.{next_comes, passed}
 use Rattle.inf_statement_laws.specs.Readings.{Routine, Seen, all_happenings, routine_happenings, routine_laid}
 use Rattle.inf_language.specs.Texts.{atoms_of}
-use Rattle.inf_turn_laws.specs.Acted.{AllKept, seen_in}
-use Rattle.inf_turn_laws.specs.Pieces.{AreQuiet, Passes, Reads, Step, all_steps}
-use Rattle.inf_turn_laws.specs.Writing.{silent_turned}
+use Rattle.inf_program.specs.definition.Steps.{AllKept}
+use Rattle.inf_turn_laws.specs.Acted.{seen_in}
+use Rattle.inf_program.specs.definition.Steps.{Passes, Reads, Step}
+use Rattle.inf_program.specs.Turns.{AreQuiet, all_steps}
+use Rattle.inf_program.specs.Writing.{silent_turned}
 
 -- Tells whether tokens are those of a routine, which leads as a whole from one compilation to another.
 pub record LaysRoutine (limits : Limits) (context : Context) (seen : List Seen) (before after : Compilation) : Type 0 where

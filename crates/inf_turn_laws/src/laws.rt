@@ -1,22 +1,7 @@
-//! Laws of the turns of a reading.
+//! Laws of the turns through a piece.
 ghost use Rattle.inf_settings.specs.Bounds.{Limits};
 ghost use Rattle.inf_turn_laws.specs.Acted.{PiecesDoTheirActions};
-ghost use Rattle.inf_turn_laws.specs.Pieces.{TurnsTakeTokens};
 ghost use Rattle.inf_turn_laws.specs.Routines.{TurnsReadRoutinesWhole};
-ghost use Rattle.inf_turn_laws.specs.Writing.{LinesAreWrittenAtAnyTime};
-
-/// Shows that turns which write their messages lead to the same state as turns which write none, but that there all lines are still
-/// to be written.
-pub fn lines_are_written_at_any_time()
-    ensures { (limits : Limits) → LinesAreWrittenAtAnyTime limits }
-{}
-
-/// Shows that turns behind which nothing else happens have the effect of the tokens that they hand on, one behind the other, and of the
-/// conditional directives between them; and that within a piece this is the effect of the tokens as the machine of the grammar takes
-/// them, each with the effect of the conditional directives behind it.
-pub fn turns_take_tokens()
-    ensures { (limits : Limits) → TurnsTakeTokens limits }
-{}
 
 /// Shows that turns through a piece, whose kept tokens are a text of the grammar, have the effect of the text's actions, each at the
 /// place of the token that comes next, and of the tokens, which are taken in their order; and that conditional directives between them

@@ -1,6 +1,6 @@
 //! The limits that the system sets a run: on its stack, and on the size of its files.
 use crate::Failure;
-use inf_compile::NameHashing;
+use inf_program::NameHashing;
 use inf_devices::failures::Failures;
 use inf_devices::sinks::{Sink, SinkFault};
 use std::fs;

@@ -5,8 +5,8 @@ mod reason;
 
 use inf_command::command_line::{self, CommandLine, Options, WordFault};
 use inf_command::dates;
-use inf_compile::{Fault, NameHashing, Status, compile};
 use inf_disk::disk::{DiskFiles, OutputSink, StoryPlace, StorySink};
+use inf_program::{Fault, NameHashing, Status, compile};
 use jiff::Timestamp;
 use jiff::tz::Offset;
 use limits::{Limited, Limits};

@@ -1,11 +1,10 @@
 //! The story that a compilation writes, and the end of one where a device fails.
-use crate::running::{Ended, assert_written, read, read_folder};
-use inf_compile::{Fault, Status};
+use crate::running::{Ended, assert_written, read, read_folder, run};
 use inf_devices::files::Files;
 use inf_devices::memory_sink::MemorySink;
 use inf_devices::sinks::Sink;
+use inf_program::{Fault, Status};
 use inform_trials::devices::{Narrow, folder};
-use inform_trials::running::run;
 use std::alloc::Global;
 use std::process::Abort;
 use std::test::Fail;

@@ -1,10 +1,9 @@
 //! Each call of a device fails in turn: openings and reads of files, writes of messages and of the story.
 use crate::fault_rows::{ROWS, Row};
-use crate::running::{assert_holds, assert_written, fail_to_read, read};
-use inf_compile::{Fault, Status};
+use crate::running::{assert_holds, assert_written, fail_to_read, read, run};
 use inf_devices::memory_sink::MemorySink;
+use inf_program::{Fault, Status};
 use inform_trials::devices::{Fused, Narrow, folder_of};
-use inform_trials::running::run;
 use std::alloc::Global;
 use std::process::Abort;
 use std::test::Fail;

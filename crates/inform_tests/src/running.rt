@@ -1,16 +1,51 @@
 //! A compilation, and the outcome that is expected of it.
-use inf_compile::{Fault, Status};
+use inf_command::command_line::CommandLine;
 use inf_devices::files::Files;
 use inf_devices::memory_sink::MemorySink;
+use inf_devices::sinks::Sink;
+use inf_program::compile::compile;
+use inf_program::{Fault, NameHashing, Status};
 use inform_trials::devices::folder_of;
-use inform_trials::running::run_words;
 use std::alloc::Global;
 use std::fmt::Debug;
 use std::process::Abort;
 use std::test::Fail;
 
+/// The date of the stories.
+const DATE: [u8; 6] = *b"260307";
+
 /// The beginning of the last message about a source without an error.
 const NO_ERROR: &str = "Errors: 0, ";
+
+/// Compiles the source that these words name.
+pub fn run_words<F: Files, M: Sink, S: Sink>(
+    alloc: Global,
+    words: &[&str],
+    files: &mut F,
+    messages: &mut M,
+    story: &mut S,
+) -> Result<Result<Status, Fault>, Fail> {
+    let options = CommandLine::read(words)?;
+    Ok(compile(
+        alloc,
+        &options,
+        DATE,
+        NameHashing::new(b""),
+        files,
+        messages,
+        story,
+    ))
+}
+
+/// Compiles `t.inf`.
+pub fn run<F: Files, M: Sink, S: Sink>(
+    alloc: Global,
+    files: &mut F,
+    messages: &mut M,
+    story: &mut S,
+) -> Result<Result<Status, Fault>, Fail> {
+    run_words(alloc, &["t.inf"], files, messages, story)
+}
 
 /// The result of a compilation, and all that it wrote.
 #[derive(Drop)]

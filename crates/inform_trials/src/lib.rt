@@ -1,5 +1,4 @@
-//! Devices of the tests of the compiler, and the call that they try.
+//! Devices of the tests of the compiler.
 #![tactic(auto)]
 
 pub mod devices;
-pub mod running;

@@ -1,0 +1,35 @@
+-- Programs and turns of a reading: the turns of a source do what its program does, and a source has one program at most.
+use Rattle.std.specs.Prelude.{◌≡◌, ℕ, List, Some, true, false}
+use Rattle.inf_settings.specs.Bounds.{Limits, limits_of}
+use Rattle.inf_devices.specs.Files.{Sources}
+use Rattle.inf_session.specs.Choices.{Choices}
+use Rattle.inf_session.specs.Session.{State, has_ended, start, told_out}
+use Rattle.inf_compile.specs.Outcome.{IsOutcome, ending_of}
+use Rattle.inf_program.specs.Writing.{silent_run}
+use Rattle.inf_program.specs.definition.NextToken.{afresh}
+use Rattle.inf_program.specs.definition.Program.{IsProgram}
+
+-- Some turns end reading in the state `final`, but for the rest of a piece that is broken off there.
+pub record EndsAs (limits : Limits) (sources : Sources) (o : Choices) (final s : State) : Type 0 where
+  pub turns : ℕ
+  pub ends : has_ended (silent_run limits sources o turns s) ≡ true
+  pub same : afresh (silent_run limits sources o turns s) ≡ afresh final
+
+-- Turns, whose messages are still to be written, do what a program does.
+abbrev pub TurnsDoPrograms : Limits → Type 0
+TurnsDoPrograms limits =
+    (sources : Sources) (o : Choices) (final s : State) → IsProgram limits sources o final s → EndsAs limits sources o final s
+
+-- All programs from a state on end in the same state.
+abbrev pub ProgramsEndInOneWay : Limits → Type 0
+ProgramsEndInOneWay limits =
+    (sources : Sources) (o : Choices) (first second s : State) → IsProgram limits sources o first s → IsProgram limits sources o second s
+    → afresh first ≡ afresh second
+
+-- The ending of the program of a main source, behind its messages, is the outcome of the source, unless reading ends before its first
+-- token.
+abbrev pub ProgramsHaveTheirOutcome : Type 0
+ProgramsHaveTheirOutcome =
+    (sources : Sources) (o : Choices) (serial name source : List ℕ) (final : State) → sources name ≡ Some source
+    → has_ended (start sources o name) ≡ false → IsProgram (limits_of o.settings) sources o final (start sources o name)
+    → IsOutcome sources o serial name (ending_of (limits_of o.settings) o serial (told_out final))

@@ -1,0 +1,35 @@
+-- Readings are programs; so each main source has one.
+use Rattle.std.specs.Prelude.{◌≡◌, ℕ, List, Some, true}
+use Rattle.inf_settings.specs.Bounds.{Limits, limits_of}
+use Rattle.inf_devices.specs.Files.{Sources}
+use Rattle.inf_session.specs.Choices.{Choices}
+use Rattle.inf_session.specs.Session.{State, has_ended, start}
+use Rattle.inf_reader.specs.Reading.{between}
+use Rattle.inf_reader.specs.declared.recovery.Recovery.TheVariants as mode
+use Rattle.inf_program.specs.Writing.{silent_run}
+use Rattle.inf_program.specs.definition.NextToken.{afresh}
+use Rattle.inf_program.specs.definition.Program.{IsProgram}
+use Rattle.inf_program.specs.Regular.{AreRegular}
+
+-- A program from a state on that ends as `n` turns do, but for the rest of a piece that is broken off there.
+pub record ProgramOf (limits : Limits) (sources : Sources) (o : Choices) (n : ℕ) (s : State) : Type 0 where
+  pub final : State
+  pub is_program : IsProgram limits sources o final s
+  pub same : afresh (silent_run limits sources o n s) ≡ afresh final
+
+-- Where regular turns from a state between two pieces end reading, they are a program.
+abbrev pub RegularReadingsArePrograms : Limits → Type 0
+RegularReadingsArePrograms limits =
+    (sources : Sources) (o : Choices) (n : ℕ) (s : State) → s.reading ≡ between mode.Reads → AreRegular limits sources o n s
+    → has_ended (silent_run limits sources o n s) ≡ true → ProgramOf limits sources o n s
+
+-- Each turn of the reading of a main source is regular.
+abbrev pub SourcesAreRegular : Type 0
+SourcesAreRegular =
+    (sources : Sources) (o : Choices) (name : List ℕ) (n : ℕ) → AreRegular (limits_of o.settings) sources o n (start sources o name)
+
+-- A main source has a program.
+abbrev pub SourcesHavePrograms : Type 0
+SourcesHavePrograms =
+    (sources : Sources) (o : Choices) (name source : List ℕ) → sources name ≡ Some source
+    → (final : State) × IsProgram (limits_of o.settings) sources o final (start sources o name)

@@ -1,0 +1,93 @@
+ghost use Rattle.std.specs.Prelude.{◌≡◌, IsTrue, IfOk, IfErr, MatchResult, Ok, OnOk, OnErr};
+ghost use Rattle.inf_devices.specs.Files.{Rose};
+ghost use Rattle.inf_command.specs.FileNames.{source_name};
+ghost use Rattle.inf_session.specs.Delivered.{EndsClean};
+ghost use Rattle.inf_session.specs.Faults.{HidesNoFailure, IfRead, IfStory, UnlessStory};
+ghost use Rattle.inf_compile.specs.Comes.{Heard, IsUnread, OpenedBy, OpenedPart};
+ghost use Rattle.inf_compile.specs.Compiling.{HasCause, chosen_by, named_by};
+ghost use Rattle.inf_program.specs.Compiling.{Begins, Compiles, DeliversPart};
+
+use inf_command::command_line::Options;
+use inf_compile::{Fault, NameHashing, Status, compile as turns};
+use inf_devices::files::Files;
+use inf_devices::sinks::Sink;
+use std::alloc::Global;
+
+/// Compiles the source that the options name, with the files that it includes: writes each message as soon as it is
+/// found, and the story where no error was found.
+///
+/// The words of the command decide; each matter that they leave open is decided by the head of the source: its lines,
+/// from the first byte on, that begin with `!%`. Their words are read as those of the command, and one is passed over
+/// that the command would refuse, that begins with none of `-`, `$` and `+`, or that has more than 255 bytes or one
+/// that is not of ASCII. An included file has no head.
+///
+/// `date` is the story's serial number, six ASCII digits. `hashing` changes nothing but how long a source takes whose
+/// names were made to fall together. The source's name is the word for it, with `.inf` where its last part has no
+/// extension; a name that is not there is a fatal message, and so is an empty word, for which nothing is opened.
+/// Included files are looked for in the directories of the options. `Status` tells whether an error is among the
+/// messages.
+///
+/// Of the faults, `Memory` is want of memory; `Read` comes where a file could not be opened or read, is longer
+/// than 16,777,216 bytes, or is one of more than 65,535 names, and names it: as it was opened, or where it was not, as
+/// the inclusion has it; `Messages` and `Story` where a write of that sink failed or took nothing, `Story` with the
+/// number of the story's bytes that were written. Only then has the story's sink taken anything beside a whole story.
+pub fn compile<F: Files, M: Sink, S: Sink>(
+    alloc: Global,
+    options: &Options<'_>,
+    date: [u8; 6],
+    hashing: NameHashing,
+    files: &mut F,
+    messages: &mut M,
+    story: &mut S,
+) -> Result<Status, Fault>
+    // With an honest reader, status, messages and story are those of the outcome that the program of its sources gives.
+    ensures headline { IsTrue (F.is_honest files.old) → IfOk result (λ status.
+        Compiles (named_by options.now.source (F.sources files.old)) (chosen_by (F.sources files.old) options.now) date
+        (source_name options.now.source) status (M.taken messages.old) (M.taken messages.new) (S.taken story.old) (S.taken story.new)) }
+
+    // The openings are then those of the reading, in its order, each once, and all were closed again.
+    ensures once { let name = source_name options.now.source in
+        IsTrue (F.is_honest files.old) → OnOk result
+        (OpenedBy (named_by options.now.source (F.sources files.old) name) (named_by options.now.source (F.sources files.old))
+        (chosen_by (F.sources files.old) options.now) name (F.openings files.old) (F.openings files.new)) }
+
+    // Where a fault is returned, the openings are those of the reading up to some turn.
+    ensures opened { IsTrue (F.is_honest files.old) → OnErr result
+        (OpenedPart (named_by options.now.source (F.sources files.old)) (chosen_by (F.sources files.old) options.now)
+        (source_name options.now.source) (F.openings files.old) (F.openings files.new)) }
+
+    // Where a fault is returned, a front of the outcome's messages was written.
+    ensures begins { IsTrue (F.is_honest files.old) → OnErr result
+        (Begins (named_by options.now.source (F.sources files.old)) (chosen_by (F.sources files.old) options.now) date
+        (source_name options.now.source) (M.taken messages.old) (M.taken messages.new)) }
+
+    // After a fault of reading it is all that comes with the tokens that were read, of some number of turns from the start, and behind them
+    // there is a cause: the device failed, the innermost file is too long, or its inclusion names one file too many. In the head of the
+    // source nothing was written before it.
+    ensures heard { let name = source_name options.now.source in
+        IsTrue (F.is_honest files.old) → IfErr result (λ fault. IfRead fault (λ told. Heard (Rose (F.faults files.old) (F.faults files.new))
+        (named_by options.now.source (F.sources files.old)) (chosen_by (F.sources files.old) options.now) name
+        (F.openings files.old) (F.openings files.new) (M.taken messages.old) (M.taken messages.new) told)) }
+
+    // With any reader nothing is left open, no story comes with an error, and where a story came, whole or in part, the messages that were
+    // written end with the line that tells of no error.
+    ensures depth { F.depth files.new ≡ F.depth files.old }
+    ensures errors { result ≡ Ok Status.Errors → S.taken story.new ≡ S.taken story.old }
+    ensures clean { MatchResult result (λ status. status ≡ Status.Success → EndsClean (M.taken messages.old) (M.taken messages.new))
+        (λ fault. IfStory fault (λ n. EndsClean (M.taken messages.old) (M.taken messages.new))) }
+
+    // With any reader a fault has its cause.
+    ensures fault { IfErr result (λ fault. HasCause fault (λ name. IsUnread F.Files files.old files.new)
+        (Rose (M.failures messages.old) (M.failures messages.new)) (λ n. Rose (S.failures story.old) (S.failures story.new))) }
+
+    // Before a fault of the story's sink, the messages of the outcome were written, and a front of its story; before
+    // another fault that sink took nothing and did not fail. Nor did that of the messages where another fault, or none, is told.
+    ensures part { IsTrue (F.is_honest files.old) → IfErr result (λ fault. IfStory fault (λ n.
+        DeliversPart (named_by options.now.source (F.sources files.old)) (chosen_by (F.sources files.old) options.now) date
+        (source_name options.now.source) n (M.taken messages.old) (M.taken messages.new) (S.taken story.old) (S.taken story.new))) }
+    ensures untouched { IfErr result (λ fault.
+        UnlessStory fault ((S.taken story.new ≡ S.taken story.old) × (S.failures story.new ≡ S.failures story.old))) }
+    ensures quiet { HidesNoFailure result (M.failures messages.old) (M.failures messages.new) }
+{
+    turns::compile(alloc, options, date, hashing, files, messages, story)
+}

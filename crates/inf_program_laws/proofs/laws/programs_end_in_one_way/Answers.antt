@@ -1,5 +1,0 @@
-use Rattle.inf_program_laws.proofs.Programs.{programs_end_in_one_way}
-use Rattle.inf_program_laws.proofs.laws.programs_end_in_one_way.Goals as goal
-
-pub returns : goal.returns
-returns c = programs_end_in_one_way

@@ -1,5 +1,0 @@
-use Rattle.inf_program_laws.proofs.Programs.{turns_do_programs}
-use Rattle.inf_program_laws.proofs.laws.turns_do_programs.Goals as goal
-
-pub returns : goal.returns
-returns c = turns_do_programs

@@ -1,9 +1,0 @@
-pub mod EndStacks
-pub mod Asking
-pub mod Shapes
-pub mod RegularTurns
-pub mod Forward
-pub mod FrontTurns
-pub mod Soundness
-pub mod Readings
-pub mod Existing

@@ -1,5 +1,0 @@
-use Rattle.inf_reading_laws.proofs.Readings.{regular_readings_are_programs}
-use Rattle.inf_reading_laws.proofs.laws.regular_readings_are_programs.Goals as goal
-
-pub returns : goal.returns
-returns c = regular_readings_are_programs

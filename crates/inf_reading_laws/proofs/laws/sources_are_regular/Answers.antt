@@ -1,5 +1,0 @@
-use Rattle.inf_reading_laws.proofs.Existing.{sources_are_regular}
-use Rattle.inf_reading_laws.proofs.laws.sources_are_regular.Goals as goal
-
-pub returns : goal.returns
-returns c = sources_are_regular

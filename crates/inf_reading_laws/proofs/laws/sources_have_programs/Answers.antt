@@ -1,5 +1,0 @@
-use Rattle.inf_reading_laws.proofs.Existing.{sources_have_programs}
-use Rattle.inf_reading_laws.proofs.laws.sources_have_programs.Goals as goal
-
-pub returns : goal.returns
-returns c = sources_have_programs

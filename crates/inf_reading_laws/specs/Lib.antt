@@ -1,2 +1,0 @@
-pub mod Regular
-pub mod Laws
