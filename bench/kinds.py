@@ -8,7 +8,8 @@ both compilers by callgrind, in millions, their ratio, and how many of ours a to
 program and in the system, the least of N runs (21) that alternate, and its ratio. Both have to compile each source without an error.
 
 It needs `inform6` (apt-get install inform6-compiler) and `valgrind` (apt-get install valgrind). The sources are made in a temporary
-folder; with `--in FOLDER` they are made in that one and stay. With `--only KIND` there is one row.
+folder; with `--in FOLDER` they are made in that one and stay, and the profiles of the last kind, for `callgrind_annotate`. With
+`--only KIND` there is one row.
 """
 
 import os
@@ -39,7 +40,7 @@ def row_of(kind, program, count, folder):
     """The cells of a kind."""
     file, tokens = source_of(kind, folder)
     runs = [compilation(name, file, folder / "story.z5") for name in (program, OTHER)]
-    mine, other = (instructions(words, folder / "profile.callgrind") for words in runs)
+    mine, other = (instructions(words, folder / f"{name}.callgrind") for words, name in zip(runs, ("ours", "other")))
     times = [[cost(words)[1] for words in runs] for _ in range(count)]
     quick, beside = (1000 * min(column) for column in zip(*times))
     return [kind, f"{tokens:,}", f"{mine / 1e6:.0f}", f"{other / 1e6:.0f}", f"{mine / other:.2f}", f"{mine / tokens:,.0f}",
