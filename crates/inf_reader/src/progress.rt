@@ -182,6 +182,7 @@ impl<B: Bounds> Progress<B> {
     }
 
     /// Takes the first token of a new piece, where none is at hand.
+    #[inline(never)]
     fn read_first(
         &mut self,
         context: &Context<'_>,
@@ -215,6 +216,8 @@ impl<B: Bounds> Progress<B> {
     }
 
     /// Reports the bad token of a piece, and passes over it.
+    #[cold]
+    #[inline(never)]
     fn bad(&mut self, context: &Context<'_>, token: &SourceToken<'_>) -> Result<(), AllocError>
         ensures { let before = reading self.old.reader in
             OnOk result (standing self.new ≡ bad B.most (handed context.now) (spelled token.now) before (work self.old.work)) }
@@ -234,6 +237,8 @@ fn hash(place: Place) -> SourceToken<'static>
 }
 
 /// Reports the fault of a token at a line: a text that is too long ends the compilation.
+#[cold]
+#[inline(never)]
 fn complain(
     report: &mut Diagnostics,
     at: Location<'_>,
