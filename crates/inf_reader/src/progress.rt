@@ -107,7 +107,29 @@ impl<B: Bounds> Progress<B> {
     }
 
     /// Takes the next token of a source, with its result among conditionals, `judged`.
+    #[inline(always)]
     pub fn take_judged(
+        &mut self,
+        context: &Context<'_>,
+        token: &SourceToken<'_>,
+        judged: Filtered,
+    ) -> Result<(), AllocError>
+        ensures { OnOk result (standing self.new ≡ judged_taken B.most (handed context.now) (spelled token.now) judged
+            (standing self.old)) }
+    {
+        if judged.sign.is_none() && judged.unmatched.is_none() && judged.ended.is_none() {
+            return match judged.token {
+                Some(forwarded) => self.hand(context, token, forwarded),
+                None => Ok(()),
+            };
+        }
+        self.take_whole(context, token, judged)
+    }
+
+    /// Takes the next token of a source with its result, as `take_judged` does. It stands apart, since of most tokens nothing comes but
+    /// that they are handed on.
+    #[inline(never)]
+    fn take_whole(
         &mut self,
         context: &Context<'_>,
         token: &SourceToken<'_>,
