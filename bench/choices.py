@@ -47,6 +47,7 @@ class Source:
         """Starts a source that is to have about so many bytes."""
         self.some = random.Random(seed)
         self.size, self.length, self.parts = size, 0, []
+        self.files = {}         # what stands in files beside it, by their names
         self.put("Constant Grammar__Version 2;\n")
 
     def put(self, *texts):

@@ -119,6 +119,7 @@ impl Conditionals {
     }
 
     /// Takes the next token of the innermost file, and returns its result.
+    #[inline(always)]
     pub fn take<B: Bounds>(
         &mut self,
         site: Site,
@@ -130,6 +131,19 @@ impl Conditionals {
         if self.keeps(site, token) {
             return Ok(KEPT);
         }
+        self.take_other(site, out, token)
+    }
+
+    /// Takes the next token, as `take` does. It stands apart, since a first look shows of most tokens that they are kept.
+    #[inline(never)]
+    fn take_other<B: Bounds>(
+        &mut self,
+        site: Site,
+        out: &Output<B>,
+        token: &SourceToken<'_>,
+    ) -> Result<Filtered, AllocError>
+        ensures { IfOk result (λ j. record { now = self.new; judged = j } ≡ judged site out.now (spelled token.now) self.old) }
+    {
         if let Some(side) = self.left_out {
             return self.take_in_side(side, site, out, token);
         }
@@ -141,6 +155,7 @@ impl Conditionals {
     }
 
     /// Reports the message about a condition, if there is one. The actions of a condition without an error appear.
+    #[inline(always)]
     pub fn tell<B: Bounds>(
         &mut self,
         files: &Stack,
@@ -151,6 +166,24 @@ impl Conditionals {
         ensures right { OnOk result (out.new ≡ with_right B.most self.old.said out.old) }
         ensures silent { OnOk result (self.new ≡ silent self.old) }
         ensures memory { IsErr result → IsSome self.old.said }
+    {
+        if self.said.is_none() {
+            return Ok(());
+        }
+        self.tell_said(files, report, out)
+    }
+
+    /// Reports the message about a condition, as `tell` does. It stands apart, since there is none behind most tokens.
+    #[inline(never)]
+    fn tell_said<B: Bounds>(
+        &mut self,
+        files: &Stack,
+        report: &mut Diagnostics,
+        out: &mut Output<B>,
+    ) -> Result<(), AllocError>
+        ensures told { OnOk result (report.new ≡ with_said files.now.names self.old.said report.old) }
+        ensures right { OnOk result (out.new ≡ with_right B.most self.old.said out.old) }
+        ensures silent { OnOk result (self.new ≡ silent self.old) }
     {
         if let Some(said) = &self.said {
             said.tell(files, report)?;

@@ -1,10 +1,14 @@
 -- The bytes that the innermost source gives, reading by reading.
-use Rattle.std.proofs.Common.{◌≡◌, ℕ, suc, ◌+◌, ◌-◌, ◌≤◌, zero, List, [], ◌∷◌, ◌++◌, length, take, drop, get_or, Bool, true, false, IsTrue}
-use Rattle.std.proofs.Common.{Some, unwrap_or, refl, sym, ap, subst, ◌∙◌, arith, append-nil, append_assoc, length-append}
-use Rattle.std.specs.Prelude.{slice_get, slice_set}
-use Rattle.std.proofs.lemmas.List.{length-set, drop-take, drop-drop, take-append-le}
+use Rattle.std.proofs.Common.{◌≡◌, ℕ, suc, ◌+◌, ◌-◌, ◌<◌, ◌≤◌, zero, List, [], ◌∷◌, ◌++◌, length, take, drop, get_or, Bool, true, false}
+use Rattle.std.proofs.Common.{IsTrue, Some, Result, Ok, Err, unwrap_or, refl, sym, ap, subst, ◌∙◌, arith}
+use Rattle.std.proofs.Common.{append-nil, append_assoc, length-append}
+use Rattle.std.specs.Prelude.{IfOk, nat_eq, slice_get, slice_set}
+use Rattle.std.proofs.lemmas.List.{length-set, drop-take, drop-drop, take-append-le, with_items_is}
+use Rattle.std.specs.Global.{Vec}
+use Rattle.std.specs.Vec.{with_items}
 use Rattle.std.proofs.Math.Seq.{get_or-append_seam}
-use Rattle.inf_devices.specs.Files.{Opening, Openings, Sources, GivesInnermost, opened, after_bytes}
+use Rattle.inf_devices.specs.Files.{Opening, Openings, Sources, GivesInnermost, Reads, opened, after_bytes}
+use Rattle.inf_devices.specs.declared.files.ReadFault.{ReadFault}
 use Rattle.inf_lexer.specs.Unread.{innermost_place, innermost, unread_of, unread, Gave, View, ReadsOn}
 
 -- a source gave no bytes
@@ -122,6 +126,29 @@ nothing_left sources old new bytes g none =
       ap (λ (o : Opening). o.is_read_out) is ∙ ap (λ bs. (after_bytes g.before bs).is_read_out) none,
     )
 
+-- behind a reading that gave bytes nothing says that the source's end was read
+after_some : (before : Opening) (count : ℕ) (bytes : List ℕ) → count ≤ length bytes → nat_eq count 0 ≡ false
+    → (after_bytes before (take count bytes)).is_read_out ≡ before.is_read_out
+after_some before zero bytes few some = cc
+after_some before (suc n) [] few some = absurd (omega arith)
+after_some before (suc n) (b ∷ bytes) few some = refl
+
+-- Where the innermost source gives bytes, its end was read only if it was before.
+pub still_open : (sources : Sources) (old new : Openings) (count : ℕ) (bytes : List ℕ) → GivesInnermost sources old new (take count bytes)
+    → count ≤ length bytes → nat_eq count 0 ≡ false → (innermost old).is_read_out ≡ false → (innermost new).is_read_out ≡ false
+still_open sources old new count bytes g few some before =
+    let here : innermost_place old ≡ g.place =
+    ap (λ (places : List ℕ). get_or places (length places - 1) 0) g.innermost ∙ last_place g.outer g.place in
+    let places : new.open_places ≡ old.open_places = ap (λ (o : Openings). o.open_places) g.after in
+    let all : new.all ≡ slice_set old.all g.place (after_bytes g.before (take count bytes)) = ap (λ (o : Openings). o.all) g.after in
+    let here_new : innermost_place new ≡ g.place = ap (λ (places : List ℕ). get_or places (length places - 1) 0) places ∙ here in
+    let was : innermost old ≡ g.before = ap (λ n. get_or old.all n (opened [])) here ∙ found_at old.all g.place g.before g.was_opened in
+    let is : innermost new ≡ after_bytes g.before (take count bytes) =
+    ap (λ n. get_or new.all n (opened [])) here_new ∙ ap (λ os. get_or os g.place (opened [])) all
+    ∙ set_at old.all g.place g.before (after_bytes g.before (take count bytes)) g.was_opened in
+    ap (λ (o : Opening). o.is_read_out) is ∙ after_some g.before count bytes few some
+    ∙ ap (λ (o : Opening). o.is_read_out) (sym was) ∙ before
+
 -- the bytes in a window that has some taken
 pub window_behind : (n next end : ℕ) (buffer : List ℕ) → next + n ≤ end →
     take (end - (next + n)) (drop (next + n) buffer) ≡ drop n (take (end - next) (drop next buffer))
@@ -147,5 +174,14 @@ reads_first is_honest sources old new before after bytes empty on gave left give
 pub gave_same : (sources : Sources) (old new : Openings) → new ≡ old → Gave sources old new []
 gave_same sources old new e = subst (λ o. Gave sources old o []) (sym e) (gave_nothing sources old)
 
-pub whole_window : (count : ℕ) (front back : List ℕ) → count ≤ length front → take (count - 0) (front ++ back) ≡ take count front
-whole_window count front back few = ap (λ n. take n (front ++ back)) (omega arith) ∙ take-append-le count front back few
+-- the first bytes of those that a reading wrote to, in a window of which nothing was taken
+pub written_window : (count : ℕ) (bytes : Vec ℕ) (new : List ℕ) → length new ≡ bytes.len
+    → take (count - 0) (with_items bytes new).items ≡ take count new
+written_window count bytes new same = ap (take (count - 0)) (with_items_is bytes new same) ∙ ap (λ n. take n new) (omega arith)
+
+-- what a reading wrote to the front of some bytes stands at the front of all of them
+pub reads_front : (sources : Sources) (old new : Openings) (front back : List ℕ) (result : Result ℕ ReadFault)
+    → IfOk result (λ n. n ≤ length front) → Reads sources old new front result → Reads sources old new (front ++ back) result
+reads_front sources old new front back (Ok n) few reads =
+    subst (λ bytes. GivesInnermost sources old new bytes) (sym (take-append-le n front back few)) reads
+reads_front sources old new front back (Err fault) few reads = reads

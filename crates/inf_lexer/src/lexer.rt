@@ -185,7 +185,7 @@ impl Lexer {
             set,
             limit,
             file,
-            window: Window::new(),
+            window: Window::new(alloc)?,
             seen: Seen::new(alloc)?,
             has_failed: false,
         })

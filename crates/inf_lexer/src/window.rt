@@ -1,11 +1,12 @@
 //! A source seen through a window.
 ghost use Rattle.std.specs.Prelude.{◌≡◌, ◌+◌, ◌-◌, ◌<◌, ◌≤◌, ◌^◌, ◌⊎◌, ◌∷◌, [], drop, length, min, false, true, IsTrue, IsErr, IfOk};
-ghost use Rattle.std.specs.Prelude.{IfErr, OnOk};
-ghost use Rattle.inf_devices.specs.Files.{Rose, last_count};
+ghost use Rattle.std.specs.Prelude.{IfErr, IsOk, OnErr, OnOk};
+ghost use Rattle.inf_devices.specs.Files.{Reads, Rose, last_count};
 ghost use Rattle.inf_lexer.specs.Unread.{Ends, ReadsOn, StillGives};
 
 use crate::faults::LexFault;
-use inf_devices::files::Files;
+use inf_devices::files::{Files, ReadFault};
+use std::alloc::{AllocError, Global};
 use std::marker::Model;
 
 /// The most bytes that a source may have.
@@ -15,10 +16,10 @@ const MOST_SOURCE_BYTES: usize = 16_777_216;
 const SIZE: usize = 4096;
 
 /// The bytes of a source that were given and not taken yet, at most 4,096, the number of all that were given, and whether the
-/// end was read. Behind the end nothing is read any more.
+/// end was read. Behind the end nothing is read any more. The bytes have memory of their own, so that moving a window moves none of them.
 #[derive(Drop)]
 pub(crate) struct Window {
-    buffer: [u8; SIZE],
+    buffer: Vec<u8>,
     next: usize,
     end: usize,
     given: usize,
@@ -26,28 +27,28 @@ pub(crate) struct Window {
 }
 
 impl Model for Window {
-    ghost use Rattle.std.specs.Prelude.{◌+◌, ◌-◌, ◌≤◌, take, drop};
+    ghost use Rattle.std.specs.Prelude.{◌≡◌, ◌+◌, ◌-◌, ◌≤◌, length, take, drop};
     ghost use Rattle.inf_lexer.specs.Unread.{View};
 
     ghost Value = { View };
 
-    ghost view = { λ w. record { left = take (w.end - w.next) (drop w.next w.buffer); given = w.given; is_over = w.is_over } };
+    ghost view = { λ w. record { left = take (w.end - w.next) (drop w.next w.buffer.items); given = w.given; is_over = w.is_over } };
 
-    ghost invariant = { λ w. (w.next ≤ w.end) × (w.end ≤ 4096) × (w.end ≤ w.given + w.next) };
+    ghost invariant = { λ w. (w.next ≤ w.end) × (w.end ≤ 4096) × (w.end ≤ w.given + w.next) × (length w.buffer.items ≡ 4096) };
 }
 
 impl Window {
     /// Returns a window of a source of which nothing was given yet.
-    pub(crate) fn new() -> Window
-        ensures { result ≡ record { left = []; given = 0; is_over = false } }
+    pub(crate) fn new(alloc: Global) -> Result<Window, AllocError>
+        ensures { IfOk result (λ window. window ≡ record { left = []; given = 0; is_over = false }) }
     {
-        Window {
-            buffer: [0; SIZE],
+        Ok(Window {
+            buffer: vec![in alloc; 0; SIZE]?,
             next: 0,
             end: 0,
             given: 0,
             is_over: false,
-        }
+        })
     }
 
     /// Reads once from the source where nothing is in view, unless the end was read. Fails with `Read` where the source cannot
@@ -92,7 +93,7 @@ impl Window {
     pub(crate) fn left(&self) -> &[u8]
         ensures { result.now ≡ self.now.left }
     {
-        &self.buffer[self.next..self.end]
+        &self.buffer.as_slice()[self.next..self.end]
     }
 
     /// Reads once into a window in which nothing is left. No byte is read past as many as a source may have, but for one that
@@ -129,7 +130,7 @@ impl Window {
         self.next = 0;
         self.end = 0;
         let room = (MOST_SOURCE_BYTES - self.given).clamp(1, SIZE);
-        let Ok(count) = files.read(&mut self.buffer[..room]) else {
+        let Ok(count) = read_front(self.buffer.as_mut_slice(), room, files) else {
             return Err(LexFault::Read);
         };
         self.end = count;
@@ -150,4 +151,26 @@ impl Window {
     {
         self.next += n;
     }
+}
+
+/// Reads once into the first `room` places of `bytes`, and returns the number of bytes that were read.
+#[tactic(auto, using(crate::proofs::Giving::reads_front))]
+fn read_front<F: Files>(bytes: &mut [u8], room: usize, files: &mut F) -> Result<usize, ReadFault>
+    requires is_open { 0 < F.depth files.old }
+    requires room { 0 < room }
+    requires within { room ≤ length bytes.old }
+    ensures reads { IsTrue (F.is_honest files.old) →
+        Reads (F.sources files.old) (F.openings files.old) (F.openings files.new) bytes.new result }
+    ensures count { IfOk result (λ n. n ≤ room) }
+    ensures fits { IfOk result (λ n. n ≤ length bytes.new) }
+    ensures given { IfOk result (λ n. F.given files.new ≡ min (F.given files.old + n) last_count) }
+    ensures same { OnErr result (F.given files.new ≡ F.given files.old) }
+    ensures depth { F.depth files.new ≡ F.depth files.old }
+    ensures opened { F.opened files.new ≡ F.opened files.old }
+    ensures cause { IsErr result → Rose (F.faults files.old) (F.faults files.new) }
+    ensures faults { (F.faults files.old ≤ F.faults files.new) × (IsOk result → F.faults files.new ≡ F.faults files.old) }
+    ensures sources { F.sources files.new ≡ F.sources files.old }
+    ensures honesty { F.is_honest files.new ≡ F.is_honest files.old }
+{
+    files.read(&mut bytes[..room])
 }

@@ -103,6 +103,7 @@ fn act_each<B: Bounds>(
 }
 
 /// Carries out an action, before a token at a place.
+#[inline(always)]
 fn act<B: Bounds>(
     compilation: &mut Compilation<B>,
     context: &Context<'_>,
@@ -182,6 +183,8 @@ fn is_long<B: Bounds>(compilation: &Compilation<B>, context: &Context<'_>) -> bo
 
 /// Passes the operands of the unit at hand, which are more than an instruction has: they name their locals, and the
 /// finding about them is kept.
+#[cold]
+#[inline(never)]
 fn pass_operands<B: Bounds>(compilation: &mut Compilation<B>) -> Result<(), AllocError>
     ensures { OnOk result (work compilation.new ≡ operands_named (work compilation.old)) }
 {
@@ -212,7 +215,8 @@ fn keep_note<B: Bounds>(
     Ok(())
 }
 
-/// Ends the unit at hand as `ending` says, before a token at `place`.
+/// Ends the unit at hand as `ending` says, before a token at `place`. It stands apart, since most actions end none.
+#[inline(never)]
 fn end<B: Bounds>(
     compilation: &mut Compilation<B>,
     context: &Context<'_>,

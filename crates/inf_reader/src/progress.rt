@@ -107,7 +107,29 @@ impl<B: Bounds> Progress<B> {
     }
 
     /// Takes the next token of a source, with its result among conditionals, `judged`.
+    #[inline(always)]
     pub fn take_judged(
+        &mut self,
+        context: &Context<'_>,
+        token: &SourceToken<'_>,
+        judged: Filtered,
+    ) -> Result<(), AllocError>
+        ensures { OnOk result (standing self.new ≡ judged_taken B.most (handed context.now) (spelled token.now) judged
+            (standing self.old)) }
+    {
+        if judged.sign.is_none() && judged.unmatched.is_none() && judged.ended.is_none() {
+            return match judged.token {
+                Some(forwarded) => self.hand(context, token, forwarded),
+                None => Ok(()),
+            };
+        }
+        self.take_whole(context, token, judged)
+    }
+
+    /// Takes the next token of a source with its result, as `take_judged` does. It stands apart, since of most tokens nothing comes but
+    /// that they are handed on.
+    #[inline(never)]
+    fn take_whole(
         &mut self,
         context: &Context<'_>,
         token: &SourceToken<'_>,
@@ -182,6 +204,7 @@ impl<B: Bounds> Progress<B> {
     }
 
     /// Takes the first token of a new piece, where none is at hand.
+    #[inline(never)]
     fn read_first(
         &mut self,
         context: &Context<'_>,
@@ -215,6 +238,8 @@ impl<B: Bounds> Progress<B> {
     }
 
     /// Reports the bad token of a piece, and passes over it.
+    #[cold]
+    #[inline(never)]
     fn bad(&mut self, context: &Context<'_>, token: &SourceToken<'_>) -> Result<(), AllocError>
         ensures { let before = reading self.old.reader in
             OnOk result (standing self.new ≡ bad B.most (handed context.now) (spelled token.now) before (work self.old.work)) }
@@ -234,6 +259,8 @@ fn hash(place: Place) -> SourceToken<'static>
 }
 
 /// Reports the fault of a token at a line: a text that is too long ends the compilation.
+#[cold]
+#[inline(never)]
 fn complain(
     report: &mut Diagnostics,
     at: Location<'_>,

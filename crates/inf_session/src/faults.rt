@@ -44,6 +44,8 @@ impl From<ReportFault> for Fault {
 }
 
 /// Makes the fault that the source with the name `name` could not be read.
+#[cold]
+#[inline(never)]
 pub fn unread(alloc: Global, name: &str) -> Fault
     ensures { Caused result (λ told. told ≡ name.now) ⊥ }
 {

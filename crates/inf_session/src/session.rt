@@ -509,6 +509,7 @@ impl<'a, B: Bounds> Session<'a, B> {
     }
 
     /// Enters the file that the text of an inclusion names, or tells, at the place of its unit, the reason why no file is entered.
+    #[inline(never)]
     fn include<F: Files>(&mut self, files: &mut F, text: &[u8], unit: Place) -> Result<(), Fault>
         requires goes { self.old.open_files.lexer.has_failed ≡ false }
         requires set { IsSet self.old }
@@ -556,6 +557,7 @@ impl<'a, B: Bounds> Session<'a, B> {
 
     /// Leaves a file at its end: tells the conditionals that are open in it. An included file is closed, and reading goes on in the
     /// one that includes it.
+    #[inline(never)]
     fn leave<F: Files>(&mut self, files: &mut F) -> Result<(), Fault>
         requires is_open { length self.old.open_files.outer < F.depth files.old }
         requires set { IsSet self.old }

@@ -343,7 +343,7 @@ fn step<B: Bounds>(
 }
 
 /// Lays all tasks that are left.
-pub(crate) fn lay_all<B: Bounds>(
+fn lay_all<B: Bounds>(
     nodes: &Nodes,
     tasks: &mut Tasks,
     out: &mut Output<B>,
@@ -354,4 +354,18 @@ pub(crate) fn lay_all<B: Bounds>(
         step(nodes, task, tasks, out)?;
     }
     Ok(())
+}
+
+/// Lays `task`, where no other is left, with all tasks that it makes. It is done at once, and is never among the tasks that are left.
+pub(crate) fn lay_first<B: Bounds>(
+    nodes: &Nodes,
+    task: Task,
+    tasks: &mut Tasks,
+    out: &mut Output<B>,
+) -> Result<(), AllocError>
+    requires { tasks.old ≡ [] }
+    ensures { OnOk result (out.new ≡ task_code B.most nodes.now task out.old) }
+{
+    step(nodes, task, tasks, out)?;
+    lay_all(nodes, tasks, out)
 }

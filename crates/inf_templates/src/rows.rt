@@ -8,6 +8,7 @@ ghost use Rattle.inf_templates.specs.Meaning.{and_branch, assign_alone, assign_v
 ghost use Rattle.inf_templates.specs.Meaning.{parts, reader, related, related_opcode, step_alone, step_value, truth_behind, two};
 ghost use Rattle.inf_templates.specs.Weights.{WeighsUnder, load_at, weight};
 ghost use Rattle.inf_templates.specs.Tasks.{Leads, Puts, at, task_code};
+ghost use Rattle.inf_expressions.specs.declared.operators.Binary.TheVariants as binary;
 ghost use Rattle.inf_output.specs.declared.veneer.Veneer.TheVariants as veneer;
 ghost use Rattle.inf_templates.specs.declared.tasks.Task.TheVariants as task;
 ghost use Rattle.inf_templates.specs.declared.tasks.Worked.TheVariants as worked;
@@ -16,7 +17,7 @@ use crate::placing::setter;
 use crate::reading::{Goal, STACK, TEMP, simple, target};
 use crate::tasks::{Argument, Few, Memory, Task, Tasks, Worked};
 use crate::testing::test_branch;
-use inf_expressions::{Binary, Direction, Node, Nodes, PropertyPart, Relative, Unary};
+use inf_expressions::{Binary, Direction, Node, Nodes, Operation, PropertyPart, Relative, Unary};
 use inf_opcode::Label;
 use inf_output::{Output, Simple, Veneer};
 use inf_settings::bounds::Bounds;
@@ -91,11 +92,7 @@ fn two_value<B: Bounds>(
     ensures less { OnOk result (WeighsUnder nodes.now (18 + load_at nodes.now a + load_at nodes.now b) tasks.old tasks.new) }
 {
     match op {
-        Binary::Operation(operation) => tasks.first(&[
-            Task::Evaluate(Argument::Of(b)),
-            Task::Evaluate(Argument::Of(a)),
-            Task::Instruct(Worked::Compute(operation, a, b, to)),
-        ]),
+        Binary::Operation(operation) => operate(nodes, operation, a, b, to, tasks),
         Binary::Property(asked) => property(asked, a, b, Some(to), tasks),
         Binary::Test(test) => {
             let fails = truth(to, tasks, out)?;
@@ -117,6 +114,30 @@ fn two_value<B: Bounds>(
         }
         Binary::Call => call_of(nodes, a, b, Some(to), tasks),
         Binary::Then | Binary::To => tasks.first(&[Task::Value(a, to)]),
+    }
+}
+
+/// Lays an operation, with its value in a variable. Leaves need no task, since an instruction takes them as they are.
+fn operate(
+    nodes: &Nodes,
+    operation: Operation,
+    a: usize,
+    b: usize,
+    to: u8,
+    tasks: &mut Tasks,
+) -> Result<(), AllocError>
+    ensures code { OnOk result ((limits : Limits) → Puts limits nodes.now
+        ((two limits (binary.Operation operation) (at limits nodes.now a) (at limits nodes.now b)).value to) tasks.old tasks.new) }
+    ensures less { OnOk result (WeighsUnder nodes.now (18 + load_at nodes.now a + load_at nodes.now b) tasks.old tasks.new) }
+{
+    let instruct = Task::Instruct(Worked::Compute(operation, a, b, to));
+    match (nodes.node(a), nodes.node(b)) {
+        (Node::Leaf(_), Node::Leaf(_)) => tasks.first(&[instruct]),
+        _ => tasks.first(&[
+            Task::Evaluate(Argument::Of(b)),
+            Task::Evaluate(Argument::Of(a)),
+            instruct,
+        ]),
     }
 }
 

@@ -5,7 +5,7 @@ ghost use Rattle.inf_templates.specs.Parts.{call, call_routine, evaluated, opera
 ghost use Rattle.inf_templates.specs.Tasks.{at, part_of, parts_of, tasks_code};
 ghost use Rattle.inf_templates.specs.declared.tasks.Task.TheVariants as task;
 
-use crate::laying::lay_all;
+use crate::laying::lay_first;
 use crate::placing::{MOST_ARGUMENTS, calling, calling_routine, cut};
 use crate::reading::argument_of;
 use crate::tasks::{Argument, Task, Tasks};
@@ -123,8 +123,7 @@ fn lay<B: Bounds>(
     ensures { OnOk result (out.new ≡ tasks_code B.most nodes.now (task ∷ []) out.old) }
 {
     tasks.clear();
-    tasks.first(&[task])?;
-    lay_all(nodes, tasks, out)
+    lay_first(nodes, task, tasks, out)
 }
 
 /// Lays parts that are not simple into the stack, from the last to the first.

@@ -6,8 +6,8 @@ use Rattle.inf_lexer.proofs.window.Window.pass.Goals as goal
 pub returns-clause-left : goal.returns-clause-left
 returns-clause-left c =
     let inside = c.self.inside in
-    let some : c.args.n ≤ length (take (inside.end - inside.next) (drop inside.next inside.buffer)) =
+    let some : c.args.n ≤ length (take (inside.end - inside.next) (drop inside.next inside.buffer.items)) =
     subst (λ (v : View). c.args.n ≤ length v.left) (sym c.self.view_is) c.requires in
-    window_behind c.args.n inside.next inside.end inside.buffer
-    (omega (arith, some, c.self.invariant.0, length-take (inside.end - inside.next) (drop inside.next inside.buffer)))
+    window_behind c.args.n inside.next inside.end inside.buffer.items
+    (omega (arith, some, c.self.invariant.0, length-take (inside.end - inside.next) (drop inside.next inside.buffer.items)))
     ∙ ap (λ (v : View). drop c.args.n v.left) c.self.view_is
