@@ -20,7 +20,7 @@ use Rattle.inf_scanner.specs.declared.tokens.Place.{Place}
 use Rattle.inf_settings.specs.Bounds.{Limits}
 use Rattle.inf_settings.specs.declared.setting.Setting.{Setting}
 use Rattle.inf_settings.specs.declared.setting.Setting.TheVariants as setting
-use Rattle.inf_tables.specs.Tables.{AllTables, more, references, references_with}
+use Rattle.inf_tables.specs.Tables.{AllTables, more, references}
 use Rattle.inf_unit.specs.Messages.{FileNames, Reported, with_fault, with_full}
 use Rattle.inf_unit.specs.Tokens.{SourceToken}
 use Rattle.inf_unit.specs.Units.{Unit, long_at, long_by, long_from, outer_count, outer_tokens, place_at}

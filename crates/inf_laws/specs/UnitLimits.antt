@@ -1,5 +1,5 @@
 -- The settings that are compared with their counts where an expression or a unit has ended: those of tokens, labels, code and references.
-use Rattle.std.specs.Prelude.{◌≡◌, ◌+◌, ◌≤◌, ℕ, Bool, false, Option, Some, None}
+use Rattle.std.specs.Prelude.{◌≡◌, ◌+◌, ◌≤◌, ℕ, Bool, false, Some, None}
 use Rattle.inf_code.specs.Code.{bytes_of_code, labels, reference_count, references_open}
 use Rattle.inf_compilation.specs.Actions.{Compilation, begun_at, sized, unit_ended}
 use Rattle.inf_compilation.specs.Context.{Context, longest}

@@ -1,5 +1,5 @@
 -- Counts of all that the settings bound, so far.
-use Rattle.std.specs.Prelude.{ℕ, ◌≤◌, ◌≡◌, List, ◌∷◌, [], Bool, true, false, length, map, max}
+use Rattle.std.specs.Prelude.{ℕ, ◌≤◌, ◌≡◌, List, ◌∷◌, Bool, true, false, length, map, max}
 use Rattle.inf_arrays.specs.Arrays.{all_of, arrays_size}
 use Rattle.inf_code.specs.Code.{code_count, reference_count}
 use Rattle.inf_compilation.specs.Actions.{Compilation}
