@@ -7,6 +7,7 @@ pub mod Skipping
 pub mod BadTokens
 pub mod Told
 pub mod Counts
+pub mod UnitLimits
 pub mod KeptTokens
 pub mod KeptTurns
 pub mod Hashes

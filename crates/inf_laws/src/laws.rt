@@ -8,6 +8,7 @@ ghost use Rattle.inf_laws.specs.NameEvents.{FewHaveRoom, FirstDeclarationsCount,
 ghost use Rattle.inf_laws.specs.Parts.{PartsArePieces, PartsEndWithPieces};
 ghost use Rattle.inf_laws.specs.Skipping.{DirectivesAreSkipped, PassedTokensDoNothing, RoutinesAreSkipped, SourcesEnd};
 ghost use Rattle.inf_laws.specs.Told.{TokensAreTakenOrTold, UnfitTokensAreTold};
+ghost use Rattle.inf_laws.specs.UnitLimits.{UnitsKeepWithin};
 ghost use Rattle.inf_laws.specs.UnusedLocals.{HeadersMakeNew, UnusedAreWarned};
 
 use inf_settings::bounds::Bounds;
@@ -88,3 +89,11 @@ pub fn limits_count_the_story<B: Bounds>(tables: &Tables<B>)
 {
     written_as_counted(&tables.world);
 }
+
+/// Units that end without a fatal message leave no more labels in a routine, bytes of code and references than their settings say,
+/// those of the open routine and of tables with them, unless code is no longer laid though it passed no limit. So do conditional
+/// directives, and the end of a source. No expression, and no condition that is not told to be too long, had more tokens than its
+/// setting says. So the greatest counts of tokens and labels keep to their settings.
+pub fn units_keep_within_settings()
+    ensures { (limits : Limits) → UnitsKeepWithin limits }
+{}
