@@ -1,0 +1,169 @@
+-- Tokens that begin as a directive that is one unit are that directive, and have its effect.
+use Rattle.std.proofs.Common.{◌≡◌, ℕ, ◌+◌, ◌<◌, ◌^◌, List, [], ◌∷◌, ◌++◌, length, Bool, true, false, ◌==◌, None, refl, sym, ◌∙◌, ap, subst}
+use Rattle.std.proofs.Common.{arith}
+use Rattle.std.proofs.lemmas.Bool.{eqb-false, eqb-true}
+use Rattle.std.proofs.lemmas.List.{length-append}
+use Rattle.std.proofs.lemmas.Nat.Bits.{bit_at-pow_other}
+use Rattle.inf_settings.specs.Bounds.{Limits}
+use Rattle.inf_scanner.specs.declared.tokens.Mark.TheVariants as mark
+use Rattle.inf_scanner.specs.declared.tokens.TokenKind.TheVariants as kind
+use Rattle.inf_machine.specs.Grammar.{Did, Event, IsText, Leads, Took, action, has, here, token}
+use Rattle.inf_syntax.specs.Atoms.{mark_atom}
+use Rattle.inf_syntax.specs.Parts.{ !end_directive, 'semicolon', piece}
+use Rattle.inf_syntax.specs.declared.actions.Action.{Action}
+use Rattle.inf_syntax.specs.declared.actions.Action.TheVariants as action_of
+use Rattle.inf_grammar.specs.Language.{grammar}
+use Rattle.inf_unit.specs.Tokens.{SourceToken}
+use Rattle.inf_unit.specs.Units.{Unit as UnitAtHand, no_unit, over, taken}
+use Rattle.inf_compilation.specs.Context.{Context}
+use Rattle.inf_compilation.specs.Actions.{Compilation, opens, piece_begun, took}
+use Rattle.inf_reader.specs.Directives.{directive_end}
+use Rattle.inf_expression_laws.specs.Gathered.{AreSeen, IsSeen}
+use Rattle.inf_statement_laws.specs.Happenings.{Acts, Happening, Takes}
+use Rattle.inf_statement_laws.specs.Laid.{happens, next_comes, passed, run}
+use Rattle.inf_statement_laws.specs.Readings.{Seen, plainly_at}
+use Rattle.inf_statement_laws.proofs.Laying.{run_then}
+use Rattle.inf_language.specs.Constants.{piece_done}
+use Rattle.inf_language.specs.Texts.{NoneClosesAhead, atoms_of, happenings_before, happenings_of, tokens_of}
+use Rattle.inf_language.specs.Units.{TakeAll}
+use Rattle.inf_language.proofs.Derivations.{happenings-append, last_apart, seen_front, texts_take_all}
+use Rattle.inf_language.proofs.ExpressionsTold.{nothing_told, took_is_told}
+use Rattle.inf_language.proofs.TextsActed.{texts_do_their_actions}
+use Rattle.inf_language.proofs.TextsSplit.{split}
+use Rattle.inf_trees.specs.Directives.{Directive, DirectivesAreTrees, IsDirective, begins_directive, directive_done}
+use Rattle.inf_trees.specs.Trees.{parts_told, told_at, with_parts}
+use Rattle.inf_trees.proofs.DirectiveEnds.{directives_over}
+use Rattle.inf_trees.proofs.DirectiveTexts.{UnitText, piece_text}
+use Rattle.inf_trees.proofs.UnitTexts.{parsed}
+use Rattle.inf_trees.proofs.UnitsRead.{Read, units_read}
+
+-- The semicolon
+
+one_bit : (at atom : ℕ) → has (2 ^ at) atom ≡ true → atom ≡ at
+one_bit at atom h = by_same (atom == at) refl
+  where
+    contrary : false ≡ true → ⊥
+    contrary same = cc
+
+    by_same : (b : Bool) → (atom == at) ≡ b → atom ≡ at
+    by_same true is = eqb-true atom at is
+    by_same false is = absurd (contrary (sym (ap (λ b. b == 1) (bit_at-pow_other at atom (eqb-false atom at is))) ∙ h))
+
+semicolon_class : grammar.atoms_of 0 ≡ 2 ^ mark_atom mark.Semicolon
+unfolding grammar
+semicolon_class = refl
+
+opens_nothing : (s : Seen) → has (grammar.atoms_of 0) s.atom ≡ true → IsSeen s.atom s.token → opens s.token.kind ≡ false
+opens_nothing s h is =
+    let atom : s.atom ≡ mark_atom mark.Semicolon = one_bit (mark_atom mark.Semicolon) s.atom (sym (ap (λ set. has set s.atom) semicolon_class) ∙ h) in
+    ap opens (is mark.Semicolon atom)
+
+-- behind a unit that is over the semicolon has no report
+semicolon_taken : (context : Context) (s : Seen) (u : UnitAtHand) (w : Compilation) → opens s.token.kind ≡ false → w.unit ≡ over true u
+    → piece_done (next_comes (passed s.behind (took context s.token w))) ≡ piece_done (passed s.behind w)
+semicolon_taken context s u w plain is =
+    let v = taken s.token (over true u) in
+    let told : told_at context (taken s.token w.unit) s.token w ≡ w =
+    ap (λ x. told_at context (taken s.token x) s.token w) is ∙ nothing_told context s.token v.depth w plain in
+    ap (λ x. piece_done (passed s.behind x)) (took_is_told context s.token w.unit w)
+    ∙ ap (λ x. piece_done (passed s.behind x)) told
+
+-- The end of the unit, and the semicolon
+
+record EndsUnit (atoms : List ℕ) (events : List (Event Action)) : Type 0 where
+  atom : ℕ
+  one : atoms ≡ atom ∷ []
+  are : events ≡ Did action_of.EndDirective ∷ Took atom ∷ []
+  is_semicolon : has (grammar.atoms_of 0) atom ≡ true
+
+ends_unit : (atoms : List ℕ) (events : List (Event Action)) → Leads grammar (!end_directive ∷ 'semicolon' ∷ []) atoms events []
+    → EndsUnit atoms events
+ends_unit atoms events (action (token {atom = atom} h here)) = record { atom = atom; one = refl; are = refl; is_semicolon = h }
+
+-- the last token of some, with its atom
+last_atom : (tokens : List Seen) (last : Seen) (front : List ℕ) (atom : ℕ) → atoms_of tokens ≡ front
+    → atoms_of (tokens ++ last ∷ []) ≡ front ++ atom ∷ [] → last.atom ≡ atom
+last_atom [] last [] atom same all = cc
+last_atom [] last (a ∷ front) atom same all = cc
+last_atom (s ∷ tokens) last [] atom same all = cc
+last_atom (s ∷ tokens) last (a ∷ front) atom same all =
+    last_atom tokens last front atom (rest_of same) (rest_of all)
+  where
+    rest_of : {x y : ℕ} {xs ys : List ℕ} → x ∷ xs ≡ y ∷ ys → xs ≡ ys
+    rest_of e = cc
+
+last_seen : (tokens : List Seen) (last : Seen) → AreSeen (atoms_of (tokens ++ last ∷ [])) (tokens_of (tokens ++ last ∷ []))
+    → IsSeen last.atom last.token
+last_seen [] last are = are.0
+last_seen (s ∷ tokens) last are = last_seen tokens last are.1
+
+-- The effect of the tokens of a directive, with its unit read
+
+directive_runs : (limits : Limits) (context : Context) (tokens : List Seen) (semicolon : Seen) (early : List (Event Action)) (atom : ℕ)
+    (w : Compilation) → (r : Read limits no_unit tokens early) → opens semicolon.token.kind ≡ false
+    → let d : Directive = record { unit = r.parts; semicolon = semicolon } in
+    piece_done (run limits context (happenings_before semicolon.token.place early tokens
+    ++ Acts (plainly_at semicolon.token.place) action_of.EndDirective ∷ Takes semicolon.token semicolon.behind ∷ []) (piece_begun w))
+    ≡ piece_done (directive_done limits context d (piece_begun w))
+directive_runs limits context tokens semicolon early atom w r plain =
+    let place = semicolon.token.place in
+    let begun = piece_begun w in
+    let front = happenings_before place early tokens in
+    let end : List Happening = Acts (plainly_at place) action_of.EndDirective ∷ Takes semicolon.token semicolon.behind ∷ [] in
+    let ready = record (parts_told context no_unit r.parts begun) { unit = with_parts r.parts no_unit } in
+    ap piece_done (run_then limits context front end begun)
+    ∙ (ap (λ x. piece_done (run limits context end x)) (r.does context place begun refl)
+    ∙ semicolon_taken context semicolon ready.unit (directive_end limits context place ready) plain
+    (directives_over limits context place ready))
+
+-- The tokens
+
+record Parted (seen : List Seen) (events : List (Event Action)) (limits : Limits) : Type 0 where
+  tokens : List Seen
+  semicolon : Seen
+  early : List (Event Action)
+  atom : ℕ
+  same : tokens ++ semicolon ∷ [] ≡ seen
+  are : events ≡ early ++ Did action_of.EndDirective ∷ Took atom ∷ []
+  read : Read limits no_unit tokens early
+  all : TakeAll early tokens
+  plain : opens semicolon.token.kind ≡ false
+
+parted : (limits : Limits) (seen : List Seen) (events : List (Event Action)) → UnitText (atoms_of seen) events
+    → AreSeen (atoms_of seen) (tokens_of seen) → length seen < 4294967295 → Parted seen events limits
+parted limits seen events unit are_seen few =
+    let parts = split unit.text refl unit.front (!end_directive ∷ 'semicolon' ∷ []) refl in
+    let end = ends_unit parts.rest parts.late parts.of_rest in
+    let all_atoms = parts.atoms_are ∙ ap (λ r. parts.front ++ r) end.one in
+    let l = last_apart parts.front end.atom seen all_atoms in
+    let seen_again = subst (λ x. AreSeen (atoms_of x) (tokens_of x)) (sym l.same) are_seen in
+    let atom = last_atom l.tokens l.last parts.front end.atom l.atoms (ap atoms_of l.same ∙ all_atoms) in
+    let count : length l.tokens + 1 ≡ length seen = sym (length-append l.tokens (l.last ∷ [])) ∙ ap length l.same in
+    let reads = parsed parts.of_front refl l.tokens l.atoms [] unit.front refl unit.flat in
+    record {
+      tokens = l.tokens;
+      semicolon = l.last;
+      early = parts.early;
+      atom = end.atom;
+      same = l.same;
+      are = parts.events_are ∙ ap (λ x. parts.early ++ x) end.are;
+      read = units_read limits reads no_unit (seen_front l.tokens l.last seen_again) (omega arith) (omega (arith, few, count));
+      all = texts_take_all parts.of_front l.tokens l.atoms;
+      plain = opens_nothing l.last (ap (λ n. has (grammar.atoms_of 0) n) atom ∙ end.is_semicolon) (last_seen l.tokens l.last seen_again);
+    }
+
+pub directives_are_trees : (limits : Limits) → DirectivesAreTrees limits
+directives_are_trees limits seen events text begins are_seen few none =
+    let p = parted limits seen events (piece_text (atoms_of seen) events begins text) are_seen few in
+    let late : List (Event Action) = Did action_of.EndDirective ∷ Took p.atom ∷ [] in
+    record {
+      tree = record { unit = p.read.parts; semicolon = p.semicolon };
+      same = ap (λ l. l ++ p.semicolon ∷ []) p.read.same ∙ p.same;
+      written = p.read.written;
+      does = λ context w.
+          ap piece_done ((texts_do_their_actions limits).act 1 seen events text none context (piece_begun w))
+          ∙ (ap (λ l. piece_done (run limits context (happenings_of events l) (piece_begun w))) (sym p.same)
+          ∙ (ap (λ es. piece_done (run limits context (happenings_of es (p.tokens ++ p.semicolon ∷ [])) (piece_begun w))) p.are
+          ∙ (ap (λ hs. piece_done (run limits context hs (piece_begun w))) (happenings-append p.early late p.tokens p.semicolon [] p.all)
+          ∙ directive_runs limits context p.tokens p.semicolon p.early p.atom w p.read p.plain)));
+    }
