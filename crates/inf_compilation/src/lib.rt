@@ -3,6 +3,7 @@
 
 pub mod compilation;
 pub mod context;
+pub mod crowds;
 pub mod findings;
 pub mod parts;
 pub mod routines;

@@ -5,6 +5,7 @@ use Rattle.inf_expressions.specs.declared.symbols.Symbol.TheVariants as symbol
 use Rattle.inf_expressions.specs.declared.operators.Unary.{Unary}
 use Rattle.inf_expressions.specs.declared.operators.Binary.{Binary}
 use Rattle.inf_expressions.specs.declared.operators.Binary.TheVariants as binary
+use Rattle.inf_gathering.specs.declared.gathering.Extent.{Extent}
 use Rattle.inf_gathering.specs.declared.gathering.Leaf.{Leaf}
 use Rattle.inf_gathering.specs.declared.gathering.Leaf.TheVariants as leaf
 
@@ -121,3 +122,15 @@ abbrev pub with_rule : Bool → Gathering → Gathering
 with_rule is_own g =
     let closed = record g { brackets = drop 1 g.brackets } in
     if is_own then without_leaf closed else closed
+
+-- the numbers of what was gathered
+abbrev pub extent : Gathering → Extent
+extent g = record { leaves = length g.leaves; symbols = length g.symbols; wholes = length g.firsts }
+
+-- the parts that were gathered before the numbers of an extent were reached
+abbrev pub cut : Extent → Gathering → Gathering
+cut e g = record g {
+  leaves = take e.leaves g.leaves;
+  symbols = take e.symbols g.symbols;
+  firsts = drop (length g.firsts - e.wholes) g.firsts;
+}

@@ -1,6 +1,7 @@
 //! Gathering the expressions of a unit.
 ghost use Rattle.std.specs.Prelude.{◌≡◌, OnOk, [], drop, length, map, reverse};
-ghost use Rattle.inf_gathering.specs.Gatherings.{action_leaf, beginning, comma, counted, latest, nothing_gathered, numbers, one_more};
+ghost use Rattle.inf_gathering.specs.Gatherings.{action_leaf, beginning, comma, counted, cut, extent, latest, nothing_gathered, numbers};
+ghost use Rattle.inf_gathering.specs.Gatherings.{one_more};
 ghost use Rattle.inf_gathering.specs.Gatherings.{with_actions, with_bracket, with_call, with_closed_bracket, with_comma, with_leaf};
 ghost use Rattle.inf_gathering.specs.Gatherings.{with_list, with_part, with_prefix, with_rule, with_suffix, with_test, with_two};
 
@@ -39,6 +40,21 @@ pub struct Gathering {
     counts: Vec<u32>,
     /// The orders of the tokens that open brackets which are not closed yet.
     brackets: Vec<u32>,
+}
+
+/// The extent of a gathering: the numbers of its leaves, of its symbols and of its whole expressions.
+#[derive(Clone, Copy, Debug, PartialEq, Eq)]
+pub struct Extent {
+    pub leaves: usize,
+    pub symbols: usize,
+    pub wholes: usize,
+}
+
+/// Returns the items of `list` behind the first `count`: none, where it has no more.
+pub fn behind<T>(list: &[T], count: usize) -> &[T]
+    ensures { result.now ≡ drop count list.now }
+{
+    &list[count.min(list.len())..]
 }
 
 /// Returns the leaf of a name as that of an action; any other leaf stays.
@@ -119,6 +135,27 @@ impl Gathering {
         ensures { result ≡ length self.now.firsts }
     {
         self.firsts.len()
+    }
+
+    /// Returns the numbers of leaves, symbols and whole expressions that were gathered.
+    pub fn extent(&self) -> Extent
+        ensures { result ≡ extent self.now }
+    {
+        Extent {
+            leaves: self.leaves.len(),
+            symbols: self.symbols.len(),
+            wholes: self.wholes(),
+        }
+    }
+
+    /// Forgets what was gathered behind `extent`.
+    pub fn cut(&mut self, extent: Extent)
+        ensures { self.new ≡ cut extent self.old }
+    {
+        let more = self.wholes().saturating_sub(extent.wholes);
+        self.leaves.truncate(extent.leaves);
+        self.symbols.truncate(extent.symbols);
+        drop_last(&mut self.firsts, more);
     }
 
     /// Gathers `count` numbers in place of all that was gathered.
@@ -303,8 +340,15 @@ fn counted(count: u32) -> u32
 fn cut_back(numbers: &mut Vec<u32>, count: u32)
     ensures { reverse numbers.new.items ≡ drop count (reverse numbers.old.items) }
 {
+    drop_last(numbers, count as usize);
+}
+
+/// Removes the last `count` of `numbers`, or all where there are fewer.
+fn drop_last(numbers: &mut Vec<u32>, count: usize)
+    ensures { reverse numbers.new.items ≡ drop count (reverse numbers.old.items) }
+{
     let len = numbers.len();
-    numbers.truncate(len.saturating_sub(count as usize));
+    numbers.truncate(len.saturating_sub(count));
 }
 
 /// Returns the symbol of a comma, by the brackets that are open.

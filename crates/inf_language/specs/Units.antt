@@ -18,13 +18,19 @@ use Rattle.inf_statement_laws.specs.Laid.{run}
 use Rattle.inf_statement_laws.specs.Readings.{Seen}
 use Rattle.inf_language.specs.Texts.{happenings_before, tokens_of}
 
--- Whether a note is always kept, whatever is noted already. Four notes are dropped where a setting would be passed: a text
--- that is printed, an arrow before the name of an object, the end of an operand, and a token of a line of grammar.
+-- Whether a note is always kept, whatever is noted already. Some are dropped where a setting would be passed: a text that is
+-- printed, a value that is printed or given, an arrow before the name of an object, the end of an operand, a token of a line of
+-- grammar, and a further word of a verb.
 abbrev pub is_kept_whole : Note → Bool
 is_kept_whole note.PrintText = false
 is_kept_whole note.Arrow = false
 is_kept_whole note.OuterEnd = false
 is_kept_whole note.LineToken = false
+is_kept_whole note.PrintValue = false
+is_kept_whole note.PrintRuled = false
+is_kept_whole note.Set = false
+is_kept_whole note.Clear = false
+is_kept_whole note.VerbWord = false
 is_kept_whole _ = true
 
 -- whether an action only changes the unit at hand, and in a way that depends on that unit alone

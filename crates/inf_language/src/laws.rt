@@ -5,6 +5,7 @@ ghost use Rattle.inf_language.specs.HeaderNames.{HeadersNoteTheirNames};
 ghost use Rattle.inf_language.specs.Headers.{HeadersHaveTheirLocals};
 ghost use Rattle.inf_language.specs.NamedLocals.{UnitsNameTheirLocals};
 ghost use Rattle.inf_language.specs.Texts.{TextsDoTheirActions};
+ghost use Rattle.inf_language.specs.Sifting.{UnitsAreSiftedAlone};
 ghost use Rattle.inf_language.specs.Units.{UnitsAreReadAlone};
 
 /// Shows that tokens that are a text of a rule of the grammar fit one after the other, and that they have this effect: the
@@ -17,6 +18,13 @@ pub fn texts_do_their_actions()
 /// actions make it of the unit by itself, whatever is compiled or reported meanwhile.
 pub fn units_are_read_alone()
     ensures { (limits : Limits) → UnitsAreReadAlone limits }
+{}
+
+/// Shows that the unit that a compilation reads, and the locals of its routine, depend on tokens and actions alone also where values and
+/// words are too many, of which those are kept that tell something by what is laid before them. Where nothing is dropped, the unit
+/// depends on the tokens and actions of this unit alone.
+pub fn units_are_sifted_alone()
+    ensures { (limits : Limits) → UnitsAreSiftedAlone limits }
 {}
 
 /// Shows that a unit names, of the locals of its routine, those with the names of its expressions, and then those in which

@@ -1,12 +1,12 @@
 -- The effect of each action of the grammar.
-use Rattle.std.specs.Prelude.{ℕ, List, [], ◌∷◌, length, Bool, false, true, ◌&&◌, None, Some, nat_lt, if◌then◌else◌, Option}
+use Rattle.std.specs.Prelude.{ℕ, ◌/◌, List, [], ◌∷◌, length, Bool, false, true, ◌&&◌, None, Some, nat_lt, if◌then◌else◌, Option}
 use Rattle.inf_settings.specs.Bounds.{Limits}
 use Rattle.inf_settings.specs.Settings.{number_of}
 use Rattle.inf_settings.specs.declared.setting.Setting.TheVariants as setting
 use Rattle.inf_scanner.specs.declared.tokens.Place.{Place}
 use Rattle.inf_syntax.specs.declared.actions.Action.{Action}
 use Rattle.inf_compilation.specs.Context.{Context}
-use Rattle.inf_unit.specs.Roles.{ends_outer, ends_token, is_arrow, is_text, makes_sure, role_of}
+use Rattle.inf_unit.specs.Roles.{ends_outer, ends_token, ends_value, is_arrow, is_text, is_verb_word, makes_sure, role_of}
 use Rattle.inf_unit.specs.declared.roles.Ending.{Ending}
 use Rattle.inf_unit.specs.declared.roles.Ending.TheVariants as ending
 use Rattle.inf_unit.specs.declared.roles.Note.{Note}
@@ -22,6 +22,7 @@ use Rattle.inf_constructs.specs.declared.constructs.Kind.{Kind}
 use Rattle.inf_constructs.specs.declared.constructs.Kind.TheVariants as kind
 use Rattle.inf_constructs.specs.declared.constructs.Over.TheVariants as over
 use Rattle.inf_compilation.specs.Actions.{Compilation, body_ended, close, cut, finding_at, header_end, is_deep, nested, sized}
+use Rattle.inf_compilation.specs.Crowds.{value_sifted}
 use Rattle.inf_declarations.specs.Abbreviations.{abbreviation}
 use Rattle.inf_reader.specs.Directives.{directive_end}
 use Rattle.inf_declarations.specs.Arrays.{entry_ended}
@@ -29,12 +30,13 @@ use Rattle.inf_reader.specs.Headers.{header_ended}
 use Rattle.inf_bodies.specs.Bodies.{attribute_read, class_read, property_read}
 use Rattle.inf_bodies.specs.Values.{embedded_read, value_read}
 use Rattle.inf_compilation.specs.Parts.{construct_closed, construct_joined, construct_opened, part_ended, statement_at}
-use Rattle.inf_verb_lines.specs.Verbs.{line_ended, token_sifted}
+use Rattle.inf_verb_lines.specs.Verbs.{line_ended, token_sifted, word_sifted}
 use Rattle.inf_compilation.specs.declared.parts.Part.TheVariants as part
 
--- Whether the unit at hand prints more than code may have bytes. Its code then passes that setting, whatever else it prints.
+-- Whether the unit at hand prints or gives more than code may have bytes for, by the least number of bytes of the code of each item. Its
+-- code then passes that setting, whatever else it prints or gives.
 abbrev pub is_crowded : Limits → Compilation → Bool
-is_crowded limits w = nat_lt (limits setting.Code) (length w.unit.items)
+is_crowded limits w = nat_lt (limits setting.Code) w.unit.code
 
 -- Whether the unit at hand has more arrows than there may be objects. It is then below none, whatever else it has: an object has as many
 -- arrows as there are others above it.
@@ -51,7 +53,7 @@ operands_named w =
 
 -- A note is made of the unit at hand, by which its outermost expression may be too long. Only some of the texts that are printed, and of
 -- the arrows before an object's name, are kept, and no operands where these are too many; of the tokens of a line of grammar that is too
--- long, those that matter.
+-- long, of the words of a verb that has too many, and of the values of a statement that has too many, those that matter.
 abbrev pub noted_of : Context → Note → Compilation → Compilation
 noted_of context n w = let v = record w { unit = unit_noted n w.unit } in if makes_sure n then sized context v else v
 
@@ -60,12 +62,22 @@ noted_of context n w = let v = record w { unit = unit_noted n w.unit } in if mak
 abbrev pub is_long : Context → Compilation → Bool
 is_long context w = nat_lt (number_of setting.GrammarLines context.settings) (last_leaf w.unit)
 
+-- Whether the unit at hand has more tokens than there may be words.
+abbrev pub is_wordy : Context → Compilation → Bool
+is_wordy context w = nat_lt (number_of setting.DictionaryEntries context.settings) (last_leaf w.unit)
+
+-- A value ends of a unit that has too many.
+abbrev pub value_noted : Context → Note → Compilation → Compilation
+value_noted context n w = value_sifted context (noted_of context n w)
+
 abbrev pub noted : Limits → Context → Note → Compilation → Compilation
 noted limits context n w =
     if is_text n && is_crowded limits w then record w { unit = text_passed w.unit }
     else if is_arrow n && is_tall context w then record w { unit = last_passed w.unit }
     else if ends_outer n && is_full w.unit then operands_named w
     else if ends_token n && is_long context w then token_sifted context w
+    else if ends_value n && is_crowded limits w then value_noted context n w
+    else if is_verb_word n && is_wordy context w then word_sifted w
     else noted_of context n w
 
 -- The unit at hand ends, before a token at a place.

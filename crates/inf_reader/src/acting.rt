@@ -2,7 +2,7 @@
 ghost use Rattle.inf_compilation.specs.Context.{handed};
 ghost use Rattle.std.specs.Prelude.{None, OnOk, ◌≡◌};
 ghost use Rattle.inf_reader.specs.Acting.{act, acted, all_acted, cut_at, ended, is_crowded, is_long, is_tall, kind_of, noted, noted_of};
-ghost use Rattle.inf_reader.specs.Acting.{operands_named};
+ghost use Rattle.inf_reader.specs.Acting.{is_wordy, operands_named, value_noted};
 ghost use Rattle.inf_unit.specs.Directives.{Nothing};
 ghost use Rattle.inf_compilation.specs.Actions.{cut, is_deep};
 ghost use Rattle.inf_compilation.specs.Works.{work};
@@ -24,10 +24,12 @@ use inf_settings::setting::Setting;
 use inf_statements::operands::name_locals;
 use inf_syntax::Action;
 use inf_unit::roles::{
-    Ending, Note, Opening, Role, ends_outer, ends_token, is_arrow, is_text, makes_sure, role_of,
+    Ending, Note, Opening, Role, ends_outer, ends_token, ends_value, is_arrow, is_text,
+    is_verb_word, makes_sure, role_of,
 };
 use inf_unit::unit::order;
 use inf_verb_lines::lines::{end_line, sift_token};
+use inf_verb_lines::long_headers::sift_word;
 use std::alloc::AllocError;
 
 /// Returns the kind of construct that a statement opens.
@@ -131,11 +133,12 @@ fn act<B: Bounds>(
     }
 }
 
-/// Returns whether the unit at hand prints more than code may have bytes. Its code then passes that setting, whatever else it prints.
+/// Returns whether the unit at hand prints or gives more than code may have bytes for, by the least number of bytes of the code of each
+/// item. Its code then passes that setting, whatever else it prints or gives.
 fn is_crowded<B: Bounds>(compilation: &Compilation<B>) -> bool
     ensures { result ≡ is_crowded B.most (work compilation.now) }
 {
-    compilation.unit.items.len() > compilation.output.code.most_bytes()
+    compilation.unit.code > compilation.output.code.most_bytes()
 }
 
 /// Returns whether the unit at hand has more arrows than there may be objects. It is then below none, whatever else it has: an object has
@@ -148,7 +151,7 @@ fn is_tall<B: Bounds>(compilation: &Compilation<B>, context: &Context<'_>) -> bo
 
 /// Makes `note` of the unit at hand, by which its outermost expression may be too long. Only some of the texts that are printed, and of the
 /// arrows before an object's name, are kept, and no operands where these are too many; of the tokens of a line of grammar that is too long,
-/// those that matter.
+/// of the words of a verb that has too many, and of the values of a statement that has too many, those that matter.
 fn note<B: Bounds>(
     compilation: &mut Compilation<B>,
     context: &Context<'_>,
@@ -170,6 +173,12 @@ fn note<B: Bounds>(
     if ends_token(note) && is_long(compilation, context) {
         return sift_token(compilation, context);
     }
+    if ends_value(note) && is_crowded(compilation) {
+        return end_value(compilation, context, note);
+    }
+    if is_verb_word(note) && is_wordy(compilation, context) {
+        return sift_word(compilation);
+    }
     keep_note(compilation, context, note)
 }
 
@@ -179,6 +188,25 @@ fn is_long<B: Bounds>(compilation: &Compilation<B>, context: &Context<'_>) -> bo
     ensures { result ≡ is_long (handed context.now) (work compilation.now) }
 {
     compilation.unit.last() > context.settings.of(Setting::GrammarLines) as usize
+}
+
+/// Returns whether the unit at hand has more tokens than there may be words.
+fn is_wordy<B: Bounds>(compilation: &Compilation<B>, context: &Context<'_>) -> bool
+    ensures { result ≡ is_wordy (handed context.now) (work compilation.now) }
+{
+    compilation.unit.last() > context.settings.of(Setting::DictionaryEntries) as usize
+}
+
+/// Makes `note`, with which a value ends of a unit that has too many.
+fn end_value<B: Bounds>(
+    compilation: &mut Compilation<B>,
+    context: &Context<'_>,
+    note: Note,
+) -> Result<(), AllocError>
+    ensures { OnOk result (work compilation.new ≡ value_noted (handed context.now) note (work compilation.old)) }
+{
+    keep_note(compilation, context, note)?;
+    compilation.sift_value(context)
 }
 
 /// Passes the operands of the unit at hand, which are more than an instruction has: they name their locals, and the

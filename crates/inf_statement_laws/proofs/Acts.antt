@@ -16,8 +16,8 @@ use Rattle.inf_expressions.specs.declared.findings.Finding.{Finding}
 use Rattle.inf_expressions.specs.Questions.{children_of}
 use Rattle.inf_expressions.specs.Rooted.{Rooted}
 use Rattle.inf_expressions.specs.Trees.{Tree}
-use Rattle.inf_unit.specs.Roles.{ends_outer, ends_token, is_arrow, is_text, makes_sure, role_of}
-use Rattle.inf_verb_lines.specs.Verbs.{token_sifted}
+use Rattle.inf_unit.specs.Roles.{ends_outer, ends_token, ends_value, is_arrow, is_text, is_verb_word, makes_sure, role_of}
+use Rattle.inf_verb_lines.specs.Verbs.{token_sifted, word_sifted}
 use Rattle.inf_unit.specs.declared.roles.Ending.{Ending}
 use Rattle.inf_unit.specs.declared.roles.Ending.TheVariants as ending
 use Rattle.inf_unit.specs.declared.roles.Note.{Note}
@@ -36,7 +36,8 @@ use Rattle.inf_constructs.specs.declared.constructs.Case.TheVariants as case
 use Rattle.inf_constructs.specs.declared.constructs.Construct.{Construct}
 use Rattle.inf_constructs.specs.declared.constructs.Kind.{Kind}
 use Rattle.inf_constructs.specs.declared.constructs.Kind.TheVariants as kind
-use Rattle.inf_reader.specs.Acting.{act, ended as ended_as, is_crowded, is_long, is_tall, kind_of, noted, noted_of, operands_named, played}
+use Rattle.inf_reader.specs.Acting.{act, ended as ended_as, is_crowded, is_long, is_tall, is_wordy, kind_of, noted, noted_of}
+use Rattle.inf_reader.specs.Acting.{operands_named, played, value_noted}
 use Rattle.inf_compilation.specs.declared.parts.Part.{Part}
 use Rattle.inf_compilation.specs.declared.parts.Part.TheVariants as part
 use Rattle.inf_statement_laws.specs.Happenings.{Acts, Happening, Takes, happen_quietly, happens_quietly, is_quiet, is_quiet_end}
@@ -126,17 +127,25 @@ quiet_note_of context n w =
     let v = record w { unit = unit_noted n w.unit } in
     of_both (SameOpen w) (makes_sure n) (sized context v) v (λ _. sized_same context v) (λ _. (refl, refl))
 
+value_same : (context : Context) (n : Note) (w : Compilation) → SameOpen w (value_noted context n w)
+value_same context n w = quiet_note_of context n w
+
 quiet_note : (limits : Limits) (context : Context) (n : Note) (w : Compilation) → SameOpen w (noted limits context n w)
 quiet_note limits context n w =
-    let sifted = if ends_token n && is_long context w then token_sifted context w else noted_of context n w in
+    let plain = noted_of context n w in
+    let worded = if is_verb_word n && is_wordy context w then word_sifted w else plain in
+    let valued = if ends_value n && is_crowded limits w then value_noted context n w else worded in
+    let sifted = if ends_token n && is_long context w then token_sifted context w else valued in
     let named = if ends_outer n && is_full w.unit then operands_named w else sifted in
     let passed = record w { unit = last_passed w.unit } in
     let kept = if is_arrow n && is_tall context w then passed else named in
     of_both (SameOpen w) (is_text n && is_crowded limits w) (record w { unit = text_passed w.unit }) kept (λ _. (refl, refl))
     (λ _. of_both (SameOpen w) (is_arrow n && is_tall context w) passed named (λ _. (refl, refl))
     (λ _. of_both (SameOpen w) (ends_outer n && is_full w.unit) (operands_named w) sifted (λ _. (refl, refl))
-    (λ _. of_both (SameOpen w) (ends_token n && is_long context w) (token_sifted context w) (noted_of context n w) (λ _. (refl, refl))
-    (λ _. quiet_note_of context n w))))
+    (λ _. of_both (SameOpen w) (ends_token n && is_long context w) (token_sifted context w) valued (λ _. (refl, refl))
+    (λ _. of_both (SameOpen w) (ends_value n && is_crowded limits w) (value_noted context n w) worded (λ _. value_same context n w)
+    (λ _. of_both (SameOpen w) (is_verb_word n && is_wordy context w) (word_sifted w) plain (λ _. (refl, refl))
+    (λ _. quiet_note_of context n w))))))
 
 quiet_end : (limits : Limits) (context : Context) (place : Place) (e : Ending) (w : Compilation) → is_quiet_end e ≡ true →
     SameOpen w (ended_as limits context place e w)

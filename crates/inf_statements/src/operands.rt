@@ -261,7 +261,7 @@ fn settled_action<B: Bounds>(
 
 /// Returns the operand of `leaf`, a leaf of a unit with `tokens`, where its name is only looked up, behind the new actions of `ahead`.
 #[inline(always)]
-fn looked_leaf<B: Bounds>(
+pub fn looked_leaf<B: Bounds>(
     locals: &Locals,
     out: &Output<B>,
     tokens: &UnitTokens,

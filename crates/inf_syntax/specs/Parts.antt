@@ -404,6 +404,9 @@ abbrev pub !local : Symbol Action
 abbrev pub !arrow : Symbol Action
 !arrow = Act action.Arrow
 
+abbrev pub !verb_word : Symbol Action
+!verb_word = Act action.VerbWord
+
 abbrev pub !outer : Symbol Action
 !outer = Act action.Outer
 

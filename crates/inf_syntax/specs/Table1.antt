@@ -3,7 +3,7 @@ use Rattle.std.specs.Prelude.{List, [], ◌∷◌}
 use Rattle.inf_machine.specs.Grammar.{Row}
 use Rattle.inf_syntax.specs.declared.actions.Action.{Action}
 use Rattle.inf_syntax.specs.Rows.{row}
-use Rattle.inf_syntax.specs.Parts.{ !and, !arrow, !assign, !bit_not, !comma, !count, !end_alone, !end_attribute, !end_body, !end_class, !end_directive, !end_embedded, !end_entry, !end_header, !end_line, !end_locals, !end_property, !end_routine, !end_text, !end_value, !equal, !greater, !greater_or_equal, !has, !has_not, !hold, !in, !less, !less_or_equal, !local, !minus, !name, !negate, !not, !not_in, !of_class, !or, !outer, !part, !plus, !provides, !routine, !semicolon, !token, !unequal, 'abbreviate', 'additive', 'alias', 'array', 'arrow', 'assign', 'attribute', 'bit_not', 'class', 'close_bracket', 'comma', 'constant', 'default', 'divide', 'end', 'equal', 'error', 'extend', 'fake_action', 'fatalerror', 'first', 'global', 'greater', 'greater_or_equal', 'has', 'hash', 'hasnt', 'iffalse', 'iftrue', 'in', 'include', 'last', 'less', 'less_or_equal', 'logical_and', 'logical_not', 'logical_or', 'long_arrow', 'lowstring', 'message', 'meta', 'minus', 'nearby', 'not_equal', 'notin', 'object', 'ofclass', 'open_bracket', 'or', 'plus', 'property', 'provides', 'release', 'replace', 'reverse', 'semicolon', 'serial', 'string', 'stub', 'switches', 'system_file', 'table', 'times', 'verb', 'warning', 'with', BARENAME, BODYNAME, NAME, NOTADDITIVE, NOTALIAS, NUMBER, OFCLASS, TEXT, WORD, after_prim, after_unary, array_entry, assign, assign_tail, assign_tail_1, attribute, attribute_1, bare_prim, bit, body, directive, directive_1, directive_10, directive_11, directive_12, directive_13, directive_2, directive_3, directive_4, directive_5, directive_6, directive_7, directive_8, directive_9, entry, expression_tail, file, first_listed, held, initial, initial_1, line, line_1, line_2, line_3, line_4, listed_entries, logic, logic_operator, logic_tail, more_listed, neg, negated, object, object_1, object_2, object_3, object_4, other_assign, other_prim, part, part_1, part_2, piece, plain_entries, plain_entries_1, plain_entries_2, prefixed, prim, properties, properties_1, property, property_1, property_2, step_prefix, sum, sum_operator, sum_tail, term, term_operator, term_tail, test, test_tail, test_tail_1, tested, tested_1, top_item, value, value_1, value_2, value_3, whole_directive, whole_directive_1, whole_directive_2, whole_directive_3, whole_directive_4, whole_directive_5, whole_directive_6}
+use Rattle.inf_syntax.specs.Parts.{ !and, !arrow, !assign, !bit_not, !comma, !count, !end_alone, !end_attribute, !end_body, !end_class, !end_directive, !end_embedded, !end_entry, !end_header, !end_line, !end_locals, !end_property, !end_routine, !end_text, !end_value, !equal, !greater, !greater_or_equal, !has, !has_not, !hold, !in, !less, !less_or_equal, !local, !minus, !name, !negate, !not, !not_in, !of_class, !or, !outer, !part, !plus, !provides, !routine, !semicolon, !token, !unequal, !verb_word, 'abbreviate', 'additive', 'alias', 'array', 'arrow', 'assign', 'attribute', 'bit_not', 'class', 'close_bracket', 'comma', 'constant', 'default', 'divide', 'end', 'equal', 'error', 'extend', 'fake_action', 'fatalerror', 'first', 'global', 'greater', 'greater_or_equal', 'has', 'hash', 'hasnt', 'iffalse', 'iftrue', 'in', 'include', 'last', 'less', 'less_or_equal', 'logical_and', 'logical_not', 'logical_or', 'long_arrow', 'lowstring', 'message', 'meta', 'minus', 'nearby', 'not_equal', 'notin', 'object', 'ofclass', 'open_bracket', 'or', 'plus', 'property', 'provides', 'release', 'replace', 'reverse', 'semicolon', 'serial', 'string', 'stub', 'switches', 'system_file', 'table', 'times', 'verb', 'warning', 'with', BARENAME, BODYNAME, NAME, NOTADDITIVE, NOTALIAS, NUMBER, OFCLASS, TEXT, WORD, after_prim, after_unary, array_entry, assign, assign_tail, assign_tail_1, attribute, attribute_1, bare_prim, bit, body, directive, directive_1, directive_10, directive_11, directive_12, directive_13, directive_2, directive_3, directive_4, directive_5, directive_6, directive_7, directive_8, directive_9, entry, expression_tail, file, first_listed, held, initial, initial_1, line, line_1, line_2, line_3, line_4, listed_entries, logic, logic_operator, logic_tail, more_listed, neg, negated, object, object_1, object_2, object_3, object_4, other_assign, other_prim, part, part_1, part_2, piece, plain_entries, plain_entries_1, plain_entries_2, prefixed, prim, properties, properties_1, property, property_1, property_2, step_prefix, sum, sum_operator, sum_tail, term, term_operator, term_tail, test, test_tail, test_tail_1, tested, tested_1, top_item, value, value_1, value_2, value_3, whole_directive, whole_directive_1, whole_directive_2, whole_directive_3, whole_directive_4, whole_directive_5, whole_directive_6}
 
 abbrev pub rules_1 : List (List (Row Action))
 rules_1 =
@@ -73,7 +73,7 @@ rules_1 =
     ∷ row []
     ∷ [])
     -- directive_11
-    ∷ (row (WORD ∷ directive_11 ∷ [])
+    ∷ (row (WORD ∷ !verb_word ∷ directive_11 ∷ [])
     ∷ row []
     ∷ [])
     -- directive_12

@@ -12,6 +12,7 @@ pub enum Action {
     EndDirective,
     Local,
     Arrow,
+    VerbWord,
     Outer,
     Name,
     EndEntry,

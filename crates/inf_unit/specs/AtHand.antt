@@ -1,5 +1,7 @@
 -- Meaning of the unit at hand of the code.
+use Rattle.std.specs.Prelude.{option_map}
 use Rattle.inf_names.specs.LocalList.{headed}
+use Rattle.inf_unit.specs.Crowds.{crowd}
 use Rattle.inf_unit.specs.Units.{Unit}
 use Rattle.inf_unit.specs.declared.unit.Unit.{Unit as CodeUnit}
 
@@ -10,6 +12,7 @@ unit u = record {
   gathering = u.gathering;
   headed = headed u.headed;
   items = u.items.items;
+  code = u.code;
   outer = u.outer;
   is_sure = u.is_sure;
   is_over = u.is_over;
@@ -17,4 +20,5 @@ unit u = record {
   held = u.held;
   passed = u.passed;
   long = u.long;
+  crowd = option_map crowd u.crowd;
 }

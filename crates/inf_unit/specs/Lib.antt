@@ -12,6 +12,7 @@ pub mod Texts
 pub mod Items
 pub mod Opcodes
 pub mod LongLines
+pub mod Crowds
 pub mod Units
 pub mod NameTokens
 pub mod AtHand

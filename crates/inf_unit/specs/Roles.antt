@@ -67,6 +67,19 @@ abbrev pub ends_token : Note → Bool
 ends_token note.LineToken = true
 ends_token _ = false
 
+-- Tells whether a note is that of a whole value of a statement that prints, or of an attribute that one gives or takes.
+abbrev pub ends_value : Note → Bool
+ends_value note.PrintValue = true
+ends_value note.PrintRuled = true
+ends_value note.Set = true
+ends_value note.Clear = true
+ends_value _ = false
+
+-- Tells whether a note is that of a further word of a verb.
+abbrev pub is_verb_word : Note → Bool
+is_verb_word note.VerbWord = true
+is_verb_word _ = false
+
 -- Tells whether a note is that of an arrow before the name of an object.
 abbrev pub is_arrow : Note → Bool
 is_arrow note.Arrow = true
@@ -131,7 +144,7 @@ role_of action.OuterMaybe = role.Note (note.Outer false)
 role_of action.OuterWord = role.Note note.OuterWord
 role_of action.OuterSure = role.Note note.OuterSure
 role_of action.OuterEnd = role.Note note.OuterEnd
-role_of action.PrintRule = role.Note note.OuterEnd
+role_of action.PrintRule = role.Note note.PrintRuled
 role_of action.Hold = role.Note note.Hold
 role_of action.PrintText = role.Note note.PrintText
 role_of action.PrintValue = role.Note note.PrintValue
@@ -144,6 +157,7 @@ role_of action.Store = role.Note note.Store
 role_of action.Branch = role.Note (note.Branch true)
 role_of action.BranchNot = role.Note (note.Branch false)
 role_of action.Token = role.Note note.LineToken
+role_of action.VerbWord = role.Note note.VerbWord
 role_of action.EndLocals = role.End ending.Locals
 role_of action.EndEmbedded = role.End ending.Embedded
 role_of action.EndRoutine = role.End ending.Routine

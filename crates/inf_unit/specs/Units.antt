@@ -8,7 +8,8 @@ use Rattle.inf_scanner.specs.declared.tokens.TokenKind.{TokenKind}
 use Rattle.inf_scanner.specs.declared.tokens.TokenKind.TheVariants as kind
 use Rattle.inf_gathering.specs.declared.gathering.Leaf.{Leaf}
 use Rattle.inf_gathering.specs.declared.gathering.Leaf.TheVariants as leaf
-use Rattle.inf_gathering.specs.Gatherings.{Gathering, nothing_gathered, numbers, with_bracket, with_call, with_closed_bracket, with_comma}
+use Rattle.inf_gathering.specs.Gatherings.{Gathering, cut, extent, nothing_gathered, numbers, with_bracket, with_call, with_closed_bracket}
+use Rattle.inf_gathering.specs.Gatherings.{with_comma}
 use Rattle.inf_gathering.specs.Gatherings.{with_leaf, with_list, with_part, with_prefix, with_rule, with_suffix, with_test, with_two}
 use Rattle.inf_expressions.specs.Findings.{least_of_both}
 use Rattle.inf_expressions.specs.declared.findings.Finding.{Finding}
@@ -29,22 +30,25 @@ use Rattle.inf_unit.specs.declared.steps.GatherStep.TheVariants as step
 use Rattle.inf_unit.specs.declared.items.Item.{Item}
 use Rattle.inf_unit.specs.declared.items.Item.TheVariants as item
 use Rattle.inf_unit.specs.LongLines.{LongLine, no_tokens}
+use Rattle.inf_unit.specs.Crowds.{Crowd, crowd_or, is_telling, with_value, without_value}
 use Rattle.inf_unit.specs.declared.items.PrintRule.{PrintRule}
-use Rattle.inf_unit.specs.Items.{is_own, rule_of}
+use Rattle.inf_unit.specs.Items.{code_behind, is_own, rule_of}
 use Rattle.inf_unit.specs.Opcodes.{opcode_of, takes_text}
 
 -- The unit at hand: its tokens so far, before which the first of those between the unit before and its beginning stands, where
 -- there are such; the place among them where it begins; the expressions gathered so far; the locals that it names, where it is the
--- header of a routine; its items beside its expressions, in order; the place among its tokens where its outermost expression
+-- header of a routine; its items beside its expressions, in order, and the least number of bytes of their code; the place among its tokens where its outermost expression
 -- begins, if one is open, and whether that surely is one; whether the unit has ended, but for its last token; the number of
 -- brackets and braces of its piece that are open; the number of its tokens, where it is whole and waits for the token that follows
--- it; the least finding of operands that are not kept; and its tokens, where it is a line of grammar that has too many.
+-- it; the least finding of operands that are not kept; its tokens, where it is a line of grammar or the header of a verb that has too
+-- many; and its values, where it prints or gives too many.
 pub record Unit : Type 0 where
   pub tokens : List SourceToken
   pub begun : ℕ
   pub gathering : Gathering
   pub headed : Headed
   pub items : List Item
+  pub code : ℕ
   pub outer : Option ℕ
   pub is_sure : Bool
   pub is_over : Bool
@@ -52,6 +56,7 @@ pub record Unit : Type 0 where
   pub held : Option ℕ
   pub passed : Option Finding
   pub long : Option LongLine
+  pub crowd : Option Crowd
 
 -- Unit at the front of a piece.
 abbrev pub no_unit : Unit
@@ -61,6 +66,7 @@ no_unit = record {
   gathering = nothing_gathered;
   headed = no_locals;
   items = [];
+  code = 0;
   outer = None;
   is_sure = false;
   is_over = false;
@@ -69,6 +75,7 @@ no_unit = record {
   held = None;
   passed = None;
   long = None;
+  crowd = None;
 }
 
 -- The next token is the first of a unit. Of those before it the first is kept.
@@ -291,15 +298,20 @@ stepped s u = record u { gathering = gathered s u.tokens u.gathering }
 
 -- One item more beside the expressions.
 abbrev pub with_item : Item → Unit → Unit
-with_item i u = record u { items = u.items ++ i ∷ [] }
+with_item i u = record u { items = u.items ++ i ∷ []; code = code_behind i u.code }
 
 -- One item more is printed, where an outermost expression has ended.
 abbrev pub printed : Item → Unit → Unit
-printed i u = record u { items = u.items ++ i ∷ []; outer = None }
+printed i u = record u { items = u.items ++ i ∷ []; code = code_behind i u.code; outer = None }
 
 -- The name in the bracket that was closed last is a print rule: one of the language is no expression.
 abbrev pub ruled_by : PrintRule → Unit → Unit
-ruled_by r u = record u { gathering = with_rule (is_own r) u.gathering; items = u.items ++ item.Ruled r ∷ [] }
+ruled_by r u =
+    record u {
+      gathering = with_rule (is_own r) u.gathering;
+      items = u.items ++ item.Ruled r ∷ [];
+      code = code_behind (item.Ruled r) u.code;
+    }
 
 abbrev pub ruled : Unit → Unit
 ruled u = ruled_by (rule_of (bytes_at u.tokens (length u.tokens - 2))) u
@@ -345,8 +357,8 @@ operands_passed f u =
       passed = least_of_both u.passed f;
     }
 
--- A token of a line of grammar that has too many ends. The tokens so far are kept, of which one is wrong or none; a further one is
--- kept where it is wrong, or new, unless one before it is wrong.
+-- A token of a line of grammar, or of the header of a verb, that has too many ends. The tokens so far are kept, of which one is wrong or
+-- none; a further one is kept where it is wrong, or new, unless one before it is wrong.
 abbrev pub sifted_by : Option LongLine → Bool → Bool → Unit → Unit
 sifted_by None is_bad is_new u = record u { long = Some (no_tokens (length u.tokens) is_bad) }
 sifted_by (Some l) is_bad is_new u =
@@ -355,6 +367,31 @@ sifted_by (Some l) is_bad is_new u =
 
 abbrev pub sifted : Bool → Bool → Unit → Unit
 sifted is_bad is_new u = sifted_by u.long is_bad is_new u
+
+-- Values of a unit that has too many are sifted from the next one on: all that the unit has so far is the first of them.
+abbrev pub crowd_begun : Unit → Unit
+crowd_begun u = record u { crowd = Some (crowd_or u.crowd) }
+
+-- The value at hand ends, about which a finding is the least. It is kept where it tells something.
+abbrev pub value_kept : Option Finding → Crowd → Unit → Unit
+value_kept f c u = record u { crowd = Some (with_value (length u.tokens) (length u.items) u.code (extent u.gathering) f c) }
+
+abbrev pub value_passed : Crowd → Unit → Unit
+value_passed c u =
+    record u {
+      tokens = take c.line.count u.tokens;
+      items = take c.items u.items;
+      code = c.code;
+      gathering = cut c.extent u.gathering;
+      crowd = Some (without_value c);
+    }
+
+abbrev pub value_sifted_by : Option Crowd → Option Finding → Unit → Unit
+value_sifted_by None f u = u
+value_sifted_by (Some c) f u = if is_telling f c then value_kept f c u else value_passed c u
+
+abbrev pub value_sifted : Option Finding → Unit → Unit
+value_sifted f u = value_sifted_by u.crowd f u
 
 -- Unit after a note.
 abbrev pub noted : Note → Unit → Unit
@@ -369,6 +406,7 @@ noted note.OuterEnd u = record u { outer = None }
 noted note.Hold u = record u { held = Some (length u.tokens); outer = None }
 noted note.PrintText u = printed (item.Text (last_leaf u)) u
 noted note.PrintValue u = printed item.Value u
+noted note.PrintRuled u = record u { outer = None }
 noted note.Rule u = ruled u
 noted note.Set u = with_item item.Set u
 noted note.Clear u = with_item item.Clear u
@@ -377,6 +415,7 @@ noted note.AsmText u = opcode_text u
 noted note.Store u = with_item (item.Store (last_leaf u)) u
 noted (note.Branch sense) u = with_item (item.Branch (last_leaf u) sense) u
 noted note.LineToken u = u
+noted note.VerbWord u = u
 
 -- Unit after an action has gathered or noted something; an action that ends a unit, or has to do with the statements around it,
 -- does neither.
@@ -410,7 +449,8 @@ jump_of u = if is_assembly u then jump_by (opcode_of (bytes_at u.tokens (next_pl
 
 abbrev pub prepared_by : Option ℕ → Unit → Unit
 prepared_by None u = u
-prepared_by (Some at) u = record u { gathering = nothing_gathered; items = u.items ++ item.Jump at ∷ [] }
+prepared_by (Some at) u =
+    record u { gathering = nothing_gathered; items = u.items ++ item.Jump at ∷ []; code = code_behind (item.Jump at) u.code }
 
 abbrev pub prepared : Unit → Unit
 prepared u = prepared_by (jump_of u) u

@@ -1,7 +1,7 @@
 //! Items that the units of a routine have beside their expressions.
 ghost use Rattle.std.specs.Prelude.{◌≡◌};
 ghost use Rattle.std.specs.Str.{bytes_eq};
-ghost use Rattle.inf_unit.specs.Items.{is_own, rule_of};
+ghost use Rattle.inf_unit.specs.Items.{code_behind, is_own, least_code, least_of_rule, rule_of};
 
 /// A rule by which a value is printed (Designer's Manual, fourth edition, section 1.11).
 #[derive(Clone, Copy, Debug, PartialEq, Eq)]
@@ -84,4 +84,39 @@ impl PrintRule {
     {
         !matches!(self, PrintRule::Routine)
     }
+}
+
+/// Returns the least number of bytes of the code by which `rule` prints a value.
+fn least_of_rule(rule: PrintRule) -> usize
+    ensures { result ≡ least_of_rule rule }
+{
+    match rule {
+        PrintRule::String | PrintRule::Address | PrintRule::Object => 2,
+        PrintRule::Character
+        | PrintRule::ShortName
+        | PrintRule::DefiniteArticle
+        | PrintRule::CapitalArticle
+        | PrintRule::IndefiniteArticle
+        | PrintRule::EnglishNumber
+        | PrintRule::Routine => 3,
+    }
+}
+
+/// Returns the least number of bytes of the code of `item`, where it is one that is printed or given.
+fn least_code(item: Item) -> usize
+    ensures { result ≡ least_code item }
+{
+    match item {
+        Item::Ruled(rule) => least_of_rule(rule),
+        Item::Text(_) | Item::Value | Item::Set | Item::Clear => 3,
+        Item::Default | Item::Store(_) | Item::Branch(_, _) | Item::Jump(_) => 0,
+    }
+}
+
+/// Returns the least number of bytes of the code of some items and `item`, where that of the others is `code`.
+#[tactic(auto, unfolding(crate::specs::Items::code_behind))]
+pub(crate) fn code_behind(item: Item, code: usize) -> usize
+    ensures { result ≡ code_behind item code }
+{
+    code.saturating_add(least_code(item))
 }

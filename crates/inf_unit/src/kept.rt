@@ -5,14 +5,17 @@ ghost use Rattle.inf_unit.specs.KeptBytes.{kept_bytes};
 
 use crate::tokens::SourceToken;
 use arrayvec::ArrayVec;
-use inf_names::spellings::{MOST_NAME_BYTES, Spelling};
 use inf_scanner::{Place, TokenKind};
 use std::alloc::{AllocError, Global};
+
+/// The most bytes of a token that take no memory of their own. Each token that is kept has room for as many, and a unit may have many
+/// tokens.
+const FEW: usize = 22;
 
 /// The bytes of a token that is kept. Those of most tokens are few, and take no memory of their own.
 #[derive(Drop)]
 pub enum KeptBytes {
-    Few(Spelling),
+    Few(ArrayVec<u8, FEW>),
     Many(Vec<u8>),
 }
 
@@ -21,7 +24,7 @@ impl KeptBytes {
     fn new(alloc: Global, bytes: &[u8]) -> Result<KeptBytes, AllocError>
         ensures { IfOk result (λ kept. kept_bytes kept ≡ bytes.now) }
     {
-        if bytes.len() <= MOST_NAME_BYTES {
+        if bytes.len() <= FEW {
             let mut few = ArrayVec::new();
             let _fits = few.try_extend_from_slice(bytes);
             return Ok(KeptBytes::Few(few));

@@ -1,6 +1,7 @@
 //! The units of a source: their tokens, how they begin, their names, and the messages about them.
 #![tactic(auto)]
 
+pub mod crowds;
 pub mod directives;
 pub mod items;
 pub mod kept;

@@ -1,7 +1,7 @@
 //! The roles of the actions of the grammar.
 ghost use Rattle.std.specs.Prelude.{◌≡◌};
-ghost use Rattle.inf_unit.specs.Roles.{ends_outer, ends_token, failing, is_arrow, is_text, makes_sure, operation, prefix, property};
-ghost use Rattle.inf_unit.specs.Roles.{role_of, suffix, test, two};
+ghost use Rattle.inf_unit.specs.Roles.{ends_outer, ends_token, ends_value, failing, is_arrow, is_text, is_verb_word, makes_sure};
+ghost use Rattle.inf_unit.specs.Roles.{operation, prefix, property, role_of, suffix, test, two};
 
 use crate::steps::GatherStep;
 use inf_expressions::{Binary, Direction, Operation, PropertyPart, Single, Test, Unary};
@@ -32,6 +32,8 @@ pub enum Note {
     PrintText,
     /// The latest expression is printed.
     PrintValue,
+    /// The latest expression is printed by a rule.
+    PrintRuled,
     /// The name in the bracket that was closed last is a print rule.
     Rule,
     /// The next expression is an attribute that is set, or one that is cleared.
@@ -47,6 +49,8 @@ pub enum Note {
     Branch(bool),
     /// The last tokens are one of a line of grammar.
     LineToken,
+    /// The last token is a further word of a verb.
+    VerbWord,
 }
 
 /// The kind of a unit that ends.
@@ -202,6 +206,23 @@ pub fn ends_token(note: Note) -> bool
     matches!(note, Note::LineToken)
 }
 
+/// Returns whether `note` is that of a whole value of a statement that prints, or of an attribute that one gives or takes.
+pub fn ends_value(note: Note) -> bool
+    ensures { result ≡ ends_value note }
+{
+    matches!(
+        note,
+        Note::PrintValue | Note::PrintRuled | Note::Set | Note::Clear
+    )
+}
+
+/// Returns whether `note` is that of a further word of a verb.
+pub fn is_verb_word(note: Note) -> bool
+    ensures { result ≡ is_verb_word note }
+{
+    matches!(note, Note::VerbWord)
+}
+
 /// Returns the role of `action`. It is inlined: a call would cost more than the look into the table.
 #[inline(always)]
 pub fn role_of(action: Action) -> Role
@@ -264,10 +285,11 @@ pub fn role_of(action: Action) -> Role
         Action::OuterMaybe => Role::Note(Note::Outer(false)),
         Action::OuterWord => Role::Note(Note::OuterWord),
         Action::OuterSure => Role::Note(Note::OuterSure),
-        Action::OuterEnd | Action::PrintRule => Role::Note(Note::OuterEnd),
+        Action::OuterEnd => Role::Note(Note::OuterEnd),
         Action::Hold => Role::Note(Note::Hold),
         Action::PrintText => Role::Note(Note::PrintText),
         Action::PrintValue => Role::Note(Note::PrintValue),
+        Action::PrintRule => Role::Note(Note::PrintRuled),
         Action::Rule => Role::Note(Note::Rule),
         Action::Set => Role::Note(Note::Set),
         Action::Clear => Role::Note(Note::Clear),
@@ -277,6 +299,7 @@ pub fn role_of(action: Action) -> Role
         Action::Branch => Role::Note(Note::Branch(true)),
         Action::BranchNot => Role::Note(Note::Branch(false)),
         Action::Token => Role::Note(Note::LineToken),
+        Action::VerbWord => Role::Note(Note::VerbWord),
         Action::EndLocals => Role::End(Ending::Locals),
         Action::EndEmbedded => Role::End(Ending::Embedded),
         Action::EndRoutine => Role::End(Ending::Routine),

@@ -2,12 +2,14 @@
 ghost use Rattle.std.specs.Prelude.{◌≡◌, ◌≤◌, ◌++◌, ◌∷◌, [], None, OnOk, Some, length};
 ghost use Rattle.inf_unit.specs.AtHand.{unit};
 ghost use Rattle.inf_unit.specs.Spelled.{spelled};
-ghost use Rattle.inf_unit.specs.Units.{acted, begun, depth_behind, first_place, forgotten, headed_more, is_again, is_alone, is_assembly};
+ghost use Rattle.inf_unit.specs.Units.{acted, begun, crowd_begun, depth_behind, first_place, forgotten, headed_more, is_again, is_alone};
+ghost use Rattle.inf_unit.specs.Units.{is_assembly, value_sifted};
 ghost use Rattle.inf_unit.specs.Units.{is_full, is_sign, jump_label, jump_of, last_leaf, last_passed, leaf_of, long_at, marked_from};
 ghost use Rattle.inf_unit.specs.Units.{next_place, no_unit, noted, opcode_text, operands_passed, order, outer_tokens, over, own_place};
-ghost use Rattle.inf_unit.specs.Units.{prepared, ruled, semicolon_taken, sifted, stepped, taken, text_passed, told_leaf, with_item};
+ghost use Rattle.inf_unit.specs.Units.{prepared, printed, ruled, semicolon_taken, sifted, stepped, taken, text_passed, told_leaf, with_item};
 
-use crate::items::{Item, rule_of};
+use crate::crowds::{Crowd, forget_crowd};
+use crate::items::{Item, code_behind, rule_of};
 use crate::kinds::is_mark;
 use crate::long_lines::{LongLine, forget_line};
 use crate::opcodes::{opcode_of, takes_text};
@@ -37,6 +39,8 @@ pub struct Unit {
     pub headed: Headed,
     /// The items that the unit has beside its expressions, in order.
     pub items: Vec<Item>,
+    /// The least number of bytes of the code of the items.
+    pub code: usize,
     /// The place among the tokens where the outermost expression begins, if one is open.
     pub outer: Option<usize>,
     /// Tells whether that surely is an expression.
@@ -49,8 +53,10 @@ pub struct Unit {
     pub held: Option<usize>,
     /// The least finding of operands that are not kept.
     pub passed: Option<Finding>,
-    /// The tokens of the unit, where it is a line of grammar that has too many.
+    /// The tokens of the unit, where it is a line of grammar or the header of a verb that has too many.
     pub long: Option<LongLine>,
+    /// The values of the unit, where it prints or gives too many.
+    pub crowd: Option<Crowd>,
 }
 
 /// Returns the leaf that the token at place `at` of its unit, of `kind`, is.
@@ -145,6 +151,7 @@ impl Unit {
             gathering: Gathering::new(alloc),
             headed: Headed::new(),
             items: Vec::new(alloc),
+            code: 0,
             outer: None,
             is_sure: false,
             is_over: false,
@@ -152,6 +159,7 @@ impl Unit {
             held: None,
             passed: None,
             long: None,
+            crowd: None,
         }
     }
 
@@ -180,12 +188,14 @@ impl Unit {
         self.gathering.clear();
         self.headed.clear();
         self.items.clear();
+        self.code = 0;
         self.outer = None;
         self.is_sure = false;
         self.is_over = false;
         self.held = None;
         self.passed = None;
         forget_line(&mut self.long);
+        forget_crowd(&mut self.crowd);
     }
 
     /// Ends the unit, whose last token is still to come if `has_last`. Where the unit waited, the first of the tokens behind it stays.
@@ -257,6 +267,7 @@ impl Unit {
             }
             Note::PrintText => return self.print(Item::Text(last)),
             Note::PrintValue => return self.print(Item::Value),
+            Note::PrintRuled => self.outer = None,
             Note::Rule => return self.rule(),
             Note::Set => return self.item(Item::Set),
             Note::Clear => return self.item(Item::Clear),
@@ -264,7 +275,7 @@ impl Unit {
             Note::AsmText => return self.opcode_text(),
             Note::Store => return self.item(Item::Store(last)),
             Note::Branch(sense) => return self.item(Item::Branch(last, sense)),
-            Note::LineToken => {}
+            Note::LineToken | Note::VerbWord => {}
         }
         Ok(())
     }
@@ -296,8 +307,8 @@ impl Unit {
         self.gathering.keep_numbers(9)
     }
 
-    /// Ends a token of a line that has too many. The first time, the tokens so far are kept, one of which is wrong if `is_bad`;
-    /// later, the token is kept if it is wrong by `is_bad` or new by `is_new`, unless one before it is wrong.
+    /// Ends a token of a line or of the header of a verb that has too many. The first time, the tokens so far are kept, one of which is
+    /// wrong if `is_bad`; later, the token is kept if it is wrong by `is_bad` or new by `is_new`, unless one before it is wrong.
     pub fn sift(&mut self, alloc: Global, hashing: NameHashing, is_bad: bool, is_new: bool)
         ensures { unit self.new ≡ sifted is_bad is_new (unit self.old) }
     {
@@ -309,6 +320,37 @@ impl Unit {
                 line.is_bad = is_bad;
             }
             Some(line) => self.tokens.truncate(line.count),
+        }
+    }
+
+    /// Has the values of the unit be sifted from the next one on. All that the unit has so far is the first of them.
+    pub fn begin_crowd(&mut self, alloc: Global, hashing: NameHashing)
+        ensures { unit self.new ≡ crowd_begun (unit self.old) }
+    {
+        match &self.crowd {
+            Some(_) => {}
+            None => self.crowd = Some(Crowd::new(alloc, hashing)),
+        }
+    }
+
+    /// Ends the value at hand of a unit that has too many, about which `finding` is the least. It is kept where it tells something.
+    pub fn sift_value(&mut self, finding: Option<Finding>)
+        ensures { unit self.new ≡ value_sifted finding (unit self.old) }
+    {
+        let (count, items, code) = (self.tokens.len(), self.items.len(), self.code);
+        let extent = self.gathering.extent();
+        match &mut self.crowd {
+            None => {}
+            Some(crowd) if crowd.is_telling(finding) => {
+                crowd.keep(count, items, code, extent, finding);
+            }
+            Some(crowd) => {
+                self.tokens.truncate(crowd.line.count);
+                self.items.truncate(crowd.items);
+                self.code = crowd.code;
+                self.gathering.cut(crowd.extent);
+                crowd.pass();
+            }
         }
     }
 
@@ -370,13 +412,14 @@ impl Unit {
         ensures { OnOk result (unit self.new ≡ with_item item (unit self.old)) }
     {
         self.items.push(item)?;
+        self.code = code_behind(item, self.code);
         Ok(())
     }
 
     /// Adds `item`, which is printed and with which an outermost expression ends.
     fn print(&mut self, item: Item) -> Result<(), AllocError>
         ensures { let before = unit self.old in
-            OnOk result (unit self.new ≡ record before { items = before.items ++ item ∷ []; outer = None }) }
+            OnOk result (unit self.new ≡ printed item before) }
     {
         self.outer = None;
         self.item(item)

@@ -496,3 +496,24 @@ new_finding u names = new_finding_by u.long u names
 abbrev pub token_sifted : Context → Compilation → Compilation
 token_sifted context w =
     let r = last_brought context.settings w.unit in record w { unit = sifted (is_some (new_finding w.unit w.output.names)) r.1 r.0 }
+
+-- Words of the header of a verb that has more tokens than there may be words. With as many different words it passes that setting. Once a
+-- word came twice, the header is wrong at that word or before it, and nothing behind it matters.
+
+-- the last token, a word, comes, and whether it came before
+abbrev pub word_again : LongLine × Bool → Unit → Unit × Bool
+word_again r u = (record u { long = Some r.0 }, not r.1)
+
+abbrev pub word_came_in : Option LongLine → DictionaryWord → Unit → Unit × Bool
+word_came_in None word u = (u, false)
+word_came_in (Some l) word u = if l.is_bad then (u, false) else word_again (word_added word.text 4294967295 l) u
+
+abbrev pub word_came_by : Option DictionaryWord → Unit → Unit × Bool
+word_came_by None u = (u, false)
+word_came_by (Some word) u = word_came_in u.long word u
+
+abbrev pub word_came : Unit → Unit × Bool
+word_came u = word_came_by (word_at u.tokens (last_leaf u)) u
+
+abbrev pub word_sifted : Compilation → Compilation
+word_sifted w = let r = word_came w.unit in record w { unit = sifted r.1 true r.0 }

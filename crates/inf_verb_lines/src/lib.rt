@@ -2,4 +2,5 @@
 #![tactic(auto)]
 
 pub mod lines;
+pub mod long_headers;
 pub mod verbs;

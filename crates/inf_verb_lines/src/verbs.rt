@@ -80,7 +80,7 @@ fn word_in(kind: Option<TokenKind>) -> Option<DictionaryWord>
 }
 
 /// Returns the word of the dictionary of the token at a place.
-fn word_at(tokens: &UnitTokens, at: usize) -> Option<DictionaryWord>
+pub(crate) fn word_at(tokens: &UnitTokens, at: usize) -> Option<DictionaryWord>
     ensures { result ≡ word_at tokens.now at }
 {
     word_in(tokens.kind(at))

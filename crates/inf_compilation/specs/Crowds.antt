@@ -1,0 +1,254 @@
+-- Values of a statement that prints, or gives attributes, of which there are more than code may have bytes for.
+use Rattle.std.specs.Prelude.{ℕ, List, [], ◌∷◌, ◌++◌, length, drop, nat_lt, Bool, true, false, not, ◌&&◌, ◌||◌, Option, Some, None}
+use Rattle.std.specs.Prelude.{option_map}
+use Rattle.inf_expressions.specs.Units.{judged}
+use Rattle.inf_expressions.specs.declared.findings.Finding.{Finding}
+use Rattle.inf_expressions.specs.declared.operators.Binary.{Binary}
+use Rattle.inf_expressions.specs.declared.operators.Binary.TheVariants as binary
+use Rattle.inf_expressions.specs.declared.operators.Function.{Function}
+use Rattle.inf_expressions.specs.declared.operators.Function.TheVariants as function
+use Rattle.inf_expressions.specs.declared.operators.Operand.{Operand}
+use Rattle.inf_expressions.specs.declared.operators.Operand.TheVariants as operand
+use Rattle.inf_expressions.specs.declared.operators.Operation.{Operation}
+use Rattle.inf_expressions.specs.declared.operators.Operation.TheVariants as operation
+use Rattle.inf_expressions.specs.declared.operators.Unary.{Unary}
+use Rattle.inf_expressions.specs.declared.operators.Unary.TheVariants as unary
+use Rattle.inf_expressions.specs.declared.symbols.Symbol.{Symbol}
+use Rattle.inf_expressions.specs.declared.symbols.Symbol.TheVariants as symbol
+use Rattle.inf_expressions.specs.declared.units.Wanted.TheVariants as wanted
+use Rattle.inf_gathering.specs.Gatherings.{Gathering}
+use Rattle.inf_gathering.specs.declared.gathering.Leaf.{Leaf}
+use Rattle.inf_gathering.specs.declared.gathering.Leaf.TheVariants as leaf
+use Rattle.inf_names.specs.Locals.{Local, number_of}
+use Rattle.inf_names.specs.Symbols.{Table, found_in}
+use Rattle.inf_names.specs.declared.symbols.Found.{Found}
+use Rattle.inf_names.specs.declared.symbols.Found.TheVariants as found
+use Rattle.inf_output.specs.Output.{Out}
+use Rattle.inf_output.specs.Veneer.{name_of}
+use Rattle.inf_output.specs.declared.veneer.Veneer.{Veneer}
+use Rattle.inf_output.specs.declared.veneer.Veneer.TheVariants as veneer
+use Rattle.inf_scanner.specs.declared.tokens.Place.{Place}
+use Rattle.inf_settings.specs.Settings.{number_of as setting_number}
+use Rattle.inf_settings.specs.declared.setting.Setting.TheVariants as setting
+use Rattle.inf_settings.specs.declared.settings.Settings.{Settings}
+use Rattle.inf_statements.specs.Operands.{leaves_named, looked_leaf}
+use Rattle.inf_unit.specs.Crowds.{Crowd}
+use Rattle.inf_unit.specs.LongLines.{LongLine, name_added, word_added}
+use Rattle.inf_unit.specs.Tokens.{SourceToken}
+use Rattle.inf_unit.specs.Units.{Unit, bytes_at, crowd_begun, order, value_sifted as unit_value_sifted}
+use Rattle.inf_unit.specs.declared.items.Item.{Item}
+use Rattle.inf_unit.specs.declared.items.Item.TheVariants as item
+use Rattle.inf_unit.specs.declared.items.PrintRule.{PrintRule}
+use Rattle.inf_unit.specs.declared.items.PrintRule.TheVariants as rule
+use Rattle.inf_compilation.specs.Context.{Context}
+use Rattle.inf_compilation.specs.Actions.{Compilation}
+
+-- The settings that a value may pass before that of the bytes of code
+
+-- A name or a word came: the line that has it, and whether it is new.
+abbrev pub with_line : LongLine × Bool → Crowd → Crowd
+with_line r c = record c { line = r.0; tells = c.tells || r.1 }
+
+-- A name that is not known so far, and is no local, may be one too many.
+abbrev pub is_unknown : Found Place → Bool
+is_unknown found.Unknown = true
+is_unknown (found.System m) = false
+is_unknown (found.Declared m place) = false
+is_unknown found.Used = false
+
+abbrev pub is_new_by : Option ℕ → Found Place → Bool
+is_new_by (Some local) f = false
+is_new_by None f = is_unknown f
+
+abbrev pub is_new : List Local → Table Place → List ℕ → Bool
+is_new locals names name = is_new_by (number_of name locals) (found_in name names)
+
+abbrev pub name_brought : Settings → Bool → List ℕ → Crowd → Crowd
+name_brought settings true name c = with_line (name_added name (setting_number setting.Symbols settings) c.line) c
+name_brought settings false name c = c
+
+abbrev pub word_brought : Settings → List ℕ → Crowd → Crowd
+word_brought settings text c = with_line (word_added text (setting_number setting.DictionaryEntries settings) c.line) c
+
+-- A text is a string of the story.
+abbrev pub leaf_told : Settings → List Local → Table Place → List SourceToken → Leaf → Crowd → Crowd
+leaf_told settings locals names tokens (leaf.Name at) c =
+    name_brought settings (is_new locals names (bytes_at tokens at)) (bytes_at tokens at) c
+leaf_told settings locals names tokens (leaf.Alone at) c =
+    name_brought settings (is_new locals names (bytes_at tokens at)) (bytes_at tokens at) c
+leaf_told settings locals names tokens (leaf.Word word) c = word_brought settings word.text c
+leaf_told settings locals names tokens (leaf.Text at) c = record c { tells = true }
+leaf_told settings locals names tokens (leaf.Number n) c = c
+leaf_told settings locals names tokens (leaf.Char z) c = c
+leaf_told settings locals names tokens (leaf.Action at) c = c
+leaf_told settings locals names tokens (leaf.System at) c = c
+
+-- The code of a function of the system may have a label, or call a routine by its name.
+abbrev pub is_loud_function : Function → Bool
+is_loud_function function.Child = true
+is_loud_function function.Sibling = true
+is_loud_function function.Children = true
+is_loud_function function.Parent = false
+is_loud_function function.Random = false
+is_loud_function function.Indirect = false
+
+abbrev pub is_loud : Operand → Bool
+is_loud (operand.Function f) = is_loud_function f
+is_loud (operand.Known n) = false
+is_loud (operand.Variable v) = false
+is_loud (operand.Later target) = false
+is_loud operand.Unknown = false
+
+-- The operand of a leaf, behind the new actions so far: the actions, and the operand.
+abbrev pub operand_added : Table Place × Operand → Crowd → Crowd
+operand_added r c =
+    record c {
+      operands = c.operands ++ r.1 ∷ [];
+      actions = r.0;
+      tells = c.tells || is_loud r.1;
+      acts = c.acts || nat_lt (length c.actions.names) (length r.0.names);
+    }
+
+abbrev pub leaf_brought : Settings → List Local → Out → List SourceToken → Leaf → Crowd → Crowd
+leaf_brought settings locals o tokens l c =
+    leaf_told settings locals o.names tokens l (operand_added (looked_leaf locals o tokens l c.actions) c)
+
+abbrev pub leaves_brought : Settings → List Local → Out → List SourceToken → List Leaf → Crowd → Crowd
+leaves_brought settings locals o tokens [] c = c
+leaves_brought settings locals o tokens (l ∷ leaves) c =
+    leaves_brought settings locals o tokens leaves (leaf_brought settings locals o tokens l c)
+
+-- A rule of the language may be the name of a routine that the code calls.
+abbrev pub rule_routine : PrintRule → Option Veneer
+rule_routine rule.Character = None
+rule_routine rule.String = None
+rule_routine rule.Address = None
+rule_routine rule.Object = None
+rule_routine rule.ShortName = Some veneer.ShortName
+rule_routine rule.DefiniteArticle = Some veneer.DefiniteArticle
+rule_routine rule.CapitalArticle = Some veneer.CapitalArticle
+rule_routine rule.IndefiniteArticle = Some veneer.IndefiniteArticle
+rule_routine rule.EnglishNumber = Some veneer.EnglishNumber
+rule_routine rule.Routine = None
+
+abbrev pub routine_brought : Settings → Table Place → Option Veneer → Crowd → Crowd
+routine_brought settings names None c = c
+routine_brought settings names (Some v) c = name_brought settings (is_unknown (found_in (name_of v) names)) (name_of v) c
+
+abbrev pub item_brought : Settings → Table Place → Item → Crowd → Crowd
+item_brought settings names (item.Ruled r) c = routine_brought settings names (rule_routine r) c
+item_brought settings names _ c = c
+
+abbrev pub items_brought : Settings → Table Place → List Item → Crowd → Crowd
+items_brought settings names [] c = c
+items_brought settings names (i ∷ items) c = items_brought settings names items (item_brought settings names i c)
+
+-- An entry of an array, or a property, is in memory.
+abbrev pub is_entry : Operation → Bool
+is_entry operation.Byte = true
+is_entry operation.Word = true
+is_entry _ = false
+
+abbrev pub is_in_memory : Symbol → Bool
+is_in_memory (symbol.Two (binary.Operation o)) = is_entry o
+is_in_memory (symbol.Two (binary.Property p)) = true
+is_in_memory _ = false
+
+abbrev pub are_in_memory : List Symbol → Bool → Bool
+are_in_memory [] found = found
+are_in_memory (s ∷ symbols) found = are_in_memory symbols (found || is_in_memory s)
+
+-- Operators whose code has bytes and references alone: it has no label, and calls no routine by its name. What is assigned or stepped has
+-- to be a variable, and nothing be in memory.
+abbrev pub is_plain_one : Bool → Unary → Bool
+is_plain_one in_memory unary.Negate = true
+is_plain_one in_memory (unary.Single s) = true
+is_plain_one in_memory unary.Not = false
+is_plain_one in_memory (unary.Before s) = not in_memory
+is_plain_one in_memory (unary.Behind s) = not in_memory
+is_plain_one in_memory (unary.Relative r) = false
+is_plain_one in_memory unary.Children = false
+is_plain_one in_memory unary.Call = true
+is_plain_one in_memory unary.Indirect = true
+
+abbrev pub is_plain_two : Bool → Binary → Bool
+is_plain_two in_memory (binary.Operation o) = true
+is_plain_two in_memory (binary.Property p) = false
+is_plain_two in_memory (binary.Test t) = false
+is_plain_two in_memory (binary.Fails t) = false
+is_plain_two in_memory binary.Assign = not in_memory
+is_plain_two in_memory binary.Comma = true
+is_plain_two in_memory binary.And = false
+is_plain_two in_memory binary.Or = false
+is_plain_two in_memory binary.Call = true
+is_plain_two in_memory binary.Then = true
+is_plain_two in_memory binary.To = true
+
+abbrev pub is_plain : Bool → Symbol → Bool
+is_plain in_memory (symbol.Leaf first token leaf) = true
+is_plain in_memory (symbol.Bracketed order) = true
+is_plain in_memory (symbol.Prefix order op) = is_plain_one in_memory op
+is_plain in_memory (symbol.Suffix op) = is_plain_one in_memory op
+is_plain in_memory (symbol.Two op) = is_plain_two in_memory op
+is_plain in_memory symbol.Comma = true
+is_plain in_memory (symbol.List joints) = true
+is_plain in_memory (symbol.Call given) = true
+
+abbrev pub are_plain : Bool → List Symbol → Bool → Bool
+are_plain in_memory [] plain = plain
+are_plain in_memory (s ∷ symbols) plain = are_plain in_memory symbols (plain && is_plain in_memory s)
+
+abbrev pub symbols_heard : List Symbol → Crowd → Crowd
+symbols_heard symbols c = record c { tells = c.tells || not (are_plain (are_in_memory symbols false) symbols true) }
+
+-- The value at hand
+
+-- The parts of a unit behind those of the values that are kept come, one kind after the other.
+abbrev pub value_leaves : Settings → List Local → Out → List SourceToken → List Leaf → Crowd → Crowd
+value_leaves settings locals o tokens leaves c = leaves_brought settings locals o tokens (drop c.extent.leaves leaves) c
+
+abbrev pub value_items : Settings → Table Place → List Item → Crowd → Crowd
+value_items settings names items c = items_brought settings names (drop c.items items) c
+
+abbrev pub value_symbols : List Symbol → Crowd → Crowd
+value_symbols symbols c = symbols_heard (drop c.extent.symbols symbols) c
+
+abbrev pub value_heard : Settings → List Local → Out → List SourceToken → Gathering → List Item → Crowd → Crowd
+value_heard settings locals o tokens g items c =
+    value_symbols g.symbols (value_items settings o.names items (value_leaves settings locals o tokens g.leaves c))
+
+abbrev pub value_brought : Settings → List Local → Out → Unit → Unit
+value_brought settings locals o u =
+    record u { crowd = option_map (value_heard settings locals o u.tokens u.gathering u.items) u.crowd }
+
+-- The least finding about the value at hand.
+abbrev pub value_finding_by : Option Crowd → Unit → Option Finding
+value_finding_by None u = None
+value_finding_by (Some c) u = judged wanted.Value (order u.begun) c.operands (drop c.extent.symbols u.gathering.symbols)
+
+abbrev pub value_finding : Unit → Option Finding
+value_finding u = value_finding_by u.crowd u
+
+-- The value at hand names its locals.
+abbrev pub value_named_by : Option Crowd → Unit → List Local → List Local
+value_named_by None u locals = locals
+value_named_by (Some c) u locals = leaves_named u.tokens (drop c.extent.leaves u.gathering.leaves) locals
+
+abbrev pub value_named : Unit → List Local → List Local
+value_named u locals = value_named_by u.crowd u locals
+
+-- The value at hand ends.
+abbrev pub crowd_opened : Compilation → Compilation
+crowd_opened w = record w { unit = crowd_begun w.unit }
+
+abbrev pub crowd_told : Context → Compilation → Compilation
+crowd_told context w = record w { unit = value_brought context.settings w.locals w.output w.unit }
+
+abbrev pub crowd_named : Compilation → Compilation
+crowd_named w = record w { locals = value_named w.unit w.locals }
+
+abbrev pub crowd_sifted : Compilation → Compilation
+crowd_sifted w = record w { unit = unit_value_sifted (value_finding w.unit) w.unit }
+
+abbrev pub value_sifted : Context → Compilation → Compilation
+value_sifted context w = crowd_sifted (crowd_named (crowd_told context (crowd_opened w)))
