@@ -15,7 +15,7 @@ use crate::headers::{Header, header_in, word_place};
 use crate::short_names::{bracketed, pack_name, short_text};
 use inf_compilation::compilation::Compilation;
 use inf_compilation::context::Context;
-use inf_compilation::findings::{Findings, many_finding};
+use inf_compilation::findings::many_finding;
 use inf_declarations::declarations::{Declared, end_declared, plainly_known};
 use inf_expressions::{Finding, UnitError, least_of_both};
 use inf_lexer::Place;
@@ -123,7 +123,7 @@ pub(crate) fn tell_entry<B: Bounds>(
 ) -> Result<(), AllocError>
     ensures { OnOk result (work compilation.new ≡ entry_told B.most (handed context.now) first found (work compilation.old)) }
 {
-    compilation.end_unit(context, first, false, &Findings::alone(found))
+    compilation.end_alone(context, first, false, found)
 }
 
 // Classes

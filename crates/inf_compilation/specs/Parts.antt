@@ -34,6 +34,11 @@ abbrev pub has_last : Part → Bool
 has_last (part.Statement s) = true
 has_last _ = false
 
+-- Tells whether a unit is a case.
+abbrev pub is_case : Part → Bool
+is_case part.Case = true
+is_case _ = false
+
 -- Use that a unit makes of its expressions.
 abbrev pub wanted_of : Part → Wanted
 wanted_of (part.Statement s) = wanted_by s
@@ -120,6 +125,12 @@ part_carried limits context first p None w =
     unit_ended limits context first (has_last p) nothing_found
     (part_effect limits context p (trees_at (order_of p w) (wanted_of p) s.operands w)
     (record w { output = record s.out { first = first } }))
+
+-- End of a unit without an error, which begins at a place and has these trees.
+abbrev pub part_laid : Limits → Context → Place → Part → List Rooted → Compilation → Compilation
+part_laid limits context first p trees w =
+    unit_ended limits context first (has_last p) nothing_found
+    (part_effect limits context p trees (record w { output = record w.output { first = first } }))
 
 abbrev pub part_finished : Limits → Context → Place → Part → Compilation → Compilation
 part_finished limits context first p w = part_carried limits context first p (found_in limits context p w) (named (part_begun limits p w))

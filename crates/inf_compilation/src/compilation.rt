@@ -13,6 +13,7 @@ use inf_area::Scale;
 use inf_code::code::{Code, CodeLimits};
 use inf_constructs::constructs::Constructs;
 use inf_constructs::labels::Labels;
+use inf_expressions::{Finding, Forest, Operand};
 use inf_letters::Letters;
 use inf_lexer::{Place, Stack};
 use inf_names::hashing::NameHashing;
@@ -61,6 +62,9 @@ pub struct Compilation<B: Bounds> {
     pub output: Output<B>,
     /// The rest of a tree that is still to be laid: nothing, between the calls that lay.
     pub(crate) tasks: Tasks,
+    /// Memory for the operands and the trees of the next unit of a routine.
+    pub(crate) operands: Vec<Operand>,
+    pub(crate) forest: Option<Forest>,
     pub report: Diagnostics,
     /// The request to the reading of the directive that was finished last.
     pub asked: Request,
@@ -168,7 +172,7 @@ impl<B: Bounds> Compilation<B> {
     ghost use Rattle.inf_compilation.specs.Actions.{begun_at, is_class, is_deep, labels_counted, letters_chosen, nested, no_work};
     ghost use Rattle.inf_compilation.specs.Actions.{opening_checked, passed, piece_begun, sized, stopped, token_checked, took};
     ghost use Rattle.inf_compilation.specs.Actions.{finding_told, unit_ended};
-    ghost use Rattle.inf_compilation.specs.Findings.{nothing_found};
+    ghost use Rattle.inf_compilation.specs.Findings.{found_alone, nothing_found};
     ghost use Rattle.inf_compilation.specs.Meant.{found_as};
     ghost use Rattle.inf_compilation.specs.Parts.{closed_ahead, construct_closed};
     ghost use Rattle.inf_compilation.specs.Works.{work};
@@ -190,6 +194,8 @@ impl<B: Bounds> Compilation<B> {
             locals: _,
             output,
             tasks: _,
+            operands: _,
+            forest: _,
             report,
             asked: _,
             replaced: _,
@@ -227,6 +233,8 @@ impl<B: Bounds> Compilation<B> {
             locals: Locals::new(),
             output: no_output(alloc, settings, hashing)?,
             tasks: Tasks::new(alloc),
+            operands: Vec::new(alloc),
+            forest: None,
             report: Diagnostics::new(alloc, true),
             asked: Request::Nothing,
             replaced: NameSet::new(alloc, hashing),
@@ -449,6 +457,22 @@ impl<B: Bounds> Compilation<B> {
             self.tell_found(context, first, found)?;
         }
         self.end_clean(context, first, has_last)
+    }
+
+    /// Ends a unit that begins at `first`, as `end_unit` does, with `finding` alone, if there is one.
+    pub fn end_alone(
+        &mut self,
+        context: &Context<'_>,
+        first: Place,
+        has_last: bool,
+        finding: Option<Finding>,
+    ) -> Result<(), AllocError>
+        ensures { OnOk result (work self.new ≡ unit_ended B.most (handed context.now) first has_last (found_alone finding) (work self.old)) }
+    {
+        match finding {
+            None => self.end_clean(context, first, has_last),
+            Some(_) => self.end_unit(context, first, has_last, &Findings::alone(finding)),
+        }
     }
 
     /// Tells the least of `found`, in a unit that begins at `first`.

@@ -1,24 +1,32 @@
 //! The units of a routine that have expressions, and the statements that hold others.
 ghost use Rattle.inf_compilation.specs.Context.{handed};
-ghost use Rattle.std.specs.Prelude.{IfOk, OnOk, ◌≡◌};
+ghost use Rattle.std.specs.Prelude.{IfOk, OnOk, true, ◌≡◌};
 ghost use Rattle.inf_expressions.specs.Forests.{trees_in as rooted_in};
+ghost use Rattle.inf_statements.specs.OperandLists.{operands_in};
 ghost use Rattle.inf_statements.specs.Sites.{site};
-ghost use Rattle.inf_compilation.specs.Parts.{has_last, is_default, line_finding_of, site_of, wanted_of};
+ghost use Rattle.inf_statements.specs.Uses.{LeavesStay};
+ghost use Rattle.inf_unit.specs.Units.{order};
+ghost use Rattle.inf_compilation.specs.Parts.{has_last, is_case, is_default, line_finding_of, site_of, wanted_of};
 
 use crate::compilation::Compilation;
 use crate::context::Context;
 use crate::findings::Findings;
 use inf_constructs::constructs::Kind;
 use inf_constructs::lay_case;
-use inf_expressions::{Finding, Forest, Operand, UnitError, Wanted, build, judge, least_of_both};
+use inf_expressions::{
+    Finding, Forest, Operand, UnitError, Wanted, judge, judge_whole, least_of_both,
+};
 use inf_lexer::Place;
 use inf_settings::bounds::Bounds;
 use inf_statements::effects::{Site, wanted_by};
-use inf_statements::operands::{all_looked, name_locals, name_stores, settled};
+use inf_statements::looking::{all_looked, look_all};
+use inf_statements::operand_lists::OperandList;
+use inf_statements::operands::{name_locals, name_stores, settle_all};
 use inf_statements::statements::{Statement, lay_expression, lay_switched, lay_test};
 use inf_unit::items::Item;
 use inf_unit::unit::order;
 use std::alloc::AllocError;
+use std::mem;
 
 /// A unit of a routine that has expressions.
 #[derive(Clone, Copy, Debug, PartialEq, Eq)]
@@ -57,6 +65,20 @@ impl Part {
             Part::Condition | Part::Start | Part::Step | Part::Switched => Wanted::Value,
         }
     }
+
+    /// Returns whether the unit is a case.
+    fn is_case(self) -> bool
+        ensures { result ≡ is_case self }
+    {
+        matches!(self, Part::Case)
+    }
+}
+
+/// The trees of a unit, whose names are only looked up, and whether these are known to stay: the use of the names changes nothing.
+#[derive(Drop)]
+struct Looked {
+    forest: Forest,
+    stays: bool,
 }
 
 /// Returns whether the case with `items` is the default.
@@ -69,14 +91,16 @@ fn is_default(items: &[Item]) -> bool
 impl<B: Bounds> Compilation<B> {
     ghost use Rattle.inf_constructs.specs.Constructs.{are_own};
     ghost use Rattle.inf_compilation.specs.Actions.{finding_at, named, operands_of, settled_of, trees_at};
-    ghost use Rattle.inf_compilation.specs.Parts.{actions_named, case_prepared, construct_opened, found_in, order_of, own_case_prepared};
+    ghost use Rattle.inf_compilation.specs.Parts.{actions_named, case_prepared, construct_opened, found_in, order_of};
+    ghost use Rattle.inf_compilation.specs.Parts.{own_case_prepared};
     ghost use Rattle.inf_compilation.specs.Parts.{own_finding, part_begun, part_carried, part_effect, part_ended, place_of, statement_at};
+    ghost use Rattle.inf_compilation.specs.Parts.{part_finished, part_laid};
     ghost use Rattle.inf_compilation.specs.Parts.{statement_laid_in};
     ghost use Rattle.inf_compilation.specs.Works.{work};
 
     /// Returns the operands of the leaves of the unit's expressions, whose names are only looked up.
-    pub fn operands(&self) -> Result<Vec<Operand>, AllocError>
-        ensures { IfOk result (λ operands. operands.items ≡ operands_of (work self.now)) }
+    pub fn operands(&self) -> Result<OperandList, AllocError>
+        ensures { IfOk result (λ operands. operands_in operands ≡ operands_of (work self.now)) }
     {
         all_looked(
             self.alloc,
@@ -116,34 +140,40 @@ impl<B: Bounds> Compilation<B> {
         name_stores(&mut self.locals, tokens, self.unit.items.as_slice());
     }
 
-    /// Uses the names of the expressions of the unit, which begins at `first`, and returns their trees.
+    /// Uses the names of the expressions of the unit, which begins at `first`, and returns their trees, in the memory of those of `spare`.
     fn settle(
         &mut self,
         context: &Context<'_>,
         first: Place,
         part: Part,
+        spare: Forest,
     ) -> Result<Forest, AllocError>
         ensures { IfOk result (λ forest. let s = settled_of B.most (handed context.now) (work self.old) in
             (rooted_in forest ≡ trees_at (order_of part (work self.old)) (wanted_of part) s.operands (work self.old))
             × (work self.new ≡ record (work self.old) { output = record s.out { first = first } })) }
     {
         let order = self.order(part);
-        let operands = settled(
+        let mut operands = mem::replace(&mut self.operands, Vec::new(self.alloc));
+        settle_all(
             self.alloc,
             context.set,
             &self.locals,
             &self.unit.tokens,
             self.unit.gathering.leaves(),
             &mut self.output,
+            &mut operands,
         )?;
         self.output.first = first;
-        build(
+        let (_, forest) = judge_whole(
             self.alloc,
             part.wanted(),
             order,
             self.unit.gathering.symbols(),
             operands.as_slice(),
-        )
+            Some(spare),
+        )?;
+        self.operands = operands;
+        Ok(forest)
     }
 
     /// Returns the site of the statement at hand.
@@ -181,57 +211,85 @@ impl<B: Bounds> Compilation<B> {
         }
     }
 
-    /// Returns the finding about an assembly line beside its expressions, which have `operands`.
-    fn line_finding(
-        &self,
-        context: &Context<'_>,
-        operands: &[Operand],
-    ) -> Result<Option<Finding>, AllocError>
-        requires { operands.now ≡ operands_of (work self.now) }
-        ensures { IfOk result (λ finding. finding ≡ line_finding_of B.most (handed context.now) (work self.now)) }
+    /// Returns the finding about an assembly line beside its expressions, whose trees, where names are only looked up, are in `forest`.
+    fn line_finding(&self, context: &Context<'_>, forest: &Forest) -> Option<Finding>
+        requires { let w = work self.now in rooted_in forest.now ≡ trees_at (order w.unit.begun) Wanted.Operand (operands_of w) w }
+        ensures { result ≡ line_finding_of B.most (handed context.now) (work self.now) }
     {
-        let forest = build(
-            self.alloc,
-            Wanted::Operand,
-            order(self.unit.begun),
-            self.unit.gathering.symbols(),
-            operands,
-        )?;
         let found = self
             .site(context)
             .line_finding(&self.output.names, &forest.nodes, &forest.roots);
-        Ok(least_of_both(self.unit.passed, found))
+        least_of_both(self.unit.passed, found)
     }
 
-    /// Returns the finding about the unit, which is `part`, beside its expressions, which have `operands`.
-    fn own_finding(
-        &self,
-        context: &Context<'_>,
-        part: Part,
-        operands: &[Operand],
-    ) -> Result<Option<Finding>, AllocError>
-        requires { operands.now ≡ operands_of (work self.now) }
-        ensures { IfOk result (λ finding. finding ≡ own_finding B.most (handed context.now) part (work self.now)) }
+    /// Returns the finding about the unit, which is `part`, beside its expressions, whose trees, where names are only looked up, are in
+    /// `forest`.
+    fn own_finding(&self, context: &Context<'_>, part: Part, forest: &Forest) -> Option<Finding>
+        requires { let w = work self.now in rooted_in forest.now ≡ trees_at (order_of part w) (wanted_of part) (operands_of w) w }
+        ensures { result ≡ own_finding B.most (handed context.now) part (work self.now) }
     {
         match part {
-            Part::Statement(Statement::Assembly) => self.line_finding(context, operands),
-            Part::Statement(statement) => Ok(self.site(context).finding(statement, &self.labels)),
-            Part::Case if self.constructs.is_late() => Ok(Some(Finding {
+            Part::Statement(Statement::Assembly) => self.line_finding(context, forest),
+            Part::Statement(statement) => self.site(context).finding(statement, &self.labels),
+            Part::Case if self.constructs.is_late() => Some(Finding {
                 order: 0,
                 error: UnitError::MisplacedDefault,
-            })),
-            _ => Ok(None),
+            }),
+            _ => None,
         }
     }
 
-    /// Returns the least finding about the unit, which is `part`, if there is one.
-    fn found_in(&self, context: &Context<'_>, part: Part) -> Result<Option<Finding>, AllocError>
-        ensures { IfOk result (λ finding. finding ≡ found_in B.most (handed context.now) part (work self.now)) }
+    /// Looks up the names of the expressions of the unit, which is `part`, and returns the least finding about the expressions, and their
+    /// trees, in the memory that was kept, if there is some.
+    fn look(&mut self, part: Part) -> Result<(Option<Finding>, Looked), AllocError>
+        ensures finding { let w = work self.old in IfOk result (λ found. found.0 ≡ finding_at (order_of part w) (wanted_of part) w) }
+        ensures trees { let w = work self.old in IfOk result (λ found.
+            rooted_in found.1.forest ≡ trees_at (order_of part w) (wanted_of part) (operands_of w) w) }
+        ensures stays { let w = work self.old in IfOk result (λ found. found.1.stays ≡ true →
+            LeavesStay w.locals w.output w.unit.tokens w.unit.gathering.leaves (operands_of w)) }
+        ensures same { work self.new ≡ work self.old }
     {
-        let operands = self.operands()?;
-        let finding = self.finding(self.order(part), part.wanted(), operands.as_slice())?;
-        let own = self.own_finding(context, part, operands.as_slice())?;
-        Ok(least_of_both(finding, own))
+        let stays = look_all(
+            self.alloc,
+            &self.locals,
+            &self.output,
+            &self.unit.tokens,
+            self.unit.gathering.leaves(),
+            &mut self.operands,
+        )?;
+        let order = self.order(part);
+        let spare = self.forest.take();
+        let (finding, forest) = judge_whole(
+            self.alloc,
+            part.wanted(),
+            order,
+            self.unit.gathering.symbols(),
+            self.operands.as_slice(),
+            spare,
+        )?;
+        Ok((finding, Looked { forest, stays }))
+    }
+
+    /// Returns the least finding about the unit, which is `part` and begins at `first`, if there is one, and the trees of its expressions.
+    /// They stay where the unit has no error either.
+    #[tactic(auto, using(crate::proofs::Staying::finished))]
+    fn found_in(
+        &mut self,
+        context: &Context<'_>,
+        first: Place,
+        part: Part,
+    ) -> Result<(Option<Finding>, Looked), AllocError>
+        ensures finding { IfOk result (λ found. found.0 ≡ found_in B.most (handed context.now) part (work self.old)) }
+        ensures stays { let w = work self.old in IfOk result (λ found. found.1.stays ≡ true →
+            part_laid B.most (handed context.now) first part (rooted_in found.1.forest) (named (part_begun B.most part w))
+            ≡ part_finished B.most (handed context.now) first part w) }
+        ensures same { work self.new ≡ work self.old }
+    {
+        let (finding, mut looked) = self.look(part)?;
+        let own = self.own_finding(context, part, &looked.forest);
+        let least = least_of_both(finding, own);
+        looked.stays = looked.stays & !part.is_case() & least.is_none();
+        Ok((least, looked))
     }
 
     /// Begins a case, also one with an error, if the unit, which is `part`, is one.
@@ -301,21 +359,39 @@ impl<B: Bounds> Compilation<B> {
         }
     }
 
+    /// Has the unit, which is `part` and begins at `first`, take effect, with the trees of `forest`, whose memory is kept, and ends it.
+    fn lay_part(
+        &mut self,
+        context: &Context<'_>,
+        first: Place,
+        part: Part,
+        forest: Forest,
+    ) -> Result<(), AllocError>
+        ensures { OnOk result (work self.new ≡ part_laid B.most (handed context.now) first part (rooted_in forest) (work self.old)) }
+    {
+        self.output.first = first;
+        self.take_effect(context, part, &forest)?;
+        self.forest = Some(forest);
+        self.end_clean(context, first, part.has_last())
+    }
+
     /// Ends the unit, which is `part` and begins at `first`, with `finding`, the least about it, if there is one: then it has no effect.
+    /// The memory of the trees of `spare` is kept.
     fn carry_out_part(
         &mut self,
         context: &Context<'_>,
         first: Place,
         part: Part,
         finding: Option<Finding>,
+        spare: Forest,
     ) -> Result<(), AllocError>
         ensures { OnOk result (work self.new ≡ part_carried B.most (handed context.now) first part finding (work self.old)) }
     {
         if finding.is_none() {
-            let forest = self.settle(context, first, part)?;
-            self.take_effect(context, part, &forest)?;
-            return self.end_clean(context, first, part.has_last());
+            let forest = self.settle(context, first, part, spare)?;
+            return self.lay_part(context, first, part, forest);
         }
+        self.forest = Some(spare);
         self.end_unit(context, first, part.has_last(), &Findings::alone(finding))
     }
 
@@ -363,10 +439,13 @@ impl<B: Bounds> Compilation<B> {
         self.unit.prepare()?;
         self.prepare_case(part)?;
         let first = self.part_place(part, place);
-        let finding = self.found_in(context, part)?;
+        let (finding, looked) = self.found_in(context, first, part)?;
         self.begin_part(part)?;
         self.name();
-        self.carry_out_part(context, first, part, finding)
+        if looked.stays {
+            return self.lay_part(context, first, part, looked.forest);
+        }
+        self.carry_out_part(context, first, part, finding, looked.forest)
     }
 
     /// Ends a statement, before a token at `place`.
@@ -379,6 +458,7 @@ impl<B: Bounds> Compilation<B> {
     }
 
     /// Opens a statement of `kind`, which holds others, before a token at `place`.
+    #[inline(never)]
     pub fn open_construct(
         &mut self,
         context: &Context<'_>,

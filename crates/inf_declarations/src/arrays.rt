@@ -19,7 +19,6 @@ use crate::values::{has_variables, looked_value, text_at, value};
 use inf_area::Value;
 use inf_compilation::compilation::{Compilation, Listing};
 use inf_compilation::context::Context;
-use inf_compilation::findings::Findings;
 use inf_expressions::{Finding, Operand, Wanted, least_of_both};
 use inf_gathering::gathering::Leaf;
 use inf_lexer::Place;
@@ -432,7 +431,7 @@ fn entry_with<B: Bounds>(
     if found.is_none() {
         add_entry(compilation, context, is_alone)?;
     }
-    compilation.end_unit(context, first, false, &Findings::alone(found))
+    compilation.end_alone(context, first, false, found)
 }
 
 /// Judges the entry that begins at `first`, and ends it; `is_alone` is whether it is alone.

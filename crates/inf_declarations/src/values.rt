@@ -1,7 +1,9 @@
 //! The values of a unit: those of its expression, and the characters of its texts.
 ghost use Rattle.inf_compilation.specs.Context.{handed};
-ghost use Rattle.std.specs.Prelude.{IfOk, OnOk, false, map, ◌≡◌};
+ghost use Rattle.std.specs.Prelude.{IfOk, OnOk, [], false, map, ◌∷◌, ◌≡◌};
 ghost use Rattle.inf_expressions.specs.Forests.{trees_in as rooted_in};
+ghost use Rattle.inf_expressions.specs.Trees.{Leaf};
+ghost use Rattle.inf_expressions.specs.Units.{operand_at};
 ghost use Rattle.inf_constructs.specs.Roots.{tree_in};
 ghost use Rattle.inf_statements.specs.Operands.{leaf_added};
 ghost use Rattle.inf_statements.specs.Printing.{text_at};
@@ -13,7 +15,7 @@ ghost use Rattle.inf_compilation.specs.Works.{work};
 use inf_area::Value;
 use inf_compilation::compilation::Compilation;
 use inf_compilation::context::Context;
-use inf_expressions::{Forest, Operand, Wanted, build, constant};
+use inf_expressions::{Forest, Operand, Symbol, Wanted, build, constant};
 use inf_settings::bounds::Bounds;
 use inf_statements::operands::{add_leaf as add_operand, settled};
 use inf_text::{Text, TextItem};
@@ -46,7 +48,29 @@ pub fn value_in(forest: &Forest) -> Value
     }
 }
 
-/// Returns the value of the unit's expression, where its leaves stand for `operands`.
+/// Returns the operand of the leaf with the number `leaf`: 0 where there is none.
+fn operand_at(operands: &[Operand], leaf: usize) -> Operand
+    ensures { result ≡ operand_at operands.now leaf }
+{
+    match operands.get(leaf) {
+        Some(operand) => *operand,
+        None => Operand::Known(0),
+    }
+}
+
+/// Returns the value of an expression that is one leaf with `operand`.
+fn value_of_leaf(operand: Operand) -> Value
+    ensures { result ≡ value_in (Leaf operand ∷ []) }
+{
+    match operand {
+        Operand::Known(number) => Value::Known(number),
+        Operand::Later(target) => Value::Later(target),
+        Operand::Variable(_) | Operand::Function(_) | Operand::Unknown => Value::Known(0),
+    }
+}
+
+/// Returns the value of the unit's expression, where its leaves stand for `operands`. Most expressions are one leaf, and no tree is made to
+/// see its value.
 fn value_by<B: Bounds>(
     compilation: &Compilation<B>,
     operands: &[Operand],
@@ -54,6 +78,10 @@ fn value_by<B: Bounds>(
     ensures { IfOk result
         (λ value. value ≡ value_in (map tree_in (trees_at 0 Wanted.Constant operands.now (work compilation.now)))) }
 {
+    let symbols = compilation.unit.gathering.symbols();
+    if let [Symbol::Leaf { leaf, .. }] = *symbols {
+        return Ok(value_of_leaf(operand_at(operands, leaf)));
+    }
     let forest = constant_trees(compilation, operands)?;
     Ok(value_in(&forest))
 }

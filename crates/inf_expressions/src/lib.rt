@@ -31,4 +31,4 @@ pub use origins::{Lead, Origin};
 pub use questions::{children_of, constant, operand, range};
 pub use symbols::Symbol;
 pub use trees::Root;
-pub use units::{Wanted, build, judge};
+pub use units::{Wanted, build, judge, judge_whole};

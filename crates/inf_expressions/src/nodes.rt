@@ -50,6 +50,13 @@ impl Nodes {
         })
     }
 
+    /// Removes all nodes. Their memory stays.
+    pub(crate) fn clear(&mut self)
+        ensures { self.new ≡ [] }
+    {
+        self.nodes.clear();
+    }
+
     /// Appends a node whose parts are in the list already, and returns its place.
     #[tactic(auto, using(crate::proofs::NodeLemmas::one_more))]
     pub(crate) fn add(&mut self, node: Node) -> Result<usize, AllocError>

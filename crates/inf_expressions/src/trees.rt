@@ -88,6 +88,17 @@ impl Trees {
         })
     }
 
+    /// Returns the list of no trees, in the memory of those of `spare`.
+    pub(crate) fn over(spare: Forest) -> Trees
+        ensures { result ≡ [] }
+    {
+        let mut nodes = spare.nodes;
+        let mut roots = spare.roots;
+        nodes.clear();
+        roots.clear();
+        Trees { nodes, roots }
+    }
+
     #[tactic(auto, using(crate::proofs::Roots::roots_step))]
     pub(crate) fn leaf(&mut self, operand: Operand, origin: Origin) -> Result<(), AllocError>
         ensures { OnOk result (self.new ≡ with_leaf operand origin self.old) }

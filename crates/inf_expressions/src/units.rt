@@ -67,6 +67,19 @@ impl Gathered {
         })
     }
 
+    /// Returns a state of no trees and no finding, in the memory of `spare`, or with room for `count` trees.
+    fn begun(alloc: Global, count: usize, spare: Option<Forest>) -> Result<Gathered, AllocError>
+        ensures { IfOk result (λ g. g ≡ nothing_gathered) }
+    {
+        match spare {
+            Some(forest) => Ok(Gathered {
+                trees: Trees::over(forest),
+                finding: None,
+            }),
+            None => Gathered::with_capacity(alloc, count),
+        }
+    }
+
     fn leaf(
         &mut self,
         first: u32,
@@ -191,16 +204,18 @@ fn act(
     }
 }
 
+/// Reads all symbols, in the memory of `spare`, if there is some.
 fn gather(
     alloc: Global,
     wanted: Wanted,
     unit: u32,
     symbols: &[Symbol],
     operands: &[Operand],
+    spare: Option<Forest>,
 ) -> Result<Gathered, AllocError>
     ensures { IfOk result (λ g. g ≡ gathered wanted unit operands.now symbols.now nothing_gathered) }
 {
-    let mut gathered = Gathered::with_capacity(alloc, symbols.len())?;
+    let mut gathered = Gathered::begun(alloc, symbols.len(), spare)?;
     for symbol in symbols {
         act(&mut gathered, wanted, unit, operands, *symbol)?;
     }
@@ -250,11 +265,14 @@ pub fn judge(
 ) -> Result<Option<Finding>, AllocError>
     ensures { IfOk result (λ found. found ≡ judged wanted unit operands.now symbols.now) }
 {
+    if symbols.is_empty() {
+        return Ok(None);
+    }
     if let [Symbol::Leaf { first, token, leaf }] = *symbols {
         let operand = operand_at(operands, leaf);
         return Ok(judge_leaf(wanted, unit, first, token, leaf, operand));
     }
-    let gathered = gather(alloc, wanted, unit, symbols, operands)?;
+    let gathered = gather(alloc, wanted, unit, symbols, operands, None)?;
     let finding = gathered.finding;
     let forest = gathered.into_forest();
     Ok(found_of(wanted, unit, &forest, finding))
@@ -272,6 +290,28 @@ pub fn build(
 ) -> Result<Forest, AllocError>
     ensures { IfOk result (λ forest. trees_in forest ≡ trees_of wanted unit operands.now symbols.now) }
 {
-    let gathered = gather(alloc, wanted, unit, symbols, operands)?;
+    let gathered = gather(alloc, wanted, unit, symbols, operands, None)?;
     Ok(gathered.into_forest())
+}
+
+/// Returns the least finding of a unit, as `judge` does, and its trees, as `build` does, from one walk over `symbols`. The trees are in
+/// the memory of those of `spare`, if there are some.
+///
+/// Fails where no memory is left.
+pub fn judge_whole(
+    alloc: Global,
+    wanted: Wanted,
+    unit: u32,
+    symbols: &[Symbol],
+    operands: &[Operand],
+    spare: Option<Forest>,
+) -> Result<(Option<Finding>, Forest), AllocError>
+    ensures finding { IfOk result (λ whole. whole.0 ≡ judged wanted unit operands.now symbols.now) }
+    ensures trees { IfOk result (λ whole. trees_in whole.1 ≡ trees_of wanted unit operands.now symbols.now) }
+{
+    let gathered = gather(alloc, wanted, unit, symbols, operands, spare)?;
+    let finding = gathered.finding;
+    let forest = gathered.into_forest();
+    let found = found_of(wanted, unit, &forest, finding);
+    Ok((found, forest))
 }

@@ -1,4 +1,6 @@
 pub mod Operands
+pub mod OperandLists
+pub mod Uses
 pub mod Statements
 pub mod Printing
 pub mod Assembly

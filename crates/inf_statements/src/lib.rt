@@ -8,6 +8,8 @@
 
 mod assembly;
 pub mod effects;
+pub mod looking;
+pub mod operand_lists;
 pub mod operands;
 mod printing;
 pub mod statements;

@@ -2,13 +2,15 @@
 ghost use Rattle.std.specs.Prelude.{◌≡◌, ◌≤◌, [], ◌∷◌, ◌++◌, List, IfOk, IfSome, OnOk, length, option_map};
 ghost use Rattle.inf_names.specs.LocalList.{listed};
 ghost use Rattle.inf_unit.specs.NameTokens.{named};
-ghost use Rattle.inf_statements.specs.Operands.{Settled, all_looked, found_operand, function_of, is_stack, leaf_added, leaf_named};
+ghost use Rattle.inf_statements.specs.Operands.{Settled, found_operand, function_of, is_stack, leaf_added, leaf_named};
 ghost use Rattle.inf_statements.specs.Operands.{leaves_named, looked, looked_action, looked_alone, looked_leaf, looked_name, new_action};
 ghost use Rattle.inf_statements.specs.Operands.{one_added, operand_by, referring, settled, settled_action, settled_alone, settled_as};
 ghost use Rattle.inf_statements.specs.Operands.{settled_leaf, settled_name, settled_text, settled_word, standing, stores_named};
 ghost use Rattle.inf_statements.specs.Operands.{system_constant, system_operand, word_operand, word_sum};
+ghost use Rattle.inf_statements.specs.OperandLists.{operands_in};
 ghost use Rattle.inf_statements.specs.Printing.{text_at};
 
+use crate::operand_lists::OperandList;
 use inf_area::{AreaName, Scale, SystemConstant, Target};
 use inf_expressions::{Function, Operand};
 use inf_gathering::gathering::Leaf;
@@ -122,10 +124,10 @@ fn looked_alone<B: Bounds>(locals: &Locals, names: &Symbols<Place, B>, name: &[u
     requires { length name.now ≤ 35 }
     ensures { result ≡ looked_alone (listed locals.now) names.now name.now }
 {
-    if is_stack(name, locals.number(name)) {
-        Operand::Variable(0)
-    } else {
-        looked_name(locals, names, name)
+    match locals.number(name) {
+        Some(local) => Operand::Variable(local),
+        None if is_stack(name, None) => Operand::Variable(0),
+        None => found_operand(names.look(name), None),
     }
 }
 
@@ -181,7 +183,8 @@ pub fn system_operand(name: &[u8], scale: Scale) -> Operand
 }
 
 /// Returns the operand of `leaf`, a leaf of a unit with `tokens`, where its name is only looked up: a text is some string.
-fn looked<B: Bounds>(
+#[inline(always)]
+pub(crate) fn looked<B: Bounds>(
     locals: &Locals,
     names: &Symbols<Place, B>,
     scale: Scale,
@@ -260,7 +263,6 @@ fn settled_action<B: Bounds>(
 }
 
 /// Returns the operand of `leaf`, a leaf of a unit with `tokens`, where its name is only looked up, behind the new actions of `ahead`.
-#[inline(always)]
 pub fn looked_leaf<B: Bounds>(
     locals: &Locals,
     out: &Output<B>,
@@ -274,25 +276,6 @@ pub fn looked_leaf<B: Bounds>(
         Leaf::Action(at) => looked_action(tokens.name_at(at), out, ahead),
         _ => Ok(looked(locals, &out.names, out.code.scale(), tokens, leaf)),
     }
-}
-
-/// Returns the operands of `leaves`, the leaves of a unit with `tokens`, whose routine has `locals`. Their names are only looked up in
-/// `out`.
-pub fn all_looked<B: Bounds>(
-    alloc: Global,
-    locals: &Locals,
-    out: &Output<B>,
-    tokens: &UnitTokens,
-    leaves: &[Leaf],
-) -> Result<Vec<Operand>, AllocError>
-    ensures { IfOk result (λ operands. operands.items ≡ all_looked (listed locals.now) out.now tokens.now leaves.now) }
-{
-    let mut ahead = Symbols::<Place, Unbounded>::new(alloc, u32::MAX, false, out.names.hashing());
-    let mut operands = Vec::with_capacity(alloc, leaves.len())?;
-    for leaf in leaves {
-        operands.push(looked_leaf(locals, out, tokens, *leaf, &mut ahead)?)?;
-    }
-    Ok(operands)
 }
 
 /// Returns the operand of a name that was used, by `found`, the result of looking for it. The operand is 0 where the
@@ -444,17 +427,39 @@ pub fn settled<B: Bounds>(
     tokens: &UnitTokens,
     leaves: &[Leaf],
     out: &mut Output<B>,
-) -> Result<Vec<Operand>, AllocError>
+) -> Result<OperandList, AllocError>
     ensures { let before : Settled = record { out = out.old; operands = [] } in
-        IfOk result (λ operands. record { out = out.new; operands = operands.items } ≡ settled B.most set (listed locals.now) tokens.now
-        leaves.now
-        before) }
+        IfOk result (λ operands. record { out = out.new; operands = operands_in operands } ≡ settled B.most set (listed locals.now)
+        tokens.now leaves.now before) }
 {
+    if let [leaf] = *leaves {
+        let operand = settled_leaf(alloc, set, locals, tokens, leaf, out)?;
+        return Ok(OperandList::One([operand]));
+    }
     let mut operands = Vec::with_capacity(alloc, leaves.len())?;
+    settle_all(alloc, set, locals, tokens, leaves, out, &mut operands)?;
+    Ok(OperandList::Many(operands))
+}
+
+/// Puts the operands of `leaves` into `operands`, in place of what is there. The leaves are used and added to `out` as by `settled`.
+pub fn settle_all<B: Bounds>(
+    alloc: Global,
+    set: CharSet,
+    locals: &Locals,
+    tokens: &UnitTokens,
+    leaves: &[Leaf],
+    out: &mut Output<B>,
+    operands: &mut Vec<Operand>,
+) -> Result<(), AllocError>
+    ensures { let before : Settled = record { out = out.old; operands = [] } in
+        OnOk result (record { out = out.new; operands = operands.new.items } ≡ settled B.most set (listed locals.now) tokens.now
+        leaves.now before) }
+{
+    operands.clear();
     for leaf in leaves {
         operands.push(settled_leaf(alloc, set, locals, tokens, *leaf, out)?)?;
     }
-    Ok(operands)
+    Ok(())
 }
 
 /// Notes the local that a leaf names, of a unit with `tokens`.

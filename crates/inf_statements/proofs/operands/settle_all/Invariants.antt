@@ -1,7 +1,7 @@
 use Rattle.std.proofs.Common.{◌≡◌, [], drop}
 use Rattle.inf_names.specs.LocalList.{listed}
 use Rattle.inf_statements.specs.Operands.{Settled, settled}
-use Rattle.inf_statements.proofs.operands.settled.Given as goal
+use Rattle.inf_statements.proofs.operands.settle_all.Given as goal
 
 -- the leaves that are left lead from the operands settled so far to those of all leaves
 abbrev pub invariant-loop-leaf : goal.invariant-loop-leaf

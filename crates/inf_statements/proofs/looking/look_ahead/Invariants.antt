@@ -2,7 +2,7 @@ use Rattle.std.proofs.Common.{◌≡◌, [], drop, false}
 use Rattle.inf_names.specs.Symbols.{no_names}
 use Rattle.inf_names.specs.LocalList.{listed}
 use Rattle.inf_statements.specs.Operands.{looked_from}
-use Rattle.inf_statements.proofs.operands.all_looked.Given as goal
+use Rattle.inf_statements.proofs.looking.look_ahead.Given as goal
 
 -- the operands so far, and then those of the leaves that are left, are those of all
 abbrev pub invariant-loop-leaf : goal.invariant-loop-leaf
