@@ -38,7 +38,7 @@ same_trees limits context w operands trees first wanted stay e =
     )
 
 -- Trees are those of a unit whose names are used, and the use changes nothing.
-StayUsed : Limits → Context → Part → List Rooted → Compilation → Type 0
+abbrev StayUsed : Limits → Context → Part → List Rooted → Compilation → Type 0
 StayUsed limits context p trees w =
     let s = settled_of limits context w in (trees ≡ trees_at (order_of p w) (wanted_of p) s.operands w) × (s.out ≡ w.output)
 
