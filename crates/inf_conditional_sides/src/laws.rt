@@ -1,7 +1,7 @@
 //! Laws of tokens: their results are the same by the sides that are open as by the conditionals of the compiler.
 ghost use Rattle.inf_conditional_sides.specs.Ends.{EndsAreToldBySides};
 ghost use Rattle.inf_conditional_sides.specs.Judged.{SidesAreJudged};
-ghost use Rattle.inf_conditional_sides.specs.Keeping.{SidesKeepTokens};
+ghost use Rattle.inf_conditional_sides.specs.Keeping.{DirectivesChooseSides, SidesKeepTokens};
 ghost use Rattle.inf_conditional_sides.specs.Rests.{TokensRest};
 ghost use Rattle.inf_conditional_sides.specs.Runs.{TokensGoBySides};
 
@@ -38,4 +38,10 @@ pub fn ends_are_told_by_sides()
 /// reported that turns or ends a conditional where there is none.
 pub fn sides_keep_tokens()
     ensures { SidesKeepTokens }
+{}
+
+/// Shows that the first side of a conditional stays by its name or its condition, and that in a side that is left out each word of a
+/// conditional acts at once on the sides that are open, and no other token does.
+pub fn directives_choose_sides()
+    ensures { DirectivesChooseSides }
 {}

@@ -21,7 +21,7 @@ use Rattle.inf_statement_laws.specs.Happenings.{Acts, Between, Happening, Takes}
 use Rattle.inf_statement_laws.specs.Laid.{next_comes, passed, run}
 use Rattle.inf_statement_laws.specs.Readings.{Seen, all_taken, behind_ends, behind_token, plainly_at}
 use Rattle.inf_language.specs.Texts.{NoneClosesAhead, atoms_of, happenings_of}
-use Rattle.inf_program.specs.definition.Steps.{Passes, Reads, Step}
+use Rattle.inf_program.specs.definition.Steps.{AllKept, Passes, Reads, Step}
 use Rattle.inf_program.specs.Turns.{AreQuiet, all_steps, grouped}
 use Rattle.inf_program.specs.Writing.{silent_turned}
 

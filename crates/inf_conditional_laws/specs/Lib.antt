@@ -1,4 +1,0 @@
-pub mod InnerSides
-pub mod LoneEnds
-pub mod MissingEnds
-pub mod Sides

@@ -1,3 +1,0 @@
-pub mod IncludedFiles
-pub mod Signs
-pub mod Unfinished

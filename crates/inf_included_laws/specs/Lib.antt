@@ -1,2 +1,0 @@
-pub mod IncludedFiles
-pub mod Unfinished

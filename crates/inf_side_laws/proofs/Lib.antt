@@ -1,3 +1,0 @@
-pub mod AskingWords
-pub mod KeptSides
-pub mod SideTurns

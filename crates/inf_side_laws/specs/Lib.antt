@@ -1,2 +1,0 @@
-pub mod KeptSides
-pub mod SideTurns
