@@ -1,5 +1,6 @@
 pub mod TextsActed
 pub mod UnitsAlone
+pub mod ExpressionsGathered
 pub mod UnitsNamed
 pub mod HeadersRead
 pub mod TextsSplit

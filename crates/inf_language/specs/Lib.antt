@@ -1,5 +1,6 @@
 pub mod Texts
 pub mod Units
+pub mod Gathered
 pub mod NamedLocals
 pub mod Headers
 pub mod HeaderNames
