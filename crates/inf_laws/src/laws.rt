@@ -82,7 +82,8 @@ pub fn parts_are_pieces()
     ensures ends { (limits : Limits) → PartsEndWithPieces limits }
 {}
 
-/// Limits of code and of references count the bytes of the story's code and the references of all of its areas.
+/// Shows that behind a source the first limit that was passed, which is told, is the first that the story passes: that of code
+/// by the bytes of the story's code, or that of references by the references of all of its areas.
 pub fn limits_count_the_story<B: Bounds>(tables: &Tables<B>)
     ensures { LimitsCountTheStory tables.now }
 {
