@@ -12,3 +12,4 @@ pub mod KeptTurns
 pub mod Hashes
 pub mod PartTokens
 pub mod Parts
+pub mod Targets

@@ -9,3 +9,4 @@ pub mod KeptTokens
 pub mod KeptTurns
 pub mod Hashes
 pub mod Parts
+pub mod Targets

@@ -7,6 +7,7 @@ ghost use Rattle.inf_laws.specs.KeptTurns.{TurnsReadPieces};
 ghost use Rattle.inf_laws.specs.NameEvents.{FewHaveRoom, FirstDeclarationsCount, OperandsUse, UndeclaredAreTold, UnitsDeclare};
 ghost use Rattle.inf_laws.specs.Parts.{PartsArePieces, PartsEndWithPieces};
 ghost use Rattle.inf_laws.specs.Skipping.{DirectivesAreSkipped, PassedTokensDoNothing, RoutinesAreSkipped, SourcesEnd};
+ghost use Rattle.inf_laws.specs.Targets.{AllPartsAreFound};
 ghost use Rattle.inf_laws.specs.Told.{TokensAreTakenOrTold, UnfitTokensAreTold};
 ghost use Rattle.inf_laws.specs.UnusedLocals.{HeadersMakeNew, UnusedAreWarned};
 
@@ -89,3 +90,9 @@ pub fn limits_count_the_story<B: Bounds>(tables: &Tables<B>)
 {
     written_as_counted(&tables.world);
 }
+
+/// Shows that each part of an area to which the tables of a story refer is there: the property table of each object and its individual
+/// table, and the lines of each verb.
+pub fn parts_of_tables_are_found()
+    ensures { AllPartsAreFound }
+{}
