@@ -2,6 +2,8 @@ pub mod Choices
 pub mod SameNames
 pub mod UnusedLocals
 pub mod Findings
+pub mod LeastFaults
+pub mod UnitFaults
 pub mod NameEvents
 pub mod Skipping
 pub mod BadTokens

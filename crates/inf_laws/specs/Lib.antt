@@ -10,3 +10,4 @@ pub mod KeptTurns
 pub mod Hashes
 pub mod Parts
 pub mod Targets
+pub mod UnitFaults

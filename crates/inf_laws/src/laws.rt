@@ -1,13 +1,14 @@
 //! Laws on the definitions of the language, taken together.
 ghost use Rattle.inf_settings.specs.Bounds.{Limits};
 ghost use Rattle.inf_laws.specs.Counts.{LimitsCountTheStory};
-ghost use Rattle.inf_laws.specs.Findings.{HeadersTellTheFirst, LeastsAreFound, UnitsTellTheLeast};
+ghost use Rattle.inf_laws.specs.Findings.{HeadersTellTheFirst};
 ghost use Rattle.inf_laws.specs.KeptTokens.{KeptTokensAreRead, TokensAreHandedOn};
 ghost use Rattle.inf_laws.specs.KeptTurns.{TurnsReadPieces};
 ghost use Rattle.inf_laws.specs.NameEvents.{FewHaveRoom, FirstDeclarationsCount, OperandsUse, UndeclaredAreTold, UnitsDeclare};
 ghost use Rattle.inf_laws.specs.Parts.{PartsArePieces, PartsEndWithPieces};
 ghost use Rattle.inf_laws.specs.Skipping.{DirectivesAreSkipped, PassedTokensDoNothing, RoutinesAreSkipped, SourcesEnd};
 ghost use Rattle.inf_laws.specs.Targets.{AllPartsAreFound};
+ghost use Rattle.inf_laws.specs.UnitFaults.{ConstantsTellTheLeast, PartsTellTheLeast};
 ghost use Rattle.inf_laws.specs.Told.{TokensAreTakenOrTold, UnfitTokensAreTold};
 ghost use Rattle.inf_laws.specs.UnusedLocals.{HeadersMakeNew, UnusedAreWarned};
 
@@ -20,11 +21,11 @@ pub fn first_errors_are_told()
     ensures { (limits : Limits) → HeadersTellTheFirst limits }
 {}
 
-/// Units tell at their end the least of all that is wrong with them, by the order of its token and then by the number of its error.
-/// Where two rules find something, the least of both findings is one of them, and neither comes before it.
+/// Shows that the ends of all units of a routine and of constants tell the least of all that is wrong with them, by the order of its
+/// token and then by the number of its error.
 pub fn least_findings_are_told()
-    ensures least { LeastsAreFound }
-    ensures told { (limits : Limits) → UnitsTellTheLeast limits }
+    ensures parts { (limits : Limits) → PartsTellTheLeast limits }
+    ensures constants { (limits : Limits) → ConstantsTellTheLeast limits }
 {}
 
 /// Errors are told once for each name that is used and never declared, and that the language does not have: at its first use, in
