@@ -1,6 +1,5 @@
 pub mod Choices
 pub mod SameNames
-pub mod UnusedLocals
 pub mod Findings
 pub mod LeastFaults
 pub mod UnitFaults

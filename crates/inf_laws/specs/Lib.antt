@@ -1,4 +1,3 @@
-pub mod UnusedLocals
 pub mod Findings
 pub mod NameEvents
 pub mod Skipping
@@ -9,5 +8,5 @@ pub mod KeptTokens
 pub mod KeptTurns
 pub mod Hashes
 pub mod Parts
-pub mod Targets
 pub mod UnitFaults
+pub mod Targets

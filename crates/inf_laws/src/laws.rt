@@ -7,10 +7,9 @@ ghost use Rattle.inf_laws.specs.KeptTurns.{TurnsReadPieces};
 ghost use Rattle.inf_laws.specs.NameEvents.{FewHaveRoom, FirstDeclarationsCount, OperandsUse, UndeclaredAreTold, UnitsDeclare};
 ghost use Rattle.inf_laws.specs.Parts.{PartsArePieces, PartsEndWithPieces};
 ghost use Rattle.inf_laws.specs.Skipping.{DirectivesAreSkipped, PassedTokensDoNothing, RoutinesAreSkipped, SourcesEnd};
-ghost use Rattle.inf_laws.specs.Targets.{AllPartsAreFound};
 ghost use Rattle.inf_laws.specs.UnitFaults.{ConstantsTellTheLeast, PartsTellTheLeast};
+ghost use Rattle.inf_laws.specs.Targets.{AllPartsAreFound};
 ghost use Rattle.inf_laws.specs.Told.{TokensAreTakenOrTold, UnfitTokensAreTold};
-ghost use Rattle.inf_laws.specs.UnusedLocals.{HeadersMakeNew, UnusedAreWarned};
 
 use inf_settings::bounds::Bounds;
 use inf_tables::{Tables, written_as_counted};
@@ -42,13 +41,6 @@ pub fn first_declarations_count()
     ensures declares { (limits : Limits) → UnitsDeclare limits }
     ensures operands { (limits : Limits) → OperandsUse limits }
     ensures room { (limits : Limits) → FewHaveRoom limits }
-{}
-
-/// Warnings at the end of a routine are about the locals that no name in a statement is, in order. This holds for the locals of
-/// each header.
-pub fn unused_locals_are_warned()
-    ensures warned { UnusedAreWarned }
-    ensures headers { HeadersMakeNew }
 {}
 
 /// Tokens are passed over up to the end of a bad piece: behind the first semicolon that is handed on, in a routine behind the first

@@ -6,5 +6,5 @@ mod laws;
 
 pub use laws::{
     lines_are_written_at_any_time, pieces_do_their_actions, turns_read_routines_whole,
-    turns_take_tokens,
+    turns_take_tokens, unused_locals_are_warned,
 };
