@@ -1,6 +1,7 @@
 pub mod TextsActed
 pub mod UnitsAlone
 pub mod UnitsSifted
+pub mod ExpressionsGathered
 pub mod UnitsNamed
 pub mod HeadersRead
 pub mod TextsSplit

@@ -1,6 +1,7 @@
 //! Laws that tokens, read one by one, do what the pieces of the language do as a whole.
 ghost use Rattle.inf_settings.specs.Bounds.{Limits};
 ghost use Rattle.inf_language.specs.Constants.{ConstantsAreRead};
+ghost use Rattle.inf_language.specs.Gathered.{ExpressionsAreGathered};
 ghost use Rattle.inf_language.specs.HeaderNames.{HeadersNoteTheirNames};
 ghost use Rattle.inf_language.specs.Headers.{HeadersHaveTheirLocals};
 ghost use Rattle.inf_language.specs.NamedLocals.{UnitsNameTheirLocals};
@@ -25,6 +26,12 @@ pub fn units_are_read_alone()
 /// depends on the tokens and actions of this unit alone.
 pub fn units_are_sifted_alone()
     ensures { (limits : Limits) → UnitsAreSiftedAlone limits }
+{}
+
+/// Shows that the tokens of an expression that a compilation reads, in any place where one stands by itself, are an
+/// expression by the levels of its operators, and that the unit at hand gathers it.
+pub fn expressions_are_gathered()
+    ensures { (limits : Limits) → ExpressionsAreGathered limits }
 {}
 
 /// Shows that a unit names, of the locals of its routine, those with the names of its expressions, and then those in which

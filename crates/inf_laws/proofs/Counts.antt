@@ -1,5 +1,7 @@
 -- The references and the bytes of the areas of a story.
-use Rattle.std.proofs.Common.{◌≡◌, ◌∙◌, ◌+◌, ◌-◌, ◌≤◌, ℕ, zero, suc, List, [], ◌∷◌, ◌++◌, cond, length, map, true, refl, sym, ap, arith}
+use Rattle.std.proofs.Common.{◌≡◌, ◌∙◌, ◌+◌, ◌-◌, ◌≤◌, ℕ, zero, suc, List, [], ◌∷◌, ◌++◌, cond, length, ltb, map, Bool, true, false, Option}
+use Rattle.std.proofs.Common.{Some, None, refl, sym, ap, subst, arith}
+use Rattle.std.proofs.lemmas.Bool.{le-ltb, lt-ltb, ltb-false, ltb-true}
 use Rattle.std.proofs.Math.Nat.{min-eq_left}
 use Rattle.std.proofs.lemmas.List.Sums.{sum_by-cons}
 use Rattle.std.specs.Prelude.{sum_by}
@@ -9,26 +11,28 @@ use Rattle.inf_arrays.specs.Arrays.{all_of, arrays_laters}
 use Rattle.inf_arrays.specs.Kinds.{laters}
 use Rattle.inf_arrays.proofs.Sizes.{globals_later, laters_written as arrays_written}
 use Rattle.inf_area.specs.Cells.{later_count, size_of}
-use Rattle.inf_area.specs.declared.cells.Cell.{Cell}
-use Rattle.inf_area.specs.declared.cells.Cell.TheVariants as cell
-use Rattle.inf_code.specs.Code.{Routines, code_cells, known, reference_count}
+use Rattle.inf_code.specs.Code.{Routines, code_cells, known, rest, rest_behind}
 use Rattle.inf_dictionary.specs.Words.{dictionary_bytes}
 use Rattle.inf_link.specs.Areas.{order}
 use Rattle.inf_objects.specs.Objects.{ended, head_fixups, object_fixups}
 use Rattle.inf_objects.proofs.Written.{later_joined}
 use Rattle.inf_objects.specs.declared.objects.Object.{Object}
+use Rattle.inf_output.specs.Output.{Out, counted, full, full_of, full_past, less, or_full, past_by, whole}
 use Rattle.inf_properties.specs.Sizes.{bytes_of, fixups_of, size_of as property_size, total, with_table}
 use Rattle.inf_properties.specs.declared.sizes.Owner.{Owner}
 use Rattle.inf_properties.specs.declared.sizes.Owner.TheVariants as owner
 use Rattle.inf_properties.specs.declared.values.Property.{Property}
+use Rattle.inf_settings.specs.Bounds.{Limits}
+use Rattle.inf_settings.specs.declared.setting.Setting.{Setting}
+use Rattle.inf_settings.specs.declared.setting.Setting.TheVariants as setting
 use Rattle.inf_story.specs.Tables as story
-use Rattle.inf_tables.specs.Tables.{AllTables, more, references_with}
+use Rattle.inf_tables.specs.Tables.{AllTables, more, references}
 use Rattle.inf_verbs.specs.Verbs.{verbs_laters}
 use Rattle.inf_verbs.proofs.Sizes.{later_routines, laters_written as verbs_written}
 use Rattle.inf_tables.specs.Areas.{area_cells}
 use Rattle.inf_tables.specs.World.{WorldOf, ended_fixups, fixups_now, later_defaults}
 use Rattle.inf_tables.specs.declared.kinds.WorldArea.TheVariants as world_area
-use Rattle.inf_laws.specs.Counts.{LimitsCountTheStory, later_in}
+use Rattle.inf_laws.specs.Counts.{IsFinished, LimitsCountTheStory, areas_of, first_passed, later_in}
 
 -- bytes alone have no references
 later_known : (bytes : List ℕ) → later_count (known bytes) ≡ 0
@@ -80,17 +84,70 @@ added : (a b : ℕ) → a + b ≤ 18446744073709551615 → more a b ≡ a + b
 unfolding more
 added a b few = min-eq_left few
 
-all_added : (n w g a v r p b : ℕ) → n + (w + (g + (a + (v + (r + (p + b)))))) ≤ 18446744073709551615
-    → more n (more (more (more w g) a) (more (more v (more r p)) b)) ≡ n + (w + (g + (a + (v + (r + (p + b))))))
-all_added n w g a v r p b few =
-    ap (λ x. more n (more (more x a) (more (more v (more r p)) b))) (added w g (omega (arith, few)))
-    ∙ ap (λ x. more n (more x (more (more v (more r p)) b))) (added (w + g) a (omega (arith, few)))
-    ∙ ap (λ x. more n (more (w + g + a) (more (more v x) b))) (added r p (omega (arith, few)))
-    ∙ ap (λ x. more n (more (w + g + a) (more x b))) (added v (r + p) (omega (arith, few)))
-    ∙ ap (λ x. more n (more (w + g + a) x)) (added (v + (r + p)) b (omega (arith, few)))
-    ∙ ap (λ x. more n x) (added (w + g + a) (v + (r + p) + b) (omega (arith, few)))
-    ∙ added n (w + g + a + (v + (r + p) + b)) (omega (arith, few))
+tables_added : (w g a v r p b : ℕ) → w + (g + (a + (v + (r + (p + b))))) ≤ 18446744073709551615
+    → more (more (more w g) a) (more (more v (more r p)) b) ≡ w + (g + (a + (v + (r + (p + b)))))
+tables_added w g a v r p b few =
+    ap (λ x. more (more x a) (more (more v (more r p)) b)) (added w g (omega (arith, few)))
+    ∙ ap (λ x. more x (more (more v (more r p)) b)) (added (w + g) a (omega (arith, few)))
+    ∙ ap (λ x. more (w + g + a) (more (more v x) b)) (added r p (omega (arith, few)))
+    ∙ ap (λ x. more (w + g + a) (more x b)) (added v (r + p) (omega (arith, few)))
+    ∙ ap (λ x. more (w + g + a) x) (added (v + (r + p)) b (omega (arith, few)))
+    ∙ added (w + g + a) (v + (r + p) + b) (omega (arith, few))
     ∙ omega arith
+
+-- Limits
+
+none_used : (limit : ℕ) (s : Setting) (others : Option Setting) → full_of (rest limit 0) s others ≡ others
+none_used limit s others = ap (λ b. full_of (cond b None (Some (limit - 0))) s others) (le-ltb limit 0 (omega arith))
+
+some_used : (limit used : ℕ) (s : Setting) (others : Option Setting) → full_of (rest limit used) s others ≡ cond (ltb limit used) (Some s) others
+some_used limit used s others = go (ltb limit used)
+  where
+    go : (b : Bool) → full_of (cond b None (Some (limit - used))) s others ≡ cond b (Some s) others
+    go true = refl
+    go false = refl
+
+-- two counts that are looked at one behind the other are one
+both_used : (limit count others : ℕ) (s : Setting)
+    → full_of (less (rest_behind (rest limit count) 0) others) s None ≡ cond (ltb limit (count + others)) (Some s) None
+both_used limit count others s = go (ltb limit count) refl
+  where
+    left : (b : Bool) → ltb (limit - count - 0) others ≡ b → count ≤ limit
+        → full_of (cond b None (Some (limit - count - 0 - others))) s None ≡ cond (ltb limit (count + others)) (Some s) None
+    left true e fits = ap (λ b. cond b (Some s) None)
+        (sym (lt-ltb limit (count + others) (omega (arith, ltb-true (limit - count - 0) others e, fits))))
+    left false e fits = ap (λ b. cond b (Some s) None)
+        (sym (le-ltb limit (count + others) (omega (arith, ltb-false (limit - count - 0) others e, fits))))
+
+    go : (b : Bool) → ltb limit count ≡ b → full_of (less (rest_behind (cond b None (Some (limit - count))) 0) others) s None
+        ≡ cond (ltb limit (count + others)) (Some s) None
+    go true e = ap (λ b. cond b (Some s) None)
+        (sym (lt-ltb limit (count + others) (omega (arith, ltb-true limit count e))))
+    go false e =
+        ap (λ b. full_of (less (cond b None (Some (limit - count - 0))) others) s None) (le-ltb (limit - count) 0 (omega arith))
+        ∙ left (ltb (limit - count - 0) others) refl (ltb-false limit count e)
+
+-- the limits of an output that is finished
+abbrev finished_code : Routines → Routines
+finished_code code = record code { has_begun = true; opened = None }
+
+full_at : (limits : Limits) (code : Routines) (refs : ℕ) → full_past (counted refs (whole limits (finished_code code)))
+    ≡ first_passed limits (8 + size_of code.finished) (5 + later_count code.finished + refs)
+full_at limits code refs =
+    none_used (limits setting.Labels) setting.Labels (or_full None (full_of (rest (limits setting.Code) (8 + size_of code.finished)) setting.Code
+    (full_of (less (rest_behind (rest (limits setting.References) (5 + later_count code.finished)) 0) refs) setting.References None)))
+    ∙ some_used (limits setting.Code) (8 + size_of code.finished) setting.Code
+    (full_of (less (rest_behind (rest (limits setting.References) (5 + later_count code.finished)) 0) refs) setting.References None)
+    ∙ ap (cond (ltb (limits setting.Code) (8 + size_of code.finished)) (Some setting.Code))
+    (both_used (limits setting.References) (5 + later_count code.finished) refs setting.References)
+
+full_finished : (limits : Limits) (o : Out) → IsFinished o
+    → full limits o ≡ first_passed limits (8 + size_of o.code.finished) (5 + later_count o.code.finished + references o.tables)
+full_finished limits o is =
+    ap (λ past. full_past (counted (references o.tables) (past_by limits past o.code))) is.unpassed
+    ∙ ap (λ begun. full_past (counted (references o.tables) (whole limits (record o.code { has_begun = begun })))) is.begun
+    ∙ ap (λ opened. full_past (counted (references o.tables) (whole limits (record o.code { has_begun = true; opened = opened })))) is.closed
+    ∙ full_at limits o.code (references o.tables)
 
 -- the references of the areas of a world are counted
 abbrev pub Counted : WorldOf → Type 0
@@ -98,23 +155,23 @@ Counted w = later_count (area_cells world_area.PropertyDefaults w) + later_count
     + later_count (area_cells world_area.PropertyTables w) + later_count (area_cells world_area.ClassNumbers w)
     + later_count (area_cells world_area.IndividualTables w) ≡ ended_fixups w.objects + later_defaults w.declared
 
-pub limits_count_the_story : (tables : AllTables) → Counted tables.world → LimitsCountTheStory tables
-limits_count_the_story tables counted code main strings begun closed few =
-    let finished = code.finished in
+-- The references of the tables, with those of the code, are those of all areas.
+references_are : (o : Out) (main : ℕ) → Counted o.tables.world → IsFinished o → later_in order (areas_of main o) ≤ 18446744073709551615
+    → 5 + later_count o.code.finished + references o.tables ≡ later_in order (areas_of main o)
+references_are o main of_world is few =
+    let finished = o.code.finished in
+    let tables = o.tables in
     let world = tables.world in
-    let called = target.Place area.Code main in
-    let of_code : later_count (code_cells called finished) ≡ 1 + later_count finished = refl in
-    let of_size : size_of (code_cells called finished) ≡ 8 + size_of finished = omega arith in
-    let none : object_fixups (ended world.body) ≡ 0 = none_open (ended world.body) closed in
+    let of_code : later_count (code_cells (target.Place area.Code main) finished) ≡ 1 + later_count finished = refl in
+    let none : object_fixups (ended world.body) ≡ 0 = none_open (ended world.body) is.unowned in
     let in_world : fixups_now world - 4 ≡ sum_by object_fixups world.objects + later_defaults world.declared = omega (arith, none) in
     let all : 5 + later_count finished + ((fixups_now world - 4) + (laters tables.globals + (arrays_laters (all_of tables.arrays)
     + (verbs_laters tables.verbs.list + (length tables.actions.routines + (length tables.parsing
-    + length tables.low_strings.abbreviations)))))) ≡ later_in order
-    (story.areas main finished strings tables) = omega (
+    + length tables.low_strings.abbreviations)))))) ≡ later_in order (areas_of main o) = omega (
       arith,
       later_known (story.three_spaces ++ tables.low_strings.bytes),
       later_abbreviations tables.low_strings.abbreviations,
-      counted,
+      of_world,
       in_world,
       globals_later tables.globals,
       arrays_written (all_of tables.arrays),
@@ -123,13 +180,17 @@ limits_count_the_story tables counted code main strings begun closed few =
       later_routines tables.parsing,
       later_known (dictionary_bytes tables.dictionary.list),
       of_code,
-      later_known strings,
+      later_known o.strings.bytes,
     ) in
-    record {
-      references = ap (λ b. references_with (cond b 5 4 + later_count finished) tables) begun
-          ∙ all_added (5 + later_count finished) (fixups_now world - 4) (laters tables.globals) (arrays_laters (all_of tables.arrays))
-          (verbs_laters tables.verbs.list)
-          (length tables.actions.routines) (length tables.parsing) (length tables.low_strings.abbreviations) (omega (arith, few, all))
-          ∙ all;
-      bytes = ap (λ b. cond b 8 0 + size_of finished) begun ∙ sym of_size;
-    }
+    let sum =
+    tables_added (fixups_now world - 4) (laters tables.globals) (arrays_laters (all_of tables.arrays)) (verbs_laters tables.verbs.list)
+    (length tables.actions.routines) (length tables.parsing) (length tables.low_strings.abbreviations) (omega (arith, few, all)) in
+    ap (λ n. 5 + later_count finished + n) sum ∙ all
+
+pub limits_count_the_story : (tables : AllTables) → Counted tables.world → LimitsCountTheStory tables
+limits_count_the_story tables of_world limits o main same is few =
+    let of_size : size_of (areas_of main o).code ≡ 8 + size_of o.code.finished = omega arith in
+    full_finished limits o is
+    ∙ ap (λ bytes. first_passed limits bytes (5 + later_count o.code.finished + references o.tables)) (sym of_size)
+    ∙ ap (first_passed limits (size_of (areas_of main o).code))
+    (references_are o main (subst (λ (t : AllTables). Counted t.world) (sym same) of_world) is few)

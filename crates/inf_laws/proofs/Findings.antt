@@ -1,27 +1,29 @@
--- The first error of a unit.
-use Rattle.std.proofs.Common.{◌≡◌, ◌⊎◌, inl, inr, ℕ, suc, zero, ◌+◌, ◌<◌, ◌≤◌, nat_eq, List, [], ◌∷◌, ◌++◌, append_assoc, append-nil}
-use Rattle.std.proofs.Common.{length, length-append, cond, not, ◌&&◌, ltb, Bool, true, false, Option, None, Some, refl, sym, ap, subst, ◌∙◌}
-use Rattle.std.proofs.Common.{arith}
-use Rattle.std.specs.Prelude.{Contains, find, is_some, option_map, slice_index_or}
+-- The first error of a header.
+use Rattle.std.proofs.Common.{◌≡◌, ◌⊎◌, inl, inr, ℕ, suc, zero, ◌+◌, ◌<◌, ◌≤◌, List, [], ◌∷◌, ◌++◌, append_assoc, append-nil, length, length-append}
+use Rattle.std.proofs.Common.{cond, ltb, Bool, true, false, Option, None, Some, refl, sym, ap, subst, ◌∙◌, arith}
+use Rattle.std.specs.Prelude.{Contains, find, is_some, option_map, slice_index_or, if◌then◌else◌}
 use Rattle.std.specs.Str.{bytes_eq, str_eq_ignore_ascii_case}
-use Rattle.std.proofs.lemmas.Bool.{and_parts, cond_both, eqb-true, false_from_ne_true, le-ltb, lt-ltb, ltb-false, ltb-true, or_cases}
+use Rattle.std.proofs.lemmas.Bool.{cond_both, le-ltb, lt-ltb, ltb-false, ltb-true}
 use Rattle.std.proofs.lemmas.List.Elements.{Contains-append_cases, Contains-append_left, Contains-append_right}
 use Rattle.inf_settings.specs.Bounds.{Limits}
 use Rattle.inf_scanner.specs.declared.tokens.Place.{Place}
+use Rattle.inf_syntax.specs.declared.actions.Action.TheVariants as action
 use Rattle.inf_names.specs.Symbols.{Table, declare_fault, declare_fault_by, folded, found_in, is_full}
 use Rattle.inf_names.specs.declared.symbols.Found.{Found as FoundName}
 use Rattle.inf_names.specs.declared.symbols.Found.TheVariants as found
 use Rattle.inf_names.specs.Spellings.{Name}
 use Rattle.inf_names.specs.Locals.{Headed, Local, Repeated, earlier, local_of, most_locals, no_locals, with_local_by, with_locals}
 use Rattle.inf_unit.specs.Messages.{Diagnostic, FileNames}
+use Rattle.inf_unit.specs.Units.{first_place}
 use Rattle.inf_names.specs.declared.symbols.DeclareFault.{DeclareFault}
 use Rattle.inf_unit.specs.Tokens.{SourceToken}
+use Rattle.inf_compilation.specs.Actions.{Compilation, header_of, header_with, passed}
+use Rattle.inf_compilation.specs.Context.{Context}
 use Rattle.inf_compilation.specs.Findings.{Again, again_by, again_local, again_told, header_findings as found_in_header, told_as, told_by}
-use Rattle.inf_expressions.specs.declared.findings.Finding.{Finding as Found}
-use Rattle.inf_expressions.specs.Findings.{error_number, is_before}
-use Rattle.inf_laws.specs.Findings.{Finding, HeadersTellTheFirst, IsBefore, IsLeast, IsLeastOf, IsTold, LeastsAreFound, UnitsTellTheLeast}
-use Rattle.inf_laws.specs.Findings.{declared_before, different, first_named, many_locals, repeated_local, repeated_locals, repeated_one}
-use Rattle.inf_laws.specs.Findings.{taken_as, taken_name, system_routine, too_many_locals}
+use Rattle.inf_reader.specs.Acting.{act}
+use Rattle.inf_laws.specs.Findings.{Finding, HeadersTellTheFirst, IsBefore, IsLeast, IsTold, declared_before, different, first_named}
+use Rattle.inf_laws.specs.Findings.{header_findings, many_locals, repeated_local, repeated_locals, repeated_one, system_routine, taken_as}
+use Rattle.inf_laws.specs.Findings.{taken_name, told_behind, too_many_locals}
 use Rattle.inf_laws.proofs.Choices.{either, either-none}
 use Rattle.inf_laws.proofs.SameNames.{same_names}
 
@@ -393,80 +395,36 @@ header_told limits files unit names name locals h (Fits fits few repeated) =
           there,
     )))))
 
-pub headers_tell_the_first : (limits : Limits) → HeadersTellTheFirst limits
-headers_tell_the_first limits files tokens unit names name locals =
+abbrev told_of : Limits → Context → Place → Headed → Name → Compilation → Option Diagnostic
+told_of limits context first h name w =
+    told_as context.names w.unit.tokens first (found_in_header 1 (again_by name (declare_fault limits name.bytes w.output.names)) h)
+
+header_is_told : (limits : Limits) (context : Context) (first : Place) (name : Name) (locals : List Name) (w : Compilation)
+    → IsTold (told_of limits context first (with_locals locals no_locals) name w)
+    (header_findings context.names first w.output.names name locals)
+header_is_told limits context first name locals w =
     let h = with_locals locals no_locals in
+    let names = w.output.names in
     let again = again_by name (declare_fault limits name.bytes names) in
-    subst (λ b. IsTold b (taken_name files names name ++ (repeated_locals files [] 2 locals ++ many_locals unit locals)))
-    (sym (header_fault_is files tokens unit again h))
-    (header_told limits files unit names name locals h (ends locals [] no_locals (λ name. refl) refl (omega arith)))
+    subst (λ b. IsTold b (header_findings context.names first names name locals))
+    (sym (header_fault_is context.names w.unit.tokens first again h))
+    (header_told limits context.names first names name locals h (ends locals [] no_locals (λ name. refl) refl (omega arith)))
 
--- Any unit
+-- the end of a header whose routine is not passed over
+abbrev opened_by : Limits → Context → Place → Name → Headed → Compilation → Compilation
+opened_by limits context first name h w = header_with limits context first name h (record w { is_replaced = false; is_embedded = false })
 
-earlier_than : (a b : Found) → is_before a b ≡ true →
-    (a.order < b.order) ⊎ ((a.order ≡ b.order) × (error_number a.error < error_number b.error))
-earlier_than a b e =
-    go (or_cases (ltb a.order b.order) (nat_eq a.order b.order && ltb (error_number a.error) (error_number b.error)) e)
-  where
-    go : (ltb a.order b.order ≡ true) ⊎ ((nat_eq a.order b.order && ltb (error_number a.error) (error_number b.error)) ≡ true) →
-        (a.order < b.order) ⊎ ((a.order ≡ b.order) × (error_number a.error < error_number b.error))
-    go (inl less) = inl (ltb-true a.order b.order less)
-    go (inr same) =
-        let parts = and_parts (nat_eq a.order b.order) (ltb (error_number a.error) (error_number b.error)) same in
-        inr (eqb-true a.order b.order parts.0, ltb-true (error_number a.error) (error_number b.error) parts.1)
-
-never_both : (a b : Found) → is_before a b ≡ true → is_before b a ≡ false
-never_both a b e = false_from_ne_true (is_before b a) (λ f. go (earlier_than a b e) (earlier_than b a f))
-  where
-    go : (a.order < b.order) ⊎ ((a.order ≡ b.order) × (error_number a.error < error_number b.error)) →
-        (b.order < a.order) ⊎ ((b.order ≡ a.order) × (error_number b.error < error_number a.error)) → ⊥
-    go (inl less) (inl more) = omega (arith, less, more)
-    go (inl less) (inr same) = omega (arith, less, same.0)
-    go (inr same) (inl more) = omega (arith, same.0, more)
-    go (inr same) (inr more) = omega (arith, same.1, more.1)
-
-never_itself : (a : Found) → is_before a a ≡ false
-never_itself a = go (is_before a a) refl
-  where
-    go : (b : Bool) → is_before a a ≡ b → is_before a a ≡ false
-    go false e = e
-    go true e = never_both a a e
-
--- the only finding of `x` does not come before `f`, by whatever name it is known
-not_earlier : (x : Option Found) (a f g : Found) → x ≡ Some a → x ≡ Some g → is_before a f ≡ false → is_before g f ≡ false
-not_earlier x a f g is is_g e = subst (λ h. is_before h f ≡ false) (some-injective (sym is ∙ is_g)) e
-  where
-    some-injective : {p q : Found} → Some p ≡ Some q → p ≡ q
-    some-injective e = cc
-
-pub leasts_are_found : LeastsAreFound
-leasts_are_found None None = (refl, refl)
-leasts_are_found (Some a) None = record {
-  is_there = inl refl;
-  none_before = λ g is. by g is;
-}
-  where
-    by : (g : Found) → (Some a ≡ Some g) ⊎ (None ≡ Some g) → is_before g a ≡ false
-    by g (inl is) = not_earlier (Some a) a a g refl is (never_itself a)
-    by g (inr is) = cc
-leasts_are_found None (Some b) = record { is_there = inr refl; none_before = λ g is. by g is }
-  where
-    by : (g : Found) → (None ≡ Some g) ⊎ (Some b ≡ Some g) → is_before g b ≡ false
-    by g (inl is) = cc
-    by g (inr is) = not_earlier (Some b) b b g refl is (never_itself b)
-leasts_are_found (Some a) (Some b) = go (is_before b a) refl
-  where
-    go : (t : Bool) → is_before b a ≡ t → IsLeastOf (Some a) (Some b) (cond t (Some b) (Some a))
-    go true e = record { is_there = inr refl; none_before = λ g is. by g is }
-      where
-        by : (g : Found) → (Some a ≡ Some g) ⊎ (Some b ≡ Some g) → is_before g b ≡ false
-        by g (inl is) = not_earlier (Some a) a b g refl is (never_both b a e)
-        by g (inr is) = not_earlier (Some b) b b g refl is (never_itself b)
-    go false e = record { is_there = inl refl; none_before = λ g is. by g is }
-      where
-        by : (g : Found) → (Some a ≡ Some g) ⊎ (Some b ≡ Some g) → is_before g a ≡ false
-        by g (inl is) = not_earlier (Some a) a a g refl is (never_itself a)
-        by g (inr is) = not_earlier (Some b) b a g refl is e
-
-pub units_tell_the_least : (limits : Limits) → UnitsTellTheLeast limits
-units_tell_the_least limits context first has_last all w = refl
+pub headers_tell_the_first : (limits : Limits) → HeadersTellTheFirst limits
+headers_tell_the_first limits context place name others locals w named headed kept =
+    let first = first_place w.unit.tokens place in
+    let after = opened_by limits context first name w.unit.headed w in
+    let same : act limits context place action.EndLocals w ≡ after =
+    ap (λ names. header_of limits context first names w) named
+    ∙ ap (λ b. if b then passed true (record w { is_replaced = true; is_embedded = false; constructs = [] }) else after) kept in
+    let all = header_findings context.names first w.output.names name locals in
+    record {
+      told = told_of limits context first w.unit.headed name w;
+      is_told = subst (λ h. IsTold (told_of limits context first h name w) all) (sym headed) (header_is_told limits context first name locals w);
+      report = ap (λ (x : Compilation). x.report) same
+          ∙ ap (told_behind limits context first (told_of limits context first w.unit.headed name w) w.report) (sym same);
+    }

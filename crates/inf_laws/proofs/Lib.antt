@@ -1,7 +1,8 @@
 pub mod Choices
 pub mod SameNames
-pub mod UnusedLocals
 pub mod Findings
+pub mod LeastFaults
+pub mod UnitFaults
 pub mod NameEvents
 pub mod Skipping
 pub mod BadTokens
@@ -13,3 +14,4 @@ pub mod KeptTurns
 pub mod Hashes
 pub mod PartTokens
 pub mod Parts
+pub mod Targets

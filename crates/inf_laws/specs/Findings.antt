@@ -1,27 +1,26 @@
--- The error that is told of a unit: of all that is found the first, by its token and then by the number of its error. And all that the
--- rules find of a header.
-use Rattle.std.specs.Prelude.{◌≡◌, ◌+◌, ◌<◌, ◌⊎◌, ℕ, List, [], ◌∷◌, ◌++◌, find, Contains, nat_lt, if◌then◌else◌, Bool, false, Option, Some}
+-- The error that is told of the header of a routine: of all that the rules find the first, by its token and then by the number of its error.
+use Rattle.std.specs.Prelude.{◌≡◌, ◌+◌, ◌<◌, ◌⊎◌, ℕ, List, [], ◌∷◌, ◌++◌, find, Contains, nat_lt, if◌then◌else◌, false, Option, Some}
 use Rattle.std.specs.Prelude.{None, is_some}
 use Rattle.std.specs.Str.{str_eq_ignore_ascii_case}
 use Rattle.inf_settings.specs.Bounds.{Limits}
 use Rattle.inf_scanner.specs.declared.tokens.Place.{Place}
-use Rattle.inf_names.specs.Symbols.{Table, declare_fault, found_in}
+use Rattle.inf_syntax.specs.declared.actions.Action.TheVariants as action
+use Rattle.inf_names.specs.Symbols.{Table, found_in}
 use Rattle.inf_names.specs.declared.symbols.Found.{Found as FoundName}
 use Rattle.inf_names.specs.declared.symbols.Found.TheVariants as found
 use Rattle.inf_report.specs.Messages.{Declared, SystemName, TooMany}
 use Rattle.inf_report.specs.declared.messages.FixedLimit.TheVariants as countable
 use Rattle.inf_names.specs.Spellings.{Name}
 use Rattle.inf_names.specs.Locals.{with_locals, no_locals}
-use Rattle.inf_expressions.specs.declared.findings.Finding.{Finding as Found}
 use Rattle.inf_expressions.specs.declared.findings.UnitError.{UnitError}
 use Rattle.inf_expressions.specs.declared.findings.UnitError.TheVariants as unit_error
-use Rattle.inf_expressions.specs.Findings.{error_number, is_before, least_of_both}
+use Rattle.inf_expressions.specs.Findings.{error_number}
 use Rattle.inf_output.specs.Output.{full}
-use Rattle.inf_unit.specs.Messages.{FileNames, Diagnostic, location, with_fault, with_full}
-use Rattle.inf_unit.specs.Tokens.{SourceToken}
-use Rattle.inf_compilation.specs.Actions.{Compilation, unit_ended}
+use Rattle.inf_unit.specs.Messages.{FileNames, Diagnostic, Reported, location, with_fault, with_full}
+use Rattle.inf_unit.specs.Units.{first_place, names_in}
+use Rattle.inf_compilation.specs.Actions.{Compilation, is_to_be_replaced}
 use Rattle.inf_compilation.specs.Context.{Context}
-use Rattle.inf_compilation.specs.Findings.{Findings, again_by, header_findings as found_in_header, told_as}
+use Rattle.inf_reader.specs.Acting.{act}
 
 -- The finding of a rule: the token of the unit at which it is, where the unit's first token is 0; the error; and the message at its
 -- place.
@@ -108,32 +107,20 @@ abbrev pub header_findings : FileNames → Place → Table Place → Name → Li
 header_findings files unit names name locals =
     taken_name files names name ++ (repeated_locals files [] 2 locals ++ many_locals unit locals)
 
--- The findings that are told of a unit that begins at a place
+-- The report behind the end of a unit that begins at a place: what is told of it, and then the first limit that was passed.
+abbrev pub told_behind : Limits → Context → Place → Option Diagnostic → Reported → Compilation → Reported
+told_behind limits context first told before after =
+    with_full context.names first (full limits after.output) (with_fault context.names first told before)
 
+-- The end of a header, of which the least finding is told.
+pub record HeaderTells (limits : Limits) (context : Context) (place : Place) (all : List Finding) (w : Compilation) : Type 0 where
+  pub told : Option Diagnostic
+  pub is_told : IsTold told all
+  pub report : (act limits context place action.EndLocals w).report
+      ≡ told_behind limits context (first_place w.unit.tokens place) told w.report (act limits context place action.EndLocals w)
+
+-- Of every header with a name, whose routine is not to be replaced and for whose locals names were noted, the end tells the least finding.
 abbrev pub HeadersTellTheFirst : Limits → Type 0
-HeadersTellTheFirst limits = (files : FileNames) (tokens : List SourceToken) (unit : Place) (names : Table Place) (name : Name)
-    (locals : List Name)
-    → IsTold (told_as files tokens unit (found_in_header 1 (again_by name (declare_fault limits name.bytes names))
-    (with_locals locals no_locals)))
-    (header_findings files unit names name locals)
-
--- Any unit
-
--- the least of two findings, each of which there may be: it is one of them, and neither comes before it
-pub record IsLeastOfTwo (x y : Option Found) (f : Found) : Type 0 where
-  pub is_there : (x ≡ Some f) ⊎ (y ≡ Some f)
-  pub none_before : (g : Found) → (x ≡ Some g) ⊎ (y ≡ Some g) → is_before g f ≡ false
-
-abbrev pub IsLeastOf : Option Found → Option Found → Option Found → Type 0
-IsLeastOf x y None = (x ≡ None) × (y ≡ None)
-IsLeastOf x y (Some f) = IsLeastOfTwo x y f
-
-abbrev pub LeastsAreFound : Type 0
-LeastsAreFound = (x y : Option Found) → IsLeastOf x y (least_of_both x y)
-
--- At the end of a unit the least finding is told, if there is one, and then the first setting that was passed.
-abbrev pub UnitsTellTheLeast : Limits → Type 0
-UnitsTellTheLeast limits = (context : Context) (first : Place) (has_last : Bool) (all : Findings) (w : Compilation)
-    → (unit_ended limits context first has_last all w).report
-    ≡ with_full context.names first (full limits w.output)
-    (with_fault context.names first (told_as context.names w.unit.tokens first all) w.report)
+HeadersTellTheFirst limits = (context : Context) (place : Place) (name : Name) (others locals : List Name) (w : Compilation)
+    → names_in w.unit.tokens ≡ name ∷ others → w.unit.headed ≡ with_locals locals no_locals → is_to_be_replaced name w ≡ false
+    → HeaderTells limits context place (header_findings context.names (first_place w.unit.tokens place) w.output.names name locals) w

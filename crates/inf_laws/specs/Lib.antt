@@ -1,4 +1,3 @@
-pub mod UnusedLocals
 pub mod Findings
 pub mod NameEvents
 pub mod Skipping
@@ -10,3 +9,5 @@ pub mod KeptTokens
 pub mod KeptTurns
 pub mod Hashes
 pub mod Parts
+pub mod UnitFaults
+pub mod Targets

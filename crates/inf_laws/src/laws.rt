@@ -1,15 +1,16 @@
 //! Laws on the definitions of the language, taken together.
 ghost use Rattle.inf_settings.specs.Bounds.{Limits};
 ghost use Rattle.inf_laws.specs.Counts.{LimitsCountTheStory};
-ghost use Rattle.inf_laws.specs.Findings.{HeadersTellTheFirst, LeastsAreFound, UnitsTellTheLeast};
+ghost use Rattle.inf_laws.specs.Findings.{HeadersTellTheFirst};
 ghost use Rattle.inf_laws.specs.KeptTokens.{KeptTokensAreRead, TokensAreHandedOn};
 ghost use Rattle.inf_laws.specs.KeptTurns.{TurnsReadPieces};
 ghost use Rattle.inf_laws.specs.NameEvents.{FewHaveRoom, FirstDeclarationsCount, OperandsUse, UndeclaredAreTold, UnitsDeclare};
 ghost use Rattle.inf_laws.specs.Parts.{PartsArePieces, PartsEndWithPieces};
 ghost use Rattle.inf_laws.specs.Skipping.{DirectivesAreSkipped, PassedTokensDoNothing, RoutinesAreSkipped, SourcesEnd};
+ghost use Rattle.inf_laws.specs.UnitFaults.{ConstantsTellTheLeast, PartsTellTheLeast};
+ghost use Rattle.inf_laws.specs.Targets.{AllPartsAreFound};
 ghost use Rattle.inf_laws.specs.Told.{TokensAreTakenOrTold, UnfitTokensAreTold};
 ghost use Rattle.inf_laws.specs.UnitLimits.{UnitsKeepWithin};
-ghost use Rattle.inf_laws.specs.UnusedLocals.{HeadersMakeNew, UnusedAreWarned};
 
 use inf_settings::bounds::Bounds;
 use inf_tables::{Tables, written_as_counted};
@@ -20,11 +21,11 @@ pub fn first_errors_are_told()
     ensures { (limits : Limits) → HeadersTellTheFirst limits }
 {}
 
-/// Units tell at their end the least of all that is wrong with them, by the order of its token and then by the number of its error.
-/// Where two rules find something, the least of both findings is one of them, and neither comes before it.
+/// Shows that the ends of all units of a routine and of constants tell the least of all that is wrong with them, by the order of its
+/// token and then by the number of its error.
 pub fn least_findings_are_told()
-    ensures least { LeastsAreFound }
-    ensures told { (limits : Limits) → UnitsTellTheLeast limits }
+    ensures parts { (limits : Limits) → PartsTellTheLeast limits }
+    ensures constants { (limits : Limits) → ConstantsTellTheLeast limits }
 {}
 
 /// Errors are told once for each name that is used and never declared, and that the language does not have: at its first use, in
@@ -41,13 +42,6 @@ pub fn first_declarations_count()
     ensures declares { (limits : Limits) → UnitsDeclare limits }
     ensures operands { (limits : Limits) → OperandsUse limits }
     ensures room { (limits : Limits) → FewHaveRoom limits }
-{}
-
-/// Warnings at the end of a routine are about the locals that no name in a statement is, in order. This holds for the locals of
-/// each header.
-pub fn unused_locals_are_warned()
-    ensures warned { UnusedAreWarned }
-    ensures headers { HeadersMakeNew }
 {}
 
 /// Tokens are passed over up to the end of a bad piece: behind the first semicolon that is handed on, in a routine behind the first
@@ -83,7 +77,8 @@ pub fn parts_are_pieces()
     ensures ends { (limits : Limits) → PartsEndWithPieces limits }
 {}
 
-/// Limits of code and of references count the bytes of the story's code and the references of all of its areas.
+/// Shows that behind a source the first limit that was passed, which is told, is the first that the story passes: that of code
+/// by the bytes of the story's code, or that of references by the references of all of its areas.
 pub fn limits_count_the_story<B: Bounds>(tables: &Tables<B>)
     ensures { LimitsCountTheStory tables.now }
 {
@@ -96,4 +91,10 @@ pub fn limits_count_the_story<B: Bounds>(tables: &Tables<B>)
 /// setting says. So the greatest counts of tokens and labels keep to their settings.
 pub fn units_keep_within_settings()
     ensures { (limits : Limits) → UnitsKeepWithin limits }
+{}
+
+/// Shows that each part of an area to which the tables of a story refer is there: the property table of each object and its individual
+/// table, and the lines of each verb.
+pub fn parts_of_tables_are_found()
+    ensures { AllPartsAreFound }
 {}

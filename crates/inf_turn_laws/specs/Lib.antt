@@ -1,2 +1,3 @@
 pub mod Acted
 pub mod Routines
+pub mod UnusedLocals

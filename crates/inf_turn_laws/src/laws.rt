@@ -2,6 +2,7 @@
 ghost use Rattle.inf_settings.specs.Bounds.{Limits};
 ghost use Rattle.inf_turn_laws.specs.Acted.{PiecesDoTheirActions};
 ghost use Rattle.inf_turn_laws.specs.Routines.{TurnsReadRoutinesWhole};
+ghost use Rattle.inf_turn_laws.specs.UnusedLocals.{HeadersMakeNew, UnusedAreWarned};
 
 /// Shows that turns through a piece, whose kept tokens are a text of the grammar, have the effect of the text's actions, each at the
 /// place of the token that comes next, and of the tokens, which are taken in their order; and that conditional directives between them
@@ -14,4 +15,11 @@ pub fn pieces_do_their_actions()
 /// header, its statements as they are nested, and its end.
 pub fn turns_read_routines_whole()
     ensures { (limits : Limits) → TurnsReadRoutinesWhole limits }
+{}
+
+/// Shows that the warnings at the end of a routine are about the locals that no name in a unit of it is, in order, whatever happens between
+/// its header and its end; and that the locals of each header have different names, none of which is named yet.
+pub fn unused_locals_are_warned()
+    ensures warned { (limits : Limits) → UnusedAreWarned limits }
+    ensures headers { (limits : Limits) → HeadersMakeNew limits }
 {}

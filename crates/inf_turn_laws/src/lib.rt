@@ -4,4 +4,4 @@
 
 mod laws;
 
-pub use laws::{pieces_do_their_actions, turns_read_routines_whole};
+pub use laws::{pieces_do_their_actions, turns_read_routines_whole, unused_locals_are_warned};

@@ -1,4 +1,4 @@
--- The warnings about the locals of a routine.
+-- Locals that units name, by a test of their names, and the locals of a header.
 use Rattle.std.proofs.Common.{◌≡◌, ℕ, List, [], ◌∷◌, ◌++◌, length, map, filter, cond, not, ◌||◌, ◌&&◌, ltb, Bool, true, false, Option, None}
 use Rattle.std.proofs.Common.{Some, refl, sym, ap, ◌∙◌}
 use Rattle.std.specs.List.{list_any, list_all}
@@ -12,10 +12,14 @@ use Rattle.inf_names.specs.Locals.{Local, Headed, local_of, most_locals, no_loca
 use Rattle.inf_unit.specs.Messages.{Reported, location, with_warning}
 use Rattle.inf_compilation.specs.Context.{Context}
 use Rattle.inf_compilation.specs.Actions.{with_all_unused}
-use Rattle.inf_laws.specs.UnusedLocals.{AreDifferent, AreNew, AreUnnamed, HeadersMakeNew, UnusedAreWarned, is_local, is_named_by}
-use Rattle.inf_laws.specs.UnusedLocals.{is_named_in, with_units, with_warnings}
+use Rattle.inf_turn_laws.specs.UnusedLocals.{AreDifferent, AreNew, AreUnnamed, is_local, is_named_by, is_named_in, unused, with_warnings}
 use Rattle.inf_laws.proofs.Choices.{or-swap}
 use Rattle.inf_laws.proofs.SameNames.{bytes_eq-sym, same_names}
+
+-- the locals after some units, each of which has some names
+abbrev pub with_units : List (List Name) → List Local → List Local
+with_units [] locals = locals
+with_units (names ∷ units) locals = with_units units (with_all_named names locals)
 
 -- a local that counts as named also where its name passes a test
 abbrev marked : (List ℕ → Bool) → Local → Local
@@ -96,10 +100,11 @@ warned context place test (l ∷ ls) r un =
     go false true e later = cc
     go false false e later = later (with_warning (location context.names place) (UnusedLocal l.name) r)
 
-pub unused_are_warned : UnusedAreWarned
-unused_are_warned context place units ls r different unnamed =
-    ap (λ xs. with_all_unused context place xs r) (with_units-marks units ls different)
-    ∙ warned context place (λ n. is_named_in n units) ls r unnamed
+pub unused_are_told : (context : Context) (place : Place) (units : List (List Name)) (ls : List Local) (r : Reported) → AreNew ls →
+    with_all_unused context place (with_units units ls) r ≡ with_warnings context place (unused units ls) r
+unused_are_told context place units ls r new =
+    ap (λ xs. with_all_unused context place xs r) (with_units-marks units ls new.different)
+    ∙ warned context place (λ n. is_named_in n units) ls r new.unnamed
 
 -- Headers
 
@@ -151,5 +156,5 @@ all_new [] h new = new
 all_new (first ∷ names) h new =
     all_new names (with_local_by first (local_of first.bytes h.locals) h) (one_more first h (local_of first.bytes h.locals) refl new)
 
-pub headers_make_new : HeadersMakeNew
-headers_make_new names = all_new names no_locals (record { different = tt; unnamed = refl })
+pub header_is_new : (names : List Name) → AreNew (with_locals names no_locals).locals
+header_is_new names = all_new names no_locals (record { different = tt; unnamed = refl })
