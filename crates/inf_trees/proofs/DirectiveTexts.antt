@@ -1,5 +1,5 @@
 -- A text of a piece that begins as a directive that is one unit: the unit, its end and the semicolon.
-use Rattle.std.proofs.Common.{◌≡◌, ℕ, List, [], ◌∷◌, ◌++◌, true, false, ◌&&◌, ◌||◌, ◌==◌, refl, sym, ◌∙◌, ap, inl, inr, bit_and}
+use Rattle.std.proofs.Common.{◌≡◌, ℕ, List, [], ◌∷◌, ◌++◌, true, false, ◌&&◌, ◌==◌, refl, sym, ◌∙◌, ap, inl, inr, bit_and}
 use Rattle.std.proofs.lemmas.Bool.{and_from, and_parts, eqb-true, or_cases}
 use Rattle.inf_scanner.specs.declared.tokens.Mark.TheVariants as mark
 use Rattle.inf_machine.specs.declared.symbols.Symbol.{Symbol}

@@ -1,5 +1,5 @@
 -- The text of an item at the top of a routine: a statement that is one unit, or another item.
-use Rattle.std.proofs.Common.{◌≡◌, ℕ, List, [], ◌∷◌, ◌++◌, true, false, refl}
+use Rattle.std.proofs.Common.{◌≡◌, ℕ, List, [], ◌∷◌, true, false, refl}
 use Rattle.inf_machine.specs.declared.symbols.Symbol.{Symbol}
 use Rattle.inf_machine.specs.Grammar.{Event, IsText, Row, first, later}
 use Rattle.inf_syntax.specs.Parts.{ !assign, !member, 'assign', 'dot', address_operator, address_tail, array_operator, assign, assign_tail}

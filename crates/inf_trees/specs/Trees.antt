@@ -1,6 +1,6 @@
 -- The units of a source as trees: tokens by themselves, expressions, and notes behind them. A unit is what its parts make of it, one by one, and its
 -- tokens tell what is wrong with them as far as that is seen before the unit is whole.
-use Rattle.std.specs.Prelude.{◌≡◌, ℕ, List, [], ◌∷◌, ◌++◌, length, true, Some}
+use Rattle.std.specs.Prelude.{ℕ, List, [], ◌∷◌, ◌++◌, length, true, Some}
 use Rattle.inf_expressions.specs.Sources.{Source}
 use Rattle.inf_unit.specs.Tokens.{SourceToken}
 use Rattle.inf_unit.specs.Units.{Unit as UnitAtHand, long_at, noted, outer_tokens, taken}
