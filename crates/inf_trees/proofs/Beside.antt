@@ -1,4 +1,4 @@
--- What tokens and steps of an expression change in a compilation, and what they leave.
+-- The changes that tokens, and steps of an expression, make in a compilation.
 use Rattle.std.proofs.Common.{◌≡◌, ℕ, Bool, true, false, Option, Some, None, refl, ◌∙◌, ap}
 use Rattle.std.specs.Prelude.{◌&&◌, is_some}
 use Rattle.inf_settings.specs.Bounds.{Limits}

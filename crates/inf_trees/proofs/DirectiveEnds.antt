@@ -21,7 +21,7 @@ use Rattle.inf_constructs.specs.Roots.{tree_in}
 use Rattle.inf_report.specs.declared.messages.FixedLimit.TheVariants as countable
 use Rattle.inf_compilation.specs.Context.{Context}
 use Rattle.inf_compilation.specs.Actions.{Compilation, constant, constant_added, constant_declared, constant_ended, constant_finding}
-use Rattle.inf_compilation.specs.Actions.{constant_findings, constant_meaning, constant_of, constant_with, finding_at, is_first_declared}
+use Rattle.inf_compilation.specs.Actions.{constant_findings, constant_meaning, constant_of, finding_at, is_first_declared}
 use Rattle.inf_compilation.specs.Actions.{new_stub, operands_of, replace, routine_declared, stub, stub_code, stub_locals, stubbed, trees_at}
 use Rattle.inf_compilation.specs.Actions.{unit_ended}
 use Rattle.inf_compilation.specs.Findings.{again_by, found_alone, nothing_found}
@@ -29,7 +29,7 @@ use Rattle.inf_declarations.specs.Abbreviations.{low_string}
 use Rattle.inf_declarations.specs.Declarations.{alias_told, attribute, attribute_with, global_variable, is_additive, is_alias, property}
 use Rattle.inf_declarations.specs.Declarations.{property_named, property_names, property_order, property_with}
 use Rattle.inf_declarations.specs.Defaults.{default}
-use Rattle.inf_declarations.specs.Headers.{known_number, release, release_finding, release_told, serial, serial_by, serial_in}
+use Rattle.inf_declarations.specs.Headers.{known_number, release, release_finding, release_told, serial_by, serial_in}
 use Rattle.inf_declarations.specs.Switches.{has_code, letters_behind, switches, switches_by}
 use Rattle.inf_expressions.specs.Findings.{out_of_range}
 use Rattle.inf_reader.specs.Directives.{carried_out, code_begun_by, directive_end, directive_of_names}

@@ -1,16 +1,15 @@
 -- A text of a piece that begins as a directive that is one unit: the unit, its end and the semicolon.
-use Rattle.std.proofs.Common.{◌≡◌, ℕ, List, [], ◌∷◌, ◌++◌, Bool, true, false, ◌&&◌, ◌||◌, ◌==◌, refl, sym, ◌∙◌, ap, subst, inl, inr, bit_and}
-use Rattle.std.proofs.Common.{append-nil}
+use Rattle.std.proofs.Common.{◌≡◌, ℕ, List, [], ◌∷◌, ◌++◌, true, false, ◌&&◌, ◌==◌, refl, sym, ◌∙◌, ap, inl, inr, bit_and}
 use Rattle.std.proofs.lemmas.Bool.{and_from, and_parts, eqb-true, or_cases}
 use Rattle.inf_scanner.specs.declared.tokens.Mark.TheVariants as mark
 use Rattle.inf_machine.specs.declared.symbols.Symbol.{Symbol}
-use Rattle.inf_machine.specs.declared.symbols.Symbol.TheVariants.{Rule, Token}
-use Rattle.inf_machine.specs.Grammar.{Event, IsText, Leads, Row, action, has, row, token}
+use Rattle.inf_machine.specs.declared.symbols.Symbol.TheVariants.{Token}
+use Rattle.inf_machine.specs.Grammar.{Event, IsText, Row, action, has, token}
 use Rattle.inf_machine.specs.Machine.{fits}
 use Rattle.inf_machine.proofs.Sets.{has_and, has_zero}
 use Rattle.inf_machine.proofs.Taking.{leads_only}
 use Rattle.inf_syntax.specs.Atoms.{mark_atom}
-use Rattle.inf_syntax.specs.Parts.{ !arrow, !end_body, !end_directive, !end_header, !end_locals, !end_routine, !end_text, !routine}
+use Rattle.inf_syntax.specs.Parts.{ !end_body, !end_directive, !end_header, !end_locals, !end_routine, !end_text, !routine}
 use Rattle.inf_syntax.specs.Parts.{'abbreviate', 'array', 'class', 'close_bracket', 'extend', 'hash', 'nearby', 'object', 'open_bracket'}
 use Rattle.inf_syntax.specs.Parts.{'semicolon', 'verb', BODYNAME, NAME, OFCLASS, TEXT, WORD, body, directive, directive_1, directive_10}
 use Rattle.inf_syntax.specs.Parts.{directive_11, directive_12, directive_2, directive_3, directive_4, directive_5, directive_6, directive_7}
@@ -22,7 +21,7 @@ use Rattle.inf_grammar.specs.Language.{grammar, known}
 use Rattle.inf_statement_laws.proofs.Rules.{number}
 use Rattle.inf_language.proofs.TextsActed.{rule_is_spaced}
 use Rattle.inf_trees.specs.Directives.{begins_directive, is_word, words}
-use Rattle.inf_trees.proofs.RuleRows.{Each, of_rows, one_of}
+use Rattle.inf_trees.proofs.RuleRows.{of_rows}
 use Rattle.inf_trees.proofs.UnitTexts.{is_flat, is_unit}
 
 -- Atoms that are in no two sets
@@ -136,8 +135,7 @@ directive_text : (atom : ℕ) (atoms : List ℕ) (events : List (Event Action)) 
     → IsText grammar (directive ∷ []) (atom ∷ atoms) events → IsText grammar (whole_directive ∷ unit_end) (atom ∷ atoms) events
 directive_text atom atoms events is text =
     let P = IsText grammar (whole_directive ∷ unit_end) (atom ∷ atoms) events in
-    of_rows P (number directive) directive_rows (atom ∷ atoms) events directives_have
-    (
+    of_rows P (number directive) directive_rows (atom ∷ atoms) events directives_have (
       (λ t. absurd (routine_no_word atom _ atoms events is t)),
       (
         (λ t. absurd (by_word 5 atom _ atoms events outside_5 is t)),
@@ -181,14 +179,14 @@ no_sign atom atoms events is text =
 -- The text of a directive that is one unit: symbols of a unit, then its end.
 pub record UnitText (atoms : List ℕ) (events : List (Event Action)) : Type 0 where
   pub front : List (Symbol Action)
-  pub flat : is_flat false front ≡ true
+  pub flat : is_flat false false front ≡ true
   pub text : IsText grammar (front ++ unit_end) atoms events
 
-word_flat : is_flat false (whole_directive ∷ []) ≡ true
+word_flat : is_flat false false (whole_directive ∷ []) ≡ true
 unfolding is_unit
 word_flat = refl
 
-sign_flat : is_flat false ('hash' ∷ whole_directive ∷ []) ≡ true
+sign_flat : is_flat false false ('hash' ∷ whole_directive ∷ []) ≡ true
 unfolding is_unit
 sign_flat = refl
 
@@ -212,8 +210,7 @@ piece_text [] events begins text = cc
 piece_text (first ∷ []) events begins text = cc
 piece_text (first ∷ second ∷ atoms) events begins text =
     let all = first ∷ second ∷ atoms in
-    of_rows (UnitText all events) (number piece) piece_rows all events pieces_have
-    (
+    of_rows (UnitText all events) (number piece) piece_rows all events pieces_have (
       (λ t. absurd (semicolon_none first second atoms events t)),
       (
         (λ t. elim (or_cases (is_word first) ((first == mark_atom mark.Hash) && is_word second) begins) [
@@ -224,8 +221,8 @@ piece_text (first ∷ second ∷ atoms) events begins text =
           (λ t. elim (or_cases (is_word first) ((first == mark_atom mark.Hash) && is_word second) begins) [
             | inl is ↦ without_sign first second atoms events is t
             | inr both ↦
-              let parts = and_parts (first == mark_atom mark.Hash) (is_word second) both in
-              absurd (no_sign first (second ∷ atoms) events (eqb-true first (mark_atom mark.Hash) parts.0) t)
+                let parts = and_parts (first == mark_atom mark.Hash) (is_word second) both in
+                absurd (no_sign first (second ∷ atoms) events (eqb-true first (mark_atom mark.Hash) parts.0) t)
           ]),
           tt,
         ),

@@ -1,72 +1,42 @@
 -- Tokens that begin as a directive that is one unit are that directive, and have its effect.
-use Rattle.std.proofs.Common.{◌≡◌, ℕ, ◌+◌, ◌<◌, ◌^◌, List, [], ◌∷◌, ◌++◌, length, Bool, true, false, ◌==◌, None, refl, sym, ◌∙◌, ap, subst}
+use Rattle.std.proofs.Common.{◌≡◌, ℕ, ◌+◌, ◌<◌, List, [], ◌∷◌, ◌++◌, length, true, false, refl, sym, ◌∙◌, ap, subst}
 use Rattle.std.proofs.Common.{arith}
-use Rattle.std.proofs.lemmas.Bool.{eqb-false, eqb-true}
 use Rattle.std.proofs.lemmas.List.{length-append}
-use Rattle.std.proofs.lemmas.Nat.Bits.{bit_at-pow_other}
 use Rattle.inf_settings.specs.Bounds.{Limits}
-use Rattle.inf_scanner.specs.declared.tokens.Mark.TheVariants as mark
-use Rattle.inf_scanner.specs.declared.tokens.TokenKind.TheVariants as kind
-use Rattle.inf_machine.specs.Grammar.{Did, Event, IsText, Leads, Took, action, has, here, token}
-use Rattle.inf_syntax.specs.Atoms.{mark_atom}
-use Rattle.inf_syntax.specs.Parts.{ !end_directive, 'semicolon', piece}
+use Rattle.inf_machine.specs.Grammar.{Did, Event, Leads, Took, action, has, here, token}
+use Rattle.inf_syntax.specs.Parts.{ !end_directive, 'semicolon'}
 use Rattle.inf_syntax.specs.declared.actions.Action.{Action}
 use Rattle.inf_syntax.specs.declared.actions.Action.TheVariants as action_of
 use Rattle.inf_grammar.specs.Language.{grammar}
-use Rattle.inf_unit.specs.Tokens.{SourceToken}
-use Rattle.inf_unit.specs.Units.{Unit as UnitAtHand, no_unit, over, taken}
+use Rattle.inf_unit.specs.Units.{Unit as UnitAtHand, no_unit, over}
 use Rattle.inf_compilation.specs.Context.{Context}
 use Rattle.inf_compilation.specs.Actions.{Compilation, opens, piece_begun, took}
 use Rattle.inf_reader.specs.Directives.{directive_end}
-use Rattle.inf_expression_laws.specs.Gathered.{AreSeen, IsSeen}
+use Rattle.inf_expression_laws.specs.Gathered.{AreSeen}
 use Rattle.inf_statement_laws.specs.Happenings.{Acts, Happening, Takes}
-use Rattle.inf_statement_laws.specs.Laid.{happens, next_comes, passed, run}
+use Rattle.inf_statement_laws.specs.Laid.{next_comes, passed, run}
 use Rattle.inf_statement_laws.specs.Readings.{Seen, plainly_at}
 use Rattle.inf_statement_laws.proofs.Laying.{run_then}
 use Rattle.inf_language.specs.Constants.{piece_done}
-use Rattle.inf_language.specs.Texts.{NoneClosesAhead, atoms_of, happenings_before, happenings_of, tokens_of}
+use Rattle.inf_language.specs.Texts.{atoms_of, happenings_before, happenings_of, tokens_of}
 use Rattle.inf_language.specs.Units.{TakeAll}
 use Rattle.inf_language.proofs.Derivations.{happenings-append, last_apart, seen_front, texts_take_all}
-use Rattle.inf_language.proofs.ExpressionsTold.{nothing_told, took_is_told}
 use Rattle.inf_language.proofs.TextsActed.{texts_do_their_actions}
 use Rattle.inf_language.proofs.TextsSplit.{split}
-use Rattle.inf_trees.specs.Directives.{Directive, DirectivesAreTrees, IsDirective, begins_directive, directive_done}
-use Rattle.inf_trees.specs.Trees.{parts_told, told_at, with_parts}
+use Rattle.inf_trees.specs.Directives.{Directive, DirectivesAreTrees, directive_done}
+use Rattle.inf_trees.specs.Trees.{parts_told, with_parts}
 use Rattle.inf_trees.proofs.DirectiveEnds.{directives_over}
 use Rattle.inf_trees.proofs.DirectiveTexts.{UnitText, piece_text}
+use Rattle.inf_trees.proofs.Semicolons.{last_atom, last_seen, opens_nothing, over_taken}
 use Rattle.inf_trees.proofs.UnitTexts.{parsed}
 use Rattle.inf_trees.proofs.UnitsRead.{Read, units_read}
 
 -- The semicolon
 
-one_bit : (at atom : ℕ) → has (2 ^ at) atom ≡ true → atom ≡ at
-one_bit at atom h = by_same (atom == at) refl
-  where
-    contrary : false ≡ true → ⊥
-    contrary same = cc
-
-    by_same : (b : Bool) → (atom == at) ≡ b → atom ≡ at
-    by_same true is = eqb-true atom at is
-    by_same false is = absurd (contrary (sym (ap (λ b. b == 1) (bit_at-pow_other at atom (eqb-false atom at is))) ∙ h))
-
-semicolon_class : grammar.atoms_of 0 ≡ 2 ^ mark_atom mark.Semicolon
-unfolding grammar
-semicolon_class = refl
-
-opens_nothing : (s : Seen) → has (grammar.atoms_of 0) s.atom ≡ true → IsSeen s.atom s.token → opens s.token.kind ≡ false
-opens_nothing s h is =
-    let atom : s.atom ≡ mark_atom mark.Semicolon = one_bit (mark_atom mark.Semicolon) s.atom (sym (ap (λ set. has set s.atom) semicolon_class) ∙ h) in
-    ap opens (is mark.Semicolon atom)
-
 -- behind a unit that is over the semicolon has no report
 semicolon_taken : (context : Context) (s : Seen) (u : UnitAtHand) (w : Compilation) → opens s.token.kind ≡ false → w.unit ≡ over true u
     → piece_done (next_comes (passed s.behind (took context s.token w))) ≡ piece_done (passed s.behind w)
-semicolon_taken context s u w plain is =
-    let v = taken s.token (over true u) in
-    let told : told_at context (taken s.token w.unit) s.token w ≡ w =
-    ap (λ x. told_at context (taken s.token x) s.token w) is ∙ nothing_told context s.token v.depth w plain in
-    ap (λ x. piece_done (passed s.behind x)) (took_is_told context s.token w.unit w)
-    ∙ ap (λ x. piece_done (passed s.behind x)) told
+semicolon_taken context s u w plain is = ap (λ x. piece_done (next_comes (passed s.behind x))) (over_taken context s u w plain is)
 
 -- The end of the unit, and the semicolon
 
@@ -79,23 +49,6 @@ record EndsUnit (atoms : List ℕ) (events : List (Event Action)) : Type 0 where
 ends_unit : (atoms : List ℕ) (events : List (Event Action)) → Leads grammar (!end_directive ∷ 'semicolon' ∷ []) atoms events []
     → EndsUnit atoms events
 ends_unit atoms events (action (token {atom = atom} h here)) = record { atom = atom; one = refl; are = refl; is_semicolon = h }
-
--- the last token of some, with its atom
-last_atom : (tokens : List Seen) (last : Seen) (front : List ℕ) (atom : ℕ) → atoms_of tokens ≡ front
-    → atoms_of (tokens ++ last ∷ []) ≡ front ++ atom ∷ [] → last.atom ≡ atom
-last_atom [] last [] atom same all = cc
-last_atom [] last (a ∷ front) atom same all = cc
-last_atom (s ∷ tokens) last [] atom same all = cc
-last_atom (s ∷ tokens) last (a ∷ front) atom same all =
-    last_atom tokens last front atom (rest_of same) (rest_of all)
-  where
-    rest_of : {x y : ℕ} {xs ys : List ℕ} → x ∷ xs ≡ y ∷ ys → xs ≡ ys
-    rest_of e = cc
-
-last_seen : (tokens : List Seen) (last : Seen) → AreSeen (atoms_of (tokens ++ last ∷ [])) (tokens_of (tokens ++ last ∷ []))
-    → IsSeen last.atom last.token
-last_seen [] last are = are.0
-last_seen (s ∷ tokens) last are = last_seen tokens last are.1
 
 -- The effect of the tokens of a directive, with its unit read
 
@@ -139,7 +92,7 @@ parted limits seen events unit are_seen few =
     let seen_again = subst (λ x. AreSeen (atoms_of x) (tokens_of x)) (sym l.same) are_seen in
     let atom = last_atom l.tokens l.last parts.front end.atom l.atoms (ap atoms_of l.same ∙ all_atoms) in
     let count : length l.tokens + 1 ≡ length seen = sym (length-append l.tokens (l.last ∷ [])) ∙ ap length l.same in
-    let reads = parsed parts.of_front refl l.tokens l.atoms [] unit.front refl unit.flat in
+    let reads = parsed false parts.of_front refl l.tokens l.atoms [] unit.front refl unit.flat in
     record {
       tokens = l.tokens;
       semicolon = l.last;
@@ -147,7 +100,7 @@ parted limits seen events unit are_seen few =
       atom = end.atom;
       same = l.same;
       are = parts.events_are ∙ ap (λ x. parts.early ++ x) end.are;
-      read = units_read limits reads no_unit (seen_front l.tokens l.last seen_again) (omega arith) (omega (arith, few, count));
+      read = units_read limits reads no_unit (λ e. cc) (seen_front l.tokens l.last seen_again) (omega arith) (omega (arith, few, count));
       all = texts_take_all parts.of_front l.tokens l.atoms;
       plain = opens_nothing l.last (ap (λ n. has (grammar.atoms_of 0) n) atom ∙ end.is_semicolon) (last_seen l.tokens l.last seen_again);
     }

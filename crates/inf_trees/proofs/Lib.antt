@@ -1,8 +1,15 @@
 pub mod Beside
 pub mod RuleRows
 pub mod ValueForms
+pub mod Expanded
 pub mod UnitTexts
 pub mod UnitsRead
+pub mod Semicolons
 pub mod DirectiveTexts
 pub mod DirectiveEnds
 pub mod DirectivesRead
+pub mod StatementTexts
+pub mod TopTexts
+pub mod StatementEnds
+pub mod StatementsRead
+pub mod Examples

@@ -1,10 +1,10 @@
 -- The rows of a rule, each with what holds of it; and rules all of whose rows pass a test, as evaluation over the table shows.
-use Rattle.std.proofs.Common.{◌≡◌, ℕ, List, [], ◌∷◌, ◌++◌, Bool, true, false, not, ◌&&◌, ◌||◌, ◌==◌, refl, sym, ◌∙◌, ap, subst, inl, inr}
+use Rattle.std.proofs.Common.{◌≡◌, ℕ, List, [], ◌∷◌, Bool, true, false, not, ◌||◌, ◌==◌, refl, ap, subst, inl, inr}
 use Rattle.std.proofs.Common.{append-nil}
 use Rattle.std.proofs.lemmas.Bool.{agree_below, agree_below_at, and_parts, cases_lt}
 use Rattle.inf_machine.specs.declared.symbols.Symbol.{Symbol}
 use Rattle.inf_machine.specs.declared.symbols.Symbol.TheVariants.{Act, Rule, Token}
-use Rattle.inf_machine.specs.Grammar.{Event, IsOneOf, IsText, Leads, Row, first, later, row}
+use Rattle.inf_machine.specs.Grammar.{Event, IsOneOf, IsText, Row, first, later, row}
 use Rattle.inf_machine.specs.Pieces.{all_rows}
 use Rattle.inf_syntax.specs.declared.actions.Action.{Action}
 use Rattle.inf_grammar.specs.Evaluated.{rows_past}

@@ -1,10 +1,13 @@
 -- The text of a unit, token by token: tokens by themselves, and expressions, each behind the action that begins it.
-use Rattle.std.proofs.Common.{◌≡◌, ℕ, List, [], ◌∷◌, ◌++◌, Bool, true, false, ◌&&◌, refl, sym, ◌∙◌, ap, subst, append_assoc}
-use Rattle.std.proofs.lemmas.Bool.{agree_below, and_from, and_parts}
+use Rattle.std.proofs.Common.{◌≡◌, ℕ, List, [], ◌∷◌, ◌++◌, Bool, true, false, ◌&&◌, ◌||◌, refl, sym, ◌∙◌, ap, subst, append_assoc, inl}
+use Rattle.std.proofs.Common.{inr}
+use Rattle.std.proofs.lemmas.Bool.{agree_below, and_from, and_parts, or_cases, or_left, or_right}
 use Rattle.inf_machine.specs.declared.symbols.Symbol.{Symbol}
 use Rattle.inf_machine.specs.declared.symbols.Symbol.TheVariants.{Act, Rule, Token}
 use Rattle.inf_machine.specs.Grammar.{Did, Event, IsNext_not, IsOneOf, IsText, Leads, Row, Took, action, has, here, row, token}
-use Rattle.inf_syntax.specs.Parts.{initial, return_rest_1, whole_directive, whole_directive_1, whole_directive_2, whole_directive_3}
+use Rattle.inf_syntax.specs.Parts.{give_rest_1, initial, plain_word, return_rest_1, statement_5, top_item_18, whole_directive}
+use Rattle.inf_syntax.specs.Parts.{whole_directive_1}
+use Rattle.inf_syntax.specs.Parts.{whole_directive_2, whole_directive_3}
 use Rattle.inf_syntax.specs.Parts.{whole_directive_4, whole_directive_5, whole_directive_6}
 use Rattle.inf_syntax.specs.declared.actions.Action.{Action}
 use Rattle.inf_syntax.specs.declared.actions.Action.TheVariants as action_of
@@ -12,7 +15,7 @@ use Rattle.inf_grammar.specs.Language.{grammar}
 use Rattle.inf_statement_laws.specs.Readings.{Seen}
 use Rattle.inf_language.specs.Texts.{atoms_of}
 use Rattle.inf_trees.proofs.RuleRows.{is_among, keeps, passes}
-use Rattle.inf_trees.proofs.ValueForms.{is_value}
+use Rattle.inf_trees.proofs.ValueForms.{HasForm, is_value, values_have_forms}
 
 -- The symbols of units
 
@@ -24,61 +27,104 @@ outer_is : (a : Action) → is_outer a ≡ true → a ≡ action_of.Outer
 outer_is action_of.Outer is = refl
 outer_is _ is = cc
 
-abbrev unit_rules : List (Symbol Action)
-unit_rules =
+-- actions that note something of a unit beside its expressions
+abbrev pub is_noted : Action → Bool
+is_noted action_of.OuterEnd = true
+is_noted action_of.Set = true
+is_noted action_of.Clear = true
+is_noted _ = false
+
+pub data IsNote : Action → Type 0 where
+  Ends : IsNote action_of.OuterEnd
+  Sets : IsNote action_of.Set
+  Clears : IsNote action_of.Clear
+
+pub note_of : (a : Action) → is_noted a ≡ true → IsNote a
+note_of action_of.OuterEnd is = Ends
+note_of action_of.Set is = Sets
+note_of action_of.Clear is = Clears
+note_of _ is = cc
+
+-- the rules of directives, and those of statements, in which such actions stand
+abbrev directive_rules : List (Symbol Action)
+directive_rules =
     whole_directive ∷ whole_directive_1 ∷ whole_directive_2 ∷ whole_directive_3 ∷ whole_directive_4 ∷ whole_directive_5 ∷ whole_directive_6
-    ∷ initial ∷ return_rest_1 ∷ []
+    ∷ initial ∷ []
 
-unfoldable pub is_unit : ℕ → Bool
-is_unit rule = is_among rule unit_rules
+abbrev statement_rules : List (Symbol Action)
+statement_rules = return_rest_1 ∷ give_rest_1 ∷ plain_word ∷ statement_5 ∷ top_item_18 ∷ []
 
--- Whether symbols are tokens, these rules, and actions that begin an expression, each before the rule of one. The first is such a rule
--- where the action stands before them.
-abbrev pub is_flat : Bool → List (Symbol Action) → Bool
-is_flat false [] = true
-is_flat true [] = false
-is_flat false (Token class ∷ symbols) = is_flat false symbols
-is_flat true (Token class ∷ symbols) = false
-is_flat false (Act a ∷ symbols) = is_outer a && is_flat true symbols
-is_flat true (Act a ∷ symbols) = false
-is_flat false (Rule rule ∷ symbols) = is_unit rule && is_flat false symbols
-is_flat true (Rule rule ∷ symbols) = is_value rule && is_flat false symbols
+abbrev rules_of : Bool → List (Symbol Action)
+rules_of false = directive_rules
+rules_of true = statement_rules
 
-units_keep : agree_below (keeps is_unit (is_flat false)) (λ rule. true) 251 ≡ true
+unfoldable pub is_unit : Bool → ℕ → Bool
+is_unit notes rule = is_among rule (rules_of notes)
+
+-- Whether symbols are tokens, these rules, actions that begin an expression, each before the rule of one, and where `notes` says so
+-- other notes. The first symbol is the rule of an expression where the action stands before it.
+abbrev pub is_flat : (notes comes : Bool) → List (Symbol Action) → Bool
+is_flat notes false [] = true
+is_flat notes true [] = false
+is_flat notes false (Token class ∷ symbols) = is_flat notes false symbols
+is_flat notes true (Token class ∷ symbols) = false
+is_flat notes false (Act a ∷ symbols) =
+    (is_outer a && is_flat notes true symbols) || ((notes && is_noted a) && is_flat notes false symbols)
+is_flat notes true (Act a ∷ symbols) = false
+is_flat notes false (Rule rule ∷ symbols) = is_unit notes rule && is_flat notes false symbols
+is_flat notes true (Rule rule ∷ symbols) = is_value rule && is_flat notes false symbols
+
+directives_keep : agree_below (keeps (is_unit false) (is_flat false false)) (λ rule. true) 251 ≡ true
 unfolding grammar is_unit is_value
-units_keep = refl
+directives_keep = refl
 
-unit_row : (rule : ℕ) → is_unit rule ≡ true → (r : Row Action) → IsOneOf r (grammar.rows_of rule) → is_flat false r.parts ≡ true
-unit_row rule is r m = passes is_unit (is_flat false) units_keep rule is r m
+statements_keep : agree_below (keeps (is_unit true) (is_flat true false)) (λ rule. true) 251 ≡ true
+unfolding grammar is_unit is_value
+statements_keep = refl
 
-flat-append : (comes : Bool) (xs ys : List (Symbol Action)) → is_flat comes xs ≡ true → is_flat false ys ≡ true
-    → is_flat comes (xs ++ ys) ≡ true
-flat-append false [] ys x y = y
-flat-append true [] ys x y = cc
-flat-append false (Token class ∷ xs) ys x y = flat-append false xs ys x y
-flat-append true (Token class ∷ xs) ys x y = cc
-flat-append false (Act a ∷ xs) ys x y =
-    let both = and_parts (is_outer a) (is_flat true xs) x in
-    and_from (is_outer a) (is_flat true (xs ++ ys)) both.0 (flat-append true xs ys both.1 y)
-flat-append true (Act a ∷ xs) ys x y = cc
-flat-append false (Rule rule ∷ xs) ys x y =
-    let both = and_parts (is_unit rule) (is_flat false xs) x in
-    and_from (is_unit rule) (is_flat false (xs ++ ys)) both.0 (flat-append false xs ys both.1 y)
-flat-append true (Rule rule ∷ xs) ys x y =
-    let both = and_parts (is_value rule) (is_flat false xs) x in
-    and_from (is_value rule) (is_flat false (xs ++ ys)) both.0 (flat-append false xs ys both.1 y)
+unit_row : (notes : Bool) (rule : ℕ) → is_unit notes rule ≡ true → (r : Row Action) → IsOneOf r (grammar.rows_of rule)
+    → is_flat notes false r.parts ≡ true
+unit_row false rule is r m = passes (is_unit false) (is_flat false false) directives_keep rule is r m
+unit_row true rule is r m = passes (is_unit true) (is_flat true false) statements_keep rule is r m
 
--- Tokens and events of a unit: each token by itself, and each expression with its text.
-pub data Reads : List Seen → List (Event Action) → Type 0 where
-  Finished : Reads [] []
-  Alone : (s : Seen) (atom : ℕ) {seen : List Seen} {events : List (Event Action)} → Reads seen events
-      → Reads (s ∷ seen) (Took atom ∷ events)
-  Expressed : (a : Action) (rule : ℕ) (tokens rest : List Seen) (steps late : List (Event Action)) {seen : List Seen}
-      {events : List (Event Action)} → a ≡ action_of.Outer → is_value rule ≡ true → tokens ++ rest ≡ seen → events ≡ steps ++ late
-      → IsText grammar (Rule rule ∷ []) (atoms_of tokens) steps → Reads rest late → Reads seen (Did a ∷ events)
+either : (a x b y more others : Bool) → ((a && x) || (b && y)) ≡ true → (x ≡ true → more ≡ true) → (y ≡ true → others ≡ true)
+    → ((a && more) || (b && others)) ≡ true
+either a x b y more others is f g =
+    elim (or_cases (a && x) (b && y) is) [
+      | inl i ↦ let both = and_parts a x i in or_left (a && more) (b && others) (and_from a more both.0 (f both.1))
+      | inr i ↦ let both = and_parts b y i in or_right (a && more) (b && others) (and_from b others both.0 (g both.1))
+    ]
+
+flat-append : (notes comes : Bool) (xs ys : List (Symbol Action)) → is_flat notes comes xs ≡ true → is_flat notes false ys ≡ true
+    → is_flat notes comes (xs ++ ys) ≡ true
+flat-append notes false [] ys x y = y
+flat-append notes true [] ys x y = cc
+flat-append notes false (Token class ∷ xs) ys x y = flat-append notes false xs ys x y
+flat-append notes true (Token class ∷ xs) ys x y = cc
+flat-append notes false (Act a ∷ xs) ys x y =
+    either (is_outer a) (is_flat notes true xs) (notes && is_noted a) (is_flat notes false xs) (is_flat notes true (xs ++ ys))
+    (is_flat notes false (xs ++ ys)) x (λ on. flat-append notes true xs ys on y) (λ on. flat-append notes false xs ys on y)
+flat-append notes true (Act a ∷ xs) ys x y = cc
+flat-append notes false (Rule rule ∷ xs) ys x y =
+    let both = and_parts (is_unit notes rule) (is_flat notes false xs) x in
+    and_from (is_unit notes rule) (is_flat notes false (xs ++ ys)) both.0 (flat-append notes false xs ys both.1 y)
+flat-append notes true (Rule rule ∷ xs) ys x y =
+    let both = and_parts (is_value rule) (is_flat notes false xs) x in
+    and_from (is_value rule) (is_flat notes false (xs ++ ys)) both.0 (flat-append notes false xs ys both.1 y)
+
+-- Tokens and events of a unit: each token by itself, each expression with its text, and notes, where there may be such.
+pub data Reads : (notes : Bool) → List Seen → List (Event Action) → Type 0 where
+  Finished : {notes : Bool} → Reads notes [] []
+  Alone : {notes : Bool} (s : Seen) (atom : ℕ) {seen : List Seen} {events : List (Event Action)} → Reads notes seen events
+      → Reads notes (s ∷ seen) (Took atom ∷ events)
+  Notes : (a : Action) {seen : List Seen} {events : List (Event Action)} → is_noted a ≡ true → Reads true seen events
+      → Reads true seen (Did a ∷ events)
+  Expressed : {notes : Bool} (a : Action) (tokens rest : List Seen) (steps late : List (Event Action)) {seen : List Seen}
+      {events : List (Event Action)} → a ≡ action_of.Outer → tokens ++ rest ≡ seen → events ≡ steps ++ late
+      → HasForm (atoms_of tokens) steps → Reads notes rest late → Reads notes seen (Did a ∷ events)
 
 -- Such tokens with others before them, which are a text of some symbols
-pub record Fronted (xs : List (Symbol Action)) (seen : List Seen) (events : List (Event Action)) : Type 0 where
+pub record Fronted (notes : Bool) (xs : List (Symbol Action)) (seen : List Seen) (events : List (Event Action)) : Type 0 where
   pub front : List Seen
   pub rest : List Seen
   pub early : List (Event Action)
@@ -86,16 +132,17 @@ pub record Fronted (xs : List (Symbol Action)) (seen : List Seen) (events : List
   pub same : front ++ rest ≡ seen
   pub are : events ≡ early ++ late
   pub text : IsText grammar xs (atoms_of front) early
-  pub reads : Reads rest late
+  pub reads : Reads notes rest late
 
-abbrev pub Parsed : List (Symbol Action) → List Seen → List (Event Action) → Type 0
-Parsed [] seen events = Reads seen events
-Parsed (x ∷ xs) seen events = Fronted (x ∷ xs) seen events
+abbrev pub Parsed : (notes : Bool) → List (Symbol Action) → List Seen → List (Event Action) → Type 0
+Parsed notes [] seen events = Reads notes seen events
+Parsed notes (x ∷ xs) seen events = Fronted notes (x ∷ xs) seen events
 
-fronted : (xs : List (Symbol Action)) (seen : List Seen) (events : List (Event Action)) → Parsed xs seen events → Fronted xs seen events
-fronted [] seen events reads =
+fronted : (notes : Bool) (xs : List (Symbol Action)) (seen : List Seen) (events : List (Event Action)) → Parsed notes xs seen events
+    → Fronted notes xs seen events
+fronted notes [] seen events reads =
     record { front = []; rest = seen; early = []; late = events; same = refl; are = refl; text = here; reads = reads }
-fronted (x ∷ xs) seen events parsed = parsed
+fronted notes (x ∷ xs) seen events parsed = parsed
 
 -- Small facts of lists
 
@@ -118,30 +165,43 @@ next_in_front set (s ∷ front) rest seen same free = subst (λ l. IsNext_not se
 
 -- The derivation of a text
 
--- What a derivation comes to behind its first symbol, whatever is to be read of its tokens
-abbrev Goes : List (Symbol Action) → List Seen → List (Event Action) → Type 0
-Goes symbols seen events = (xs ys : List (Symbol Action)) → symbols ≡ xs ++ ys → is_flat false ys ≡ true → Parsed xs seen events
+-- The derivation of a text, by its front, for each front that its symbols have
+abbrev Goes : Bool → List (Symbol Action) → List Seen → List (Event Action) → Type 0
+Goes notes symbols seen events =
+    (xs ys : List (Symbol Action)) → symbols ≡ xs ++ ys → is_flat notes false ys ≡ true → Parsed notes xs seen events
 
-begins_value : (a : Action) → a ≡ action_of.Outer → (symbols : List (Symbol Action)) (seen : List Seen) (events : List (Event Action))
-    → is_flat true symbols ≡ true → Goes symbols seen events → Reads seen (Did a ∷ events)
-begins_value a is [] seen events flat on = cc
-begins_value a is (Token class ∷ symbols) seen events flat on = cc
-begins_value a is (Act b ∷ symbols) seen events flat on = cc
-begins_value a is (Rule rule ∷ symbols) seen events flat on =
-    let both = and_parts (is_value rule) (is_flat false symbols) flat in
+begins_value : (notes : Bool) (a : Action) → a ≡ action_of.Outer → (symbols : List (Symbol Action)) (seen : List Seen)
+    (events : List (Event Action)) → is_flat notes true symbols ≡ true → Goes notes symbols seen events → Reads notes seen (Did a ∷ events)
+begins_value notes a is [] seen events flat on = cc
+begins_value notes a is (Token class ∷ symbols) seen events flat on = cc
+begins_value notes a is (Act b ∷ symbols) seen events flat on = cc
+begins_value notes a is (Rule rule ∷ symbols) seen events flat on =
+    let both = and_parts (is_value rule) (is_flat notes false symbols) flat in
     let one = on (Rule rule ∷ []) symbols refl both.1 in
-    Expressed a rule one.front one.rest one.early one.late is both.0 one.same one.are one.text one.reads
+    Expressed a one.front one.rest one.early one.late is one.same one.are
+    (values_have_forms (atoms_of one.front) one.early rule both.0 one.text) one.reads
 
-action_read : (a : Action) (symbols : List (Symbol Action)) (seen : List Seen) (events : List (Event Action))
-    → is_flat false (Act a ∷ symbols) ≡ true → Goes symbols seen events → Reads seen (Did a ∷ events)
-action_read a symbols seen events flat on =
-    let both = and_parts (is_outer a) (is_flat true symbols) flat in
-    begins_value a (outer_is a both.0) symbols seen events both.1 on
+note_read : (notes : Bool) (a : Action) (symbols : List (Symbol Action)) (seen : List Seen) (events : List (Event Action))
+    → (notes && is_noted a) ≡ true → is_flat notes false symbols ≡ true → Goes notes symbols seen events → Reads notes seen (Did a ∷ events)
+note_read true a symbols seen events is flat on = Notes a is (on [] symbols refl flat)
+note_read false a symbols seen events is flat on = cc
 
-token_fronted : (class atom : ℕ) (s : Seen) (seen : List Seen) (events : List (Event Action)) (x : Symbol Action)
-    (xs : List (Symbol Action)) → has (grammar.atoms_of class) atom ≡ true → s.atom ≡ atom → Token class ≡ x → Fronted xs seen events
-    → Fronted (x ∷ xs) (s ∷ seen) (Took atom ∷ events)
-token_fronted class atom s seen events x xs h is same on = record {
+action_read : (notes : Bool) (a : Action) (symbols : List (Symbol Action)) (seen : List Seen) (events : List (Event Action))
+    → is_flat notes false (Act a ∷ symbols) ≡ true → Goes notes symbols seen events → Reads notes seen (Did a ∷ events)
+action_read notes a symbols seen events flat on =
+    elim (or_cases (is_outer a && is_flat notes true symbols) ((notes && is_noted a) && is_flat notes false symbols) flat) [
+      | inl i ↦
+          let both = and_parts (is_outer a) (is_flat notes true symbols) i in
+          begins_value notes a (outer_is a both.0) symbols seen events both.1 on
+      | inr i ↦
+          let both = and_parts (notes && is_noted a) (is_flat notes false symbols) i in
+          note_read notes a symbols seen events both.0 both.1 on
+    ]
+
+token_fronted : (notes : Bool) (class atom : ℕ) (s : Seen) (seen : List Seen) (events : List (Event Action)) (x : Symbol Action)
+    (xs : List (Symbol Action)) → has (grammar.atoms_of class) atom ≡ true → s.atom ≡ atom → Token class ≡ x → Fronted notes xs seen events
+    → Fronted notes (x ∷ xs) (s ∷ seen) (Took atom ∷ events)
+token_fronted notes class atom s seen events x xs h is same on = record {
   front = s ∷ on.front;
   rest = on.rest;
   early = Took atom ∷ on.early;
@@ -154,22 +214,22 @@ token_fronted class atom s seen events x xs h is same on = record {
   reads = on.reads;
 }
 
-pub parsed : {symbols left : List (Symbol Action)} {atoms : List ℕ} {events : List (Event Action)}
+pub parsed : (notes : Bool) {symbols left : List (Symbol Action)} {atoms : List ℕ} {events : List (Event Action)}
     → Leads grammar symbols atoms events left → left ≡ [] → (seen : List Seen) → atoms_of seen ≡ atoms
-    → (xs ys : List (Symbol Action)) → symbols ≡ xs ++ ys → is_flat false ys ≡ true → Parsed xs seen events
-parsed here none [] is [] ys are flat = Finished
-parsed here none [] is (x ∷ xs) ys are flat = cc
-parsed here none (s ∷ seen) is xs ys are flat = cc
-parsed (token h leads) none [] is xs ys are flat = cc
-parsed (token {class} {atom} {symbols} h leads) none (s ∷ seen) is [] ys are flat =
-    Alone s atom (parsed leads none seen (same_rest is) [] symbols refl (subst (λ l. is_flat false l ≡ true) (sym are) flat))
-parsed (token {class} {atom} {symbols} {events = events} h leads) none (s ∷ seen) is (x ∷ xs) ys are flat =
-    token_fronted class atom s seen events x xs h (same_first is) (same_head are)
-    (fronted xs seen events (parsed leads none seen (same_rest is) xs ys (same_tail are) flat))
-parsed (action {a} {symbols} {events = events} leads) none seen is [] ys are flat =
-    action_read a symbols seen events (subst (λ l. is_flat false l ≡ true) (sym are) flat) (parsed leads none seen is)
-parsed (action {a} {symbols} {events = events} leads) none seen is (x ∷ xs) ys are flat =
-    let on = fronted xs seen events (parsed leads none seen is xs ys (same_tail are) flat) in
+    → (xs ys : List (Symbol Action)) → symbols ≡ xs ++ ys → is_flat notes false ys ≡ true → Parsed notes xs seen events
+parsed notes here none [] is [] ys are flat = Finished
+parsed notes here none [] is (x ∷ xs) ys are flat = cc
+parsed notes here none (s ∷ seen) is xs ys are flat = cc
+parsed notes (token h leads) none [] is xs ys are flat = cc
+parsed notes (token {class} {atom} {symbols} h leads) none (s ∷ seen) is [] ys are flat =
+    Alone s atom (parsed notes leads none seen (same_rest is) [] symbols refl (subst (λ l. is_flat notes false l ≡ true) (sym are) flat))
+parsed notes (token {class} {atom} {symbols} {events = events} h leads) none (s ∷ seen) is (x ∷ xs) ys are flat =
+    token_fronted notes class atom s seen events x xs h (same_first is) (same_head are)
+    (fronted notes xs seen events (parsed notes leads none seen (same_rest is) xs ys (same_tail are) flat))
+parsed notes (action {a} {symbols} {events = events} leads) none seen is [] ys are flat =
+    action_read notes a symbols seen events (subst (λ l. is_flat notes false l ≡ true) (sym are) flat) (parsed notes leads none seen is)
+parsed notes (action {a} {symbols} {events = events} leads) none seen is (x ∷ xs) ys are flat =
+    let on = fronted notes xs seen events (parsed notes leads none seen is xs ys (same_tail are) flat) in
     record {
       front = on.front;
       rest = on.rest;
@@ -180,13 +240,13 @@ parsed (action {a} {symbols} {events = events} leads) none seen is (x ∷ xs) ys
       text = subst (λ y. IsText grammar (y ∷ xs) (atoms_of on.front) (Did a ∷ on.early)) (same_head are) (action on.text);
       reads = on.reads;
     }
-parsed (row {rule} {r} {symbols} is_row free leads) none seen is [] ys are flat =
-    let both = and_parts (is_unit rule) (is_flat false symbols) (subst (λ l. is_flat false l ≡ true) (sym are) flat) in
-    parsed leads none seen is [] (r.parts ++ symbols) refl (flat-append false r.parts symbols (unit_row rule both.0 r is_row) both.1)
-parsed (row {rule} {r} {symbols} {events = events} is_row free leads) none seen is (x ∷ xs) ys are flat =
+parsed notes (row {rule} {r} {symbols} is_row free leads) none seen is [] ys are flat =
+    let both = and_parts (is_unit notes rule) (is_flat notes false symbols) (subst (λ l. is_flat notes false l ≡ true) (sym are) flat) in
+    parsed notes leads none seen is [] (r.parts ++ symbols) refl (flat-append notes false r.parts symbols (unit_row notes rule both.0 r is_row) both.1)
+parsed notes (row {rule} {r} {symbols} {events = events} is_row free leads) none seen is (x ∷ xs) ys are flat =
     let on =
-    fronted (r.parts ++ xs) seen events
-    (parsed leads none seen is (r.parts ++ xs) ys (ap (λ l. r.parts ++ l) (same_tail are) ∙ sym (append_assoc r.parts xs ys)) flat) in
+    fronted notes (r.parts ++ xs) seen events
+    (parsed notes leads none seen is (r.parts ++ xs) ys (ap (λ l. r.parts ++ l) (same_tail are) ∙ sym (append_assoc r.parts xs ys)) flat) in
     record {
       front = on.front;
       rest = on.rest;

@@ -1,18 +1,26 @@
 -- The tokens of a unit are read: the unit is that of its parts, and beside it their reports are told.
-use Rattle.std.proofs.Common.{◌≡◌, ℕ, suc, ◌+◌, ◌≤◌, ◌<◌, List, [], ◌∷◌, ◌++◌, length, false, Option, Some, None, refl, sym, ◌∙◌, ap, subst}
+use Rattle.std.proofs.Common.{◌≡◌, ℕ, zero, suc, ◌+◌, ◌≤◌, ◌<◌, List, [], ◌∷◌, ◌++◌, length, Bool, true, false, Option, Some, None, refl}
+use Rattle.std.proofs.Common.{sym, ◌∙◌, ap, subst}
 use Rattle.std.proofs.Common.{append_assoc, arith}
-use Rattle.std.proofs.lemmas.List.{length-append}
+use Rattle.std.specs.Prelude.{◌&&◌, nat_lt}
+use Rattle.std.proofs.lemmas.Bool.{cond-false}
+use Rattle.std.proofs.lemmas.List.{length-append, map-append}
 use Rattle.inf_settings.specs.Bounds.{Limits}
 use Rattle.inf_scanner.specs.declared.tokens.Place.{Place}
-use Rattle.inf_machine.specs.Grammar.{Did, Event, IsText, Took}
-use Rattle.inf_machine.specs.declared.symbols.Symbol.TheVariants.{Rule}
+use Rattle.inf_machine.specs.Grammar.{Did, Event, Took}
 use Rattle.inf_syntax.specs.declared.actions.Action.{Action}
 use Rattle.inf_syntax.specs.declared.actions.Action.TheVariants as action_of
-use Rattle.inf_grammar.specs.Language.{grammar}
 use Rattle.inf_expressions.specs.Sources.{Source}
 use Rattle.inf_gathering.specs.Gatherings.{Gathering}
 use Rattle.inf_unit.specs.Tokens.{SourceToken}
-use Rattle.inf_unit.specs.Units.{Unit as UnitAtHand, acted, depth_behind, long_at, outer_tokens, taken}
+use Rattle.inf_unit.specs.Units.{Unit as UnitAtHand, acted, depth_behind, is_assembly, is_full, is_some_mark, kind_at, long_at, noted}
+use Rattle.inf_unit.specs.Units.{outer_tokens, taken}
+use Rattle.inf_unit.specs.declared.items.Item.{Item}
+use Rattle.inf_unit.specs.declared.items.Item.TheVariants as item
+use Rattle.inf_unit.specs.declared.roles.Note.{Note}
+use Rattle.inf_unit.specs.declared.roles.Note.TheVariants as note
+use Rattle.inf_reader.specs.Acting.{act, operands_named}
+use Rattle.inf_scanner.specs.declared.tokens.Mark.TheVariants as mark
 use Rattle.inf_compilation.specs.Context.{Context, longest}
 use Rattle.inf_compilation.specs.Actions.{Compilation, took}
 use Rattle.inf_expression_laws.specs.Gathered.{AreSeen, read_by, with_source}
@@ -27,18 +35,18 @@ use Rattle.inf_language.specs.Units.{AllSteps, TakeAll}
 use Rattle.inf_language.proofs.Derivations.{texts_take_all}
 use Rattle.inf_language.proofs.ExpressionsTold.{fields_stay, none_waits, took_is_told}
 use Rattle.inf_trees.proofs.Beside.{acted_gathers, step_acts, told_opening}
-use Rattle.inf_trees.specs.Trees.{AreWritten, Part, Single, Value, all_seen, parts_told, tokens_told, told_at, with_outer, with_parts}
+use Rattle.inf_trees.specs.Trees.{AreWritten, Noted, Part, Single, Value, all_seen, parts_told, tokens_told, told_at, with_outer, with_parts}
 use Rattle.inf_trees.specs.Trees.{with_value}
-use Rattle.inf_trees.proofs.UnitTexts.{Alone, Expressed, Finished, Reads}
-use Rattle.inf_trees.proofs.ValueForms.{HasForm, values_have_forms}
+use Rattle.inf_trees.proofs.UnitTexts.{Alone, Clears, Ends, Expressed, Finished, IsNote, Notes, Reads, Sets, note_of}
+use Rattle.inf_trees.proofs.ValueForms.{HasForm}
 
 -- The happenings of two parts of a text, before another token
 
-abbrev place_before : List Seen → Place → Place
+abbrev pub place_before : List Seen → Place → Place
 place_before [] next = next
 place_before (s ∷ seen) next = s.token.place
 
-before-append : (next : Place) (early late : List (Event Action)) (tokens rest : List Seen) → TakeAll early tokens
+pub before-append : (next : Place) (early late : List (Event Action)) (tokens rest : List Seen) → TakeAll early tokens
     → happenings_before next (early ++ late) (tokens ++ rest)
     ≡ happenings_before (place_before rest next) early tokens ++ happenings_before next late rest
 before-append next [] late [] rest all = refl
@@ -112,6 +120,36 @@ told_beside limits context next u (Took atom ∷ events) (s ∷ seen) tokens g f
     ∙ told_beside limits context next u events seen (tokens ++ s.token ∷ []) g first (depth_behind s.token.kind depth)
     (passed s.behind (told_at context more s.token w)) steps all (told_at_opening context more s.token w ∙ none)
 
+-- Notes
+
+-- an action before the next token, wherever that stands
+pub note_first : (limits : Limits) (context : Context) (next : Place) (a : Action) (seen : List Seen) (events : List (Event Action))
+    (w v : Compilation) → ((place : Place) → act limits context place a w ≡ v)
+    → run limits context (happenings_before next (Did a ∷ events) seen) w ≡ run limits context (happenings_before next events seen) v
+note_first limits context next a [] events w v acts = ap (run limits context (happenings_before next events [])) (acts next)
+note_first limits context next a (s ∷ seen) events w v acts =
+    ap (run limits context (happenings_before next events (s ∷ seen))) (acts s.token.place)
+
+and_false : (x y : Bool) → y ≡ false → (x && y) ≡ false
+and_false true y is = is
+and_false false y is = refl
+
+-- The end of an operand is kept in any unit but an assembly line.
+end_acts : (limits : Limits) (context : Context) (place : Place) (u : UnitAtHand) (w : Compilation) → is_assembly u ≡ false
+    → act limits context place action_of.OuterEnd (record w { unit = u }) ≡ record w { unit = noted note.OuterEnd u }
+end_acts limits context place u w plain =
+    cond-false (is_full u) (operands_named (record w { unit = u })) (record w { unit = noted note.OuterEnd u })
+    (and_false (nat_lt 8 (length u.gathering.firsts)) (is_assembly u) plain)
+
+-- whether no mark of an assembly line stands at a place
+abbrev pub NoLine : List SourceToken → ℕ → Type 0
+NoLine tokens place = is_some_mark mark.At (kind_at tokens place) ≡ false
+
+line_in_front : (xs ys : List SourceToken) (place : ℕ) → NoLine (xs ++ ys) place → NoLine xs place
+line_in_front [] ys place none = refl
+line_in_front (x ∷ xs) ys zero none = none
+line_in_front (x ∷ xs) ys (suc place) none = line_in_front xs ys place none
+
 -- Numbers of tokens, and the atoms of parts
 
 tokens_count : (seen : List Seen) → length (tokens_of seen) ≡ length seen
@@ -125,7 +163,7 @@ seen_parts (s ∷ tokens) rest are = let on = seen_parts tokens rest are.1 in ((
 
 -- A unit with an expression more
 
-abbrev ready : UnitAtHand → UnitAtHand
+abbrev pub ready : UnitAtHand → UnitAtHand
 ready u = record u { is_over = false }
 
 record Gathers (u : UnitAtHand) (tokens : List Seen) (steps : List (Event Action)) : Type 0 where
@@ -143,10 +181,10 @@ value_reads tokens value u r stays gathered all =
     let v = with_value tokens value (ready u) in
     stays ∙ (ap (λ l. record v { tokens = l; gathering = r.gathering }) all ∙ ap (λ g. record v { gathering = g }) gathered)
 
-gathers : (u : UnitAtHand) (rule : ℕ) (tokens : List Seen) (steps : List (Event Action))
+gathers : (u : UnitAtHand) (tokens : List Seen) (steps : List (Event Action))
     → HasForm (atoms_of tokens) steps → TakeAll steps tokens → AreSeen (atoms_of tokens) (tokens_of tokens)
     → u.begun ≤ length u.tokens → length u.tokens + length tokens < 4294967295 → Gathers u tokens steps
-gathers u rule tokens steps f all are_seen begun few =
+gathers u tokens steps f all are_seen begun few =
     let x = with_outer (ready u) in
     let count = tokens_count tokens in
     let all_count = length-append u.tokens (tokens_of tokens) in
@@ -173,7 +211,7 @@ pub record Read (limits : Limits) (u : UnitAtHand) (seen : List Seen) (events : 
       → run limits context (happenings_before next events seen) (record w { unit = ready u })
       ≡ record (parts_told context (ready u) parts w) { unit = with_parts parts (ready u) }
 
-alone_reads : (limits : Limits) (s : Seen) (atom : ℕ) (u : UnitAtHand) (seen : List Seen) (events : List (Event Action))
+pub alone_reads : (limits : Limits) (s : Seen) (atom : ℕ) (u : UnitAtHand) (seen : List Seen) (events : List (Event Action))
     → Read limits (record u { tokens = u.tokens ++ s.token ∷ []; depth = depth_behind s.token.kind u.depth }) seen events
     → Read limits u (s ∷ seen) (Took atom ∷ events)
 alone_reads limits s atom u seen events on = record {
@@ -222,25 +260,63 @@ expressed_reads limits a u tokens rest steps late seen events is same are all g 
       (tokens_opening context (with_outer (ready u)) tokens w ∙ none))));
 }
 
-pub units_read : (limits : Limits) {seen : List Seen} {events : List (Event Action)} → Reads seen events → (u : UnitAtHand)
-    → AreSeen (atoms_of seen) (tokens_of seen) → u.begun ≤ length u.tokens → length u.tokens + length seen < 4294967295
-    → Read limits u seen events
-units_read limits Finished u are_seen begun few =
+pub noted_reads : (limits : Limits) (a : Action) (n : Note) (u v : UnitAtHand) (seen : List Seen) (events : List (Event Action))
+    → noted n (ready u) ≡ ready v
+    → ((context : Context) (place : Place) (w : Compilation)
+    → act limits context place a (record w { unit = ready u }) ≡ record w { unit = noted n (ready u) })
+    → Read limits v seen events → Read limits u seen (Did a ∷ events)
+noted_reads limits a n u v seen events is acts on = record {
+  parts = Noted n ∷ on.parts;
+  same = on.same;
+  written = subst (λ x. AreWritten x on.parts) (sym is) on.written;
+  does = λ context next w none.
+      note_first limits context next a seen events (record w { unit = ready u }) (record w { unit = noted n (ready u) })
+      (λ place. acts context place w)
+      ∙ subst (λ x. run limits context (happenings_before next events seen) (record w { unit = x })
+      ≡ record (parts_told context x on.parts w) { unit = with_parts on.parts x }) (sym is) (on.does context next w none);
+}
+
+-- Behind a note the items of a unit are others, and its expression may be over.
+note_read : (limits : Limits) {a : Action} → IsNote a → (u : UnitAtHand) (seen : List Seen) (events : List (Event Action))
+    → is_assembly u ≡ false
+    → ((items : List Item) (outer : Option ℕ) → Read limits (record u { items = items; outer = outer }) seen events)
+    → Read limits u seen (Did a ∷ events)
+note_read limits Ends u seen events plain on =
+    noted_reads limits action_of.OuterEnd note.OuterEnd u (noted note.OuterEnd u) seen events refl
+    (λ context place w. end_acts limits context place (ready u) w plain) (on u.items None)
+note_read limits Sets u seen events plain on =
+    noted_reads limits action_of.Set note.Set u (noted note.Set u) seen events refl (λ context place w. refl)
+    (on (u.items ++ item.Set ∷ []) u.outer)
+note_read limits Clears u seen events plain on =
+    noted_reads limits action_of.Clear note.Clear u (noted note.Clear u) seen events refl (λ context place w. refl)
+    (on (u.items ++ item.Clear ∷ []) u.outer)
+
+-- Some tokens behind a unit are parts of it. Where there may be notes it is no assembly line.
+pub units_read : (limits : Limits) {notes : Bool} {seen : List Seen} {events : List (Event Action)} → Reads notes seen events
+    → (u : UnitAtHand) → (notes ≡ true → NoLine (u.tokens ++ tokens_of seen) u.begun) → AreSeen (atoms_of seen) (tokens_of seen)
+    → u.begun ≤ length u.tokens → length u.tokens + length seen < 4294967295 → Read limits u seen events
+units_read limits Finished u plain are_seen begun few =
     record { parts = []; same = refl; written = tt; does = λ context next w none. refl }
-units_read limits (Alone s atom {seen} {events} reads) u are_seen begun few =
+units_read limits (Alone s atom {seen} {events} reads) u plain are_seen begun few =
     let count = length-append u.tokens (s.token ∷ []) in
     alone_reads limits s atom u seen events
-    (units_read limits reads (record u { tokens = u.tokens ++ s.token ∷ []; depth = depth_behind s.token.kind u.depth }) are_seen.1
+    (units_read limits reads (record u { tokens = u.tokens ++ s.token ∷ []; depth = depth_behind s.token.kind u.depth })
+    (λ e. subst (λ l. NoLine l u.begun) (sym (append_assoc u.tokens (s.token ∷ []) (tokens_of seen))) (plain e)) are_seen.1
     (omega (arith, begun, count)) (omega (arith, few, count)))
-units_read limits (Expressed a rule tokens rest steps late {seen} {events} is is_rule same are text reads) u are_seen begun few =
+units_read limits (Notes a {seen} {events} is reads) u plain are_seen begun few =
+    note_read limits (note_of a is) u seen events (line_in_front u.tokens (tokens_of seen) u.begun (plain refl))
+    (λ items outer. units_read limits reads (record u { items = items; outer = outer }) plain are_seen begun few)
+units_read limits (Expressed a tokens rest steps late {seen} {events} is same are form reads) u plain are_seen begun few =
     let parts = seen_parts tokens rest (subst (λ l. AreSeen (atoms_of l) (tokens_of l)) (sym same) are_seen) in
     let count = tokens_count tokens in
     let all_count = length-append u.tokens (tokens_of tokens) in
     let seen_count : length tokens + length rest ≡ length seen = sym (length-append tokens rest) ∙ ap length same in
-    let all = texts_take_all text tokens refl in
-    let g =
-    gathers u rule tokens steps (values_have_forms (atoms_of tokens) steps rule is_rule text) all parts.0 begun
-    (omega (arith, few, seen_count)) in
+    let all = texts_take_all form.text tokens refl in
+    let all_tokens : tokens_of seen ≡ tokens_of tokens ++ tokens_of rest =
+    ap tokens_of (sym same) ∙ map-append (λ (s : Seen). s.token) tokens rest in
+    let g = gathers u tokens steps form all parts.0 begun (omega (arith, few, seen_count)) in
     expressed_reads limits a u tokens rest steps late seen events is same are all g
-    (units_read limits reads (with_value (tokens_of tokens) g.value u) parts.1 (omega (arith, begun, all_count, count))
-    (omega (arith, few, seen_count, all_count, count)))
+    (units_read limits reads (with_value (tokens_of tokens) g.value u)
+    (λ e. subst (λ l. NoLine l u.begun)
+    (ap (λ l. u.tokens ++ l) all_tokens ∙ sym (append_assoc u.tokens (tokens_of tokens) (tokens_of rest))) (plain e)) parts.1
+    (omega (arith, begun, all_count, count)) (omega (arith, few, seen_count, all_count, count)))

@@ -1,5 +1,5 @@
 -- The rules by which an expression is read behind the action that begins it: each of their texts has the form of an expression.
-use Rattle.std.proofs.Common.{◌≡◌, ℕ, List, [], ◌∷◌, ◌++◌, Bool, true, false, ◌||◌, ◌==◌, refl, sym, ap, subst, inl, inr}
+use Rattle.std.proofs.Common.{◌≡◌, ℕ, List, [], ◌∷◌, Bool, true, ◌||◌, ◌==◌, refl, subst, inl, inr}
 use Rattle.std.proofs.lemmas.Bool.{eqb-true, or_cases}
 use Rattle.inf_machine.specs.declared.symbols.Symbol.{Symbol}
 use Rattle.inf_machine.specs.declared.symbols.Symbol.TheVariants.{Rule}
@@ -26,7 +26,7 @@ unfoldable pub is_value : ℕ → Bool
 is_value rule = is_value_rule rule
 
 -- A text with the form of an expression
-abbrev form_of : List (Symbol Action) → ℕ → Form
+abbrev pub form_of : List (Symbol Action) → ℕ → Form
 form_of symbols level = record { symbols = symbols; level = level }
 
 pub record HasForm (atoms : List ℕ) (events : List (Event Action)) : Type 0 where
@@ -122,8 +122,7 @@ entry_steps atoms events text =
 
 initial_form : (atoms : List ℕ) (events : List (Event Action)) → IsText grammar (initial_1 ∷ []) atoms events → HasForm atoms events
 initial_form atoms events text =
-    of_rows (HasForm atoms events) (number initial_1) (alias_row ∷ row (other_assign ∷ []) ∷ []) atoms events initial_rows
-    (
+    of_rows (HasForm atoms events) (number initial_1) (alias_row ∷ row (other_assign ∷ []) ∷ []) atoms events initial_rows (
       (λ t. record {
         symbols = NOTALIAS ∷ !name ∷ after_prim ∷ [];
         level = assignments;
@@ -144,6 +143,11 @@ initial_form atoms events text =
     )
     text
 
+-- the expression of a statement
+pub expression_form : (atoms : List ℕ) (events : List (Event Action)) → IsText grammar (expression ∷ []) atoms events → HasForm atoms events
+expression_form atoms events text =
+    record { symbols = expression ∷ []; level = commas; is_form = first; text = text; steps = expression_steps text }
+
 of_rule : (atoms : List ℕ) (events : List (Event Action)) (rule : ℕ) (x : ℕ) → (rule == x) ≡ true
     → IsText grammar (Rule rule ∷ []) atoms events → IsText grammar (Rule x ∷ []) atoms events
 of_rule atoms events rule x is text = subst (λ n. IsText grammar (Rule n ∷ []) atoms events) (eqb-true rule x is) text
@@ -155,23 +159,23 @@ late_form atoms events rule is text =
     elim (or_cases (rule == number initial_1) ((rule == number post) || ((rule == number prim) || (rule == number entry))) is) [
       | inl i ↦ initial_form atoms events (of_rule atoms events rule (number initial_1) i text)
       | inr others ↦
-        elim (or_cases (rule == number post) ((rule == number prim) || (rule == number entry)) others) [
-          | inl p ↦ let t = of_rule atoms events rule (number post) p text in
-          record { symbols = post ∷ []; level = members; is_form = later (later (later first)); text = t; steps = post_steps t }
-          | inr more ↦
-            elim (or_cases (rule == number prim) (rule == number entry) more) [
-              | inl p ↦ let t = of_rule atoms events rule (number prim) p text in
-              record { symbols = prim ∷ []; level = primaries; is_form = later (later (later (later first))); text = t; steps = prim_steps t }
-              | inr e ↦ let t = of_rule atoms events rule (number entry) e text in
-              record {
-                symbols = entry ∷ [];
-                level = negations;
-                is_form = later (later (later (later (later first))));
-                text = t;
-                steps = entry_steps atoms events t;
-              }
-            ]
-        ]
+          elim (or_cases (rule == number post) ((rule == number prim) || (rule == number entry)) others) [
+            | inl p ↦ let t = of_rule atoms events rule (number post) p text in
+                record { symbols = post ∷ []; level = members; is_form = later (later (later first)); text = t; steps = post_steps t }
+            | inr more ↦
+                elim (or_cases (rule == number prim) (rule == number entry) more) [
+                  | inl p ↦ let t = of_rule atoms events rule (number prim) p text in
+                      record { symbols = prim ∷ []; level = primaries; is_form = later (later (later (later first))); text = t; steps = prim_steps t }
+                  | inr e ↦ let t = of_rule atoms events rule (number entry) e text in
+                      record {
+                        symbols = entry ∷ [];
+                        level = negations;
+                        is_form = later (later (later (later (later first))));
+                        text = t;
+                        steps = entry_steps atoms events t;
+                      }
+                ]
+          ]
     ]
 
 value_form : (atoms : List ℕ) (events : List (Event Action)) (rule : ℕ) → is_value_rule rule ≡ true
@@ -180,18 +184,18 @@ value_form atoms events rule is text =
     let late = (rule == number initial_1) || ((rule == number post) || ((rule == number prim) || (rule == number entry))) in
     elim (or_cases (rule == number assign) ((rule == number expression) || ((rule == number logic) || late)) is) [
       | inl a ↦ let t = of_rule atoms events rule (number assign) a text in
-      record { symbols = assign ∷ []; level = assignments; is_form = later first; text = t; steps = assign_steps t }
+          record { symbols = assign ∷ []; level = assignments; is_form = later first; text = t; steps = assign_steps t }
       | inr others ↦
-        elim (or_cases (rule == number expression) ((rule == number logic) || late) others) [
-          | inl e ↦ let t = of_rule atoms events rule (number expression) e text in
-          record { symbols = expression ∷ []; level = commas; is_form = first; text = t; steps = expression_steps t }
-          | inr more ↦
-            elim (or_cases (rule == number logic) late more) [
-              | inl l ↦ let t = of_rule atoms events rule (number logic) l text in
-              record { symbols = logic ∷ []; level = connections; is_form = later (later first); text = t; steps = logic_steps atoms events t }
-              | inr i ↦ late_form atoms events rule i text
-            ]
-        ]
+          elim (or_cases (rule == number expression) ((rule == number logic) || late) others) [
+            | inl e ↦ let t = of_rule atoms events rule (number expression) e text in
+                record { symbols = expression ∷ []; level = commas; is_form = first; text = t; steps = expression_steps t }
+            | inr more ↦
+                elim (or_cases (rule == number logic) late more) [
+                  | inl l ↦ let t = of_rule atoms events rule (number logic) l text in
+                      record { symbols = logic ∷ []; level = connections; is_form = later (later first); text = t; steps = logic_steps atoms events t }
+                  | inr i ↦ late_form atoms events rule i text
+                ]
+          ]
     ]
 
 pub values_have_forms : (atoms : List ℕ) (events : List (Event Action)) (rule : ℕ) → is_value rule ≡ true

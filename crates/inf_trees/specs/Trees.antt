@@ -1,10 +1,10 @@
--- The units of a source as trees: tokens by themselves, and expressions. A unit is what its parts make of it, one by one, and its
+-- The units of a source as trees: tokens by themselves, expressions, and notes behind them. A unit is what its parts make of it, one by one, and its
 -- tokens tell what is wrong with them as far as that is seen before the unit is whole.
-use Rattle.std.specs.Prelude.{◌≡◌, ℕ, List, [], ◌∷◌, ◌++◌, length, true, Some}
-use Rattle.inf_settings.specs.Bounds.{Limits}
+use Rattle.std.specs.Prelude.{ℕ, List, [], ◌∷◌, ◌++◌, length, true, Some}
 use Rattle.inf_expressions.specs.Sources.{Source}
 use Rattle.inf_unit.specs.Tokens.{SourceToken}
-use Rattle.inf_unit.specs.Units.{Unit as UnitAtHand, long_at, outer_tokens, taken}
+use Rattle.inf_unit.specs.Units.{Unit as UnitAtHand, long_at, noted, outer_tokens, taken}
+use Rattle.inf_unit.specs.declared.roles.Note.{Note}
 use Rattle.inf_compilation.specs.Actions.{Compilation}
 use Rattle.inf_compilation.specs.Context.{Context, longest}
 use Rattle.inf_expression_laws.specs.Gathered.{with_source}
@@ -14,16 +14,18 @@ use Rattle.inf_statement_laws.specs.Readings.{Seen}
 use Rattle.inf_language.specs.Constants.{brackets_behind, token_told}
 use Rattle.inf_language.specs.Texts.{atoms_of, tokens_of}
 
--- A part of a unit: a token by itself, or the tokens of an expression, with the expression that they are, and the level at which its
--- operators bind at least.
+-- A part of a unit: a token by itself; the tokens of an expression, with the expression that they are, and the level at which its
+-- operators bind at least; or what stands behind an expression: its end, where another part follows, or what is to be done with it.
 pub data Part : Type 0 where
   Single : (s : Seen) → Part
   Value : (level : ℕ) (tokens : List Seen) (value : Source) → Part
+  Noted : (n : Note) → Part
 
 -- the tokens of a part, and those of a unit
 abbrev pub part_seen : Part → List Seen
 part_seen (Single s) = s ∷ []
 part_seen (Value level tokens value) = tokens
+part_seen (Noted n) = []
 
 abbrev pub all_seen : List Part → List Seen
 all_seen [] = []
@@ -47,6 +49,7 @@ with_value tokens value u = record (with_outer u) {
 abbrev pub with_part : Part → UnitAtHand → UnitAtHand
 with_part (Single s) u = taken s.token u
 with_part (Value level tokens value) u = with_value (tokens_of tokens) value u
+with_part (Noted n) u = noted n u
 
 abbrev pub with_parts : List Part → UnitAtHand → UnitAtHand
 with_parts [] u = u
@@ -60,6 +63,7 @@ AreWritten u (Single s ∷ parts) = AreWritten (taken s.token u) parts
 AreWritten u (Value level tokens value ∷ parts) =
     Written level (length u.tokens) (length u.gathering.leaves) (atoms_of tokens) value
     × AreWritten (with_value (tokens_of tokens) value u) parts
+AreWritten u (Noted n ∷ parts) = AreWritten (noted n u) parts
 
 -- The reports of tokens
 
@@ -78,6 +82,7 @@ tokens_told context u (s ∷ seen) w =
 abbrev pub part_told : Context → UnitAtHand → Part → Compilation → Compilation
 part_told context u (Single s) w = tokens_told context u (s ∷ []) w
 part_told context u (Value level tokens value) w = tokens_told context (with_outer u) tokens w
+part_told context u (Noted n) w = w
 
 abbrev pub parts_told : Context → UnitAtHand → List Part → Compilation → Compilation
 parts_told context u [] w = w
