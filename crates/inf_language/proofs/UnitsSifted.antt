@@ -103,24 +103,28 @@ act_known limits context place a w sifts = played_known limits context place (ro
 
 -- The happenings one after the other.
 
-abbrev all_read : Limits → Settings → List (Event Action) → List SourceToken → Read × Out → Read × Out
-all_read limits settings events tokens k = (sifted_by limits settings k.1 events tokens k.0, k.1)
+abbrev all_read : Limits → Settings → List (Event Action) → List Seen → Read × Out → Read
+all_read limits settings events seen k = sifted_by limits settings k.1 events seen k.0
+
+-- what is known behind a token, where conditional directives end
+abbrev behind_known : Seen → Read × Out → Read × Out
+behind_known s k = (k.0, s.behind.output k.1)
 
 run_known : (limits : Limits) (context : Context) (next : Place) (events : List (Event Action)) (seen : List Seen) (w : Compilation)
     → AllSift events
-    → known (run limits context (happenings_before next events seen) w)
-    ≡ all_read limits context.settings events (tokens_of seen) (known w)
+    → read_of (run limits context (happenings_before next events seen) w)
+    ≡ all_read limits context.settings events seen (known w)
 run_known limits context next [] seen w sifts = refl
 run_known limits context next (Did a ∷ events) [] w sifts =
     run_known limits context next events [] (happens limits context (Acts (plainly_at next) a) w) sifts.1
     ∙ ap (all_read limits context.settings events []) (act_known limits context next a w sifts.0)
 run_known limits context next (Did a ∷ events) (s ∷ seen) w sifts =
     run_known limits context next events (s ∷ seen) (happens limits context (Acts (plainly_at s.token.place) a) w) sifts.1
-    ∙ ap (all_read limits context.settings events (tokens_of (s ∷ seen))) (act_known limits context s.token.place a w sifts.0)
+    ∙ ap (all_read limits context.settings events (s ∷ seen)) (act_known limits context s.token.place a w sifts.0)
 run_known limits context next (Took atom ∷ events) [] w sifts = refl
 run_known limits context next (Took atom ∷ events) (s ∷ seen) w sifts =
     run_known limits context next events seen (happens limits context (Takes s.token s.behind) w) sifts
-    ∙ ap (all_read limits context.settings events (tokens_of seen)) (took_known context s.token w)
+    ∙ ap (λ (k : Read × Out). all_read limits context.settings events seen (behind_known s k)) (took_known context s.token w)
 
 -- Where nothing is dropped.
 
@@ -147,21 +151,21 @@ role_whole : (limits : Limits) (settings : Settings) (o : Out) (p : Role) (r : R
 role_whole limits settings o (role.Note n) r kept = note_whole limits settings o n r kept
 role_whole limits settings o _ r kept = refl
 
-all_whole : (limits : Limits) (settings : Settings) (o : Out) (events : List (Event Action)) (tokens : List SourceToken) (u : Unit)
-    (locals : List Local) → NothingDropped limits settings events tokens u
-    → sifted_by limits settings o events tokens (u, locals) ≡ (read_by events tokens u, locals)
-all_whole limits settings o [] tokens u locals kept = refl
-all_whole limits settings o (Did a ∷ events) tokens u locals kept =
-    ap (sifted_by limits settings o events tokens) (role_whole limits settings o (role_of a) (u, locals) kept.0)
-    ∙ all_whole limits settings o events tokens (acted a u) locals kept.1
+all_whole : (limits : Limits) (settings : Settings) (o : Out) (events : List (Event Action)) (seen : List Seen) (u : Unit)
+    (locals : List Local) → NothingDropped limits settings events (tokens_of seen) u
+    → sifted_by limits settings o events seen (u, locals) ≡ (read_by events (tokens_of seen) u, locals)
+all_whole limits settings o [] seen u locals kept = refl
+all_whole limits settings o (Did a ∷ events) seen u locals kept =
+    ap (sifted_by limits settings o events seen) (role_whole limits settings o (role_of a) (u, locals) kept.0)
+    ∙ all_whole limits settings o events seen (acted a u) locals kept.1
 all_whole limits settings o (Took atom ∷ events) [] u locals kept = refl
-all_whole limits settings o (Took atom ∷ events) (t ∷ tokens) u locals kept =
-    all_whole limits settings o events tokens (taken t u) locals kept
+all_whole limits settings o (Took atom ∷ events) (s ∷ seen) u locals kept =
+    all_whole limits settings (s.behind.output o) events seen (taken s.token u) locals kept
 
 abbrev unit_in : Read → Unit
 unit_in r = r.0
 
 pub units_are_sifted_alone : (limits : Limits) → UnitsAreSiftedAlone limits
 units_are_sifted_alone limits context next events seen w sifts =
-    let is = ap (λ (k : Read × Out). k.0) (run_known limits context next events seen w sifts) in
-    (is, λ kept. ap unit_in (is ∙ all_whole limits context.settings w.output events (tokens_of seen) w.unit w.locals kept))
+    let is = run_known limits context next events seen w sifts in
+    (is, λ kept. ap unit_in (is ∙ all_whole limits context.settings w.output events seen w.unit w.locals kept))

@@ -71,12 +71,14 @@ role_read limits settings o p r = (played p r.0, r.1)
 abbrev pub action_read : Limits → Settings → Out → Action → Read → Read
 action_read limits settings o a r = role_read limits settings o (role_of a) r
 
--- the unit and the locals once tokens were taken and actions carried out, one behind the other
-abbrev pub sifted_by : Limits → Settings → Out → List (Event Action) → List SourceToken → Read → Read
-sifted_by limits settings o [] tokens r = r
-sifted_by limits settings o (Did a ∷ events) tokens r = sifted_by limits settings o events tokens (action_read limits settings o a r)
+-- the unit and the locals once tokens were taken and actions carried out, one behind the other, with what is laid before each: at first `o`,
+-- and behind a token what conditional directives that end there make of it
+abbrev pub sifted_by : Limits → Settings → Out → List (Event Action) → List Seen → Read → Read
+sifted_by limits settings o [] seen r = r
+sifted_by limits settings o (Did a ∷ events) seen r = sifted_by limits settings o events seen (action_read limits settings o a r)
 sifted_by limits settings o (Took atom ∷ events) [] r = r
-sifted_by limits settings o (Took atom ∷ events) (t ∷ tokens) r = sifted_by limits settings o events tokens (taken t r.0, r.1)
+sifted_by limits settings o (Took atom ∷ events) (s ∷ seen) r =
+    sifted_by limits settings (s.behind.output o) events seen (taken s.token r.0, r.1)
 
 -- Whether a note keeps what comes, or drops some of it as `note_read` says. Of four notes nothing is said: a text that is printed, an arrow
 -- before the name of an object, the end of an operand, and a token of a line of grammar.
@@ -125,6 +127,6 @@ abbrev pub UnitsAreSiftedAlone : Limits → Type 0
 UnitsAreSiftedAlone limits =
     (context : Context) (next : Place) (events : List (Event Action)) (seen : List Seen) (w : Compilation) → AllSift events
     → (read_of (run limits context (happenings_before next events seen) w)
-    ≡ sifted_by limits context.settings w.output events (tokens_of seen) (read_of w))
+    ≡ sifted_by limits context.settings w.output events seen (read_of w))
     × (NothingDropped limits context.settings events (tokens_of seen) w.unit
     → (run limits context (happenings_before next events seen) w).unit ≡ read_by events (tokens_of seen) w.unit)
