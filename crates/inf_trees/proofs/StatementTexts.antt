@@ -6,7 +6,7 @@ use Rattle.inf_machine.specs.Grammar.{Event, IsOneOf, IsText, Row, first, later}
 use Rattle.inf_syntax.specs.Parts.{ !begin, !deeper, !end_statement, !name, !negate, !outer, !outer_end, 'at'}
 use Rattle.inf_syntax.specs.Parts.{'close_brace', 'dot', 'double_greater', 'double_less', 'give', 'greater', 'jump', 'less', 'minus', 'move'}
 use Rattle.inf_syntax.specs.Parts.{'open_brace', 'return', 'semicolon', 'string', 'style', 'to', BEGINNAME, NAME, act, after_prim, after_unary}
-use Rattle.inf_syntax.specs.Parts.{assembly, bracketed, end, expression, expression_tail, give_rest, give_rest_1, jump_rest, mark_statement}
+use Rattle.inf_syntax.specs.Parts.{assembly, bracketed, end, expression, expression_tail, give_rest, jump_rest, mark_statement}
 use Rattle.inf_syntax.specs.Parts.{mark_statement_1, move_rest, neg, of_expression, plain_prim, plain_word, post, prefixed, print_rest}
 use Rattle.inf_syntax.specs.Parts.{return_rest, return_rest_1, statement, statement_1, statement_2, statement_3, statement_4, statement_5}
 use Rattle.inf_syntax.specs.Parts.{ !outer_maybe, !outer_sure, !print_text, !text, TEXT, statement_end, string_rest, style_rest, text_more}
@@ -61,10 +61,6 @@ return_rows = refl
 pub jump_rows : Rows jump_rest (row (NAME ∷ end ∷ []) ∷ [])
 unfolding grammar
 jump_rows = refl
-
-pub give_rows : Rows give_rest (row (!outer ∷ post ∷ !outer_end ∷ give_rest_1 ∷ end ∷ []) ∷ [])
-unfolding grammar
-give_rows = refl
 
 pub move_rows : Rows move_rest (row (!outer ∷ post ∷ !outer_end ∷ 'to' ∷ !outer ∷ post ∷ end ∷ []) ∷ [])
 unfolding grammar
@@ -154,10 +150,6 @@ return_flat = refl
 
 pub jump_flat : is_flat true false ('jump' ∷ NAME ∷ []) ≡ true
 jump_flat = refl
-
-pub give_flat : is_flat true false ('give' ∷ !outer ∷ post ∷ !outer_end ∷ give_rest_1 ∷ []) ≡ true
-unfolding is_unit is_value
-give_flat = refl
 
 pub move_flat : is_flat true false ('move' ∷ !outer ∷ post ∷ !outer_end ∷ 'to' ∷ !outer ∷ post ∷ []) ≡ true
 unfolding is_value
@@ -317,8 +309,7 @@ statement_text_late atoms events = (
     (
       (λ t. by_rest other_statements atoms events ('jump' ∷ []) (NAME ∷ []) (number jump_rest) jump_rows jump_flat t),
       (
-        (λ t. by_rest other_statements atoms events ('give' ∷ []) (!outer ∷ post ∷ !outer_end ∷ give_rest_1 ∷ []) (number give_rest) give_rows
-            give_flat t),
+        (λ t. Others (!begin ∷ 'give' ∷ give_rest ∷ []) (later (later (later (later (later (later (later (later first)))))))) t),
         (
           (λ t. by_rest other_statements atoms events ('move' ∷ []) (!outer ∷ post ∷ !outer_end ∷ 'to' ∷ !outer ∷ post ∷ []) (number move_rest)
               move_rows move_flat t),

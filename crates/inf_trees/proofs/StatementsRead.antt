@@ -76,12 +76,12 @@ begun_read tokens events reads limits u plain are_seen few =
 
 -- A text that is printed
 
-text_acts : (limits : Limits) (context : Context) (place : Place) (u : UnitAtHand) (w : Compilation) → u.items ≡ []
+text_acts : (limits : Limits) (context : Context) (place : Place) (u : UnitAtHand) (w : Compilation) → u.code ≡ 0
     → act limits context place action_of.PrintText (record w { unit = u }) ≡ record w { unit = noted note.PrintText u }
 text_acts limits context place u w none =
     let begins = record w { unit = u } in
     let few : is_crowded limits begins ≡ false =
-    ap (λ l. nat_lt (limits setting.Code) (length l)) none ∙ le-ltb (limits setting.Code) 0 (omega arith) in
+    ap (λ (n : ℕ). nat_lt (limits setting.Code) n) none ∙ le-ltb (limits setting.Code) 0 (omega arith) in
     cond-false (is_crowded limits begins) (record w { unit = text_passed u }) (record w { unit = noted note.PrintText u }) few
 
 text_read : (limits : Limits) (s : Seen) (atom : ℕ) (u : UnitAtHand)

@@ -8,7 +8,7 @@ use Rattle.inf_syntax.specs.Parts.{step_operator, step_tail, sum_operator, sum_t
 use Rattle.inf_syntax.specs.Parts.{ !begin, !name, !negate, !outer, !outer_end, !outer_word, 'comma', 'default', 'do', 'else', 'for', 'give'}
 use Rattle.inf_syntax.specs.Parts.{'if', 'jump', 'minus', 'move', 'objectloop', 'return', 'string', 'style', 'switch', 'to', 'while', CASENAME}
 use Rattle.inf_syntax.specs.Parts.{NAME, NOTTO, after_prim, after_unary, bracketed, case_end, end, expression, expression_tail, give_rest}
-use Rattle.inf_syntax.specs.Parts.{give_rest_1, jump_rest, mark_statement, move_rest, neg, of_expression, operator, plain_prim, plain_word, post}
+use Rattle.inf_syntax.specs.Parts.{jump_rest, mark_statement, move_rest, neg, of_expression, operator, plain_prim, plain_word, post}
 use Rattle.inf_syntax.specs.Parts.{prefixed, return_rest, return_rest_1, statement_end, text_statement, top_item, top_item_1, top_item_10}
 use Rattle.inf_syntax.specs.Parts.{top_item_11, top_item_12, top_item_13, top_item_14, top_item_15, top_item_16, top_item_17, top_item_18}
 use Rattle.inf_syntax.specs.Parts.{top_item_19, top_item_2, top_item_20, top_item_21, top_item_3, top_item_4, top_item_5, top_item_6}
@@ -24,7 +24,7 @@ use Rattle.inf_trees.specs.Statements.{more_items, other_items}
 use Rattle.inf_trees.proofs.Expanded.{with_rows}
 use Rattle.inf_trees.proofs.RuleRows.{Each, of_rows}
 use Rattle.inf_trees.proofs.StatementTexts.{Flat, Formed, OnlySteps, Others, Rows, StatementText, by_form, by_mark, by_operand, by_prefix}
-use Rattle.inf_trees.proofs.StatementTexts.{by_rest, by_text, give_flat, give_rows, jump_flat, jump_rows, move_flat, move_rows}
+use Rattle.inf_trees.proofs.StatementTexts.{by_rest, by_text, jump_flat, jump_rows, move_flat, move_rows}
 use Rattle.inf_trees.proofs.StatementTexts.{of_expression_rows, return_flat, return_rows, with_end, word_flat}
 use Rattle.inf_trees.proofs.UnitTexts.{is_flat, is_unit}
 use Rattle.inf_trees.proofs.ValueForms.{is_value}
@@ -246,7 +246,7 @@ module _ (atoms : List ℕ) (events : List (Event Action)) where
   by_give : IsText grammar (!begin ∷ 'give' ∷ top_item_16 ∷ []) atoms events → StatementText other_items atoms events
   by_give text =
       with_rows (StatementText other_items atoms events) (!begin ∷ 'give' ∷ []) (number top_item_16) [] (row (give_rest ∷ []) ∷ row (top_word ∷ []) ∷ []) atoms events top_item_16_rows
-      ((λ t. by_rest other_items atoms events ('give' ∷ []) (!outer ∷ post ∷ !outer_end ∷ give_rest_1 ∷ []) (number give_rest) give_rows give_flat t), ((λ t. Others (!begin ∷ 'give' ∷ top_word ∷ []) (later (later (later (later (later (later (later (later (later (later (later (later (later (later (later (later (later (later (later first))))))))))))))))))) t), tt)) text
+      ((λ t. Others (!begin ∷ 'give' ∷ give_rest ∷ []) (later (later (later (later (later (later (later (later (later (later (later (later (later (later (later (later (later (later (later (later (later (later (later (later (later first))))))))))))))))))))))))) t), ((λ t. Others (!begin ∷ 'give' ∷ top_word ∷ []) (later (later (later (later (later (later (later (later (later (later (later (later (later (later (later (later (later (later (later first))))))))))))))))))) t), tt)) text
 
   by_move : IsText grammar (!begin ∷ 'move' ∷ top_item_17 ∷ []) atoms events → StatementText other_items atoms events
   by_move text =

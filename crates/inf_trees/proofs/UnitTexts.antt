@@ -5,7 +5,7 @@ use Rattle.std.proofs.lemmas.Bool.{agree_below, and_from, and_parts, or_cases, o
 use Rattle.inf_machine.specs.declared.symbols.Symbol.{Symbol}
 use Rattle.inf_machine.specs.declared.symbols.Symbol.TheVariants.{Act, Rule, Token}
 use Rattle.inf_machine.specs.Grammar.{Did, Event, IsNext_not, IsOneOf, IsText, Leads, Row, Took, action, has, here, row, token}
-use Rattle.inf_syntax.specs.Parts.{give_rest_1, initial, plain_word, return_rest_1, statement_5, top_item_18, whole_directive}
+use Rattle.inf_syntax.specs.Parts.{initial, plain_word, return_rest_1, statement_5, top_item_18, whole_directive}
 use Rattle.inf_syntax.specs.Parts.{whole_directive_1}
 use Rattle.inf_syntax.specs.Parts.{whole_directive_2, whole_directive_3}
 use Rattle.inf_syntax.specs.Parts.{whole_directive_4, whole_directive_5, whole_directive_6}
@@ -30,19 +30,13 @@ outer_is _ is = cc
 -- actions that note something of a unit beside its expressions
 abbrev pub is_noted : Action → Bool
 is_noted action_of.OuterEnd = true
-is_noted action_of.Set = true
-is_noted action_of.Clear = true
 is_noted _ = false
 
 pub data IsNote : Action → Type 0 where
   Ends : IsNote action_of.OuterEnd
-  Sets : IsNote action_of.Set
-  Clears : IsNote action_of.Clear
 
 pub note_of : (a : Action) → is_noted a ≡ true → IsNote a
 note_of action_of.OuterEnd is = Ends
-note_of action_of.Set is = Sets
-note_of action_of.Clear is = Clears
 note_of _ is = cc
 
 -- the rules of directives, and those of statements, in which such actions stand
@@ -52,7 +46,7 @@ directive_rules =
     ∷ initial ∷ []
 
 abbrev statement_rules : List (Symbol Action)
-statement_rules = return_rest_1 ∷ give_rest_1 ∷ plain_word ∷ statement_5 ∷ top_item_18 ∷ []
+statement_rules = return_rest_1 ∷ plain_word ∷ statement_5 ∷ top_item_18 ∷ []
 
 abbrev rules_of : Bool → List (Symbol Action)
 rules_of false = directive_rules

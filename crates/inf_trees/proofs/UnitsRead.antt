@@ -37,7 +37,7 @@ use Rattle.inf_language.proofs.ExpressionsTold.{fields_stay, none_waits, took_is
 use Rattle.inf_trees.proofs.Beside.{acted_gathers, step_acts, told_opening}
 use Rattle.inf_trees.specs.Trees.{AreWritten, Noted, Part, Single, Value, all_seen, parts_told, tokens_told, told_at, with_outer, with_parts}
 use Rattle.inf_trees.specs.Trees.{with_value}
-use Rattle.inf_trees.proofs.UnitTexts.{Alone, Clears, Ends, Expressed, Finished, IsNote, Notes, Reads, Sets, note_of}
+use Rattle.inf_trees.proofs.UnitTexts.{Alone, Ends, Expressed, Finished, IsNote, Notes, Reads, note_of}
 use Rattle.inf_trees.proofs.ValueForms.{HasForm}
 
 -- The happenings of two parts of a text, before another token
@@ -284,12 +284,6 @@ note_read : (limits : Limits) {a : Action} → IsNote a → (u : UnitAtHand) (se
 note_read limits Ends u seen events plain on =
     noted_reads limits action_of.OuterEnd note.OuterEnd u (noted note.OuterEnd u) seen events refl
     (λ context place w. end_acts limits context place (ready u) w plain) (on u.items None)
-note_read limits Sets u seen events plain on =
-    noted_reads limits action_of.Set note.Set u (noted note.Set u) seen events refl (λ context place w. refl)
-    (on (u.items ++ item.Set ∷ []) u.outer)
-note_read limits Clears u seen events plain on =
-    noted_reads limits action_of.Clear note.Clear u (noted note.Clear u) seen events refl (λ context place w. refl)
-    (on (u.items ++ item.Clear ∷ []) u.outer)
 
 -- Some tokens behind a unit are parts of it. Where there may be notes it is no assembly line.
 pub units_read : (limits : Limits) {notes : Bool} {seen : List Seen} {events : List (Event Action)} → Reads notes seen events

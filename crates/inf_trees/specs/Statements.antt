@@ -13,6 +13,7 @@ use Rattle.inf_syntax.specs.Parts.{TEXT, act, assembly, case_end, end, expressio
 use Rattle.inf_syntax.specs.Parts.{statement_3, statement_4, string_rest, text_more, top_item, top_item_10, top_item_11, top_item_12}
 use Rattle.inf_syntax.specs.Parts.{top_item_18, top_item_2, top_item_20, top_item_5, top_item_6, top_item_7, top_item_8, top_item_9, top_next}
 use Rattle.inf_syntax.specs.Parts.{top_range, top_values, top_word}
+use Rattle.inf_syntax.specs.Parts.{give_rest}
 use Rattle.inf_syntax.specs.declared.actions.Action.{Action}
 use Rattle.inf_grammar.specs.Language.{grammar}
 use Rattle.inf_unit.specs.Tokens.{is_mark}
@@ -56,9 +57,14 @@ marked more =
     ∷ (!begin ∷ !outer_maybe ∷ TEXT ∷ !outer_sure ∷ !text ∷ text_more ∷ [])
     ∷ more
 
--- Statements that hold others, and those that begin with the words `print`, `print_ret` and `string`.
+-- Statements that hold others, and those that begin with the words `print`, `print_ret`, `string` and `give`.
 abbrev pub more_statements : List (List (Symbol Action))
-more_statements = (!deeper ∷ statement_3 ∷ []) ∷ (!begin ∷ statement_4 ∷ print_rest ∷ []) ∷ (!begin ∷ 'string' ∷ string_rest ∷ []) ∷ []
+more_statements =
+    (!deeper ∷ statement_3 ∷ [])
+    ∷ (!begin ∷ statement_4 ∷ print_rest ∷ [])
+    ∷ (!begin ∷ 'string' ∷ string_rest ∷ [])
+    ∷ (!begin ∷ 'give' ∷ give_rest ∷ [])
+    ∷ []
 
 abbrev pub other_statements : List (List (Symbol Action))
 other_statements = marked more_statements
@@ -86,6 +92,7 @@ more_items =
     ∷ (!begin ∷ 'string' ∷ top_item_20 ∷ [])
     ∷ (!begin ∷ 'style' ∷ top_word ∷ [])
     ∷ (!outer ∷ 'else' ∷ top_word ∷ [])
+    ∷ (!begin ∷ 'give' ∷ give_rest ∷ [])
     ∷ []
 
 abbrev pub other_items : List (List (Symbol Action))
