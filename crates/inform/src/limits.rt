@@ -1,8 +1,8 @@
 //! The limits that the system sets a run: on its stack, and on the size of its files.
 use crate::Failure;
-use inf_program::NameHashing;
 use inf_devices::failures::Failures;
 use inf_devices::sinks::{Sink, SinkFault};
+use inf_program::NameHashing;
 use std::fs;
 use std::random::RandomSource;
 use std::rt::Files;
