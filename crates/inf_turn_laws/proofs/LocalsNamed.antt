@@ -1,16 +1,17 @@
 -- Within a routine nothing but the names of units changes the locals.
 use Rattle.std.proofs.Common.{◌≡◌, List, [], ◌∷◌, map, Bool, true, false, not, Option, Some, None, refl, sym, ◌∙◌, ap, subst}
-use Rattle.std.specs.Prelude.{◌-◌, ◌&&◌, nat_lt, if◌then◌else◌}
+use Rattle.std.specs.Prelude.{◌-◌, ◌&&◌, nat_lt, if◌then◌else◌, drop}
 use Rattle.inf_settings.specs.Bounds.{Limits}
 use Rattle.inf_scanner.specs.declared.tokens.Place.{Place}
 use Rattle.inf_syntax.specs.declared.actions.Action.TheVariants as action
 use Rattle.inf_expressions.specs.declared.findings.Finding.{Finding}
 use Rattle.inf_expressions.specs.Rooted.{Rooted}
-use Rattle.inf_names.specs.Locals.{Headed, no_locals, with_all_named, with_locals}
+use Rattle.inf_names.specs.Locals.{Headed, Local, no_locals, with_all_named, with_locals}
 use Rattle.inf_names.specs.Spellings.{Name}
 use Rattle.inf_code.specs.Code.{fault_closed}
 use Rattle.inf_output.specs.Output.{full}
 use Rattle.inf_constructs.specs.Constructs.{are_own, cases_begun}
+use Rattle.inf_unit.specs.Crowds.{Crowd}
 use Rattle.inf_unit.specs.Messages.{with_full}
 use Rattle.inf_unit.specs.Roles.{ends_token, role_of}
 use Rattle.inf_unit.specs.Tokens.{SourceToken}
@@ -27,12 +28,14 @@ use Rattle.inf_compilation.specs.Context.{Context, longest}
 use Rattle.inf_compilation.specs.Actions.{Compilation, cases_ended, close_open, header_of, header_with, is_deep, is_to_be_replaced, kind_ended}
 use Rattle.inf_compilation.specs.Actions.{named, nested, opens, passed, settled_of, sized, stopped, took, trees_at, with_all_unused}
 use Rattle.inf_compilation.specs.Actions.{with_routine_fault}
+use Rattle.inf_compilation.specs.Crowds.{crowd_opened, crowd_told, value_named, value_named_by}
 use Rattle.inf_compilation.specs.Parts.{actions_named, case_prepared, construct_ended, constructs_laid, found_in, has_last, order_of}
 use Rattle.inf_compilation.specs.Parts.{part_begun, part_carried, part_effect, part_ended, part_finished, part_prepared, place_of, statement_at}
 use Rattle.inf_compilation.specs.Parts.{wanted_of}
 use Rattle.inf_compilation.specs.declared.parts.Part.{Part}
 use Rattle.inf_compilation.specs.declared.parts.Part.TheVariants as part
-use Rattle.inf_reader.specs.Acting.{act, ended, is_crowded, is_tall, noted, noted_of, operands_named, played}
+use Rattle.inf_verb_lines.specs.Verbs.{word_sifted}
+use Rattle.inf_reader.specs.Acting.{act, ended, is_crowded, is_tall, is_wordy, noted, noted_of, operands_named, played, value_noted}
 use Rattle.inf_statement_laws.specs.Happenings.{Acts, Happening, Takes}
 use Rattle.inf_statement_laws.specs.Laid.{happens, run}
 use Rattle.inf_statement_laws.specs.Readings.{Seen, plainly_at}
@@ -43,7 +46,8 @@ use Rattle.inf_language.specs.Texts.{happenings_before, tokens_of}
 use Rattle.inf_language.proofs.HeadersRead.{headers_note_their_names}
 use Rattle.inf_language.proofs.UnitsNamed.{units_name_their_locals}
 use Rattle.inf_turn_laws.specs.UnusedLocals.{AreInner, AreNew, HeadersMakeNew, UnusedAreWarned, ends_part, is_inner, names_in, names_of}
-use Rattle.inf_turn_laws.specs.UnusedLocals.{noted_names, part_names, part_of, played_names, unused, with_warnings}
+use Rattle.inf_turn_laws.specs.UnusedLocals.{noted_names, part_names, part_of, played_names, unused, value_names, value_names_by}
+use Rattle.inf_turn_laws.specs.UnusedLocals.{with_warnings}
 use Rattle.inf_turn_laws.proofs.MarkedLocals.{header_is_new, unused_are_told, with_units}
 
 -- A token is taken.
@@ -75,8 +79,25 @@ noted_of_locals context _ w = refl
 never : false ≡ true → ⊥
 never e = cc
 
+-- the names of a value that is judged by itself
+value_locals : (u : UnitAtHand) (locals : List Local) → value_named u locals ≡ with_all_named (value_names u) locals
+value_locals u locals = go u.crowd
+  where
+    go : (crowd : Option Crowd) → value_named_by crowd u locals ≡ with_all_named (value_names_by crowd u) locals
+    go None = refl
+    go (Some c) =
+        let law : UnitsNameTheirLocals = units_name_their_locals in law.leaves u.tokens (drop c.extent.leaves u.gathering.leaves) locals
+
+crowded_locals : (context : Context) (n : Note) (w : Compilation) (crowded : Bool) → (noted_of context n w).locals ≡ w.locals
+    → (if crowded then value_noted context n w else noted_of context n w).locals
+    ≡ with_all_named (if crowded then value_names (crowd_told context (crowd_opened (noted_of context n w))).unit else []) w.locals
+crowded_locals context n w true same =
+    let v = crowd_told context (crowd_opened (noted_of context n w)) in
+    value_locals v.unit v.locals ∙ ap (with_all_named (value_names v.unit)) same
+crowded_locals context n w false same = same
+
 noted_locals : (limits : Limits) (context : Context) (n : Note) (w : Compilation) → not (ends_token n) ≡ true
-    → (noted limits context n w).locals ≡ with_all_named (noted_names n w) w.locals
+    → (noted limits context n w).locals ≡ with_all_named (noted_names limits context n w) w.locals
 noted_locals limits context note.PrintText w inner =
     of_both (λ (v : Compilation). v.locals ≡ w.locals) (is_crowded limits w) (record w { unit = text_passed w.unit })
     (noted_of context note.PrintText w) (λ _. refl) (λ _. refl)
@@ -90,6 +111,13 @@ noted_locals limits context note.OuterEnd w inner = go (is_full w.unit)
     go true = let law : UnitsNameTheirLocals = units_name_their_locals in law.leaves w.unit.tokens w.unit.gathering.leaves w.locals
     go false = refl
 noted_locals limits context note.LineToken w inner = absurd (never inner)
+noted_locals limits context note.PrintValue w inner = crowded_locals context note.PrintValue w (is_crowded limits w) refl
+noted_locals limits context note.PrintRuled w inner = crowded_locals context note.PrintRuled w (is_crowded limits w) refl
+noted_locals limits context note.Set w inner = crowded_locals context note.Set w (is_crowded limits w) refl
+noted_locals limits context note.Clear w inner = crowded_locals context note.Clear w (is_crowded limits w) refl
+noted_locals limits context note.VerbWord w inner =
+    of_both (λ (v : Compilation). v.locals ≡ w.locals) (is_wordy context w) (word_sifted w) (noted_of context note.VerbWord w) (λ _. refl)
+    (λ _. refl)
 noted_locals limits context note.OuterSure w inner = noted_of_locals context note.OuterSure w
 noted_locals limits context note.OuterWord w inner = noted_of_locals context note.OuterWord w
 noted_locals limits context _ w inner = refl
@@ -163,7 +191,7 @@ ended_locals limits context place _ w inner = absurd (never inner)
 -- An action acts.
 
 played_locals : (limits : Limits) (context : Context) (place : Place) (r : Role) (w : Compilation) → is_inner r ≡ true
-    → (played limits context place r w).locals ≡ with_all_named (played_names limits r w) w.locals
+    → (played limits context place r w).locals ≡ with_all_named (played_names limits context r w) w.locals
 played_locals limits context place (role.Gather s) w inner = refl
 played_locals limits context place (role.Note n) w inner = noted_locals limits context n w inner
 played_locals limits context place (role.End e) w inner = ended_locals limits context place e w inner

@@ -1,5 +1,5 @@
 -- The warnings about the locals of a routine, by the names in its statements. Designer's Manual, fourth edition, section 1.4.
-use Rattle.std.specs.Prelude.{◌≡◌, ℕ, List, [], ◌∷◌, filter, Bool, true, false, not, ◌&&◌, if◌then◌else◌, Option, Some, None}
+use Rattle.std.specs.Prelude.{◌≡◌, ℕ, List, [], ◌∷◌, filter, Bool, true, false, not, ◌&&◌, if◌then◌else◌, drop, Option, Some, None}
 use Rattle.std.specs.List.{list_any, list_all}
 use Rattle.std.specs.Str.{str_eq_ignore_ascii_case}
 use Rattle.inf_settings.specs.Bounds.{Limits}
@@ -11,7 +11,8 @@ use Rattle.inf_code.specs.Code.{fault_closed}
 use Rattle.inf_output.specs.Output.{full}
 use Rattle.inf_syntax.specs.declared.actions.Action.TheVariants as action
 use Rattle.inf_unit.specs.Messages.{Reported, location, with_full, with_warning}
-use Rattle.inf_unit.specs.Roles.{ends_outer, ends_token, role_of}
+use Rattle.inf_unit.specs.Crowds.{Crowd}
+use Rattle.inf_unit.specs.Roles.{ends_outer, ends_token, ends_value, role_of}
 use Rattle.inf_unit.specs.Units.{Unit as UnitAtHand, is_full}
 use Rattle.inf_unit.specs.declared.roles.Ending.{Ending}
 use Rattle.inf_unit.specs.declared.roles.Ending.TheVariants as ending
@@ -20,10 +21,11 @@ use Rattle.inf_unit.specs.declared.roles.Role.{Role}
 use Rattle.inf_unit.specs.declared.roles.Role.TheVariants as role
 use Rattle.inf_compilation.specs.Context.{Context}
 use Rattle.inf_compilation.specs.Actions.{Compilation, cases_ended, kind_ended, with_routine_fault}
+use Rattle.inf_compilation.specs.Crowds.{crowd_opened, crowd_told}
 use Rattle.inf_compilation.specs.Parts.{case_prepared, part_prepared, statement_at}
 use Rattle.inf_compilation.specs.declared.parts.Part.{Part}
 use Rattle.inf_compilation.specs.declared.parts.Part.TheVariants as part
-use Rattle.inf_reader.specs.Acting.{act}
+use Rattle.inf_reader.specs.Acting.{act, is_crowded, noted_of}
 use Rattle.inf_statement_laws.specs.Happenings.{Acts, Happening, Takes}
 use Rattle.inf_statement_laws.specs.Laid.{happens, run}
 use Rattle.inf_statement_laws.specs.Readings.{Seen}
@@ -54,25 +56,37 @@ abbrev pub part_names : Limits → Compilation → Option Part → List Name
 part_names limits w None = []
 part_names limits w (Some p) = if w.is_replaced then [] else names_of (case_prepared limits p (part_prepared w)).unit
 
--- the names of operands that are not kept, since an instruction has fewer
-abbrev pub noted_names : Note → Compilation → List Name
-noted_names n w = if ends_outer n && is_full w.unit then leaves_names w.unit.tokens w.unit.gathering.leaves else []
+-- the names of the value at hand of a unit that has too many
+abbrev pub value_names_by : Option Crowd → UnitAtHand → List Name
+value_names_by None u = []
+value_names_by (Some c) u = leaves_names u.tokens (drop c.extent.leaves u.gathering.leaves)
 
-abbrev pub played_names : Limits → Role → Compilation → List Name
-played_names limits (role.Note n) w = noted_names n w
-played_names limits (role.End e) w = part_names limits w (part_of e w)
-played_names limits _ w = []
+abbrev pub value_names : UnitAtHand → List Name
+value_names u = value_names_by u.crowd u
+
+-- The names of operands that are not kept, since an instruction has fewer, and of a value that is judged by itself, since its unit has too
+-- many.
+abbrev pub noted_names : Limits → Context → Note → Compilation → List Name
+noted_names limits context n w =
+    if ends_outer n && is_full w.unit then leaves_names w.unit.tokens w.unit.gathering.leaves
+    else if ends_value n && is_crowded limits w then value_names (crowd_told context (crowd_opened (noted_of context n w))).unit
+    else []
+
+abbrev pub played_names : Limits → Context → Role → Compilation → List Name
+played_names limits context (role.Note n) w = noted_names limits context n w
+played_names limits context (role.End e) w = part_names limits w (part_of e w)
+played_names limits context _ w = []
 
 -- the names of a happening: those of the unit that ends with it, if one does
-abbrev pub happening_names : Limits → Happening → Compilation → List Name
-happening_names limits (Acts at a) w = played_names limits (role_of a) w
-happening_names limits (Takes t m) w = []
+abbrev pub happening_names : Limits → Context → Happening → Compilation → List Name
+happening_names limits context (Acts at a) w = played_names limits context (role_of a) w
+happening_names limits context (Takes t m) w = []
 
 -- the names of some happenings, one by one
 abbrev pub names_in : Limits → Context → List Happening → Compilation → List (List Name)
 names_in limits context [] w = []
 names_in limits context (h ∷ happenings) w =
-    happening_names limits h w ∷ names_in limits context happenings (happens limits context h w)
+    happening_names limits context h w ∷ names_in limits context happenings (happens limits context h w)
 
 -- Tells whether an action acts within a routine: it gathers, notes something of a unit, ends a unit of a routine, or is one of a statement
 -- that holds others.
