@@ -136,17 +136,14 @@ fn compile_files<R: Clock + Files + Print + Eprint + AllocGlobal>(
     hashing: NameHashing,
 ) -> Result<ExitCode, Failure> {
     let date = dates::serial(Offset::UTC.to_datetime(Timestamp::now(rt)?).date());
-    let story_name = command_line::story_name(rt.alloc(), options)?;
-    let place = StoryPlace::new(story_name.as_str());
+    let named = command_line::story_name(rt.alloc(), options)?;
+    let story_name = named.as_str();
+    let place = StoryPlace::new(story_name);
     let mut files = DiskFiles::new(rt.alloc(), rt, &place);
-    let mut messages = Limited::new(
-        OutputSink::new(io::writer(rt)),
-        limits.room_behind(rt, limits::OUTPUT),
-    );
-    let mut story = Limited::new(
-        StorySink::new(rt, &place),
-        limits.room_of_story(rt, story_name.as_str()),
-    );
+    let room = limits.room_behind(rt, limits::OUTPUT);
+    let mut messages = Limited::new(OutputSink::new(io::writer(rt)), room);
+    let room_of_story = limits.room_of_story(rt, story_name);
+    let mut story = Limited::new(StorySink::new(rt, &place), room_of_story);
     let answer = compile::compile(
         rt.alloc(),
         options,
@@ -160,25 +157,14 @@ fn compile_files<R: Clock + Files + Print + Eprint + AllocGlobal>(
         Ok(Status::Success) => Ok(ExitCode::SUCCESS),
         Ok(Status::Errors) => Ok(ExitCode::from(1)),
         Err(Fault::Memory) => Err(Failure::Memory),
-        Err(Fault::Read(name)) => {
-            tell_source(rt, limits, name.as_str(), &files);
-            Err(Failure::Told)
-        }
+        Err(Fault::Read(name)) => Err(tell_source(rt, limits, name.as_str(), &files)),
         Err(Fault::Messages) => Err(Failure::Output(Reason::of_trouble(
             messages.is_full,
             &messages.sink.trouble,
         ))),
         Err(Fault::Story(count)) => {
             let reason = Reason::of_trouble(story.is_full, &story.sink.trouble);
-            tell_story(
-                rt,
-                limits,
-                story_name.as_str(),
-                count,
-                place.is_source(),
-                reason,
-            );
-            Err(Failure::Told)
+            Err(tell_story(rt, limits, story_name, count, place.is_source(), reason))
         }
     }
 }
@@ -197,10 +183,16 @@ fn is_short<R: Files>(rt: &R, name: &str) -> bool {
     }
 }
 
-/// Says on standard error why a source was not read. Where the system gave no reason, its name is one too many, or it is too long.
-fn tell_source<R: Files + Eprint>(rt: &R, limits: Limits, name: &str, files: &DiskFiles<'_, R>) {
+/// Says on standard error why a source was not read. Where the system gave no reason, its name is one too many, or it is too long. Returns
+/// the failure of the run, whose reason is shown then.
+fn tell_source<R: Files + Eprint>(
+    rt: &R,
+    limits: Limits,
+    name: &str,
+    files: &DiskFiles<'_, R>,
+) -> Failure {
     if !may_tell(rt, limits, name) {
-        return;
+        return Failure::Told;
     }
     let _ = match files.trouble.reason {
         Some(_) => {
@@ -212,9 +204,11 @@ fn tell_source<R: Files + Eprint>(rt: &R, limits: Limits, name: &str, files: &Di
         }
         None => rt.eprintln(format_args!("{name}: over {MOST_BYTES} bytes")),
     };
+    Failure::Told
 }
 
-/// Shows on standard error why a story was not written whole, and the number of its bytes that were.
+/// Shows on standard error why a story was not written whole, and the number of its bytes that were. Returns the failure of the run, whose
+/// reason is shown then.
 fn tell_story<R: Files + Eprint>(
     rt: &R,
     limits: Limits,
@@ -222,15 +216,16 @@ fn tell_story<R: Files + Eprint>(
     count: usize,
     is_source: bool,
     reason: Reason,
-) {
+) -> Failure {
     if !may_tell(rt, limits, name) {
-        return;
+        return Failure::Told;
     }
     let _ = if is_source {
         rt.eprintln(format_args!("{name}: is a source of this story; nothing was written"))
     } else {
         rt.eprintln(format_args!("{name}: {reason}; {count} bytes were written"))
     };
+    Failure::Told
 }
 
 /// How the command is called.
