@@ -19,8 +19,7 @@ ghost use Rattle.inf_session.specs.Leading.{Writes};
 ghost use Rattle.inf_conditionals.specs.Open.{no_conditions};
 ghost use Rattle.inf_session.specs.Session.{begun_with, followed, carried_out, included, left, part, rested};
 ghost use Rattle.inf_session.specs.Session.{run, stepped, turn};
-ghost use Rattle.inf_session.specs.Standing.{IsBounded, IsSet, came_to, ended, held, is_fatal, parted, resting, state};
-ghost use Rattle.inf_session.specs.Uses.{AreWithin};
+ghost use Rattle.inf_session.specs.Standing.{AreWithin, IsBounded, IsSet, came_to, ended, held, is_fatal, parted, resting, state};
 ghost use Rattle.inf_session.specs.Weights.{GoesOn, room, weight};
 
 use crate::compiled::{Compiled, Status, conclude};
@@ -36,6 +35,7 @@ use inf_reader::progress::Progress;
 use inf_reader::recovery::Recovery;
 use inf_report::messages::Message;
 use inf_settings::bounds::Bounds;
+use inf_settings::setting::Setting;
 use inf_sources::IncludeFault;
 use inf_sources::open_files::{Included, OpenFiles};
 use inf_unit::directives::Request;
@@ -281,24 +281,25 @@ impl<'a, B: Bounds> Session<'a, B> {
         self.progress.is_between() && self.conditionals.is_resting()
     }
 
-    /// Returns, for each setting in their order, the count so far of what it bounds: the bytes of the longest quoted token, the tokens
-    /// of the longest expression, the names, the most labels of a routine, the words, objects, verbs and actions, the bytes of
-    /// grammar, properties, arrays, low strings, code and strings, and the references. No count is cut to its setting. Unless a fatal
-    /// message came, none is above its setting that is compared with it where something is added: all but those of tokens, labels and
-    /// references, which are compared where an expression or a unit has ended.
+    /// Returns, for each setting in their order, the amount so far that it bounds: the bytes of the longest quoted token, the
+    /// tokens of the longest expression, the names, the most labels of a routine, the words, objects, verbs and actions, the bytes
+    /// of grammar, properties, arrays, low strings, code and strings, and the references. Tokens, labels and references are at most
+    /// as many as there may be. No amount is above its setting unless a fatal message came.
     pub fn held(&self) -> [usize; 15]
         ensures counts { result ≡ held self.now }
         ensures within { let settings = (chosen self.now.setup).settings in
             AreSet B.most settings → IsBounded self.now → is_fatal self.now ≡ false → AreWithin result all_settings settings }
     {
+        let settings = self.setup.settings;
         let work = &self.progress.work;
         let output = &work.output;
         let tables = &output.tables;
+        let tokens = work.most_tokens.max(self.conditionals.most_tokens);
         let mut held = [0; 15];
         held[0] = self.quoted;
-        held[1] = work.most_tokens.max(self.conditionals.most_tokens);
+        held[1] = tokens.min(settings.of(Setting::ExpressionNodes) as usize);
         held[2] = output.names.len();
-        held[3] = work.most_labels;
+        held[3] = work.most_labels.min(settings.of(Setting::Labels) as usize);
         held[4] = tables.dictionary.len();
         held[5] = tables.world.object_count();
         held[6] = tables.verbs.len();
@@ -309,7 +310,8 @@ impl<'a, B: Bounds> Session<'a, B> {
         held[11] = tables.low_strings.len();
         held[12] = output.code.count();
         held[13] = output.strings.len();
-        held[14] = tables.references_with(output.code.references());
+        let references = tables.references_with(output.code.references());
+        held[14] = references.min(settings.of(Setting::References) as usize);
         held
     }
 
