@@ -193,6 +193,7 @@ impl<'r, R: rt::Files> DiskFiles<'r, R> {
         ensures files { result.open_files.items ≡ [] }
         ensures faults { result.trouble.failures ≡ 0 }
         ensures reason { result.trouble.reason ≡ None }
+        ensures number { result.trouble.number ≡ None }
         ensures given { result.given ≡ 0 }
         ensures opened { result.opened ≡ 0 }
     {
@@ -307,7 +308,7 @@ impl<R: rt::Files> Files for DiskFiles<'_, R> {
         ensures cause { IsErr result → Rose self.old.trouble.failures self.new.trouble.failures }
         ensures reason { IsErr result → IsSome self.new.trouble.reason }
         ensures patient { IsErr result → ¬ (self.new.trouble.reason ≡ Some ErrorKind.Interrupted) }
-        ensures kept { OnOk result (self.new.trouble.reason ≡ self.old.trouble.reason) }
+        ensures kept { OnOk result (self.new.trouble ≡ self.old.trouble) }
         ensures faults { (self.old.trouble.failures ≤ self.new.trouble.failures)
             × (IsOk result → self.new.trouble.failures ≡ self.old.trouble.failures) }
     {
@@ -342,7 +343,7 @@ fn write_some<W: Write>(to: &mut W, bytes: &[u8], trouble: &mut Trouble) -> Resu
     ensures patient { IsErr result → ¬ (trouble.new.reason ≡ Some ErrorKind.Interrupted) }
     ensures nothing { result ≡ Ok 0 → Rose trouble.old.failures trouble.new.failures }
     ensures empty { result ≡ Ok 0 → trouble.new.reason ≡ Some ErrorKind.WriteZero }
-    ensures kept { IfOk result (λ n. 0 < n → trouble.new.reason ≡ trouble.old.reason) }
+    ensures kept { IfOk result (λ n. 0 < n → trouble.new ≡ trouble.old) }
     ensures later { (trouble.old.failures ≤ trouble.new.failures)
         × IfOk result (λ n. 0 < n → trouble.new.failures ≡ trouble.old.failures) }
 {
@@ -381,6 +382,7 @@ impl<W: Write> OutputSink<W> {
         ensures output { result.output ≡ output }
         ensures failures { result.trouble.failures ≡ 0 }
         ensures reason { result.trouble.reason ≡ None }
+        ensures number { result.trouble.number ≡ None }
     {
         OutputSink {
             output,
@@ -407,7 +409,7 @@ impl<W: Write> Sink for OutputSink<W> {
         ensures nothing { result ≡ Ok 0 →
             Rose self.old.trouble.failures self.new.trouble.failures }
         ensures empty { result ≡ Ok 0 → self.new.trouble.reason ≡ Some ErrorKind.WriteZero }
-        ensures kept { IfOk result (λ n. 0 < n → self.new.trouble.reason ≡ self.old.trouble.reason) }
+        ensures kept { IfOk result (λ n. 0 < n → self.new.trouble ≡ self.old.trouble) }
         ensures failures { (self.old.trouble.failures ≤ self.new.trouble.failures)
             × IfOk result (λ n. 0 < n → self.new.trouble.failures ≡ self.old.trouble.failures) }
     {
@@ -433,6 +435,7 @@ impl<'r, R: rt::Files> StorySink<'r, R> {
         ensures file { result.file ≡ None }
         ensures failures { result.trouble.failures ≡ 0 }
         ensures reason { result.trouble.reason ≡ None }
+        ensures number { result.trouble.number ≡ None }
     {
         StorySink {
             system,
@@ -490,7 +493,7 @@ impl<R: rt::Files> Sink for StorySink<'_, R> {
         ensures nothing { result ≡ Ok 0 →
             Rose self.old.trouble.failures self.new.trouble.failures }
         ensures empty { result ≡ Ok 0 → self.new.trouble.reason ≡ Some ErrorKind.WriteZero }
-        ensures kept { IfOk result (λ n. 0 < n → self.new.trouble.reason ≡ self.old.trouble.reason) }
+        ensures kept { IfOk result (λ n. 0 < n → self.new.trouble ≡ self.old.trouble) }
         ensures failures { (self.old.trouble.failures ≤ self.new.trouble.failures)
             × IfOk result (λ n. 0 < n → self.new.trouble.failures ≡ self.old.trouble.failures) }
         ensures patient { IsErr result → self.new.trouble.reason ≡ Some ErrorKind.Interrupted → self.new.file ≡ None }
