@@ -1,5 +1,6 @@
 //! Laws of the words that a source uses.
 ghost use Rattle.inf_settings.specs.Bounds.{Limits};
+ghost use Rattle.inf_word_laws.specs.Names.{OperandsNamed};
 ghost use Rattle.inf_word_laws.specs.Operands.{OperandsStand};
 ghost use Rattle.inf_word_laws.specs.Standing.{StandingAreThere, StepsKeepWords, UsedWordsStand};
 
@@ -17,4 +18,9 @@ pub fn steps_keep_words()
 /// Shows that all words for which the operands of a unit stand, once its names and words are used, stand in the dictionary.
 pub fn operands_stand_for_words()
     ensures { (limits : Limits) → OperandsStand limits }
+{}
+
+/// Shows that all names for which the operands of a unit stand by their numbers, once they are used, are among the names of the source.
+pub fn operands_stand_for_names()
+    ensures { (limits : Limits) → OperandsNamed limits }
 {}
