@@ -15,3 +15,4 @@ pub mod Hashes
 pub mod PartTokens
 pub mod Parts
 pub mod Targets
+mod NameValues
