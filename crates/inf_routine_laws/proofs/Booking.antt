@@ -17,7 +17,7 @@ use Rattle.inf_label_laws.specs.Programs.{branch_labels, marks, operand_labels, 
 use Rattle.inf_label_laws.proofs.Owning.{Owned, Owns, Settles, behind_is, marks_joined, some_of_two, times_first, times_joined, times_other, uses_joined}
 use Rattle.inf_routine_laws.proofs.Counting.{AreWhole, cell_marks, cell_marks_joined, cell_uses, cell_uses_joined, instruction_marks}
 use Rattle.inf_routine_laws.proofs.Counting.{instruction_uses}
-use Rattle.inf_routine_laws.specs.Faults.{LeavesRoutine}
+use Rattle.inf_routine_laws.specs.Leaving.{LeavesRoutine}
 use Rattle.std.proofs.Common.{append_assoc, append-nil}
 
 -- how often a number is that of one label
@@ -50,7 +50,7 @@ pub record GrewFrom (items : List Item) (opened : Option Opened) (now : Opened) 
 some_none : {A : Type 0} {B : Type 0} {a : A} → None ≡ Some a → B
 some_none e = absurd (cc e)
 
-some_is : {A : Type 0} {a b : A} → Some a ≡ Some b → a ≡ b
+pub some_is : {A : Type 0} {a b : A} → Some a ≡ Some b → a ≡ b
 some_is e = cc e
 
 grew_instruction : (i : Parts) (c : Opened) (cells : List Cell) → cells ≡ c.contents.cells ++ instruction_cells i →
@@ -228,7 +228,7 @@ sound_paid needs given due left spare need o q together b c h k = record {
       let code = c.laid.code fits ∙ ap (λ k. code_behind k c.items o.code) together in
       let g = grew_all c.items o.code now (sym (ap (λ (r : Routines). r.opened) code) ∙ is) in
       let s = c.own few in
-      let low = let r = s.within.grows in omega (arith, few, r) in
+      let low : o.next < 4294967295 = let r = s.within.grows in omega (arith, few, r) in
       booked_paid needs given due left spare need o.next q.next g.before.contents.cells now.contents.cells c.items
       (b.holds (c.laid.fits fits) low g.before g.is) g.grew.marked g.grew.used s h k;
 }

@@ -75,13 +75,13 @@ if_owns : (b : Bool) (c d : Code) → Owned c [] [] → Owned d [] [] → Owned 
 if_owns true c d h k = h
 if_owns false c d h k = k
 
-plain_owns : (limits : Limits) (op : Opcode) → Owned (plain limits op) [] []
+pub plain_owns : (limits : Limits) (op : Opcode) → Owned (plain limits op) [] []
 plain_owns limits op = owned_instruction limits op [] None None
 
 part_owns : (limits : Limits) (e : Tree) → OwnsPart (part (meaning limits e))
 part_owns limits e = (owns limits e).value
 
-one_owns : (limits : Limits) (op : Opcode) (trees : List Tree) → Owned (one_worked limits op trees) [] []
+pub one_owns : (limits : Limits) (op : Opcode) (trees : List Tree) → Owned (one_worked limits op trees) [] []
 one_owns limits op [] = owned_nothing
 one_owns limits op (e ∷ trees) = owned_worked limits op (part (meaning limits e) ∷ []) (part_owns limits e, tt) None None
 
@@ -113,14 +113,14 @@ pub alone_owns : (limits : Limits) (trees : List Tree) → Owned (alone limits t
 alone_owns limits [] = owned_nothing
 alone_owns limits (e ∷ trees) = (owns limits e).alone
 
-moved_owns : (limits : Limits) (trees : List Tree) → Owned (moved limits trees) [] []
+pub moved_owns : (limits : Limits) (trees : List Tree) → Owned (moved limits trees) [] []
 moved_owns limits [] = owned_nothing
 moved_owns limits (a ∷ []) = owned_nothing
 moved_owns limits (a ∷ b ∷ trees) =
     owned_worked limits opcode.InsertObj (part (meaning limits a) ∷ part (meaning limits b) ∷ [])
     (part_owns limits a, (part_owns limits b, tt)) None None
 
-spaced_owns : (limits : Limits) (trees : List Tree) → Owned (spaced limits trees) [] []
+pub spaced_owns : (limits : Limits) (trees : List Tree) → Owned (spaced limits trees) [] []
 spaced_owns limits [] = owned_nothing
 spaced_owns limits (e ∷ trees) = owned_ask limits veneer.Spaces (part (meaning limits e) ∷ []) (part_owns limits e, tt) None
 
@@ -132,7 +132,7 @@ action_owns_on limits action h (a ∷ b ∷ trees) =
     owned_ask limits veneer.Process (action ∷ part (meaning limits a) ∷ part (meaning limits b) ∷ [])
     (h, (part_owns limits a, (part_owns limits b, tt))) None
 
-action_owns : (limits : Limits) (trees : List Tree) → Owned (action_laid limits trees) [] []
+pub action_owns : (limits : Limits) (trees : List Tree) → Owned (action_laid limits trees) [] []
 action_owns limits [] = owned_nothing
 action_owns limits (e ∷ trees) = action_owns_on limits (part (meaning limits e)) (part_owns limits e) trees
 
@@ -161,7 +161,7 @@ changed_owns limits items [] = owned_nothing
 changed_owns limits items (e ∷ trees) =
     given_owns limits (are_several items) (meaning limits e).operand (meaning limits e) (owns limits e) items trees
 
-styled_owns : (limits : Limits) (style : Option ℕ) → Owned (styled_by limits style) [] []
+pub styled_owns : (limits : Limits) (style : Option ℕ) → Owned (styled_by limits style) [] []
 styled_owns limits None = owned_nothing
 styled_owns limits (Some style) = owned_instruction limits opcode.SetTextStyle (Known style ∷ []) None None
 
@@ -218,7 +218,7 @@ pub jumped_owns : (limits : Limits) (l : Option Label) → Owned (jumped_to limi
 jumped_owns limits None = owned_nothing
 jumped_owns limits (Some l) = owned_jump limits l
 
--- What is printed
+-- Printing
 
 ended_owns : (limits : Limits) (b : Bool) → Owned (ended limits b) [] []
 ended_owns limits true = owned_before (plain_owns limits opcode.NewLine) (plain_owns limits opcode.Rtrue)

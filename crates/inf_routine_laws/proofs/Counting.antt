@@ -134,14 +134,16 @@ instruction_uses i =
 has_place : (place : ℕ) (cells : List Cell) (n : ℕ) → 1 ≤ times n (cell_marks cells) → is_some (long_place place cells n) ≡ true
 has_place place [] n h = absurd (omega (arith, h))
 has_place place ((Plain byte) ∷ cells) n h = has_place (place + 1) cells n h
-has_place place ((Of (Marks label)) ∷ cells) n h = go (cases_eq label.number n)
+has_place place ((Of (Marks label)) ∷ cells) n h = go (cases_eq label.number n) (λ k. has_place (place + 0) cells n k)
   where
-    go : (label.number ≡ n) ⊎ (label.number ≡ n → ⊥) → is_some (long_place place (Of (Marks label) ∷ cells) n) ≡ true
-    go (inl same) = ap (λ b. is_some (if b then Some place else long_place (place + 0) cells n)) (eq-eqb label.number n same)
-    go (inr other) =
+    go : (label.number ≡ n) ⊎ (label.number ≡ n → ⊥)
+        → (1 ≤ times n (cell_marks cells) → is_some (long_place (place + 0) cells n) ≡ true)
+        → is_some (long_place place (Of (Marks label) ∷ cells) n) ≡ true
+    go (inl same) later = ap (λ b. is_some (if b then Some place else long_place (place + 0) cells n)) (eq-eqb label.number n same)
+    go (inr other) later =
         let e = times_other n label.number (cell_marks cells) (λ same. other (sym same)) in
         ap (λ b. is_some (if b then Some place else long_place (place + 0) cells n)) (ne_eqb label.number n other)
-        ∙ has_place (place + 0) cells n (omega (arith, h, e))
+        ∙ later (omega (arith, h, e))
 has_place place ((Of (Branches branch)) ∷ cells) n h = has_place (place + 2) cells n h
 has_place place ((Of (Jumps label)) ∷ cells) n h = has_place (place + 2) cells n h
 has_place place ((Of (Refers target)) ∷ cells) n h = has_place (place + 2) cells n h
@@ -149,17 +151,18 @@ has_place place ((Of (Refers target)) ∷ cells) n h = has_place (place + 2) cel
 no_place : (place : ℕ) (cells : List Cell) (n : ℕ) → times n (cell_marks cells) ≤ 0 → long_place place cells n ≡ None
 no_place place [] n h = refl
 no_place place ((Plain byte) ∷ cells) n h = no_place (place + 1) cells n h
-no_place place ((Of (Marks label)) ∷ cells) n h = go (cases_eq label.number n)
+no_place place ((Of (Marks label)) ∷ cells) n h = go (cases_eq label.number n) (λ k. no_place (place + 0) cells n k)
   where
-    go : (label.number ≡ n) ⊎ (label.number ≡ n → ⊥) → long_place place (Of (Marks label) ∷ cells) n ≡ None
-    go (inl same) =
+    go : (label.number ≡ n) ⊎ (label.number ≡ n → ⊥) → (times n (cell_marks cells) ≤ 0 → long_place (place + 0) cells n ≡ None)
+        → long_place place (Of (Marks label) ∷ cells) n ≡ None
+    go (inl same) later =
         let e = times_first n (cell_marks cells) in
         let d = ap (λ m. times n (m ∷ cell_marks cells)) same in
         absurd (omega (arith, h, e, d))
-    go (inr other) =
+    go (inr other) later =
         let e = times_other n label.number (cell_marks cells) (λ same. other (sym same)) in
         ap (λ b. if b then Some place else long_place (place + 0) cells n) (ne_eqb label.number n other)
-        ∙ no_place (place + 0) cells n (omega (arith, h, e))
+        ∙ later (omega (arith, h, e))
 no_place place ((Of (Branches branch)) ∷ cells) n h = no_place (place + 2) cells n h
 no_place place ((Of (Jumps label)) ∷ cells) n h = no_place (place + 2) cells n h
 no_place place ((Of (Refers target)) ∷ cells) n h = no_place (place + 2) cells n h

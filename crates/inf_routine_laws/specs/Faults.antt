@@ -9,6 +9,8 @@ use Rattle.inf_output.specs.Output.{Out}
 use Rattle.inf_constructs.specs.Labels.{missing}
 use Rattle.inf_compilation.specs.Actions.{Compilation, cases_ended}
 use Rattle.inf_statement_laws.specs.Happenings.{Acts, Between, Happening, Takes}
+use Rattle.inf_statement_laws.specs.Readings.{Seen}
+use Rattle.inf_routine_laws.specs.Leaving.{LeavesRoutine}
 
 -- whether a label of a routine is missing, or marked twice
 abbrev pub is_of_labels : Option CloseFault → Bool
@@ -23,13 +25,6 @@ pub record HasBegun (w : Compilation) : Type 0 where
   pub constructs : w.constructs ≡ []
   pub together : w.output.kept ≡ None
 
--- Tells whether an output stands behind another one of which it has the open routine and the number of the next label.
-pub record LeavesRoutine (before now : Out) : Type 0 where
-  pub opened : now.code.opened ≡ before.code.opened
-  pub next : now.next ≡ before.next
-  pub kept : now.kept ≡ before.kept
-  pub fits : now.past ≡ None → before.past ≡ None
-
 abbrev pub LeaveRoutine : Between → Type 0
 LeaveRoutine m = (o : Out) → LeavesRoutine o (m.output o)
 
@@ -38,6 +33,15 @@ abbrev pub AllLeave : List Happening → Type 0
 AllLeave [] = Unit {0}
 AllLeave ((Acts at a) ∷ happenings) = LeaveRoutine at.behind × AllLeave happenings
 AllLeave ((Takes t m) ∷ happenings) = LeaveRoutine m × AllLeave happenings
+
+-- Tells whether all that comes behind some tokens, by itself or where a conditional directive ends, leaves it as it is.
+abbrev pub DirectiveLeaves : Option Between → Type 0
+DirectiveLeaves None = Unit {0}
+DirectiveLeaves (Some m) = LeaveRoutine m
+
+abbrev pub AllSeenLeave : List Seen → Type 0
+AllSeenLeave [] = Unit {0}
+AllSeenLeave (s ∷ seen) = (LeaveRoutine s.behind × DirectiveLeaves s.directive) × AllSeenLeave seen
 
 -- A routine that ends has no fault of its labels: where no limit was passed, and fewer labels were handed out than there are numbers of
 -- labels, no label is missing but one with a name, which is told by itself, and none is marked twice.
