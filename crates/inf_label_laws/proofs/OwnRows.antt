@@ -89,14 +89,16 @@ owned_put limits x d = put_by limits x d (d == SP)
 owned_load : (limits : Limits) (v d : ℕ) → Owned (load limits v d) [] []
 owned_load limits v d = owned_naming limits opcode.Load v [] (Some d) None
 
-pub owned_zero : (limits : Limits) (x : Simple) (sense : Bool) (label : Label) → Owned (jump_zero limits x sense label) (label.number ∷ []) []
+pub owned_zero : (limits : Limits) (x : Simple) (sense : Bool) (label : Label) →
+    Owned (jump_zero limits x sense label) (label.number ∷ []) []
 owned_zero limits x sense label = owned_instruction limits opcode.Jz (x ∷ []) None (to (not sense) label)
 
 owned_calling : (limits : Limits) (r : Simple) (all : List Simple) (store : Option ℕ) → Owned (calling limits r all store) [] []
 unfolding calling
 owned_calling limits r all store = owned_instruction limits (call_opcode store (length (take 7 all))) (r ∷ take 7 all) store None
 
-pub owned_supplied : (limits : Limits) (v : Veneer) (all : List Simple) (store : Option ℕ) → Owned (calling_routine limits v all store) [] []
+pub owned_supplied : (limits : Limits) (v : Veneer) (all : List Simple) (store : Option ℕ) →
+    Owned (calling_routine limits v all store) [] []
 unfolding calling_routine
 owned_supplied limits v all store = owned_routine limits v (λ r. owned_calling limits r all store)
 
@@ -104,7 +106,8 @@ pub owned_call : (limits : Limits) (f : Part) (ps : List Part) → OwnsPart f �
     Owned (call limits f ps store) [] []
 owned_call limits f ps h k store = owned_before (owned_parts (f ∷ ps) (h, k)) (owned_calling limits (operand_of f) (operands ps) store)
 
-pub owned_ask : (limits : Limits) (v : Veneer) (ps : List Part) → OwnsParts ps → (store : Option ℕ) → Owned (call_routine limits v ps store) [] []
+pub owned_ask : (limits : Limits) (v : Veneer) (ps : List Part) → OwnsParts ps → (store : Option ℕ) →
+    Owned (call_routine limits v ps store) [] []
 owned_ask limits v ps h store = owned_before (owned_parts ps h) (owned_supplied limits v (operands ps) store)
 
 -- Values and conditions
@@ -129,7 +132,8 @@ two_marks n a b = go (if n == a then 1 else 0) (if n == b then 1 else 0)
     go : (x y : ℕ) → x + (y + 0) ≡ y + (x + 0)
     go x y = omega arith
 
-owned_truth : (limits : Limits) (branch : Bool → Label → Code) → ((sense : Bool) (label : Label) → Owned (branch sense label) (label.number ∷ []) []) →
+owned_truth : (limits : Limits) (branch : Bool → Label → Code) → ((sense : Bool) (label : Label) →
+    Owned (branch sense label) (label.number ∷ []) []) →
     (d : ℕ) →
     Owned (code.truth limits branch d) [] []
 owned_truth limits branch h d =
@@ -142,7 +146,8 @@ owned_truth limits branch h d =
     (owned_then {a = fails.number ∷ []} {b = last.number ∷ []} (owned_mark {needs = needs} limits fails)
     (owned_before (owned_put limits (Known 0) d) (owned_mark {needs = needs} limits last))))))
 
-condition_owns : (limits : Limits) (branch : Bool → Label → Code) → ((sense : Bool) (label : Label) → Owned (branch sense label) (label.number ∷ []) []) →
+condition_owns : (limits : Limits) (branch : Bool → Label → Code) → ((sense : Bool) (label : Label) →
+    Owned (branch sense label) (label.number ∷ []) []) →
     OwnsAll (code.condition limits branch)
 condition_owns limits branch h = record {
   target = tt;
@@ -164,7 +169,8 @@ jumped_if : (limits : Limits) (b : Bool) (label : Label) → Owned (code.jump_if
 jumped_if limits true label = owned_jump limits label
 jumped_if limits false label = owned_nothing
 
-leaf_branch : (limits : Limits) (x : Simple) (sense : Bool) (label : Label) → Owned (code.leaf_branch limits x sense label) (label.number ∷ []) []
+leaf_branch : (limits : Limits) (x : Simple) (sense : Bool) (label : Label) →
+    Owned (code.leaf_branch limits x sense label) (label.number ∷ []) []
 leaf_branch limits (Known n) sense label = jumped_if limits (if sense then code.is_true n else not (code.is_true n)) label
 leaf_branch limits (Variable v) sense label = owned_zero limits (Variable v) sense label
 leaf_branch limits (Later t) sense label = owned_zero limits (Later t) sense label
@@ -273,7 +279,8 @@ owned_both limits a b h k sense label =
     (owned_behind (owned_at (has_later label.number over.number (label.number ∷ []) (has_first label.number [])) (k.branch sense label))
     (owned_mark limits over))
 
-owned_either : (a b : Meaning) → OwnsAll a → OwnsAll b → (sense : Bool) (label : Label) → Owned (code.either a b sense label) (label.number ∷ []) []
+owned_either : (a b : Meaning) → OwnsAll a → OwnsAll b → (sense : Bool) (label : Label) →
+    Owned (code.either a b sense label) (label.number ∷ []) []
 owned_either a b h k sense label = owned_behind (h.branch sense label) (k.branch sense label)
 
 owned_and : (limits : Limits) (a b : Meaning) → OwnsAll a → OwnsAll b → (sense : Bool) (label : Label) →
@@ -299,6 +306,7 @@ owned_at_two {c} {l} {m} {needs} {given} has also f =
     other : (n : ℕ) → 1 ≤ times n (m ∷ []) → (n ≡ m) ⊎ (n ≡ m → ⊥) → 1 ≤ times n needs
     other n h (inl same) = subst (λ k. 1 ≤ times k needs) (sym same) also
     other n h (inr differs) = let e = times_other n m [] differs in absurd (omega (arith, e, h))
+
     among : (n : ℕ) → 1 ≤ times n (l ∷ m ∷ []) → (n ≡ l) ⊎ (n ≡ l → ⊥) → 1 ≤ times n needs
     among n h (inl same) = subst (λ k. 1 ≤ times k needs) (sym same) has
     among n h (inr differs) =
@@ -344,7 +352,8 @@ owned_threes limits x (b ∷ c ∷ d ∷ []) h sense label there =
     at_label label there (owned_tested limits test.Equal (is x ∷ b ∷ c ∷ d ∷ []) (simple_owns x, h) sense label)
 owned_threes limits x (b ∷ c ∷ d ∷ e ∷ others) h sense label there =
     owned_behind
-    (at_there label there (owned_tested limits test.Equal (is x ∷ b ∷ c ∷ d ∷ []) (simple_owns x, (h.0, (h.1.0, (h.1.1.0, tt)))) true there))
+    (at_there label there
+    (owned_tested limits test.Equal (is x ∷ b ∷ c ∷ d ∷ []) (simple_owns x, (h.0, (h.1.0, (h.1.1.0, tt)))) true there))
     (owned_threes limits x (e ∷ others) h.1.1.1 sense label there)
 
 owned_ones : (limits : Limits) (t : Test) (x : Simple) (ps : List Part) → OwnsParts ps → (sense : Bool) (label there : Label) →
@@ -359,7 +368,8 @@ owned_ones limits t x (b ∷ c ∷ others) h sense label there =
 
 owned_groups : (limits : Limits) (three : Bool) (t : Test) (x : Simple) (ps : List Part) → OwnsParts ps →
     (sense : Bool) (label there : Label) →
-    Owned (if three then code.triple_tests limits x ps sense label there else code.single_tests limits t x ps sense label there) (label.number ∷ there.number ∷ []) []
+    Owned (if three then code.triple_tests limits x ps sense label there else code.single_tests limits t x ps sense label there)
+    (label.number ∷ there.number ∷ []) []
 owned_groups limits true t x ps h sense label there = owned_threes limits x ps h sense label there
 owned_groups limits false t x ps h sense label there = owned_ones limits t x ps h sense label there
 

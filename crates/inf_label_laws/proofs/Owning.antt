@@ -1,5 +1,6 @@
 -- Which labels code marks: those that are handed out while it is laid, and some that are given to it.
-use Rattle.std.proofs.Common.{arith, ◌≡◌, ◌≤◌, ℕ, suc, List, [], ◌∷◌, ◌++◌, Bool, true, false, Option, Some, None, refl, ◌∙◌, ap, sym, subst}
+use Rattle.std.proofs.Common.{arith, ◌≡◌, ◌≤◌, ℕ, suc, List, [], ◌∷◌, ◌++◌, Bool, true, false, Option, Some, None, refl, ◌∙◌, ap, sym}
+use Rattle.std.proofs.Common.{subst}
 use Rattle.std.proofs.Common.{append_assoc, append-nil, inl, inr}
 use Rattle.std.proofs.lemmas.Bool.{cases_eq, cases_lt, eq-eqb, ne_eqb}
 use Rattle.std.proofs.Math.Nat.{min-eq_left, min-eq_right}
@@ -185,8 +186,10 @@ settles_then needs a b low mid high x y f g = record {
   where
     marked : (n : ℕ) → times n (marks (x ++ y)) ≡ times n (marks x) + times n (marks y)
     marked n = ap (times n) (marks_joined x y) ∙ times_joined n (marks x) (marks y)
+
     used : (n : ℕ) → 1 ≤ times n (uses (x ++ y)) → 1 ≤ times n (uses x) + times n (uses y)
     used n h = let e = ap (times n) (uses_joined x y) ∙ times_joined n (uses x) (uses y) in omega (arith, e, h)
+
     known : (n : ℕ) → (1 ≤ times n (uses x)) ⊎ (1 ≤ times n (uses y)) → 1 ≤ times n needs + times n (marks (x ++ y))
     known n (inl first) = let p = f.known n first in let d = marked n in omega (arith, p, d)
     known n (inr second) = let p = g.known n second in let d = marked n in omega (arith, p, d)
@@ -214,6 +217,7 @@ settles_label needs given low high items f = record {
         let p = f.all n in
         omega (arith, e, p)
     all n (inr other) = let e = times_other n low given other in let p = f.all n in omega (arith, e, p)
+
     known : (n : ℕ) → 1 ≤ times n (uses items) → (n ≡ low) ⊎ (n ≡ low → ⊥) → 1 ≤ times n needs + times n (marks items)
     known n h (inl same) =
         let e = subst (λ k. times n (k ∷ given) ≡ suc (times n given)) same (times_first n given) in

@@ -1,18 +1,16 @@
 -- Units of a routine, and what happens while it is read, in the book of labels.
-use Rattle.std.proofs.Common.{arith, ◌≡◌, ◌≤◌, ℕ, List, [], ◌∷◌, ◌++◌, Bool, true, false, ◌&&◌, Option, Some, None, refl, ◌∙◌, ap, sym, subst}
+use Rattle.std.proofs.Common.{arith, ◌≡◌, List, [], ◌∷◌, Bool, true, false, ◌&&◌, Option, Some, None, refl, ap}
+use Rattle.std.proofs.Common.{subst}
 use Rattle.std.proofs.lemmas.Bool.{and_parts}
-use Rattle.std.specs.Prelude.{map, ◌+◌, if◌then◌else◌}
+use Rattle.std.specs.Prelude.{map, if◌then◌else◌}
 use Rattle.inf_settings.specs.Bounds.{Limits}
 use Rattle.inf_scanner.specs.declared.tokens.Place.{Place}
 use Rattle.inf_expressions.specs.declared.findings.Finding.{Finding}
 use Rattle.inf_expressions.specs.Findings.{is_before, least_of_both}
 use Rattle.inf_expressions.specs.Rooted.{Rooted}
 use Rattle.inf_code.specs.Code.{Routines}
-use Rattle.inf_output.specs.declared.items.Item.{Item}
-use Rattle.inf_output.specs.Output.{Code, Out, apart, items_of, together, ◌▸◌}
+use Rattle.inf_output.specs.Output.{Out}
 use Rattle.inf_compilation.specs.Context.{Context, longest}
-use Rattle.inf_syntax.specs.declared.actions.Action.{Action}
-use Rattle.inf_syntax.specs.declared.actions.Action.TheVariants as action
 use Rattle.inf_unit.proofs.Cases.{of_both}
 use Rattle.inf_unit.specs.Tokens.{SourceToken}
 use Rattle.inf_unit.specs.Units.{bytes_at, is_full, last_passed, long_at, next_place, noted as unit_noted, taken as unit_taken, text_passed}
@@ -23,37 +21,32 @@ use Rattle.inf_unit.specs.declared.roles.Note.{Note}
 use Rattle.inf_unit.specs.declared.roles.Role.{Role}
 use Rattle.inf_unit.specs.declared.roles.Role.TheVariants as role
 use Rattle.inf_constructs.specs.declared.constructs.Construct.{Construct}
-use Rattle.inf_constructs.specs.declared.constructs.Kind.TheVariants as kind
-use Rattle.inf_constructs.specs.declared.constructs.Over.TheVariants as over
-use Rattle.inf_constructs.specs.declared.constructs.Case.TheVariants as case
 use Rattle.inf_constructs.specs.Cases.{case_code}
 use Rattle.inf_constructs.specs.Constructs.{are_own, cases_begun, condition_label, next_case}
 use Rattle.inf_constructs.specs.Labels.{NamedLabel, is_given}
 use Rattle.inf_constructs.specs.Roots.{tree_in}
 use Rattle.inf_statements.specs.declared.statements.Statement.{Statement}
 use Rattle.inf_statements.specs.declared.statements.Statement.TheVariants as statement
-use Rattle.inf_statements.specs.Effects.{name_behind, only_if, statement_finding}
-use Rattle.inf_statements.specs.Operands.{Settled, settled}
+use Rattle.inf_statements.specs.Effects.{only_if, statement_finding}
 use Rattle.inf_statements.specs.Statements.{alone, switched, tested}
 use Rattle.inf_verb_lines.specs.Verbs.{token_sifted, word_sifted}
-use Rattle.inf_compilation.specs.Actions.{Compilation, finding_at, is_deep, named, nested, opens, passed, settled_of, sized, stopped, took, trees_at}
-use Rattle.inf_compilation.specs.Parts.{actions_named, case_prepared, constructs_laid, found_in, has_last, is_default, order_of, own_finding}
+use Rattle.inf_compilation.specs.Actions.{Compilation, finding_at, is_deep, named, nested, opens, passed, settled_of, sized, stopped, took}
+use Rattle.inf_compilation.specs.Actions.{trees_at}
+use Rattle.inf_compilation.specs.Parts.{actions_named, case_prepared, constructs_laid, found_in, has_last, is_default, order_of}
+use Rattle.inf_compilation.specs.Parts.{own_finding}
 use Rattle.inf_compilation.specs.Parts.{part_begun, part_carried, part_effect, part_ended, part_finished, part_prepared, place_of, site_of}
 use Rattle.inf_compilation.specs.Parts.{statement_at, wanted_of}
-use Rattle.inf_compilation.specs.declared.parts.Part.{Part}
 use Rattle.inf_compilation.specs.declared.parts.Part.TheVariants as part
 use Rattle.inf_reader.specs.Acting.{act, ended as ended_as, is_crowded, is_long, is_tall, is_wordy, noted, noted_of, operands_named, played}
 use Rattle.inf_reader.specs.Acting.{value_noted}
-use Rattle.inf_statement_laws.specs.Happenings.{Acts, Happening, Quiet, Takes, happen_quietly, happens_quietly, is_quiet, is_quiet_end}
+use Rattle.inf_statement_laws.specs.Happenings.{Acts, Happening, Takes, happen_quietly, happens_quietly, is_quiet_end}
 use Rattle.inf_statement_laws.specs.Happenings.{is_quiet_role}
 use Rattle.inf_statement_laws.specs.Laid.{happens, run}
-use Rattle.inf_label_laws.specs.Labels.{times}
-use Rattle.inf_label_laws.specs.Programs.{marks, uses}
 use Rattle.inf_routine_laws.specs.Faults.{AllLeave}
 use Rattle.inf_routine_laws.specs.Leaving.{LeavesRoutine}
 use Rattle.inf_routine_laws.proofs.Booking.{Counts}
-use Rattle.inf_routine_laws.proofs.Balance.{Good, good_still, loop_due, opened_cases, reached, top_known}
-use Rattle.inf_routine_laws.proofs.Casing.{IsLooped, entered_good, looped_good, not_looped}
+use Rattle.inf_routine_laws.proofs.Balance.{Good, good_still, opened_cases}
+use Rattle.inf_routine_laws.proofs.Casing.{entered_good}
 use Rattle.inf_routine_laws.proofs.Codes.{Idle, alone_owns, case_code_owns, label_in, switched_owns, tested_owns}
 use Rattle.inf_routine_laws.proofs.Settling.{settled_idle}
 use Rattle.inf_routine_laws.proofs.Stating.{code_good, condition_reached, next_reached, statement_good}
@@ -70,7 +63,8 @@ first_leaves : (o : Out) (first : Place) → LeavesRoutine o (record o { first =
 first_leaves o first = record { opened = refl; next = refl; kept = refl; fits = λ e. e }
 
 -- the output of a unit without an error, when its names are used
-pub settled_good : (limits : Limits) (context : Context) (first : Place) (due spare extra : Counts) (w : Compilation) → Balanced due spare extra w →
+pub settled_good : (limits : Limits) (context : Context) (first : Place) (due spare extra : Counts) (w : Compilation) →
+    Balanced due spare extra w →
     Good due spare extra w.labels w.constructs (record (settled_of limits context w).out { first = first })
 settled_good limits context first due spare extra w g =
     let s = settled_of limits context w in
@@ -85,7 +79,8 @@ settled_good limits context first due spare extra w g =
 abbrev IsNew : Statement → Compilation → Type 0
 IsNew s w = s ≡ statement.Place → is_given (bytes_at w.unit.tokens (next_place w.unit.begun)) w.labels ≡ false
 
-statement_effect : (limits : Limits) (context : Context) (s : Statement) (trees : List Rooted) (due spare extra : Counts) (w : Compilation) →
+statement_effect : (limits : Limits) (context : Context) (s : Statement) (trees : List Rooted) (due spare extra : Counts)
+    (w : Compilation) →
     IsNew s w → Balanced due spare extra w → Balanced due spare extra (part_effect limits context (part.Statement s) trees w)
 unfolding part_effect
 statement_effect limits context s trees due spare extra w h g =
@@ -95,7 +90,8 @@ condition_effect : (limits : Limits) (context : Context) (trees : List Rooted) (
     Balanced due spare extra w → Balanced due spare extra (part_effect limits context part.Condition trees w)
 unfolding part_effect
 condition_effect limits context trees due spare extra w g =
-    code_good {code = tested limits (condition_label w.constructs) (map tree_in trees)} {needs = label_in (condition_label w.constructs)} due spare
+    code_good {code = tested limits (condition_label w.constructs) (map tree_in trees)}
+    {needs = label_in (condition_label w.constructs)} due spare
     extra w.labels w.constructs w.output (tested_owns limits (condition_label w.constructs) (map tree_in trees))
     (λ n. let p = condition_reached w.constructs n in omega (arith, p)) g
 
@@ -137,13 +133,15 @@ carried_statement limits context first s None due spare extra w h g =
     (trees_at (order_of (part.Statement s) w) (wanted_of (part.Statement s)) (settled_of limits context w).operands w) due spare extra v
     (h refl) (settled_good limits context first due spare extra w g)
 
-carried_condition : (limits : Limits) (context : Context) (first : Place) (f : Option Finding) (due spare extra : Counts) (w : Compilation) →
+carried_condition : (limits : Limits) (context : Context) (first : Place) (f : Option Finding) (due spare extra : Counts)
+    (w : Compilation) →
     Balanced due spare extra w → Balanced due spare extra (part_carried limits context first part.Condition f w)
 carried_condition limits context first (Some f) due spare extra w g = g
 carried_condition limits context first None due spare extra w g =
     condition_effect limits context
     (trees_at (order_of part.Condition w) (wanted_of part.Condition) (settled_of limits context w).operands w) due spare extra
-    (record w { output = record (settled_of limits context w).out { first = first } }) (settled_good limits context first due spare extra w g)
+    (record w { output = record (settled_of limits context w).out { first = first } })
+    (settled_good limits context first due spare extra w g)
 
 carried_start : (limits : Limits) (context : Context) (first : Place) (f : Option Finding) (due spare extra : Counts) (w : Compilation) →
     Balanced due spare extra w → Balanced due spare extra (part_carried limits context first part.Start f w)
@@ -151,7 +149,8 @@ carried_start limits context first (Some f) due spare extra w g = g
 carried_start limits context first None due spare extra w g =
     start_effect limits context
     (trees_at (order_of part.Start w) (wanted_of part.Start) (settled_of limits context w).operands w) due spare extra
-    (record w { output = record (settled_of limits context w).out { first = first } }) (settled_good limits context first due spare extra w g)
+    (record w { output = record (settled_of limits context w).out { first = first } })
+    (settled_good limits context first due spare extra w g)
 
 carried_switched : (limits : Limits) (context : Context) (first : Place) (f : Option Finding) (due spare extra : Counts) (w : Compilation) →
     Balanced due spare extra w → Balanced due spare extra (part_carried limits context first part.Switched f w)
@@ -159,7 +158,8 @@ carried_switched limits context first (Some f) due spare extra w g = g
 carried_switched limits context first None due spare extra w g =
     switched_effect limits context
     (trees_at (order_of part.Switched w) (wanted_of part.Switched) (settled_of limits context w).operands w) due spare extra
-    (record w { output = record (settled_of limits context w).out { first = first } }) (settled_good limits context first due spare extra w g)
+    (record w { output = record (settled_of limits context w).out { first = first } })
+    (settled_good limits context first due spare extra w g)
 
 carried_case : (limits : Limits) (context : Context) (first : Place) (f : Option Finding) (due spare extra : Counts) (w : Compilation) →
     Balanced due spare extra w → Balanced due spare extra (part_carried limits context first part.Case f w)
@@ -167,7 +167,8 @@ carried_case limits context first (Some f) due spare extra w g = g
 carried_case limits context first None due spare extra w g =
     case_effect limits context
     (trees_at (order_of part.Case w) (wanted_of part.Case) (settled_of limits context w).operands w) due spare extra
-    (record w { output = record (settled_of limits context w).out { first = first } }) (settled_good limits context first due spare extra w g)
+    (record w { output = record (settled_of limits context w).out { first = first } })
+    (settled_good limits context first due spare extra w g)
 
 -- A unit that gives the place of a label has the finding that it was given before.
 either_some : {B : Type 0} (b : Bool) (f g : Finding) → (if b then Some f else Some g) ≡ None → B
@@ -183,7 +184,8 @@ only_none : (b : Bool) (f : Finding) → only_if b f ≡ None → b ≡ false
 only_none true f e = some_finding e
 only_none false f e = refl
 
-place_finds : (limits : Limits) (context : Context) (w : Compilation) → own_finding limits context (part.Statement statement.Place) w ≡ None →
+place_finds : (limits : Limits) (context : Context) (w : Compilation) →
+    own_finding limits context (part.Statement statement.Place) w ≡ None →
     is_given (bytes_at w.unit.tokens (next_place w.unit.begun)) w.labels ≡ false
 unfolding statement_finding
 place_finds limits context w e = only_none (is_given (bytes_at w.unit.tokens (next_place w.unit.begun)) w.labels) _ e

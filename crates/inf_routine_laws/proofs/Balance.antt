@@ -1,41 +1,24 @@
--- The book of a compilation: labels with names are due until they are given, and an open `switch` has its end and the next case due. Statements
--- that hold others hand labels out, and mark each of them once.
-use Rattle.std.proofs.Common.{arith, ◌≡◌, ◌≤◌, ℕ, List, [], ◌∷◌, ◌++◌, Bool, true, false, Option, Some, None, refl, ◌∙◌, ap, sym, subst}
-use Rattle.std.proofs.Common.{inl, inr}
-use Rattle.std.specs.Prelude.{◌+◌, ◌⊎◌}
+-- The book of a compilation: labels with names are due until they are given, and an open `switch` has its end and the next case due.
+-- Statements that hold others hand labels out, and mark each of them once.
+use Rattle.std.proofs.Common.{arith, ◌≡◌, ◌≤◌, ℕ, List, [], ◌∷◌, Bool, true, false, None, ◌∙◌}
+use Rattle.std.specs.Prelude.{◌+◌}
 use Rattle.inf_settings.specs.Bounds.{Limits}
 use Rattle.inf_opcode.specs.declared.instructions.Label.{Label}
-use Rattle.inf_opcode.specs.declared.opcodes.Opcode.TheVariants as opcode
-use Rattle.inf_area.specs.declared.targets.Target.TheVariants as target
-use Rattle.inf_area.specs.declared.targets.SystemConstant.TheVariants as constant
-use Rattle.inf_expressions.specs.Questions.{children_of}
-use Rattle.inf_expressions.specs.Rooted.{Rooted}
-use Rattle.inf_expressions.specs.Trees.{Tree}
-use Rattle.inf_output.specs.declared.items.Item.{Item}
-use Rattle.inf_output.specs.declared.operands.Simple.{Simple}
-use Rattle.inf_output.specs.declared.operands.Simple.TheVariants.{Known, Later, Variable}
-use Rattle.inf_output.specs.Output.{Code, Out, behind, instruction, items_of, jumped, laid_all, marked, naming, nothing, to, ◌▸◌}
-use Rattle.inf_templates.specs.Meaning.{Meaning, meaning, part}
-use Rattle.inf_templates.specs.Parts.{worked}
+use Rattle.inf_output.specs.Output.{Out, behind, marked}
 use Rattle.inf_constructs.specs.declared.constructs.Case.{Case}
 use Rattle.inf_constructs.specs.declared.constructs.Case.TheVariants as case
 use Rattle.inf_constructs.specs.declared.constructs.Construct.{Construct}
 use Rattle.inf_constructs.specs.declared.constructs.Kind.{Kind}
 use Rattle.inf_constructs.specs.declared.constructs.Kind.TheVariants as kind
-use Rattle.inf_constructs.specs.declared.constructs.Over.{Over}
 use Rattle.inf_constructs.specs.declared.constructs.Over.TheVariants as over
-use Rattle.inf_constructs.specs.Constructs.{between, case_closed, closed, entered, entered_by, front, looped, looped_by, looped_on, opened}
-use Rattle.inf_constructs.specs.Constructs.{over_all, over_children, tested_over, with_labels}
+use Rattle.inf_constructs.specs.Constructs.{opened}
+use Rattle.inf_constructs.specs.Constructs.{with_labels}
 use Rattle.inf_constructs.specs.Labels.{NamedLabel}
 use Rattle.inf_label_laws.specs.Labels.{times}
-use Rattle.inf_label_laws.specs.Programs.{marks, uses}
-use Rattle.inf_label_laws.proofs.Owning.{Owned, has_first, owned_at, owned_before, owned_behind, owned_free, owned_instruction, owned_jump}
-use Rattle.inf_label_laws.proofs.Owning.{owned_mark, owned_naming, owned_nothing, owned_then, owned_wide, some_of_two, times_joined}
-use Rattle.inf_label_laws.proofs.OwnRows.{OwnsAll, owned_worked, owns}
+use Rattle.inf_label_laws.proofs.Owning.{owned_mark}
 use Rattle.inf_routine_laws.specs.Leaving.{LeavesRoutine}
 use Rattle.inf_routine_laws.proofs.Booking.{Came, Counts, Sound, came, one, one_is, paid_together, sound_as, sound_label, sound_paid}
 use Rattle.inf_routine_laws.proofs.Booking.{sound_still}
-use Rattle.inf_routine_laws.proofs.Codes.{items_laid_own, label_in}
 
 -- Labels with names
 
@@ -85,9 +68,11 @@ reached n (c ∷ constructs) = reached_in n c c.kind + reached n constructs
 
 pub record Good (due spare extra : Counts) (labels : List NamedLabel) (constructs : List Construct) (o : Out) : Type 0 where
   pub together : o.kept ≡ None
-  pub sound : Sound (λ n. due n + (named_due n labels + cased n constructs)) spare (λ n. extra n + (reached n constructs + named_all n labels)) o
+  pub sound : Sound (λ n. due n + (named_due n labels + cased n constructs)) spare
+      (λ n. extra n + (reached n constructs + named_all n labels)) o
 
-pub good_paid : (needs given : List ℕ) (due left spare extra : Counts) (labels : List NamedLabel) (constructs : List Construct) (o q : Out) →
+pub good_paid : (needs given : List ℕ) (due left spare extra : Counts) (labels : List NamedLabel) (constructs : List Construct)
+    (o q : Out) →
     Good due spare extra labels constructs o → Came needs given o q → ((n : ℕ) → due n ≡ times n given + left n) →
     ((n : ℕ) → 1 ≤ times n needs → 1 ≤ extra n + (reached n constructs + named_all n labels)) →
     Good left spare extra labels constructs q
@@ -107,7 +92,8 @@ pub good_still : (due spare extra : Counts) (labels : List NamedLabel) (construc
 good_still due spare extra labels constructs o q l g = record {
   together = l.kept ∙ g.together;
   sound =
-      sound_still (λ n. due n + (named_due n labels + cased n constructs)) spare (λ n. extra n + (reached n constructs + named_all n labels))
+      sound_still (λ n. due n + (named_due n labels + cased n constructs)) spare
+      (λ n. extra n + (reached n constructs + named_all n labels))
       o q l g.sound;
 }
 
@@ -126,14 +112,17 @@ good_as due spare extra more rest other labels before after o t g = record {
       (λ n. more n + (named_due n labels + cased n after)) rest (λ n. other n + (reached n after + named_all n labels)) o g.sound
       (λ n. once (more n) (cased n after) (rest n) (due n) (cased n before) (spare n) (named_due n labels) (t.once n))
       (λ n. all (due n) (cased n before) (more n) (cased n after) (named_due n labels) (t.all n))
-      (λ n. known (other n) (reached n after) (extra n) (reached n before) (more n) (cased n after) (named_all n labels) (named_due n labels)
+      (λ n. known (other n) (reached n after) (extra n) (reached n before) (more n) (cased n after) (named_all n labels)
+      (named_due n labels)
       (t.known n));
 }
   where
     once : (m a r d b s l : ℕ) → (m + a) + r ≤ (d + b) + s → (m + (l + a)) + r ≤ (d + (l + b)) + s
     once m a r d b s l h = omega (arith, h)
+
     all : (d b m a l : ℕ) → d + b ≤ m + a → d + (l + b) ≤ m + (l + a)
     all d b m a l h = omega (arith, h)
+
     known : (x r e b m a l k : ℕ) → x + r ≤ (e + b) + (m + a) → 1 ≤ x + (r + l) → 1 ≤ (e + (b + l)) + (m + (k + a))
     known x r e b m a l k h some = omega (arith, h, some)
 
@@ -147,7 +136,8 @@ pub good_label : (due spare extra : Counts) (labels : List NamedLabel) (construc
 good_label due spare extra labels constructs o g = record {
   together = g.together;
   sound =
-      sound_label (λ n. due n + (named_due n labels + cased n constructs)) spare (λ n. extra n + (reached n constructs + named_all n labels)) o
+      sound_label (λ n. due n + (named_due n labels + cased n constructs)) spare
+      (λ n. extra n + (reached n constructs + named_all n labels)) o
       g.sound;
 }
 

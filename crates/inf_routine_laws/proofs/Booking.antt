@@ -1,6 +1,7 @@
--- A book of the labels of the open routine: each is marked, due or spare at most once, and each that is used is marked or due. A label is due
--- that surely is still to be marked, and spare where nothing uses it yet.
-use Rattle.std.proofs.Common.{arith, ◌≡◌, ◌≤◌, ℕ, suc, List, [], ◌∷◌, ◌++◌, Bool, true, false, Option, Some, None, refl, ◌∙◌, ap, sym, subst}
+-- A book of the labels of the open routine: each is marked, due or spare at most once, and each that is used is marked or due. A label is
+-- due that surely is still to be marked, and spare where nothing uses it yet.
+use Rattle.std.proofs.Common.{arith, ◌≡◌, ◌≤◌, ℕ, suc, List, [], ◌∷◌, ◌++◌, Option, Some, None, refl, ◌∙◌, ap, sym}
+use Rattle.std.proofs.Common.{subst}
 use Rattle.std.proofs.Common.{inl, inr}
 use Rattle.std.proofs.lemmas.Bool.{cases_eq, cases_lt}
 use Rattle.std.specs.Prelude.{◌+◌, ◌<◌, ◌⊎◌}
@@ -14,8 +15,9 @@ use Rattle.inf_output.specs.Output.{Code, Out, behind, grown}
 use Rattle.inf_interpreter.specs.Claims.{Laid, all_grown, code_behind, kept_behind}
 use Rattle.inf_label_laws.specs.Labels.{times}
 use Rattle.inf_label_laws.specs.Programs.{branch_labels, marks, operand_labels, uses}
-use Rattle.inf_label_laws.proofs.Owning.{Owned, Owns, Settles, behind_is, marks_joined, some_of_two, times_first, times_joined, times_other, uses_joined}
-use Rattle.inf_routine_laws.proofs.Counting.{AreWhole, cell_marks, cell_marks_joined, cell_uses, cell_uses_joined, instruction_marks}
+use Rattle.inf_label_laws.proofs.Owning.{Owned, Settles, behind_is, marks_joined, some_of_two, times_first, times_joined, times_other}
+use Rattle.inf_label_laws.proofs.Owning.{uses_joined}
+use Rattle.inf_routine_laws.proofs.Counting.{cell_marks, cell_marks_joined, cell_uses, cell_uses_joined, instruction_marks}
 use Rattle.inf_routine_laws.proofs.Counting.{instruction_uses}
 use Rattle.inf_routine_laws.specs.Leaving.{LeavesRoutine}
 use Rattle.std.proofs.Common.{append_assoc, append-nil}
@@ -64,7 +66,8 @@ grew_instruction i c cells e = (
       ∙ sym (ap (λ ns. operand_labels i.operands ++ ns) (append-nil (branch_labels i.branch))))),
 )
 
-grew_one : (item : Item) (code : Routines) (opened : Option Opened) (now : Opened) → code.opened ≡ opened → (grown item code).opened ≡ Some now
+grew_one : (item : Item) (code : Routines) (opened : Option Opened) (now : Opened) → code.opened ≡ opened →
+    (grown item code).opened ≡ Some now
     → GrewFrom (item ∷ []) opened now
 grew_one (Instruction i) code None now e h =
     some_none (sym (ap (λ o. (grown (Instruction i) (record code { opened = o })).opened) e) ∙ h)
@@ -139,6 +142,7 @@ booked_paid needs given due left spare need low high cells now items b m u s h k
   where
     marked : (n : ℕ) → times n (cell_marks now) ≡ times n (cell_marks cells) + times n (marks items)
     marked n = ap (times n) m ∙ times_joined n (cell_marks cells) (marks items)
+
     once : (n : ℕ) → (n < low) ⊎ (low ≤ n) → times n (cell_marks now) + left n + spare n ≤ 1
     once n (inl less) =
         let e = marked n in
@@ -152,8 +156,10 @@ booked_paid needs given due left spare need low high cells now items b m u s h k
         let p = b.over n more in
         let q = s.within.once n in
         omega (arith, e, d, p, q)
+
     parted : (n : ℕ) → 1 ≤ times n (cell_uses now) + need n → 1 ≤ (times n (cell_uses cells) + need n) + times n (uses items)
     parted n used = let e = ap (times n) u ∙ times_joined n (cell_uses cells) (uses items) in omega (arith, e, used)
+
     before : (n : ℕ) → 1 ≤ times n (cell_uses cells) + need n → 1 ≤ times n (cell_marks now) + left n
     before n used =
         let e = marked n in
@@ -161,9 +167,11 @@ booked_paid needs given due left spare need low high cells now items b m u s h k
         let p = b.known n used in
         let q = s.all n in
         omega (arith, e, d, p, q)
+
     needed : (n : ℕ) → (1 ≤ times n needs) ⊎ (1 ≤ times n (marks items)) → 1 ≤ times n (cell_marks now) + left n
     needed n (inl some) = let p = k n some in before n (omega (arith, p))
     needed n (inr own) = let e = marked n in omega (arith, e, own)
+
     known : (n : ℕ) → (1 ≤ times n (cell_uses cells) + need n) ⊎ (1 ≤ times n (uses items)) → 1 ≤ times n (cell_marks now) + left n
     known n (inl used) = before n used
     known n (inr used) = needed n (some_of_two (times n needs) (times n (marks items)) (s.known n used))
@@ -180,9 +188,11 @@ booked_as due spare need more rest other next cells b f g h = record {
   where
     still : (n : ℕ) → 1 ≤ times n (cell_uses cells) + need n → 1 ≤ times n (cell_marks cells) + more n
     still n used = let p = b.known n used in let q = g n in omega (arith, p, q)
+
     needed : (n : ℕ) → (1 ≤ need n) ⊎ (1 ≤ more n) → 1 ≤ times n (cell_marks cells) + more n
     needed n (inl before) = still n (omega (arith, before))
     needed n (inr now) = omega (arith, now)
+
     known : (n : ℕ) → (1 ≤ times n (cell_uses cells)) ⊎ (1 ≤ other n) → 1 ≤ times n (cell_marks cells) + more n
     known n (inl used) = still n (omega (arith, used))
     known n (inr some) = needed n (some_of_two (need n) (more n) (h n some))

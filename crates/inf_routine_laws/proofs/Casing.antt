@@ -1,5 +1,5 @@
 -- Cases, joints, and loops over objects, in the book of labels.
-use Rattle.std.proofs.Common.{arith, ◌≡◌, ◌≤◌, ℕ, List, [], ◌∷◌, ◌++◌, Bool, true, false, Option, Some, None, refl, ◌∙◌, ap, sym, subst}
+use Rattle.std.proofs.Common.{arith, ◌≡◌, ◌≤◌, ℕ, List, [], ◌∷◌, ◌++◌, Bool, true, false, Option, Some, None, refl, ap, sym, subst}
 use Rattle.std.specs.Prelude.{◌+◌, unwrap_or}
 use Rattle.inf_settings.specs.Bounds.{Limits}
 use Rattle.inf_opcode.specs.declared.instructions.Label.{Label}
@@ -9,9 +9,8 @@ use Rattle.inf_expressions.specs.Rooted.{Rooted}
 use Rattle.inf_expressions.specs.Trees.{Tree}
 use Rattle.inf_output.specs.declared.operands.Simple.{Simple}
 use Rattle.inf_output.specs.declared.operands.Simple.TheVariants.{Known}
-use Rattle.inf_output.specs.Output.{Code, Out, behind, jumped, marked, naming, nothing, to, ◌▸◌}
+use Rattle.inf_output.specs.Output.{Code, Out, behind, jumped, marked, to, ◌▸◌}
 use Rattle.inf_templates.specs.Meaning.{Meaning, meaning, part}
-use Rattle.inf_templates.specs.Parts.{worked}
 use Rattle.inf_constructs.specs.declared.constructs.Case.{Case}
 use Rattle.inf_constructs.specs.declared.constructs.Case.TheVariants as case
 use Rattle.inf_constructs.specs.declared.constructs.Construct.{Construct}
@@ -23,11 +22,11 @@ use Rattle.inf_constructs.specs.Constructs.{between, case_closed, changed, close
 use Rattle.inf_constructs.specs.Constructs.{looped_by, looped_over, over_all, over_children, tested_over, with_case}
 use Rattle.inf_constructs.specs.Labels.{NamedLabel}
 use Rattle.inf_label_laws.specs.Labels.{times}
-use Rattle.inf_label_laws.proofs.Owning.{Owned, owned_at, owned_before, owned_behind, owned_free, owned_jump, owned_mark, owned_naming}
+use Rattle.inf_label_laws.proofs.Owning.{Owned, owned_before, owned_behind, owned_jump, owned_mark, owned_naming}
 use Rattle.inf_label_laws.proofs.Owning.{owned_nothing, owned_then, times_joined}
 use Rattle.inf_label_laws.proofs.OwnRows.{OwnsAll, owned_worked, owns}
-use Rattle.inf_routine_laws.proofs.Booking.{Came, Counts, came, one, one_is}
-use Rattle.inf_routine_laws.proofs.Balance.{Good, Turns, case_due, cased, cased_in, good_as, good_label, good_paid, loop_due, named_all}
+use Rattle.inf_routine_laws.proofs.Booking.{Counts, came, one, one_is}
+use Rattle.inf_routine_laws.proofs.Balance.{Good, case_due, cased_in, good_as, good_label, good_paid, loop_due, named_all}
 use Rattle.inf_routine_laws.proofs.Balance.{reached, reached_in, top_known}
 use Rattle.inf_routine_laws.proofs.Constructing.{jump_mark, marks_one, needs_one, none_needed}
 
@@ -158,7 +157,8 @@ abbrev Joined : Limits → Counts → Counts → Counts → List NamedLabel → 
 Joined limits due spare extra labels c around o k =
     Good due spare extra labels (record c { kind = kind_behind k } ∷ around) (joint limits c k o)
 
-pub joined_if : (limits : Limits) (due spare extra : Counts) (labels : List NamedLabel) (c : Construct) (around : List Construct) (o : Out) →
+pub joined_if : (limits : Limits) (due spare extra : Counts) (labels : List NamedLabel) (c : Construct) (around : List Construct)
+    (o : Out) →
     c.kind ≡ kind.If → Good (λ n. one n c.next + due n) (λ n. one n c.end + spare n) extra labels (c ∷ around) o →
     let j = between limits c o in Good (λ n. one n j.0.end + due n) spare extra labels (j.0 ∷ around) j.1
 unfolding between
@@ -178,7 +178,8 @@ joined_if limits due spare extra labels c around o e g =
     (came {needs = c.end.number ∷ []} {given = c.next.number ∷ []} (jump_mark limits c.end c.next) o) (marks_one c.next left)
     (λ n some. needs_one c.end n (extra n + (reached n (d ∷ around) + named_all n labels)) (omega arith) some))
 
-pub joined_do : (limits : Limits) (due spare extra : Counts) (labels : List NamedLabel) (c : Construct) (around : List Construct) (o : Out) →
+pub joined_do : (limits : Limits) (due spare extra : Counts) (labels : List NamedLabel) (c : Construct) (around : List Construct)
+    (o : Out) →
     c.kind ≡ kind.Do → Good (λ n. one n c.next + (one n c.end + due n)) spare extra labels (c ∷ around) o →
     let j = between limits c o in Good (λ n. one n j.0.end + due n) spare extra labels (j.0 ∷ around) j.1
 unfolding between
@@ -197,7 +198,8 @@ joined_do limits due spare extra labels c around o e g =
     (came {needs = []} {given = c.next.number ∷ []} (owned_mark limits c.next) o) (marks_one c.next left)
     (λ n some. none_needed n (extra n + (reached n (d ∷ around) + named_all n labels)) some))
 
-pub joined_for : (limits : Limits) (due spare extra : Counts) (labels : List NamedLabel) (c : Construct) (around : List Construct) (o : Out) →
+pub joined_for : (limits : Limits) (due spare extra : Counts) (labels : List NamedLabel) (c : Construct) (around : List Construct)
+    (o : Out) →
     c.kind ≡ kind.For → Good (loop_due c due) spare (top_known c extra) labels (c ∷ around) o →
     let j = between limits c o in
     Good (λ n. one n j.0.next + (one n j.0.end + due n)) spare (top_known j.0 extra) labels (j.0 ∷ around) j.1
@@ -246,7 +248,8 @@ joined_over limits over.Nothing v due spare extra labels c around o e g =
     (λ n some. none_needed n (top_known c extra n + (reached n (d ∷ around) + named_all n labels)) some)
 joined_over limits over.Children v due spare extra labels c around o e g =
     let d = record c { kind = kind.Objects over.Children v } in
-    good_as (objects_due over.Children c due) spare (top_known c extra) (λ n. one n c.next + (one n c.end + due n)) spare (top_known c extra)
+    good_as (objects_due over.Children c due) spare (top_known c extra) (λ n. one n c.next + (one n c.end + due n)) spare
+    (top_known c extra)
     labels (c ∷ around) (d ∷ around) o
     (record {
       once = λ n. let i = ap (cased_in n c) e in omega (arith, i);
@@ -304,7 +307,8 @@ looped_as : (limits : Limits) (code : Code) (needs : Label) (how : Over) (v : �
 looped_as limits code needs how v due spare extra labels c around o e among none owned g =
     let d = record c { kind = kind.Objects how v } in
     let left : Counts = λ n. one n c.next + (one n c.end + due n) in
-    let paid = good_paid (needs.number ∷ []) (c.top.number ∷ []) (loop_due c due) left spare (top_known c extra) labels (c ∷ around) o (code o) g
+    let paid = good_paid (needs.number ∷ []) (c.top.number ∷ []) (loop_due c due) left spare (top_known c extra) labels (c ∷ around) o
+    (code o) g
     (came {needs = needs.number ∷ []} {given = c.top.number ∷ []} owned o) (marks_one c.top left)
     (λ n some. needs_one needs n (top_known c extra n + (reached n (c ∷ around) + named_all n labels))
     (let i = ap (reached_in n c) e in let a = among n in omega (arith, i, a)) some) in

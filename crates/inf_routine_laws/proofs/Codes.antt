@@ -1,12 +1,11 @@
 -- The code of statements marks labels of its own, and needs no others but those to which `break`, `continue` and conditions go.
 use Rattle.std.proofs.Common.{arith, ◌≡◌, ◌≤◌, ℕ, List, [], ◌∷◌, ◌++◌, Bool, true, false, Option, Some, None, refl, ◌∙◌, ap, sym, subst}
-use Rattle.std.specs.Prelude.{slice_get, ◌==◌, ◌+◌, ◌<◌, if◌then◌else◌}
+use Rattle.std.specs.Prelude.{◌==◌, ◌+◌, ◌<◌, if◌then◌else◌}
 use Rattle.inf_settings.specs.Bounds.{Limits}
 use Rattle.inf_area.specs.declared.targets.Target.{Target}
 use Rattle.inf_characters.specs.declared.characters.CharSet.{CharSet}
 use Rattle.inf_characters.specs.declared.texts.TextItem.{TextItem}
 use Rattle.inf_text.specs.Packing.{packed}
-use Rattle.inf_opcode.specs.declared.instructions.Branch.{Branch}
 use Rattle.inf_opcode.specs.declared.instructions.Label.{Label}
 use Rattle.inf_opcode.specs.declared.opcodes.Opcode.{Opcode}
 use Rattle.inf_opcode.specs.declared.opcodes.Opcode.TheVariants as opcode
@@ -19,12 +18,12 @@ use Rattle.inf_output.specs.declared.operands.Simple.{Simple}
 use Rattle.inf_output.specs.declared.operands.Simple.TheVariants.{Known, Later, Variable}
 use Rattle.inf_output.specs.declared.veneer.Veneer.{Veneer}
 use Rattle.inf_output.specs.declared.veneer.Veneer.TheVariants as veneer
-use Rattle.inf_output.specs.Output.{Code, Out, instruction, jumped, laid, laid_all, low_string_at, marked, nothing, to, with_low_text, ◌▸◌}
+use Rattle.inf_output.specs.Output.{Code, Out, instruction, laid, laid_all, low_string_at, nothing, to, with_low_text}
 use Rattle.inf_output.specs.Output.{with_low_text_by}
 use Rattle.inf_output.specs.Texts.{used_in}
 use Rattle.inf_tables.specs.LowStrings.{low_fits}
 use Rattle.inf_templates.specs.Meaning.{Meaning, meaning, part}
-use Rattle.inf_templates.specs.Parts.{Part, SP, TEMP, call, call_routine, is, worked}
+use Rattle.inf_templates.specs.Parts.{Part, SP, TEMP, is}
 use Rattle.inf_unit.specs.Tokens.{SourceToken}
 use Rattle.inf_unit.specs.declared.items.Item.{Item}
 use Rattle.inf_unit.specs.declared.items.Item.TheVariants as item
@@ -36,15 +35,15 @@ use Rattle.inf_statements.specs.Printing.{called_with, ends_behind, ended, item_
 use Rattle.inf_statements.specs.Printing.{trees_behind, veneer_called}
 use Rattle.inf_statements.specs.Statements.{abbreviations, action_laid, action_on, alone, are_several, attribute_code, attribute_opcode}
 use Rattle.inf_statements.specs.Statements.{attributes_changed, attributes_given, given_by, jumped_to, moved, one_worked, plain, printed}
-use Rattle.inf_statements.specs.Statements.{rest, returned, returned_by, returned_number, spaced, string_changed, string_of, string_set}
-use Rattle.inf_statements.specs.Statements.{style_of, styled, styled_by, switched, tested, text_packed, unless}
+use Rattle.inf_statements.specs.Statements.{rest, returned, returned_by, returned_number, spaced, string_changed, string_set}
+use Rattle.inf_statements.specs.Statements.{styled_by, switched, tested, text_packed, unless}
 use Rattle.inf_label_laws.specs.Labels.{times}
 use Rattle.inf_label_laws.specs.Programs.{branch_labels, marks, operand_labels, uses}
 use Rattle.inf_label_laws.proofs.Owning.{Owned, Owns, Settles, has_first, has_later, owned_at, owned_before, owned_behind, owned_free}
-use Rattle.inf_label_laws.proofs.Owning.{owned_instruction, owned_jump, owned_label, owned_mark, owned_naming, owned_nothing}
+use Rattle.inf_label_laws.proofs.Owning.{owned_instruction, owned_jump, owned_label, owned_mark, owned_nothing}
 use Rattle.inf_label_laws.proofs.Owning.{owned_item, owned_parts_laid, owned_then, owned_wide, times_joined}
-use Rattle.inf_label_laws.proofs.OwnRows.{OwnsAll, OwnsPart, OwnsParts, owned_ask, owned_call, owned_parts, owned_worked, owns, simple_owns}
-use Rattle.inf_interpreter.specs.Claims.{Laid, code_behind, kept_behind}
+use Rattle.inf_label_laws.proofs.OwnRows.{OwnsAll, OwnsPart, owned_ask, owned_call, owned_worked, owns, simple_owns}
+use Rattle.inf_interpreter.specs.Claims.{code_behind, kept_behind}
 
 -- An output in which something beside code has changed
 pub record Idle (o p : Out) : Type 0 where
@@ -94,9 +93,11 @@ printed_owns limits op (Some text) o =
 
 number_owns : (limits : Limits) (n : ℕ) → Owned (returned_number limits n) [] []
 number_owns limits n =
-    if_owns (n == 1) (plain limits opcode.Rtrue) (if n == 0 then plain limits opcode.Rfalse else instruction limits opcode.Ret (Known n ∷ [])
+    if_owns (n == 1) (plain limits opcode.Rtrue)
+    (if n == 0 then plain limits opcode.Rfalse else instruction limits opcode.Ret (Known n ∷ [])
     None None) (plain_owns limits opcode.Rtrue)
-    (if_owns (n == 0) (plain limits opcode.Rfalse) (instruction limits opcode.Ret (Known n ∷ []) None None) (plain_owns limits opcode.Rfalse)
+    (if_owns (n == 0) (plain limits opcode.Rfalse) (instruction limits opcode.Ret (Known n ∷ []) None None)
+    (plain_owns limits opcode.Rfalse)
     (owned_instruction limits opcode.Ret (Known n ∷ []) None None))
 
 by_owns : (limits : Limits) (x : Option Simple) (m : Meaning) → OwnsAll m → Owned (returned_by limits x m) [] []
@@ -148,7 +149,8 @@ attributes_owns limits object h [] attributes = owned_nothing
 attributes_owns limits object h (i ∷ items) attributes =
     owned_before (attribute_owns limits (attribute_opcode i) object h attributes) (attributes_owns limits object h items (rest attributes))
 
-given_owns : (limits : Limits) (several : Bool) (x : Option Simple) (m : Meaning) → OwnsAll m → (items : List Item) (attributes : List Tree) →
+given_owns : (limits : Limits) (several : Bool) (x : Option Simple) (m : Meaning) → OwnsAll m →
+    (items : List Item) (attributes : List Tree) →
     Owned (given_by limits several x m items attributes) [] []
 given_owns limits true None m h items attributes =
     owned_before (h.value TEMP) (attributes_owns limits (is (Variable TEMP)) (simple_owns (Variable TEMP)) items attributes)
@@ -254,7 +256,8 @@ item_owns limits set tokens returns others item.Value trees = one_owns limits op
 item_owns limits set tokens returns others (item.Ruled r) trees = rule_owns limits r trees
 item_owns limits set tokens returns others _ trees = owned_nothing
 
-pub items_own : (limits : Limits) (set : CharSet) (tokens : List SourceToken) (returns ends : Bool) (items : List Item) (trees : List Tree) →
+pub items_own : (limits : Limits) (set : CharSet) (tokens : List SourceToken) (returns ends : Bool) (items : List Item)
+    (trees : List Tree) →
     Owned (items_printed limits set tokens returns ends items trees) [] []
 items_own limits set tokens returns ends [] trees = ended_owns limits ends
 items_own limits set tokens returns ends (i ∷ items) trees =
@@ -263,7 +266,8 @@ items_own limits set tokens returns ends (i ∷ items) trees =
 
 -- The tests of a case, which lead to its body or to the next one
 
-group_owns : (limits : Limits) (group : List Simple) (sense : Bool) (l : Label) → Owned (group_tested limits group sense l) (l.number ∷ []) []
+group_owns : (limits : Limits) (group : List Simple) (sense : Bool) (l : Label) →
+    Owned (group_tested limits group sense l) (l.number ∷ []) []
 unfolding group_tested
 group_owns limits [] sense l = owned_nothing
 group_owns limits (a ∷ others) sense l = owned_instruction limits opcode.Je (Variable SWITCHED ∷ a ∷ others) None (to sense l)
@@ -331,7 +335,8 @@ case_code_owns limits (Some next) values = case_owns limits values next
 pub items_laid_own : (limits : Limits) (items : List CodeItem) → Owned (laid_all limits items) (uses items) (marks items)
 items_laid_own limits [] = owned_nothing
 items_laid_own limits ((Instruction i) ∷ items) =
-    owned_then {c = laid limits (Instruction i)} {d = laid_all limits items} {needs = uses (Instruction i ∷ items)} {a = []} {b = marks items}
+    owned_then {c = laid limits (Instruction i)} {d = laid_all limits items}
+    {needs = uses (Instruction i ∷ items)} {a = []} {b = marks items}
     (owned_wide {c = laid limits (Instruction i)} {a = uses (Instruction i ∷ [])} (λ n h. first n h) (owned_item limits (Instruction i)))
     (owned_wide {c = laid_all limits items} {a = uses items} (λ n h. later n h) (items_laid_own limits items))
   where
@@ -340,12 +345,15 @@ items_laid_own limits ((Instruction i) ∷ items) =
     parts n =
         times_joined n (operand_labels i.operands) (branch_labels i.branch ++ uses items)
         ∙ ap (λ k. times n (operand_labels i.operands) + k) (times_joined n (branch_labels i.branch) (uses items))
+
     alone : (n : ℕ) → times n (uses (Instruction i ∷ [])) ≡ times n (operand_labels i.operands) + (times n (branch_labels i.branch) + 0)
     alone n =
         times_joined n (operand_labels i.operands) (branch_labels i.branch ++ [])
         ∙ ap (λ k. times n (operand_labels i.operands) + k) (times_joined n (branch_labels i.branch) [])
+
     first : (n : ℕ) → 1 ≤ times n (uses (Instruction i ∷ [])) → 1 ≤ times n (uses (Instruction i ∷ items))
     first n h = let e = parts n in let d = alone n in omega (arith, h, e, d)
+
     later : (n : ℕ) → 1 ≤ times n (uses items) → 1 ≤ times n (uses (Instruction i ∷ items))
     later n h = let e = parts n in omega (arith, h, e)
 items_laid_own limits ((Mark l) ∷ items) =

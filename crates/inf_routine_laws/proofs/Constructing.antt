@@ -1,38 +1,27 @@
 -- The joints and ends of statements that hold others, their cases, and the beginning of loops over objects, each in the book of labels.
-use Rattle.std.proofs.Common.{arith, ◌≡◌, ◌≤◌, ℕ, List, [], ◌∷◌, ◌++◌, Bool, true, false, Option, Some, None, refl, ◌∙◌, ap, sym, subst}
-use Rattle.std.specs.Prelude.{◌+◌, unwrap_or}
+use Rattle.std.proofs.Common.{arith, ◌≡◌, ◌≤◌, ℕ, List, [], ◌∷◌, ◌++◌, true, false, Some, None, ap, sym, subst}
+use Rattle.std.specs.Prelude.{◌+◌}
 use Rattle.inf_settings.specs.Bounds.{Limits}
 use Rattle.inf_opcode.specs.declared.instructions.Label.{Label}
 use Rattle.inf_opcode.specs.declared.opcodes.Opcode.TheVariants as opcode
 use Rattle.inf_area.specs.declared.targets.Target.TheVariants as target
 use Rattle.inf_area.specs.declared.targets.SystemConstant.TheVariants as constant
-use Rattle.inf_expressions.specs.Questions.{children_of}
-use Rattle.inf_expressions.specs.Rooted.{Rooted}
-use Rattle.inf_expressions.specs.Trees.{Tree}
-use Rattle.inf_output.specs.declared.items.Item.{Item}
-use Rattle.inf_output.specs.declared.operands.Simple.{Simple}
-use Rattle.inf_output.specs.declared.operands.Simple.TheVariants.{Known, Later, Variable}
-use Rattle.inf_output.specs.Output.{Code, Out, behind, instruction, items_of, jumped, laid_all, marked, naming, nothing, to, ◌▸◌}
-use Rattle.inf_templates.specs.Meaning.{Meaning, meaning, part}
-use Rattle.inf_templates.specs.Parts.{worked}
-use Rattle.inf_constructs.specs.declared.constructs.Case.{Case}
-use Rattle.inf_constructs.specs.declared.constructs.Case.TheVariants as case
+use Rattle.inf_output.specs.declared.operands.Simple.TheVariants.{Later, Variable}
+use Rattle.inf_output.specs.Output.{Out, items_of, jumped, laid_all, marked, to, ◌▸◌}
 use Rattle.inf_constructs.specs.declared.constructs.Construct.{Construct}
-use Rattle.inf_constructs.specs.declared.constructs.Kind.{Kind}
 use Rattle.inf_constructs.specs.declared.constructs.Kind.TheVariants as kind
 use Rattle.inf_constructs.specs.declared.constructs.Over.{Over}
 use Rattle.inf_constructs.specs.declared.constructs.Over.TheVariants as over
-use Rattle.inf_constructs.specs.Constructs.{between, case_closed, case_entered, closed, ending, entered, entered_by, looped, looped_by}
-use Rattle.inf_constructs.specs.Constructs.{looped_on, looped_over, over_all, over_children, tested_over}
+use Rattle.inf_constructs.specs.Constructs.{closed, ending}
+use Rattle.inf_constructs.specs.Constructs.{looped_on}
 use Rattle.inf_constructs.specs.Labels.{NamedLabel}
 use Rattle.inf_label_laws.specs.Labels.{times}
 use Rattle.inf_label_laws.specs.Programs.{marks, uses}
-use Rattle.inf_label_laws.proofs.Owning.{Owned, has_first, owned_at, owned_before, owned_behind, owned_free, owned_instruction, owned_jump}
-use Rattle.inf_label_laws.proofs.Owning.{owned_mark, owned_naming, owned_nothing, owned_then, owned_wide, some_of_two, times_joined}
-use Rattle.inf_label_laws.proofs.OwnRows.{OwnsAll, owned_worked, owns}
+use Rattle.inf_label_laws.proofs.Owning.{Owned, has_first, owned_at, owned_behind, owned_instruction, owned_jump}
+use Rattle.inf_label_laws.proofs.Owning.{owned_mark, owned_naming, owned_nothing, owned_then, owned_wide, times_joined}
 use Rattle.inf_routine_laws.proofs.Booking.{Came, Counts, came, one, one_is}
-use Rattle.inf_routine_laws.proofs.Balance.{Good, Turns, case_due, cased, cased_in, good_as, good_paid, named_all, reached, reached_in}
-use Rattle.inf_routine_laws.proofs.Codes.{items_laid_own, label_in}
+use Rattle.inf_routine_laws.proofs.Balance.{Good, Turns, cased_in, good_as, good_paid, named_all, reached, reached_in}
+use Rattle.inf_routine_laws.proofs.Codes.{items_laid_own}
 
 -- Code that marks one label, which is due, and needs one
 
@@ -77,7 +66,8 @@ ends_if limits due spare extra labels c around o e l g =
       known = λ n. omega arith;
     }) g)
 
-pub ends_else : (limits : Limits) (due spare extra : Counts) (labels : List NamedLabel) (c : Construct) (around : List Construct) (o : Out) →
+pub ends_else : (limits : Limits) (due spare extra : Counts) (labels : List NamedLabel) (c : Construct) (around : List Construct)
+    (o : Out) →
     c.kind ≡ kind.Else → Good (λ n. one n c.end + due n) spare extra labels (c ∷ around) o →
     Good due spare extra labels around (closed limits c o)
 unfolding closed
@@ -152,7 +142,8 @@ ends_for limits due spare extra labels c around o e g =
     (owned_mark limits c.end))) in
     subst (λ k. Good due spare extra labels around (ending limits c k o)) (sym e)
     (ends_by needs given (λ n. step_marks c n + (one n c.next + (one n c.end + due n))) spare
-    (λ n. step_uses c n + (one n c.top + extra n)) due due spare extra labels c around o (code o) (came {needs = needs} {given = given} owned o)
+    (λ n. step_uses c n + (one n c.top + extra n)) due due spare extra labels c around o (code o)
+    (came {needs = needs} {given = given} owned o)
     (λ n.
     let a = times_joined n (c.next.number ∷ []) (marks items ++ c.end.number ∷ []) in
     let b = times_joined n (marks items) (c.end.number ∷ []) in
@@ -173,8 +164,10 @@ ends_for limits due spare extra labels c around o e g =
   where
     later : (n m : ℕ) (ns : List ℕ) → 1 ≤ times n ns → 1 ≤ times n (m ∷ ns)
     later n m ns h = let e = times_joined n (m ∷ []) ns in omega (arith, e, h)
+
     paid : (s a b d g x y z : ℕ) → g ≡ x + z → z ≡ s + y → x ≡ a → y ≡ b → s + (a + (b + d)) ≡ g + d
     paid s a b d g x y z p q r t = omega (arith, p, q, r, t)
+
     some : (u t x r g y : ℕ) → g ≡ y + u → y ≡ t → 1 ≤ g → 1 ≤ (u + (t + x)) + r
     some u t x r g y p q h = omega (arith, p, q, h)
 
@@ -199,7 +192,8 @@ ends_objects limits due spare extra labels c around o how v e g =
     (owned_mark limits c.next)
     (owned_behind {c = looped_on limits how v c.top} {needs = needs} (looped_on_owns limits how v c.top) (owned_mark limits c.end)) in
     subst (λ k. Good due spare extra labels around (ending limits c k o)) (sym e)
-    (ends_by needs given (λ n. one n c.next + (one n c.end + due n)) spare (λ n. one n c.top + extra n) due due spare extra labels c around o
+    (ends_by needs given (λ n. one n c.next + (one n c.end + due n)) spare
+    (λ n. one n c.top + extra n) due due spare extra labels c around o
     (code o) (came {needs = needs} {given = given} owned o)
     (λ n.
     let a = times_joined n (c.next.number ∷ []) (c.end.number ∷ []) in

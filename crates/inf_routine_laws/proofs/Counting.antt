@@ -1,8 +1,8 @@
 -- Labels that cells mark, branch to and jump to: where each is marked once, and each that is used is marked, no label is missing or twice.
-use Rattle.std.proofs.Common.{arith, ◌≡◌, ◌≤◌, ℕ, List, [], ◌∷◌, ◌++◌, Bool, true, false, Option, Some, None, refl, ◌∙◌, ap, sym, subst}
+use Rattle.std.proofs.Common.{arith, ◌≡◌, ◌≤◌, ℕ, List, [], ◌∷◌, ◌++◌, true, Option, Some, None, refl, ◌∙◌, ap, sym, subst}
 use Rattle.std.proofs.Common.{append_assoc, append-nil, inl, inr}
 use Rattle.std.proofs.lemmas.Bool.{cases_eq, eq-eqb, ne_eqb}
-use Rattle.std.specs.Prelude.{◌+◌, ◌==◌, ◌⊎◌, is_some, if◌then◌else◌}
+use Rattle.std.specs.Prelude.{◌+◌, ◌⊎◌, is_some, if◌then◌else◌}
 use Rattle.std.specs.List.{flat_map}
 use Rattle.inf_opcode.specs.declared.cells.Special.TheVariants.{Branches, Jumps, Marks, Refers}
 use Rattle.inf_opcode.specs.declared.instructions.Branch.{Branch}
@@ -14,11 +14,10 @@ use Rattle.inf_opcode.specs.declared.instructions.Operand.TheVariants.{Large, La
 use Rattle.inf_opcode.specs.Cells.{Cell, Of, Plain, plain}
 use Rattle.inf_opcode.specs.Instructions.{Parts, branch_cells, heading, instruction_cells, operand_cells, store_cells}
 use Rattle.inf_opcode.specs.Opcodes.{row_of}
-use Rattle.inf_assembler.specs.declared.routines.CloseFault.{CloseFault}
 use Rattle.inf_assembler.specs.Places.{Places, first_of, label_of, long_place, missing, twice_behind, unplaced}
 use Rattle.inf_label_laws.specs.Labels.{times}
 use Rattle.inf_label_laws.specs.Programs.{branch_labels, operand_labels, target_labels}
-use Rattle.inf_label_laws.proofs.Owning.{some_of_two, times_first, times_joined, times_other}
+use Rattle.inf_label_laws.proofs.Owning.{times_first, times_joined, times_other}
 
 abbrev pub cell_marks : List Cell → List ℕ
 cell_marks [] = []

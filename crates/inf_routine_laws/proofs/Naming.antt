@@ -1,19 +1,17 @@
 -- Labels with names, in the book of labels: one that is used is due until its place is given, and is given once.
-use Rattle.std.proofs.Common.{arith, ◌≡◌, ◌≤◌, ℕ, List, [], ◌∷◌, ◌++◌, Bool, true, false, Option, Some, None, refl, ◌∙◌, ap, sym, subst}
-use Rattle.std.proofs.Common.{inl, inr}
-use Rattle.std.specs.Prelude.{◌+◌, ◌⊎◌, if◌then◌else◌}
+use Rattle.std.proofs.Common.{arith, ◌≡◌, ◌≤◌, ℕ, List, [], ◌∷◌, Bool, true, false, Option, Some, None, refl, ap, sym}
+use Rattle.std.specs.Prelude.{◌+◌, if◌then◌else◌}
 use Rattle.std.specs.Str.{bytes_eq}
 use Rattle.inf_settings.specs.Bounds.{Limits}
 use Rattle.inf_opcode.specs.declared.instructions.Label.{Label}
 use Rattle.inf_names.specs.Symbols.{folded}
-use Rattle.inf_output.specs.Output.{Code, Out, behind, jumped, marked, next_label}
+use Rattle.inf_output.specs.Output.{Out, behind, jumped, marked, next_label}
 use Rattle.inf_constructs.specs.declared.constructs.Construct.{Construct}
-use Rattle.inf_constructs.specs.Labels.{Known, NamedLabel, given, given_by, is_given, known_of, label_of, label_or, put, wanted, wanted_by}
+use Rattle.inf_constructs.specs.Labels.{Known, NamedLabel, given_by, is_given, known_of, label_or, put, wanted_by}
 use Rattle.inf_constructs.specs.Labels.{was_given}
 use Rattle.inf_statements.specs.Assembly.{labelled, placed}
-use Rattle.inf_label_laws.specs.Labels.{times}
-use Rattle.inf_label_laws.proofs.Owning.{Owned, owned_jump, owned_mark, some_of_two}
-use Rattle.inf_routine_laws.proofs.Booking.{Came, Counts, came, one, one_is, paid_together, sound_as, sound_paid}
+use Rattle.inf_label_laws.proofs.Owning.{owned_jump, owned_mark}
+use Rattle.inf_routine_laws.proofs.Booking.{Counts, came, one, one_is, paid_together, sound_as, sound_paid}
 use Rattle.inf_routine_laws.proofs.Balance.{Good, cased, good_label, named_all, named_due, reached, unless_given}
 use Rattle.inf_routine_laws.proofs.Constructing.{needs_one, none_needed}
 
@@ -26,7 +24,8 @@ some_same e = cc e
 -- Lists of labels with names
 
 -- a label that is found is one of them
-found_all : (n : ℕ) (key : List ℕ) (labels : List NamedLabel) (k : Known) → known_of key labels ≡ Some k → one n k.label ≤ named_all n labels
+found_all : (n : ℕ) (key : List ℕ) (labels : List NamedLabel) (k : Known) → known_of key labels ≡ Some k →
+    one n k.label ≤ named_all n labels
 found_all n key [] k e = not_some e
 found_all n key (l ∷ labels) k e = go (bytes_eq key l.key) e (λ f. found_all n key labels k f)
   where
@@ -68,6 +67,7 @@ put_due n key spelling k (l ∷ labels) e h = go (bytes_eq key l.key) e (λ f. p
   where
     now : Known
     now = record { spelling = spelling; label = k.label; is_given = true }
+
     go : (b : Bool) → (if b then Some l.known else known_of key labels) ≡ Some k
         → (known_of key labels ≡ Some k → named_due n labels ≡ one n k.label + named_due n (put key now labels)) →
         unless_given l.known.is_given (one n l.known.label) + named_due n labels
@@ -85,6 +85,7 @@ put_all n key spelling k (l ∷ labels) e = go (bytes_eq key l.key) e (λ f. put
   where
     now : Known
     now = record { spelling = spelling; label = k.label; is_given = true }
+
     go : (b : Bool) → (if b then Some l.known else known_of key labels) ≡ Some k
         → (known_of key labels ≡ Some k → named_all n (put key now labels) ≡ named_all n labels) →
         named_all n (if b then record { key = l.key; known = now } ∷ labels else l ∷ put key now labels)
@@ -106,13 +107,16 @@ good_named due spare rest extra labels now constructs o f g h b = record {
       (λ n. extra n + (reached n constructs + named_all n now)) o b.sound
       (λ n. once (due n) (named_due n now) (cased n constructs) (rest n) (named_due n labels) (spare n) (f n))
       (λ n. all (due n) (named_due n labels) (cased n constructs) (named_due n now) (g n))
-      (λ n. known (extra n) (reached n constructs) (named_all n now) (named_all n labels) (due n) (named_due n now) (cased n constructs) (h n));
+      (λ n. known (extra n) (reached n constructs) (named_all n now) (named_all n labels) (due n) (named_due n now) (cased n constructs)
+      (h n));
 }
   where
     once : (d a c r l s : ℕ) → a + r ≤ l + s → (d + (a + c)) + r ≤ (d + (l + c)) + s
     once d a c r l s p = omega (arith, p)
+
     all : (d l c a : ℕ) → l ≤ a → d + (l + c) ≤ d + (a + c)
     all d l c a p = omega (arith, p)
+
     known : (e r a l d x c : ℕ) → a ≤ l + x → 1 ≤ e + (r + a) → 1 ≤ (e + (r + l)) + (d + (x + c))
     known e r a l d x c p some = omega (arith, p, some)
 
@@ -124,7 +128,8 @@ pub record IsNamed (due spare extra : Counts) (constructs : List Construct) (l :
 drop_spare : (due spare extra : Counts) (l : Label) (labels : List NamedLabel) (constructs : List Construct) (o : Out) →
     Good due (λ n. spare n + one n l) extra labels constructs o → Good due spare extra labels constructs o
 drop_spare due spare extra l labels constructs o g =
-    good_named due (λ n. spare n + one n l) spare extra labels labels constructs o (λ n. omega arith) (λ n. omega arith) (λ n. omega arith) g
+    good_named due (λ n. spare n + one n l) spare extra labels labels constructs o (λ n. omega arith) (λ n. omega arith)
+    (λ n. omega arith) g
 
 wanted_as : (due spare extra : Counts) (constructs : List Construct) (name : List ℕ) (new : Label) (labels : List NamedLabel) (o : Out)
     (k : Option Known) → known_of (folded name) labels ≡ k → Good due (λ n. spare n + one n new) extra labels constructs o →
@@ -154,7 +159,8 @@ labelled_good due spare extra constructs name labels o g =
     wanted_as due spare extra constructs name (next_label o) labels (record o { next = behind o.next }) (known_of (folded name) labels) refl
     (good_label due spare extra labels constructs o g)
 
-pub jump_good : (limits : Limits) (due spare extra : Counts) (constructs : List Construct) (l : Label) (labels : List NamedLabel) (o : Out) →
+pub jump_good : (limits : Limits) (due spare extra : Counts) (constructs : List Construct) (l : Label) (labels : List NamedLabel)
+    (o : Out) →
     IsNamed due spare extra constructs l labels o → Good due spare extra labels constructs (jumped limits l o)
 jump_good limits due spare extra constructs l labels o i =
     let b = i.good in

@@ -1,8 +1,7 @@
 -- Nested statements, each as a whole, in the book of labels.
-use Rattle.std.proofs.Common.{arith, ◌≡◌, ◌≤◌, ℕ, List, [], ◌∷◌, ◌++◌, Bool, true, false, Option, Some, None, refl, ◌∙◌, ap, sym, subst}
+use Rattle.std.proofs.Common.{◌≡◌, List, [], ◌∷◌, ◌++◌, Bool, true, false, None, refl, ◌∙◌, ap, sym, subst}
 use Rattle.std.specs.Prelude.{◌+◌}
 use Rattle.inf_settings.specs.Bounds.{Limits}
-use Rattle.inf_scanner.specs.declared.tokens.Place.{Place}
 use Rattle.inf_syntax.specs.declared.actions.Action.TheVariants as action
 use Rattle.inf_output.specs.Output.{Out}
 use Rattle.inf_compilation.specs.Context.{Context}
@@ -11,10 +10,8 @@ use Rattle.inf_constructs.specs.declared.constructs.Case.TheVariants as case
 use Rattle.inf_constructs.specs.declared.constructs.Construct.{Construct}
 use Rattle.inf_constructs.specs.declared.constructs.Kind.{Kind}
 use Rattle.inf_constructs.specs.declared.constructs.Kind.TheVariants as kind
-use Rattle.inf_constructs.specs.declared.constructs.Over.{Over}
 use Rattle.inf_constructs.specs.declared.constructs.Over.TheVariants as over
 use Rattle.inf_constructs.specs.Constructs.{between, closed, kind_behind, opened}
-use Rattle.inf_constructs.specs.Labels.{NamedLabel}
 use Rattle.inf_statement_laws.specs.Happenings.{Acts, Happening, Moment, Quiet, Takes}
 use Rattle.inf_statement_laws.specs.Nested.{Case, Do, For, If, IfElse, Nested, NoStep, Objectloop, Plain, Step, StepEnds, Switch, Then}
 use Rattle.inf_statement_laws.specs.Nested.{While, happenings, step_happenings}
@@ -23,9 +20,9 @@ use Rattle.inf_reader.specs.Acting.{act}
 use Rattle.inf_statement_laws.proofs.Acts.{loop_ends, quiet_run, step_ends}
 use Rattle.inf_statement_laws.proofs.Laying.{laid_as, run_then}
 use Rattle.inf_routine_laws.specs.Faults.{AllLeave, LeaveRoutine}
-use Rattle.inf_routine_laws.specs.Leaving.{LeavesRoutine}
 use Rattle.inf_routine_laws.proofs.Booking.{Counts, one}
-use Rattle.inf_routine_laws.proofs.Balance.{Good, good_still, loop_due, opened_do, opened_for, opened_if, opened_objects, opened_switch, opened_while, top_known}
+use Rattle.inf_routine_laws.proofs.Balance.{Good, good_still, loop_due, opened_do, opened_for, opened_if, opened_objects, opened_switch}
+use Rattle.inf_routine_laws.proofs.Balance.{opened_while, top_known}
 use Rattle.inf_routine_laws.proofs.Constructing.{ends_do, ends_else, ends_for, ends_if, ends_objects, ends_while}
 use Rattle.inf_routine_laws.proofs.Casing.{joined_do, joined_for, joined_if, joined_objects, objects_due}
 use Rattle.inf_routine_laws.proofs.Acting.{Balanced, case_ends_good, quiet_good}
@@ -179,7 +176,8 @@ while_good b limits context opens test body closes inner due spare extra w e l g
     let l2 = leave_both (happenings body) behind l1.1 in
     let more : Counts = λ n. one n c.0.end + due n in
     let v = opened_at context opens c w in
-    let word = inside_word context opens c w more spare extra l.0 e (opened_while limits due spare extra w.labels w.constructs w.output g) in
+    let word = inside_word context opens c w more spare extra l.0 e
+    (opened_while limits due spare extra w.labels w.constructs w.output g) in
     let tested = inside_quiet limits context test more spare extra c.0 w.constructs v l1.0 word in
     let u = run limits context test.all v in
     let done = inside_body limits context body inner more spare extra c.0 w.constructs u l2.0 tested in
@@ -198,7 +196,8 @@ do_good b limits context opens body word joins test closes inner due spare extra
     let l3 = leave_both test.all behind l2.1.1 in
     let more : Counts = λ n. one n c.0.next + (one n c.0.end + due n) in
     let v = opened_at context opens c w in
-    let opening = inside_word context opens c w more spare extra l.0 e (opened_do limits due spare extra w.labels w.constructs w.output g) in
+    let opening = inside_word context opens c w more spare extra l.0 e
+    (opened_do limits due spare extra w.labels w.constructs w.output g) in
     let u = laid limits context body v in
     let done = inside_body limits context body inner more spare extra c.0 w.constructs v l1.0 opening in
     let first = run limits context word.all u in
@@ -349,7 +348,8 @@ switch_good b limits context opens value cases brace closes inner due spare extr
     let l2 = leave_both (happenings cases) (brace.all ++ behind) l1.1 in
     let l3 = leave_both brace.all behind l2.1 in
     let v = opened_at context opens c w in
-    let opening = inside_word context opens c w due spare extra l.0 e (opened_switch limits due spare extra w.labels w.constructs w.output g) in
+    let opening = inside_word context opens c w due spare extra l.0 e
+    (opened_switch limits due spare extra w.labels w.constructs w.output g) in
     let valued = run limits context value.all v in
     let is_valued = inside_quiet limits context value due spare extra c.0 w.constructs v l1.0 opening in
     let whole = laid_as limits context cases valued is_valued.none in
@@ -380,7 +380,8 @@ keeps_all limits context (Case values ends) due spare extra w e l g =
     let v = run limits context values.all w in
     let now = act limits context ends.place action.EndCase v in
     good_still due spare extra now.labels now.constructs now.output (ends.behind.output now.output) (both.1.0 now.output)
-    (case_ends_good limits context ends.place due spare extra v (quiet_good limits context values.all due spare extra w values.are both.0 g))
+    (case_ends_good limits context ends.place due spare extra v
+    (quiet_good limits context values.all due spare extra w values.are both.0 g))
 keeps_all limits context (If {b} opens test body closes) due spare extra w e l g =
     if_good b limits context opens test body closes (keeps_all limits context body) due spare extra w e l g
 keeps_all limits context (IfElse {b} opens test body joins word other closes) due spare extra w e l g =

@@ -81,7 +81,8 @@ text_idle limits None o = idle_self o
 text_idle limits (Some items) o =
     let m = text_packed o in
     let text = packed items (used_in o.texts) in
-    idle_then o m (with_text limits text m) (record { code = refl; next = refl; kept = refl; fits = λ e. e }) (by_fitting limits (fits limits text m.strings) text m)
+    idle_then o m (with_text limits text m) (record { code = refl; next = refl; kept = refl; fits = λ e. e })
+    (by_fitting limits (fits limits text m.strings) text m)
 
 -- a word of the dictionary
 by_word : (limits : Limits) (f : Option AddFault) (text : Text) (how : WordUse) (is_plural : Bool) (o : Out) →

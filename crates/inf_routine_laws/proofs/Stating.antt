@@ -1,6 +1,6 @@
 -- A statement that holds no others, and its labels with names, in the book of labels.
-use Rattle.std.proofs.Common.{arith, ◌≡◌, ◌≤◌, ℕ, List, [], ◌∷◌, ◌++◌, Bool, true, false, Option, Some, None, refl, ◌∙◌, ap, sym, subst}
-use Rattle.std.specs.Prelude.{codes, length, not, unwrap_or, ◌+◌, ◌==◌, if◌then◌else◌}
+use Rattle.std.proofs.Common.{arith, ◌≡◌, ◌≤◌, ℕ, List, [], ◌∷◌, Bool, true, false, Option, Some, None, refl}
+use Rattle.std.specs.Prelude.{codes, unwrap_or, ◌+◌, if◌then◌else◌}
 use Rattle.std.specs.Str.{str_eq_ignore_ascii_case}
 use Rattle.inf_settings.specs.Bounds.{Limits}
 use Rattle.inf_characters.specs.declared.characters.CharSet.{CharSet}
@@ -12,8 +12,7 @@ use Rattle.inf_opcode.specs.declared.opcodes.Opcode.TheVariants as opcode
 use Rattle.inf_opcode.specs.Opcodes.{row_of}
 use Rattle.inf_expressions.specs.Trees.{Tree}
 use Rattle.inf_names.specs.Locals.{Local}
-use Rattle.inf_output.specs.declared.operands.Simple.{Simple}
-use Rattle.inf_output.specs.Output.{Code, Out, instruction, jumped, marked, naming, nothing, ◌▸◌}
+use Rattle.inf_output.specs.Output.{Code, Out, ◌▸◌}
 use Rattle.inf_templates.specs.Meaning.{meaning}
 use Rattle.inf_unit.specs.Opcodes.{opcode_of}
 use Rattle.inf_unit.specs.Tokens.{SourceToken}
@@ -22,7 +21,6 @@ use Rattle.inf_constructs.specs.declared.constructs.Case.TheVariants as case
 use Rattle.inf_constructs.specs.declared.constructs.Construct.{Construct}
 use Rattle.inf_constructs.specs.declared.constructs.Kind.{Kind}
 use Rattle.inf_constructs.specs.declared.constructs.Kind.TheVariants as kind
-use Rattle.inf_constructs.specs.Cases.{operand_in}
 use Rattle.inf_constructs.specs.Constructs.{break_of, condition_label, continue_of, found_or, left_to, left_to_by, next_case, next_case_in}
 use Rattle.inf_constructs.specs.Constructs.{otherwise}
 use Rattle.inf_constructs.specs.Labels.{NamedLabel, is_given}
@@ -30,17 +28,18 @@ use Rattle.inf_statements.specs.declared.assembly.Ends.{Ends}
 use Rattle.inf_statements.specs.declared.statements.Statement.{Statement}
 use Rattle.inf_statements.specs.declared.statements.Statement.TheVariants as statement
 use Rattle.inf_statements.specs.Assembly.{branch_to, branched, branched_to, ends_of, fits, instructed, jumped_on, labelled, line_instructed}
-use Rattle.inf_statements.specs.Assembly.{line_laid, line_laid_as, line_laid_by, named_first, operands_in, printing_of, some_printed, store_of}
+use Rattle.inf_statements.specs.Assembly.{line_laid, line_laid_as, line_laid_by, named_first, operands_in, printing_of, some_printed}
+use Rattle.inf_statements.specs.Assembly.{store_of}
 use Rattle.inf_statements.specs.Assembly.{text_printed, variable_of}
-use Rattle.inf_statements.specs.Effects.{Site, last_text, name_behind, statement_code, statement_laid}
+use Rattle.inf_statements.specs.Effects.{Site, last_text, name_behind, statement_laid}
 use Rattle.inf_statements.specs.Printing.{items_printed, text_at}
 use Rattle.inf_statements.specs.Statements.{action_laid, alone, attributes_changed, jumped_to, moved, one_worked, plain, returned, spaced}
-use Rattle.inf_statements.specs.Statements.{string_changed, style_of, styled, styled_by}
+use Rattle.inf_statements.specs.Statements.{string_changed, style_of, styled}
 use Rattle.inf_label_laws.specs.Labels.{times}
 use Rattle.inf_label_laws.specs.Programs.{branch_labels}
 use Rattle.inf_label_laws.proofs.Owning.{Owned, owned_before, owned_instruction, owned_naming, owned_nothing}
-use Rattle.inf_routine_laws.proofs.Booking.{Came, Counts, came, one, one_is}
-use Rattle.inf_routine_laws.proofs.Balance.{Good, case_due, good_paid, named_all, reached, reached_in}
+use Rattle.inf_routine_laws.proofs.Booking.{Counts, came, one_is}
+use Rattle.inf_routine_laws.proofs.Balance.{Good, good_paid, named_all, reached, reached_in}
 use Rattle.inf_routine_laws.proofs.Codes.{action_owns, alone_owns, changed_owns, items_own, jumped_owns, label_in, moved_owns, one_owns}
 use Rattle.inf_routine_laws.proofs.Codes.{plain_owns, printed_owns, returned_owns, spaced_owns, string_owns, styled_owns}
 use Rattle.inf_routine_laws.proofs.Naming.{IsNamed, jump_good, labelled_good, placed_good}
@@ -107,11 +106,13 @@ next_reached [] n = omega arith
 next_reached (c ∷ constructs) n = let a = next_in n c c.kind in omega (arith, a)
 
 -- Code that needs no labels but those
-pub code_good : {code : Code} {needs : List ℕ} (due spare extra : Counts) (labels : List NamedLabel) (constructs : List Construct) (o : Out) →
+pub code_good : {code : Code} {needs : List ℕ} (due spare extra : Counts) (labels : List NamedLabel) (constructs : List Construct)
+    (o : Out) →
     Owned code needs [] → ((n : ℕ) → times n needs ≤ reached n constructs + named_all n labels) → Good due spare extra labels constructs o →
     Good due spare extra labels constructs (code o)
 code_good {code} {needs} due spare extra labels constructs o h k g =
-    good_paid needs [] due due spare extra labels constructs o (code o) g (came {c = code} {needs = needs} {given = []} h o) (λ n. omega arith)
+    good_paid needs [] due due spare extra labels constructs o (code o) g (came {c = code} {needs = needs} {given = []} h o)
+    (λ n. omega arith)
     (λ n some. let p = k n in omega (arith, p, some))
 
 free_good : {code : Code} (due spare extra : Counts) (labels : List NamedLabel) (constructs : List Construct) (o : Out) → Owned code [] [] →
@@ -123,12 +124,14 @@ left_good : (limits : Limits) (on : Bool) (due spare extra : Counts) (labels : L
     Good due spare extra labels constructs o →
     Good due spare extra labels constructs (jumped_to limits (left_to on constructs) o)
 left_good limits on due spare extra labels constructs o g =
-    code_good {code = jumped_to limits (left_to on constructs)} {needs = label_in (left_to on constructs)} due spare extra labels constructs o
+    code_good {code = jumped_to limits (left_to on constructs)}
+    {needs = label_in (left_to on constructs)} due spare extra labels constructs o
     (jumped_owns limits (left_to on constructs)) (λ n. let p = left_reached on constructs n in omega (arith, p)) g
 
 -- Assembly lines
 
-record IsBranch (due spare extra : Counts) (constructs : List Construct) (b : Option Branch) (labels : List NamedLabel) (o : Out) : Type 0 where
+record IsBranch (due spare extra : Counts) (constructs : List Construct) (b : Option Branch) (labels : List NamedLabel)
+    (o : Out) : Type 0 where
   good : Good due spare extra labels constructs o
   among : (n : ℕ) → times n (branch_labels b) ≤ named_all n labels
 
@@ -182,7 +185,8 @@ unfolding instructed
 instructed_owns limits true op trees store branch = named_owns limits op trees store branch
 instructed_owns limits false op trees store branch = owned_instruction limits op (operands_in limits trees) store branch
 
-instructed_good : (limits : Limits) (due spare extra : Counts) (constructs : List Construct) (locals : List Local) (tokens : List SourceToken)
+instructed_good : (limits : Limits) (due spare extra : Counts) (constructs : List Construct) (locals : List Local)
+    (tokens : List SourceToken)
     (op : Opcode) (e : Ends) (trees : List Tree) (labels : List NamedLabel) (o : Out) → Good due spare extra labels constructs o →
     let r = line_instructed limits locals tokens op e trees labels o in Good due spare extra r.0 constructs r.1
 instructed_good limits due spare extra constructs locals tokens op e trees labels o g =
@@ -218,7 +222,8 @@ by_good : (limits : Limits) (jumps has_text : Bool) (due spare extra : Counts) (
 by_good limits true has_text due spare extra constructs set locals tokens op e trees labels o g =
     jumped_good limits due spare extra constructs tokens e.jump labels o g
 by_good limits false true due spare extra constructs set locals tokens op e trees labels o g =
-    free_good {code = some_printed limits set tokens op e.text} due spare extra labels constructs o (some_owns limits set tokens op e.text) g
+    free_good {code = some_printed limits set tokens op e.text} due spare extra labels constructs o
+    (some_owns limits set tokens op e.text) g
 by_good limits false false due spare extra constructs set locals tokens op e trees labels o g =
     instructed_good limits due spare extra constructs locals tokens op e trees labels o g
 
@@ -271,7 +276,8 @@ statement_good limits s statement.Continue trees due spare extra labels o h g =
 statement_good limits s statement.Give trees due spare extra labels o h g =
     free_good {code = attributes_changed limits s.items trees} due spare extra labels s.constructs o (changed_owns limits s.items trees) g
 statement_good limits s statement.String trees due spare extra labels o h g =
-    free_good {code = string_changed limits (last_text s) trees} due spare extra labels s.constructs o (string_owns limits (last_text s) trees) g
+    free_good {code = string_changed limits (last_text s) trees} due spare extra labels s.constructs o
+    (string_owns limits (last_text s) trees) g
 statement_good limits s statement.Move trees due spare extra labels o h g =
     free_good {code = moved limits trees} due spare extra labels s.constructs o (moved_owns limits trees) g
 statement_good limits s statement.Action trees due spare extra labels o h g =
@@ -280,7 +286,8 @@ statement_good limits s statement.ActionReturn trees due spare extra labels o h 
     free_good {code = action_laid limits trees ▸ plain limits opcode.Rtrue} due spare extra labels s.constructs o
     (owned_before (action_owns limits trees) (plain_owns limits opcode.Rtrue)) g
 statement_good limits s statement.Remove trees due spare extra labels o h g =
-    free_good {code = one_worked limits opcode.RemoveObj trees} due spare extra labels s.constructs o (one_owns limits opcode.RemoveObj trees) g
+    free_good {code = one_worked limits opcode.RemoveObj trees} due spare extra labels s.constructs o
+    (one_owns limits opcode.RemoveObj trees) g
 statement_good limits s statement.Spaces trees due spare extra labels o h g =
     free_good {code = spaced limits trees} due spare extra labels s.constructs o (spaced_owns limits trees) g
 statement_good limits s statement.Style trees due spare extra labels o h g =

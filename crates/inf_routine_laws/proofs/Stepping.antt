@@ -1,5 +1,5 @@
 -- The units that change the innermost statement, in the book of labels: the step of a `for`, the objects of a loop, and cases.
-use Rattle.std.proofs.Common.{arith, ◌≡◌, ◌≤◌, ℕ, List, [], ◌∷◌, ◌++◌, Bool, true, false, Option, Some, None, refl, ◌∙◌, ap, sym, subst}
+use Rattle.std.proofs.Common.{arith, ◌≡◌, ◌≤◌, ℕ, List, [], ◌∷◌, Bool, true, false, Option, Some, None, refl, ◌∙◌, ap, sym, subst}
 use Rattle.std.proofs.Common.{inl, inr}
 use Rattle.std.proofs.lemmas.Bool.{cases_lt}
 use Rattle.std.specs.Prelude.{map, ◌+◌, ◌<◌, ◌⊎◌}
@@ -7,22 +7,19 @@ use Rattle.inf_settings.specs.Bounds.{Limits}
 use Rattle.inf_scanner.specs.declared.tokens.Place.{Place}
 use Rattle.inf_syntax.specs.declared.actions.Action.TheVariants as action
 use Rattle.inf_expressions.specs.declared.findings.Finding.{Finding}
-use Rattle.inf_expressions.specs.Rooted.{Rooted}
 use Rattle.inf_opcode.specs.Cells.{Cell}
 use Rattle.inf_code.specs.Code.{Routines}
 use Rattle.inf_output.specs.declared.items.Item.{Item}
-use Rattle.inf_output.specs.Output.{Code, Out, apart, items_of, together, ◌▸◌}
+use Rattle.inf_output.specs.Output.{Code, Out, apart, items_of, together}
 use Rattle.inf_compilation.specs.Context.{Context}
 use Rattle.inf_compilation.specs.Actions.{Compilation, named, passed, settled_of, trees_at}
 use Rattle.inf_compilation.specs.Parts.{actions_named, case_prepared, constructs_laid, found_in, has_last, is_default, order_of, part_begun}
 use Rattle.inf_compilation.specs.Parts.{part_carried, part_effect, part_finished, part_prepared, place_of, wanted_of}
-use Rattle.inf_compilation.specs.declared.parts.Part.{Part}
 use Rattle.inf_compilation.specs.declared.parts.Part.TheVariants as part
 use Rattle.inf_constructs.specs.declared.constructs.Case.TheVariants as case
 use Rattle.inf_constructs.specs.declared.constructs.Construct.{Construct}
 use Rattle.inf_constructs.specs.declared.constructs.Kind.{Kind}
 use Rattle.inf_constructs.specs.declared.constructs.Kind.TheVariants as kind
-use Rattle.inf_constructs.specs.declared.constructs.Over.{Over}
 use Rattle.inf_constructs.specs.declared.constructs.Over.TheVariants as over
 use Rattle.inf_constructs.specs.Constructs.{are_own, cases_begun, changed, closed, entered, entered_by, looped_over, opened, with_step}
 use Rattle.inf_constructs.specs.Labels.{NamedLabel}
@@ -30,22 +27,20 @@ use Rattle.inf_constructs.specs.Roots.{tree_in}
 use Rattle.inf_statements.specs.Statements.{alone}
 use Rattle.inf_reader.specs.Acting.{act}
 use Rattle.inf_unit.proofs.Cases.{of_both}
-use Rattle.inf_statement_laws.specs.Happenings.{Acts, Moment}
-use Rattle.inf_statement_laws.specs.Nested.{Case, Do, For, If, IfElse, Nested, Objectloop, Plain, Switch, Then, While, happenings}
-use Rattle.inf_statement_laws.specs.Laid.{happens, laid, run}
+use Rattle.inf_statement_laws.specs.Nested.{Case, Do, For, If, IfElse, Nested, Objectloop, Plain, Switch, Then, While}
+use Rattle.inf_statement_laws.specs.Laid.{laid, run}
 use Rattle.inf_statement_laws.proofs.Acts.{quiet_run}
 use Rattle.inf_statement_laws.proofs.Laying.{laid_as}
 use Rattle.inf_label_laws.specs.Labels.{times}
 use Rattle.inf_label_laws.specs.Programs.{marks, uses}
 use Rattle.inf_label_laws.proofs.Owning.{Owned, Settles, some_of_two}
-use Rattle.inf_routine_laws.specs.Faults.{LeaveRoutine}
-use Rattle.inf_routine_laws.proofs.Booking.{Booked, Counts, booked_as, one}
+use Rattle.inf_routine_laws.proofs.Booking.{Booked, Counts, booked_as}
 use Rattle.inf_routine_laws.proofs.Counting.{cell_marks, cell_uses}
-use Rattle.inf_routine_laws.proofs.Balance.{Good, cased, cased_in, good_as, good_still, loop_due, named_all, named_due, reached, reached_in}
+use Rattle.inf_routine_laws.proofs.Balance.{Good, cased, cased_in, good_as, loop_due, named_all, named_due, reached, reached_in}
 use Rattle.inf_routine_laws.proofs.Balance.{top_known}
 use Rattle.inf_routine_laws.proofs.Casing.{IsLooped, ends_cases, ends_switch, looped_good, not_looped}
 use Rattle.inf_routine_laws.proofs.Codes.{alone_owns}
-use Rattle.inf_routine_laws.proofs.Acting.{Balanced, settled_good}
+use Rattle.inf_routine_laws.proofs.Acting.{settled_good}
 
 -- The step of a `for`: its items are kept apart, and their labels are due from there on.
 
@@ -64,9 +59,11 @@ booked_apart due spare need low high cells items b s = record {
     once : (n : ℕ) → (n < low) ⊎ (low ≤ n) → times n (cell_marks cells) + (times n (marks items) + due n) + spare n ≤ 1
     once n (inl less) = let p = b.once n in let q = s.within.below n less in omega (arith, p, q)
     once n (inr more) = let p = b.over n more in let q = s.within.once n in omega (arith, p, q)
+
     parted : (n : ℕ) → 1 ≤ times n (cell_uses cells) + (times n (uses items) + need n) →
         1 ≤ times n (uses items) + (times n (cell_uses cells) + need n)
     parted n used = omega (arith, used)
+
     known : (n : ℕ) → (1 ≤ times n (uses items)) ⊎ (1 ≤ times n (cell_uses cells) + need n) →
         1 ≤ times n (cell_marks cells) + (times n (marks items) + due n)
     known n (inl own) = let p = s.known n own in omega (arith, p)
@@ -92,7 +89,8 @@ stepped_good code owned due spare extra labels c around o e g =
       sound = record {
         holds = λ fits few now is.
             let before = g.sound.holds (x.laid.fits fits)
-            (let r = (x.own few).within.grows in omega (arith, few, r)) now (sym (ap (λ (r : Routines). r.opened) (x.laid.code fits)) ∙ is) in
+            (let r = (x.own few).within.grows in omega (arith, few, r)) now
+            (sym (ap (λ (r : Routines). r.opened) (x.laid.code fits)) ∙ is) in
             let d = record c { step = Some x.items } in
             let i = λ (n : ℕ). ap (cased_in n d) e in
             let j = λ (n : ℕ). ap (cased_in n c) e in
@@ -143,7 +141,8 @@ step_carried limits context first None due spare extra c around w is e none g =
     let o = record s.out { first = first } in
     let trees = map tree_in (trees_at (order_of part.Step w) (wanted_of part.Step) s.operands w) in
     let code = alone limits trees in
-    let before = settled_good limits context first due spare extra w (subst (λ l. Good due spare extra w.labels l w.output) (sym is) g) in record {
+    let before = settled_good limits context first due spare extra w
+    (subst (λ l. Good due spare extra w.labels l w.output) (sym is) g) in record {
       step = Some (items_of (code (apart o)).kept);
       is = ap (with_step (Some (items_of (code (apart o)).kept))) is;
       good =
@@ -198,7 +197,8 @@ loop_ends_good limits context place due spare extra c around w is e g =
     (part_finished limits context (place_of p place ready) p ready)
     (λ _. subst (λ l. IsLooped due spare extra w.labels c around l w.output) (sym is)
     (not_looped due spare extra w.labels c around w.output e g))
-    (λ _. loop_carried limits context (place_of p place ready) (found_in limits context p ready) due spare extra c around (named ready) is e g)
+    (λ _. loop_carried limits context (place_of p place ready) (found_in limits context p ready) due spare extra c around
+    (named ready) is e g)
 
 -- Cases: the innermost statement stays a `switch`, or the routine's own cases.
 

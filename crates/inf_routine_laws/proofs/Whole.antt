@@ -1,50 +1,48 @@
 -- A routine as a whole: where it ends, each label is marked once, and each that is used is marked.
-use Rattle.std.proofs.Common.{arith, ◌≡◌, ◌≤◌, ℕ, List, [], ◌∷◌, ◌++◌, Bool, true, false, Option, Some, None, refl, ◌∙◌, ap, sym, subst}
-use Rattle.std.specs.Prelude.{is_some, length, nat_lt, ◌+◌, ◌<◌, if◌then◌else◌}
+use Rattle.std.proofs.Common.{arith, ◌≡◌, ℕ, List, [], ◌∷◌, ◌++◌, Bool, true, false, Option, Some, None, refl, ◌∙◌, ap, sym}
+use Rattle.std.specs.Prelude.{is_some, length, nat_lt, ◌+◌, if◌then◌else◌}
 use Rattle.inf_settings.specs.Bounds.{Limits}
 use Rattle.inf_scanner.specs.declared.tokens.Place.{Place}
 use Rattle.inf_opcode.specs.declared.instructions.Label.{Label}
-use Rattle.inf_opcode.specs.Cells.{Cell}
-use Rattle.inf_area.specs.declared.cells.Cell.{Cell as CodeCell}
 use Rattle.inf_assembler.specs.declared.routines.CloseFault.{CloseFault}
 use Rattle.inf_assembler.specs.declared.routines.CloseFault.TheVariants as close_fault
 use Rattle.inf_assembler.specs.declared.routines.Limit.{Limit}
 use Rattle.inf_assembler.specs.declared.routines.Limit.TheVariants as setting
 use Rattle.inf_assembler.specs.declared.routines.RoutineKind.{RoutineKind}
-use Rattle.inf_assembler.specs.Places.{long_place, missing as missing_label, twice_behind}
+use Rattle.inf_assembler.specs.Places.{twice_behind}
 use Rattle.inf_assembler.specs.Routines.{Contents, body_bytes, body_fault, is_full, missing_fault, twice_fault}
-use Rattle.inf_code.specs.Code.{Opened, Routines, begun_unless, code_limits, fault_behind, fault_closed, fault_end, first_fault, full_begun, full_opened}
-use Rattle.inf_code.specs.Code.{limit_fault, most_references, padded, place_behind, references_before, routine_cells, unlimited, zeros_fault}
+use Rattle.inf_code.specs.Code.{Opened, Routines, begun_unless, code_limits, fault_behind, fault_closed, fault_end, first_fault, full_begun}
+use Rattle.inf_code.specs.Code.{full_opened}
+use Rattle.inf_code.specs.Code.{limit_fault, padded, place_behind, references_before, routine_cells, unlimited}
+use Rattle.inf_code.specs.Code.{zeros_fault}
 use Rattle.inf_names.specs.declared.meanings.Meaning.{Meaning}
 use Rattle.inf_names.specs.declared.symbols.DeclareFault.{DeclareFault}
 use Rattle.inf_names.specs.declared.symbols.DeclareFault.TheVariants as declaring
 use Rattle.inf_names.specs.Locals.{Headed}
 use Rattle.inf_names.specs.Spellings.{Name}
 use Rattle.inf_names.specs.Symbols.{declare_fault}
-use Rattle.inf_output.specs.Output.{Out, begun, begun_by, declared_by, opened_by}
+use Rattle.inf_output.specs.Output.{Out, begun_by, declared_by, opened_by}
 use Rattle.inf_syntax.specs.declared.actions.Action.TheVariants as action
-use Rattle.inf_unit.proofs.Cases.{of_both}
-use Rattle.inf_unit.specs.Messages.{FileNames}
 use Rattle.inf_constructs.specs.declared.constructs.Construct.{Construct}
 use Rattle.inf_constructs.specs.declared.constructs.Kind.{Kind}
 use Rattle.inf_constructs.specs.declared.constructs.Kind.TheVariants as kind
-use Rattle.inf_constructs.specs.Constructs.{are_cases, closed, ended}
+use Rattle.inf_constructs.specs.Constructs.{are_cases, ended}
 use Rattle.inf_constructs.specs.Labels.{NamedLabel, missing}
 use Rattle.inf_compilation.specs.Context.{Context}
-use Rattle.inf_compilation.specs.Actions.{Compilation, cases_ended, header_with, opened_with, routine_declared}
+use Rattle.inf_compilation.specs.Actions.{Compilation, header_with, opened_with, routine_declared}
 use Rattle.inf_compilation.specs.Findings.{Findings, again_by, header_findings}
 use Rattle.inf_statement_laws.specs.Happenings.{Acts, Happening}
 use Rattle.inf_statement_laws.specs.Nested.{Nested, happenings}
 use Rattle.inf_statement_laws.specs.Laid.{laid, run}
-use Rattle.inf_statement_laws.specs.Readings.{Routine, body_laid, directive_between, routine_happenings}
+use Rattle.inf_statement_laws.specs.Readings.{Routine, body_laid, routine_happenings}
 use Rattle.inf_statement_laws.proofs.Acts.{own_alone, quiet_run}
 use Rattle.inf_statement_laws.proofs.Laying.{alone_behind}
 use Rattle.inf_label_laws.specs.Labels.{times}
-use Rattle.inf_routine_laws.specs.Faults.{AllLeave, HasBegun, HasItsLabels, LeaveRoutine, is_of_labels}
+use Rattle.inf_routine_laws.specs.Faults.{AllLeave, HasBegun, HasItsLabels, is_of_labels}
 use Rattle.inf_routine_laws.specs.Laws.{RoutinesHaveTheirLabels, headed}
 use Rattle.inf_routine_laws.specs.Leaving.{LeavesRoutine}
 use Rattle.inf_routine_laws.proofs.Counting.{AreWhole, cell_marks, cell_uses, whole_missing, whole_twice}
-use Rattle.inf_routine_laws.proofs.Booking.{Booked, Counts, one, some_is}
+use Rattle.inf_routine_laws.proofs.Booking.{Counts, one, some_is}
 use Rattle.inf_routine_laws.proofs.Balance.{Good, cased, named_all, named_due, reached, unless_given}
 use Rattle.inf_routine_laws.proofs.Acting.{Balanced, quiet_good}
 use Rattle.inf_routine_laws.proofs.Stepping.{case_kind, ends_case_kind}

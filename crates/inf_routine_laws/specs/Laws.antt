@@ -1,5 +1,5 @@
 -- The labels of a routine: none is missing but such as have names, and none is marked twice.
-use Rattle.std.specs.Prelude.{◌≡◌, ℕ, false, List, [], true, None}
+use Rattle.std.specs.Prelude.{◌≡◌, List, true, None}
 use Rattle.inf_settings.specs.Bounds.{Limits}
 use Rattle.inf_scanner.specs.declared.tokens.Place.{Place}
 use Rattle.inf_names.specs.Locals.{Headed}

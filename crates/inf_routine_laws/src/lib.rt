@@ -4,4 +4,4 @@
 
 mod laws;
 
-pub use laws::{routines_have_their_labels};
+pub use laws::routines_have_their_labels;
