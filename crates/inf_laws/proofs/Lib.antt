@@ -15,4 +15,3 @@ pub mod Hashes
 pub mod PartTokens
 pub mod Parts
 pub mod Targets
-mod NameValues

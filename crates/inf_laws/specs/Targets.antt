@@ -1,14 +1,10 @@
 -- Parts of areas to which the tables of a story refer: each is there, so its number is that of its place.
-use Rattle.std.specs.Prelude.{◌≡◌, ℕ, ◌<◌, List, [], ◌∷◌, length, true, is_some, slice_get, Some}
+use Rattle.std.specs.Prelude.{◌≡◌, ℕ, ◌<◌, List, [], ◌∷◌, length, true, is_some, slice_get}
 use Rattle.inf_area.specs.declared.cells.Cell.{Cell}
 use Rattle.inf_area.specs.declared.cells.Cell.TheVariants as cell
 use Rattle.inf_area.specs.declared.targets.Target.TheVariants as target
 use Rattle.inf_area.specs.declared.targets.Value.{Value}
-use Rattle.inf_area.specs.declared.targets.Value.TheVariants as value
 use Rattle.inf_link.specs.Targets.{Lookup, part_of}
-use Rattle.inf_names.specs.Symbols.{Named}
-use Rattle.inf_scanner.specs.declared.tokens.Place.{Place}
-use Rattle.inf_story.specs.Names.{values_of}
 use Rattle.inf_story.specs.Tables.{looked_up}
 use Rattle.inf_tables.specs.Areas.{all_objects, area_cells}
 use Rattle.inf_tables.specs.Tables.{AllTables}
@@ -30,23 +26,6 @@ pub record PartsAreFound (names : List Value) (tables : AllTables) : Type 0 wher
   pub verbs : AllFound (looked_up names tables) (address_cells (length tables.verbs.list))
   pub individuals : (part : ℕ) → part < length (all_objects tables.world.objects)
       → is_some (slice_get (looked_up names tables).individual_tables part) ≡ true
-
--- The value of each name is found, where all names of a source have values, as they have in a story; and it is no reference to a name.
-abbrev pub IsDirect : Value → Type 0
-IsDirect (value.Later (target.Name number)) = ⊥
-IsDirect _ = Unit {0}
-
-abbrev pub AllDirect : List Value → Type 0
-AllDirect [] = Unit {0}
-AllDirect (v ∷ values) = IsDirect v × AllDirect values
-
-pub record NamesAreFound (names : List (Named Place)) (values : List Value) : Type 0 where
-  pub found : (tables : AllTables) (number : ℕ) → number < length names
-      → is_some (slice_get (looked_up values tables).names number) ≡ true
-  pub direct : AllDirect values
-
-abbrev pub AllNamesAreFound : Type 0
-AllNamesAreFound = (names : List (Named Place)) (values : List Value) → values_of names ≡ Some values → NamesAreFound names values
 
 abbrev pub AllPartsAreFound : Type 0
 AllPartsAreFound = (names : List Value) (tables : AllTables) → PartsAreFound names tables

@@ -8,7 +8,7 @@ ghost use Rattle.inf_laws.specs.NameEvents.{FewHaveRoom, FirstDeclarationsCount,
 ghost use Rattle.inf_laws.specs.Parts.{PartsArePieces, PartsEndWithPieces};
 ghost use Rattle.inf_laws.specs.Skipping.{DirectivesAreSkipped, PassedTokensDoNothing, RoutinesAreSkipped, SourcesEnd};
 ghost use Rattle.inf_laws.specs.UnitFaults.{ConstantsTellTheLeast, PartsTellTheLeast};
-ghost use Rattle.inf_laws.specs.Targets.{AllNamesAreFound, AllPartsAreFound};
+ghost use Rattle.inf_laws.specs.Targets.{AllPartsAreFound};
 ghost use Rattle.inf_laws.specs.Told.{TokensAreTakenOrTold, UnfitTokensAreTold};
 ghost use Rattle.inf_laws.specs.UnitLimits.{UnitsKeepWithin};
 
@@ -97,9 +97,4 @@ pub fn units_keep_within_settings()
 /// table, and the lines of each verb.
 pub fn parts_of_tables_are_found()
     ensures { AllPartsAreFound }
-{}
-
-/// Shows that the value of each name of a source is found, where all of them have values, and that it refers to no name.
-pub fn names_are_found()
-    ensures { AllNamesAreFound }
 {}

@@ -1,5 +1,6 @@
 -- Names by their numbers, leaf by leaf.
-use Rattle.std.proofs.Common.{arith, ◌≡◌, ◌≤◌, ℕ, List, [], ◌∷◌, ◌++◌, codes, Bool, true, false, Option, Some, None, refl, ◌∙◌, ap, sym, subst}
+use Rattle.std.proofs.Common.{arith, ◌≡◌, ◌≤◌, ℕ, List, [], ◌∷◌, ◌++◌, codes, Bool, true, false, Option, Some, None, refl, ap, sym}
+use Rattle.std.proofs.Common.{subst}
 use Rattle.std.specs.Prelude.{is_some, length, ◌+◌, ◌<◌, if◌then◌else◌}
 use Rattle.std.specs.Str.{bytes_eq, str_eq_ignore_ascii_case}
 use Rattle.inf_settings.specs.Bounds.{Limits, unbounded}
@@ -33,8 +34,9 @@ use Rattle.inf_names.specs.declared.symbols.Found.TheVariants as found
 use Rattle.inf_names.specs.declared.symbols.ReferFault.{ReferFault}
 use Rattle.inf_names.specs.declared.system_names.SystemName.{SystemName}
 use Rattle.inf_names.specs.declared.system_names.SystemName.TheVariants as own
-use Rattle.inf_output.specs.Actions.{action_by, appeared, fake_number, key_of, numbered_as, numbered_by, routine_name, routine_referred, seen_by}
-use Rattle.inf_output.specs.Output.{Out, referred, referred_as_by, referred_by, with_text_by, with_word_by}
+use Rattle.inf_output.specs.Actions.{action_by, appeared, fake_number, key_of, numbered_as, numbered_by, routine_name, routine_referred}
+use Rattle.inf_output.specs.Actions.{seen_by}
+use Rattle.inf_output.specs.Output.{Out, referred_as_by, referred_by, with_text_by, with_word_by}
 use Rattle.inf_output.specs.Strings.{fits}
 use Rattle.inf_output.specs.Texts.{used_in}
 use Rattle.inf_text.specs.Packing.{packed}
@@ -93,17 +95,20 @@ index_put key s (n ∷ names) h = go (bytes_eq key n.name) h (λ k. index_put ke
 abbrev pub Grows : Out → Out → Type 0
 Grows o v = length o.names.names ≤ length v.names.names
 
-used_grows : (f : Found Place) (name : List ℕ) (place : Place) (t : Table Place) → length t.names ≤ length (with_used_by f name place t).names
+used_grows : (f : Found Place) (name : List ℕ) (place : Place) (t : Table Place) →
+    length t.names ≤ length (with_used_by f name place t).names
 used_grows found.Unknown name place t = put_longer (folded name) (IsUsed name place) t.names
 used_grows found.Used name place t = omega arith
 used_grows (found.System m) name place t = omega arith
 used_grows (found.Declared m first) name place t = omega arith
 
-referred_grows : (limits : Limits) (f : Option ReferFault) (name : List ℕ) (place : Place) (o : Out) → Grows o (referred_by limits f name place o)
+referred_grows : (limits : Limits) (f : Option ReferFault) (name : List ℕ) (place : Place) (o : Out) →
+    Grows o (referred_by limits f name place o)
 referred_grows limits None name place o = used_grows (found_in name o.names) name place o.names
 referred_grows limits (Some fault) name place o = omega arith
 
-local_grows : (limits : Limits) (local : Option ℕ) (name : List ℕ) (place : Place) (o : Out) → Grows o (settled_by limits local name place o).0
+local_grows : (limits : Limits) (local : Option ℕ) (name : List ℕ) (place : Place) (o : Out) →
+    Grows o (settled_by limits local name place o).0
 local_grows limits (Some local) name place o = omega arith
 local_grows limits None name place o = referred_grows limits (refer_fault limits name o.names) name place o
 

@@ -1,5 +1,5 @@
 -- Names for which the operands of a unit stand.
-use Rattle.std.specs.Prelude.{ℕ, ◌<◌, ◌≤◌, List, [], ◌∷◌, length}
+use Rattle.std.specs.Prelude.{◌<◌, ◌≤◌, List, [], ◌∷◌, length}
 use Rattle.inf_settings.specs.Bounds.{Limits}
 use Rattle.inf_area.specs.declared.targets.Target.TheVariants as target
 use Rattle.inf_characters.specs.declared.characters.CharSet.{CharSet}
@@ -22,7 +22,8 @@ AllNamed (operand ∷ operands) o = IsNamed operand o × AllNamed operands o
 
 -- All operands of a unit's leaves, once their names are used, stand for names that are there. Names only get more.
 pub record OperandsNamed (limits : Limits) : Type 0 where
-  pub named : (set : CharSet) (locals : List Local) (tokens : List SourceToken) (leaves : List Leaf) (s : Settled) → AllNamed s.operands s.out
+  pub named : (set : CharSet) (locals : List Local) (tokens : List SourceToken) (leaves : List Leaf) (s : Settled) →
+      AllNamed s.operands s.out
       → AllNamed (settled limits set locals tokens leaves s).operands (settled limits set locals tokens leaves s).out
   pub grow : (set : CharSet) (locals : List Local) (tokens : List SourceToken) (leaves : List Leaf) (s : Settled)
       → length s.out.names.names ≤ length (settled limits set locals tokens leaves s).out.names.names

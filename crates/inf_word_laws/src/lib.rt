@@ -4,4 +4,7 @@
 
 mod laws;
 
-pub use laws::{operands_stand_for_names, operands_stand_for_words, steps_keep_words, used_words_stand};
+pub use laws::{
+    names_are_found, operands_stand_for_names, operands_stand_for_words, steps_keep_words,
+    used_words_stand,
+};

@@ -7,7 +7,7 @@ use Rattle.inf_names.specs.declared.meanings.Meaning.{Meaning}
 use Rattle.inf_names.specs.declared.meanings.Meaning.TheVariants as meaning
 use Rattle.inf_scanner.specs.declared.tokens.Place.{Place}
 use Rattle.inf_story.specs.Names.{value_by, values_of, with_value}
-use Rattle.inf_laws.specs.Targets.{AllDirect, AllNamesAreFound, IsDirect}
+use Rattle.inf_word_laws.specs.Values.{AllDirect, IsDirect, NamesAreFound}
 
 not_some : {A B : Type 0} {a : A} → None ≡ Some a → B
 not_some e = absurd (cc e)
@@ -59,7 +59,7 @@ are_values (n ∷ names) values e =
     let same : length values ≡ length (n ∷ names) = let is = more.0 in omega (arith, is) in
     (same, more.1)
 
-pub names_are_found : AllNamesAreFound
+pub names_are_found : NamesAreFound
 names_are_found names values e =
     let all = are_values names values e in record {
       found = λ tables number below. value_below values number (let same = all.0 in omega (arith, same, below));

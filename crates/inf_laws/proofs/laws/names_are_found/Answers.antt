@@ -1,5 +1,0 @@
-use Rattle.inf_laws.proofs.NameValues.{names_are_found}
-use Rattle.inf_laws.proofs.laws.names_are_found.Goals as goal
-
-pub returns : goal.returns
-returns c = names_are_found
