@@ -4,6 +4,7 @@ use Rattle.std.specs.Prelude.{is_some, length, nat_lt, ◌+◌, if◌then◌else
 use Rattle.inf_settings.specs.Bounds.{Limits}
 use Rattle.inf_scanner.specs.declared.tokens.Place.{Place}
 use Rattle.inf_opcode.specs.declared.instructions.Label.{Label}
+use Rattle.inf_opcode.specs.Cells.{Cell}
 use Rattle.inf_assembler.specs.declared.routines.CloseFault.{CloseFault}
 use Rattle.inf_assembler.specs.declared.routines.CloseFault.TheVariants as close_fault
 use Rattle.inf_assembler.specs.declared.routines.Limit.{Limit}
@@ -21,7 +22,7 @@ use Rattle.inf_names.specs.declared.symbols.DeclareFault.TheVariants as declarin
 use Rattle.inf_names.specs.Locals.{Headed}
 use Rattle.inf_names.specs.Spellings.{Name}
 use Rattle.inf_names.specs.Symbols.{declare_fault}
-use Rattle.inf_output.specs.Output.{Out, begun_by, declared_by, opened_by}
+use Rattle.inf_output.specs.Output.{Out, begun_by, declared_by, opened, opened_by}
 use Rattle.inf_syntax.specs.declared.actions.Action.TheVariants as action
 use Rattle.inf_constructs.specs.declared.constructs.Construct.{Construct}
 use Rattle.inf_constructs.specs.declared.constructs.Kind.{Kind}
@@ -197,6 +198,19 @@ no_items : (locals : ℕ) (is_lost : Bool) (limits : Limits) (x : Option Limit) 
 no_items locals is_lost limits None o routine e = sym (ap (λ (r : Opened). r.contents.cells) (some_is e))
 no_items locals is_lost limits (Some limit) o routine e = no_routine e
 
+whole_empty : (cells : List Cell) → cells ≡ [] → AreWhole cells
+whole_empty cells e = record {
+  once = λ n. let p = ap (λ c. times n (cell_marks c)) e in omega (arith, p);
+  known = λ n used. let p = ap (λ c. times n (cell_uses c)) e in absurd (omega (arith, p, used));
+}
+
+empty_has : (limits : Limits) (how : RoutineKind) (locals : ℕ) (is_lost : Bool) (o : Out) →
+    is_of_labels (fault_closed limits how (opened limits locals is_lost o).code) ≡ false
+empty_has limits how locals is_lost o =
+    let code = (opened limits locals is_lost o).code in
+    closed_label limits how code code.opened refl
+    (λ routine is. whole_empty routine.contents.cells (no_items locals is_lost limits (full_opened limits is_lost o.code) o routine is))
+
 opened_kept : (locals : ℕ) (is_lost : Bool) (limits : Limits) (x : Option Limit) (o : Out) →
     (opened_by limits x locals is_lost o).kept ≡ o.kept
 opened_kept locals is_lost limits None o = refl
@@ -253,6 +267,7 @@ routines_have_their_labels limits = record {
   routines = λ context r w e h l. routine_has limits context r w e h l;
   opened = λ context first h found w e. opened_begins limits context first h found w e;
   headers = λ context first name h w e. header_begins limits context first name h w e;
+  empty = λ how locals is_lost o. empty_has limits how locals is_lost o;
   directives = λ files place o. begun_leaves limits (full_begun limits o.code) o;
   tokens = λ seen symbols l. tokens_leave seen symbols l;
 }
