@@ -1,5 +1,5 @@
 -- The value of each name of a story is among the values of its names, and refers to no name.
-use Rattle.std.proofs.Common.{arith, ◌≡◌, ◌<◌, ℕ, zero, suc, List, [], ◌∷◌, length, Option, Some, None, true, refl, ◌∙◌, ap, sym, subst}
+use Rattle.std.proofs.Common.{arith, ◌≡◌, ◌<◌, ℕ, zero, suc, List, [], ◌∷◌, length, Option, Some, None, true, refl, subst}
 use Rattle.std.specs.Prelude.{is_some, slice_get}
 use Rattle.inf_area.specs.declared.targets.Value.{Value}
 use Rattle.inf_names.specs.Symbols.{Named, meaning_in}
