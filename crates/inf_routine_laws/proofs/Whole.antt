@@ -1,5 +1,5 @@
 -- A routine as a whole: where it ends, each label is marked once, and each that is used is marked.
-use Rattle.std.proofs.Common.{arith, ◌≡◌, ℕ, List, [], ◌∷◌, ◌++◌, Bool, true, false, Option, Some, None, refl, ◌∙◌, ap, sym}
+use Rattle.std.proofs.Common.{arith, ◌≡◌, ℕ, List, [], ◌∷◌, ◌++◌, Bool, true, false, Option, Some, None, refl, ◌∙◌, ap, sym, subst}
 use Rattle.std.specs.Prelude.{is_some, length, nat_lt, ◌+◌, if◌then◌else◌}
 use Rattle.inf_settings.specs.Bounds.{Limits}
 use Rattle.inf_scanner.specs.declared.tokens.Place.{Place}
@@ -30,16 +30,19 @@ use Rattle.inf_constructs.specs.declared.constructs.Kind.TheVariants as kind
 use Rattle.inf_constructs.specs.Constructs.{are_cases, ended}
 use Rattle.inf_constructs.specs.Labels.{NamedLabel, missing}
 use Rattle.inf_compilation.specs.Context.{Context}
-use Rattle.inf_compilation.specs.Actions.{Compilation, header_with, opened_with, routine_declared}
+use Rattle.inf_reader.specs.Acting.{act}
+use Rattle.inf_unit.specs.Units.{first_place, names_in}
+use Rattle.inf_compilation.specs.Actions.{Compilation, header_of, header_with, is_to_be_replaced, opened_with, passed as passed_over}
+use Rattle.inf_compilation.specs.Actions.{routine_declared}
 use Rattle.inf_compilation.specs.Findings.{Findings, again_by, header_findings}
-use Rattle.inf_statement_laws.specs.Happenings.{Acts, Happening}
+use Rattle.inf_statement_laws.specs.Happenings.{Acts, Between, Happening, Moment}
 use Rattle.inf_statement_laws.specs.Nested.{Nested, happenings}
-use Rattle.inf_statement_laws.specs.Laid.{laid, run}
+use Rattle.inf_statement_laws.specs.Laid.{happens, laid, passed, run}
 use Rattle.inf_statement_laws.specs.Readings.{Routine, body_laid, routine_happenings}
-use Rattle.inf_statement_laws.proofs.Acts.{own_alone, quiet_run}
+use Rattle.inf_statement_laws.proofs.Acts.{inside_act, own_alone, quiet_run}
 use Rattle.inf_statement_laws.proofs.Laying.{alone_behind}
 use Rattle.inf_label_laws.specs.Labels.{times}
-use Rattle.inf_routine_laws.specs.Faults.{AllLeave, HasBegun, HasItsLabels, is_of_labels}
+use Rattle.inf_routine_laws.specs.Faults.{AllLeave, HasBegun, HasItsLabels, LeaveRoutine, is_of_labels}
 use Rattle.inf_routine_laws.specs.Laws.{RoutinesHaveTheirLabels, headed}
 use Rattle.inf_routine_laws.specs.Leaving.{LeavesRoutine}
 use Rattle.inf_routine_laws.proofs.Counting.{AreWhole, cell_marks, cell_uses, whole_missing, whole_twice}
@@ -176,7 +179,7 @@ body_has limits context body w e h g l =
     has_its_labels limits (laid limits context body w) (alone_behind limits context body w e h)
     (keeps_all limits context body none_due none_due none_due w e l g)
 
-routine_has : (limits : Limits) (context : Context) (r : Routine) (w : Compilation) → (headed limits context r w).closed ≡ 0 →
+routine_has : (limits : Limits) (context : Context) (r : Routine) (w : Compilation) → w.closed ≡ 0 →
     HasBegun (headed limits context r w) → AllLeave (routine_happenings r) → HasItsLabels limits (body_laid limits context r w)
 routine_has limits context r w e h l =
     let v = headed limits context r w in
@@ -184,8 +187,10 @@ routine_has limits context r w e h l =
     let l1 = leave_both r.header.all (Acts r.heads action.EndLocals ∷ (r.semicolon.all ++ (happenings r.body ++ ends))) l in
     let l2 = leave_both r.semicolon.all (happenings r.body ++ ends) l1.1.1 in
     let l3 = leave_both (happenings r.body) ends l2.1 in
+    let before = quiet_run limits context r.header.all w r.header.are in
+    let none = inside_act limits context r.heads.place action.EndLocals (run limits context r.header.all w) refl (before.1 ∙ e) in
     let same = quiet_run limits context r.semicolon.all v r.semicolon.are in
-    body_has limits context r.body (run limits context r.semicolon.all v) (same.1 ∙ e) (ap own_alone same.0 ∙ own_begun v h)
+    body_has limits context r.body (run limits context r.semicolon.all v) (same.1 ∙ none) (ap own_alone same.0 ∙ own_begun v h)
     (quiet_good limits context r.semicolon.all none_due none_due none_due v r.semicolon.are l2.0 (begun_good v h)) l3.0
 
 -- Headers
@@ -241,6 +246,27 @@ header_begins limits context first name h w e =
     (routine_declared limits name w)
     (declared_kept limits (declare_fault limits name.bytes w.output.names) name.bytes name.place _ w.output ∙ e)
 
+begun_behind : (m : Between) (v : Compilation) → LeaveRoutine m → HasBegun v → HasBegun (passed m v)
+begun_behind m v l h = record {
+  items = λ routine is. h.items routine (sym (l v.output).opened ∙ is);
+  labels = h.labels;
+  constructs = h.constructs;
+  together = (l v.output).kept ∙ h.together;
+}
+
+headers_begin : (limits : Limits) (context : Context) (at : Moment) (name : Name) (names : List Name) (w : Compilation) →
+    names_in w.unit.tokens ≡ name ∷ names → is_to_be_replaced name w ≡ false → w.output.kept ≡ None → LeaveRoutine at.behind →
+    HasBegun (happens limits context (Acts at action.EndLocals) w)
+headers_begin limits context at name names w e free none l =
+    let first = first_place w.unit.tokens at.place in
+    let own = record w { is_replaced = false; is_embedded = false } in
+    let over = passed_over true (record w { is_replaced = true; is_embedded = false; constructs = [] }) in
+    let v = header_with limits context first name w.unit.headed own in
+    let same : header_of limits context first (names_in w.unit.tokens) w ≡ v =
+    ap (λ l. header_of limits context first l w) e ∙ ap (λ b. if b then over else v) free in
+    begun_behind at.behind (act limits context at.place action.EndLocals w) l
+    (subst HasBegun (sym same) (header_begins limits context first name w.unit.headed own none))
+
 -- Conditional directives
 
 begun_opened : (x : Option Limit) (r : Routines) → (begun_unless x r).opened ≡ r.opened
@@ -266,7 +292,7 @@ routines_have_their_labels limits = record {
   bodies = λ context body w e h l. body_has limits context body w e (own_begun w h) (begun_good w h) l;
   routines = λ context r w e h l. routine_has limits context r w e h l;
   opened = λ context first h found w e. opened_begins limits context first h found w e;
-  headers = λ context first name h w e. header_begins limits context first name h w e;
+  headers = headers_begin limits;
   empty = λ how locals is_lost o. empty_has limits how locals is_lost o;
   directives = λ files place o. begun_leaves limits (full_begun limits o.code) o;
   tokens = λ seen symbols l. tokens_leave seen symbols l;
