@@ -1,4 +1,4 @@
 mod Examples
-mod OwnRows
-mod Owning
+pub mod OwnRows
+pub mod Owning
 mod Programs

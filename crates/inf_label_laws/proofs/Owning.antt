@@ -1,15 +1,23 @@
 -- Which labels code marks: those that are handed out while it is laid, and some that are given to it.
-use Rattle.std.proofs.Common.{arith, ◌≡◌, ◌≤◌, ℕ, suc, List, [], ◌∷◌, ◌++◌, Option, Some, None, refl, ◌∙◌, ap, sym, subst, inl, inr}
+use Rattle.std.proofs.Common.{arith, ◌≡◌, ◌≤◌, ℕ, suc, List, [], ◌∷◌, ◌++◌, Bool, true, false, Option, Some, None, refl, ◌∙◌, ap, sym}
+use Rattle.std.proofs.Common.{subst}
+use Rattle.std.proofs.Common.{append_assoc, append-nil, inl, inr}
 use Rattle.std.proofs.lemmas.Bool.{cases_eq, cases_lt, eq-eqb, ne_eqb}
 use Rattle.std.proofs.Math.Nat.{min-eq_left, min-eq_right}
-use Rattle.std.specs.Prelude.{◌+◌, ◌<◌, ◌==◌, ◌⊎◌, min, if◌then◌else◌}
+use Rattle.std.specs.Prelude.{◌+◌, ◌<◌, ◌==◌, ◌⊎◌, map, min, nat_lt, if◌then◌else◌}
 use Rattle.inf_settings.specs.Bounds.{Limits}
 use Rattle.inf_opcode.specs.declared.instructions.Branch.{Branch}
 use Rattle.inf_opcode.specs.declared.instructions.Label.{Label}
+use Rattle.inf_opcode.specs.declared.instructions.Operand.{Operand}
+use Rattle.inf_opcode.specs.declared.instructions.Operand.TheVariants as operand
+use Rattle.inf_opcode.specs.declared.instructions.Operand.TheVariants.{Small}
+use Rattle.inf_opcode.specs.Instructions.{Parts}
 use Rattle.inf_opcode.specs.declared.opcodes.Opcode.{Opcode}
 use Rattle.inf_output.specs.declared.items.Item.{Item}
 use Rattle.inf_output.specs.declared.items.Item.TheVariants.{Instruction, Mark}
 use Rattle.inf_output.specs.declared.operands.Simple.{Simple}
+use Rattle.inf_output.specs.declared.operands.Simple.TheVariants.{Known, Later, Variable}
+use Rattle.inf_output.specs.Operands.{written}
 use Rattle.inf_output.specs.Output.{Code, Out, behind, fitted, full_item, in_routine, instruction, jumped, laid, laid_by, marked, naming}
 use Rattle.inf_output.specs.Output.{next_label, nothing, routine, used, used_by, with_label, with_routine, ◌▸◌}
 use Rattle.inf_output.specs.declared.veneer.Veneer.{Veneer}
@@ -20,30 +28,57 @@ use Rattle.inf_names.specs.declared.symbols.ReferFault.{ReferFault}
 use Rattle.inf_names.specs.Symbols.{refer_fault}
 use Rattle.inf_label_laws.specs.Labels.{times}
 use Rattle.inf_interpreter.specs.Claims.{Laid, code_behind, kept_behind}
-use Rattle.inf_label_laws.specs.Programs.{marks}
+use Rattle.inf_label_laws.specs.Programs.{branch_labels, marks, operand_labels, uses}
 use Rattle.inf_interpreter.proofs.Laying.{code_none, item_laid, kept_none, laid_then, used_code, used_fits, used_kept}
 
 -- Numbers in lists
 
-times_joined : (n : ℕ) (a b : List ℕ) → times n (a ++ b) ≡ times n a + times n b
+pub times_joined : (n : ℕ) (a b : List ℕ) → times n (a ++ b) ≡ times n a + times n b
 times_joined n [] b = omega arith
 times_joined n (m ∷ a) b = go (if n == m then 1 else 0) (times_joined n a b)
   where
     go : (x : ℕ) → times n (a ++ b) ≡ times n a + times n b → x + times n (a ++ b) ≡ (x + times n a) + times n b
     go x e = omega (arith, e)
 
-times_first : (n : ℕ) (ms : List ℕ) → times n (n ∷ ms) ≡ suc (times n ms)
+pub times_first : (n : ℕ) (ms : List ℕ) → times n (n ∷ ms) ≡ suc (times n ms)
 times_first n ms =
     let e : 1 + times n ms ≡ suc (times n ms) = omega arith in ap (λ b. (if b then 1 else 0) + times n ms) (eq-eqb n n refl) ∙ e
 
-times_other : (n m : ℕ) (ms : List ℕ) → (n ≡ m → ⊥) → times n (m ∷ ms) ≡ times n ms
+pub times_other : (n m : ℕ) (ms : List ℕ) → (n ≡ m → ⊥) → times n (m ∷ ms) ≡ times n ms
 times_other n m ms h =
     let e : 0 + times n ms ≡ times n ms = omega arith in ap (λ b. (if b then 1 else 0) + times n ms) (ne_eqb n m h) ∙ e
 
-marks_joined : (a b : List Item) → marks (a ++ b) ≡ marks a ++ marks b
+pub marks_joined : (a b : List Item) → marks (a ++ b) ≡ marks a ++ marks b
 marks_joined [] b = refl
 marks_joined ((Instruction i) ∷ a) b = marks_joined a b
 marks_joined ((Mark l) ∷ a) b = ap (λ ms. l.number ∷ ms) (marks_joined a b)
+
+pub uses_joined : (a b : List Item) → uses (a ++ b) ≡ uses a ++ uses b
+uses_joined [] b = refl
+uses_joined ((Instruction i) ∷ a) b =
+    ap (λ ns. operand_labels i.operands ++ (branch_labels i.branch ++ ns)) (uses_joined a b)
+    ∙ (ap (λ ns. operand_labels i.operands ++ ns) (sym (append_assoc (branch_labels i.branch) (uses a) (uses b)))
+    ∙ sym (append_assoc (operand_labels i.operands) (branch_labels i.branch ++ uses a) (uses b)))
+uses_joined ((Mark l) ∷ a) b = uses_joined a b
+
+-- operands that are written have no offset
+written_known : (n : ℕ) (b : Bool) (others : List Operand) → operand_labels others ≡ []
+    → operand_labels ((if b then operand.Small n else operand.Large n) ∷ others) ≡ []
+written_known n true others e = e
+written_known n false others e = e
+
+written_none : (operands : List Simple) → operand_labels (map written operands) ≡ []
+written_none [] = refl
+written_none ((Known n) ∷ operands) = written_known n (nat_lt n 256) (map written operands) (written_none operands)
+written_none ((Variable v) ∷ operands) = written_none operands
+written_none ((Later t) ∷ operands) = written_none operands
+
+pub some_of_two : (a b : ℕ) → 1 ≤ a + b → (1 ≤ a) ⊎ (1 ≤ b)
+some_of_two a b h = go (cases_lt 0 a)
+  where
+    go : (0 < a) ⊎ (a ≤ 0) → (1 ≤ a) ⊎ (1 ≤ b)
+    go (inl more) = inl (omega (arith, more))
+    go (inr none) = inr (omega (arith, h, none))
 
 -- Some numbers are each once among those from one to below another, and beside that as often as they are given.
 pub record Within (given : List ℕ) (low high : ℕ) (ms : List ℕ) : Type 0 where
@@ -128,18 +163,80 @@ within_given given low = record {
   over = λ n more. omega arith;
 }
 
+-- Items mark labels of their own, each at most once, and those that they are given; and they branch or jump to labels that they mark, or
+-- that they may need.
+pub record Settles (needs given : List ℕ) (low high : ℕ) (items : List Item) : Type 0 where
+  pub within : Within given low high (marks items)
+  pub all : (n : ℕ) → times n given ≤ times n (marks items)
+  pub known : (n : ℕ) → 1 ≤ times n (uses items) → 1 ≤ times n needs + times n (marks items)
+
+settles_then : (needs a b : List ℕ) (low mid high : ℕ) (x y : List Item) → Settles needs a low mid x → Settles needs b mid high y →
+    Settles needs (a ++ b) low high (x ++ y)
+settles_then needs a b low mid high x y f g = record {
+  within = subst (λ ms. Within (a ++ b) low high ms) (sym (marks_joined x y))
+      (within_then a b low mid high (marks x) (marks y) f.within g.within);
+  all = λ n.
+      let e = times_joined n a b in
+      let d = marked n in
+      let p = f.all n in
+      let q = g.all n in
+      omega (arith, e, d, p, q);
+  known = λ n h. known n (some_of_two (times n (uses x)) (times n (uses y)) (used n h));
+}
+  where
+    marked : (n : ℕ) → times n (marks (x ++ y)) ≡ times n (marks x) + times n (marks y)
+    marked n = ap (times n) (marks_joined x y) ∙ times_joined n (marks x) (marks y)
+
+    used : (n : ℕ) → 1 ≤ times n (uses (x ++ y)) → 1 ≤ times n (uses x) + times n (uses y)
+    used n h = let e = ap (times n) (uses_joined x y) ∙ times_joined n (uses x) (uses y) in omega (arith, e, h)
+
+    known : (n : ℕ) → (1 ≤ times n (uses x)) ⊎ (1 ≤ times n (uses y)) → 1 ≤ times n needs + times n (marks (x ++ y))
+    known n (inl first) = let p = f.known n first in let d = marked n in omega (arith, p, d)
+    known n (inr second) = let p = g.known n second in let d = marked n in omega (arith, p, d)
+
+settles_as : (needs a b : List ℕ) (low high : ℕ) (items : List Item) → ((n : ℕ) → times n a ≡ times n b) → Settles needs a low high items →
+    Settles needs b low high items
+settles_as needs a b low high items h f = record {
+  within = within_as a b low high (marks items) (λ n. let e = h n in omega (arith, e)) f.within;
+  all = λ n. let e = h n in let p = f.all n in omega (arith, e, p);
+  known = f.known;
+}
+
+-- A label that is handed out is marked, so what is laid behind that may need it.
+settles_label : (needs given : List ℕ) (low high : ℕ) (items : List Item) → Settles (low ∷ needs) (low ∷ given) (suc low) high items →
+    Settles needs given low high items
+settles_label needs given low high items f = record {
+  within = within_label given low high (marks items) f.within;
+  all = λ n. all n (cases_eq n low);
+  known = λ n h. known n h (cases_eq n low);
+}
+  where
+    all : (n : ℕ) → (n ≡ low) ⊎ (n ≡ low → ⊥) → times n given ≤ times n (marks items)
+    all n (inl same) =
+        let e = subst (λ k. times n (k ∷ given) ≡ suc (times n given)) same (times_first n given) in
+        let p = f.all n in
+        omega (arith, e, p)
+    all n (inr other) = let e = times_other n low given other in let p = f.all n in omega (arith, e, p)
+
+    known : (n : ℕ) → 1 ≤ times n (uses items) → (n ≡ low) ⊎ (n ≡ low → ⊥) → 1 ≤ times n needs + times n (marks items)
+    known n h (inl same) =
+        let e = subst (λ k. times n (k ∷ given) ≡ suc (times n given)) same (times_first n given) in
+        let p = f.all n in
+        omega (arith, e, p)
+    known n h (inr other) = let e = times_other n low needs other in let p = f.known n h in omega (arith, e, p)
+
 -- Code
 
-pub record Owns (c : Code) (given : List ℕ) (o : Out) : Type 0 where
+pub record Owns (c : Code) (needs given : List ℕ) (o : Out) : Type 0 where
   pub items : List Item
   pub laid : Laid o items (c o)
-  pub own : (c o).next < 4294967295 → Within given o.next (c o).next (marks items)
+  pub own : (c o).next < 4294967295 → Settles needs given o.next (c o).next items
 
-abbrev pub Owned : Code → List ℕ → Type 0
-Owned c given = (o : Out) → Owns c given o
+abbrev pub Owned : Code → List ℕ → List ℕ → Type 0
+Owned c needs given = (o : Out) → Owns c needs given o
 
-pub owned_then : {c d : Code} {a b : List ℕ} → Owned c a → Owned d b → Owned (c ▸ d) (a ++ b)
-owned_then {c} {d} {a} {b} f g o =
+pub owned_then : {c d : Code} {needs a b : List ℕ} → Owned c needs a → Owned d needs b → Owned (c ▸ d) needs (a ++ b)
+owned_then {c} {d} {needs} {a} {b} f g o =
     let x = f o in
     let y = g (c o) in
     record {
@@ -148,21 +245,71 @@ owned_then {c} {d} {a} {b} f g o =
       own =
           λ few.
           let q = y.own few in
-          let p = x.own (let r = q.grows in omega (arith, few, r)) in
-          subst (λ ms. Within (a ++ b) o.next (d (c o)).next ms) (sym (marks_joined x.items y.items))
-          (within_then a b o.next (c o).next (d (c o)).next (marks x.items) (marks y.items) p q);
+          let p = x.own (let r = q.within.grows in omega (arith, few, r)) in
+          settles_then needs a b o.next (c o).next (d (c o)).next x.items y.items p q;
     }
 
 -- code that is given no label, with other code behind it
-pub owned_before : {c d : Code} {b : List ℕ} → Owned c [] → Owned d b → Owned (c ▸ d) b
-owned_before {c} {d} {b} f g = owned_then {c = c} {d = d} {a = []} {b = b} f g
+pub owned_behind : {c d : Code} {needs b : List ℕ} → Owned c needs [] → Owned d needs b → Owned (c ▸ d) needs b
+owned_behind {c} {d} {needs} {b} f g = owned_then {c = c} {d = d} {needs = needs} {a = []} {b = b} f g
 
-pub owned_as : {c : Code} {a b : List ℕ} → ((n : ℕ) → times n a ≤ times n b) → Owned c a → Owned c b
-owned_as {c} {a} {b} h f o =
+pub owned_wide : {c : Code} {a b given : List ℕ} → ((n : ℕ) → 1 ≤ times n a → 1 ≤ times n b) → Owned c a given → Owned c b given
+owned_wide {c} {a} {b} {given} h f o =
     let x = f o in
-    record { items = x.items; laid = x.laid; own = λ few. within_as a b o.next (c o).next (marks x.items) h (x.own few) }
+    record {
+      items = x.items;
+      laid = x.laid;
+      own =
+          λ few.
+          let s = x.own few in record {
+            within = s.within;
+            all = s.all;
+            known = λ n used. known n s (some_of_two (times n a) (times n (marks x.items)) (s.known n used));
+          };
+    }
+  where
+    known : (n : ℕ) → Settles a given o.next (c o).next (f o).items → (1 ≤ times n a) ⊎ (1 ≤ times n (marks (f o).items))
+        → 1 ≤ times n b + times n (marks (f o).items)
+    known n s (inl some) = let p = h n some in omega (arith, p)
+    known n s (inr own) = omega (arith, own)
 
-behind_is : (n : ℕ) → behind n < 4294967295 → behind n ≡ suc n
+none_needed : {B : Type 0} (n : ℕ) → 1 ≤ times n [] → B
+none_needed n h = absurd (omega (arith, h))
+
+-- code that needs no label of others
+pub owned_free : {c : Code} {needs given : List ℕ} → Owned c [] given → Owned c needs given
+owned_free {c} {needs} {given} f = owned_wide {c = c} {a = []} {b = needs} (λ n h. none_needed n h) f
+
+one_needed : (needs : List ℕ) (l n : ℕ) → 1 ≤ times l needs → 1 ≤ times n (l ∷ []) → 1 ≤ times n needs
+one_needed needs l n has h = go (cases_eq n l)
+  where
+    go : (n ≡ l) ⊎ (n ≡ l → ⊥) → 1 ≤ times n needs
+    go (inl same) = subst (λ k. 1 ≤ times k needs) (sym same) has
+    go (inr other) = let e = times_other n l [] other in absurd (omega (arith, e, h))
+
+-- code that needs one label, which is among others
+pub owned_at : {c : Code} {l : ℕ} {needs given : List ℕ} → 1 ≤ times l needs → Owned c (l ∷ []) given → Owned c needs given
+owned_at {c} {l} {needs} {given} has f = owned_wide {c = c} {a = l ∷ []} {b = needs} (λ n h. one_needed needs l n has h) f
+
+pub has_first : (l : ℕ) (needs : List ℕ) → 1 ≤ times l (l ∷ needs)
+has_first l needs = let e = times_first l needs in omega (arith, e)
+
+pub has_later : (l m : ℕ) (needs : List ℕ) → 1 ≤ times l needs → 1 ≤ times l (m ∷ needs)
+has_later l m needs h = go (if l == m then 1 else 0)
+  where
+    go : (x : ℕ) → 1 ≤ x + times l needs
+    go x = omega (arith, h)
+
+-- code that needs no label, before other code
+pub owned_before : {c d : Code} {needs b : List ℕ} → Owned c [] [] → Owned d needs b → Owned (c ▸ d) needs b
+owned_before {c} {d} {needs} {b} f g = owned_behind {c = c} {d = d} {needs = needs} {b = b} (owned_free {c = c} {needs = needs} f) g
+
+pub owned_as : {c : Code} {needs a b : List ℕ} → ((n : ℕ) → times n a ≡ times n b) → Owned c needs a → Owned c needs b
+owned_as {c} {needs} {a} {b} h f o =
+    let x = f o in
+    record { items = x.items; laid = x.laid; own = λ few. settles_as needs a b o.next (c o).next x.items h (x.own few) }
+
+pub behind_is : (n : ℕ) → behind n < 4294967295 → behind n ≡ suc n
 unfolding behind
 behind_is n h = go (cases_lt 4294967295 (n + 1))
   where
@@ -173,8 +320,9 @@ behind_is n h = go (cases_lt 4294967295 (n + 1))
         absurd (omega (arith, h, e))
     go (inr few) = let e : n + 1 ≡ suc n = omega arith in min-eq_left few ∙ e
 
-pub owned_label : {body : Label → Code} {given : List ℕ} → ((l : Label) → Owned (body l) (l.number ∷ given)) → Owned (with_label body) given
-owned_label {body} {given} f o =
+pub owned_label : {body : Label → Code} {needs given : List ℕ} →
+    ((l : Label) → Owned (body l) (l.number ∷ needs) (l.number ∷ given)) → Owned (with_label body) needs given
+owned_label {body} {needs} {given} f o =
     let next = record o { next = behind o.next } in
     let x = f (next_label o) next in
     let high = (body (next_label o) next).next in
@@ -184,15 +332,22 @@ owned_label {body} {given} f o =
       own =
           λ few.
           let w = x.own few in
-          let e = behind_is o.next (let r = w.grows in omega (arith, few, r)) in
-          within_label given o.next high (marks x.items) (subst (λ n. Within (o.next ∷ given) n high (marks x.items)) e w);
+          let e = behind_is o.next (let r = w.within.grows in omega (arith, few, r)) in
+          settles_label needs given o.next high x.items (subst (λ n. Settles (o.next ∷ needs) (o.next ∷ given) n high x.items) e w);
     }
 
-pub owned_nothing : Owned nothing []
-owned_nothing o = record {
+settles_nothing : (needs : List ℕ) (low : ℕ) → Settles needs [] low low []
+settles_nothing needs low = record {
+  within = within_given [] low;
+  all = λ n. omega arith;
+  known = λ n h. none_needed n h;
+}
+
+pub owned_nothing : {needs : List ℕ} → Owned nothing needs []
+owned_nothing {needs} o = record {
   items = [];
   laid = record { kept = kept_none o.kept; fits = λ e. e; code = λ e. code_none o.kept o.code };
-  own = λ few. within_given [] o.next;
+  own = λ few. settles_nothing needs o.next;
 }
 
 -- an item counts no label
@@ -212,32 +367,55 @@ laid_next : (limits : Limits) (item : Item) (o : Out) → (laid limits item o).n
 unfolding laid
 laid_next limits item o = by_next limits o.kept item o
 
-owned_item : (limits : Limits) (item : Item) → Owned (laid limits item) (marks (item ∷ []))
+settles_item : (item : Item) (low : ℕ) → Settles (uses (item ∷ [])) (marks (item ∷ [])) low low (item ∷ [])
+settles_item item low = record {
+  within = within_given (marks (item ∷ [])) low;
+  all = λ n. omega arith;
+  known = λ n h. omega (arith, h);
+}
+
+pub owned_item : (limits : Limits) (item : Item) → Owned (laid limits item) (uses (item ∷ [])) (marks (item ∷ []))
 owned_item limits item o = record {
   items = item ∷ [];
   laid = item_laid limits item o;
   own =
-      λ few. subst (λ n. Within (marks (item ∷ [])) o.next n (marks (item ∷ []))) (sym (laid_next limits item o))
-      (within_given (marks (item ∷ [])) o.next);
+      λ few. subst (λ n. Settles (uses (item ∷ [])) (marks (item ∷ [])) o.next n (item ∷ [])) (sym (laid_next limits item o))
+      (settles_item item o.next);
 }
 
+-- an instruction needs the label of its branch
+pub owned_parts_laid : (limits : Limits) (i : Parts) (needs : List ℕ) → operand_labels i.operands ≡ [] → branch_labels i.branch ≡ needs →
+    Owned (laid limits (Instruction i)) needs []
+owned_parts_laid limits i needs none e =
+    owned_wide {c = laid limits (Instruction i)} {a = uses (Instruction i ∷ [])} {b = needs} (λ n h. subst (λ ns. 1 ≤ times n ns) is h)
+    (owned_item limits (Instruction i))
+  where
+    is : operand_labels i.operands ++ (branch_labels i.branch ++ []) ≡ needs
+    is = ap (λ ns. ns ++ (branch_labels i.branch ++ [])) none ∙ (append-nil (branch_labels i.branch) ∙ e)
+
 pub owned_instruction : (limits : Limits) (op : Opcode) (operands : List Simple) (store : Option ℕ) (branch : Option Branch) →
-    Owned (instruction limits op operands store branch) []
+    Owned (instruction limits op operands store branch) (branch_labels branch) []
 unfolding instruction
-owned_instruction limits op operands store branch o = owned_item limits (Instruction _) o
+owned_instruction limits op operands store branch o =
+    owned_parts_laid limits (record { opcode = op; operands = map written operands; store = store; branch = branch; text = [] })
+    (branch_labels branch) (written_none operands) refl o
 
 pub owned_naming : (limits : Limits) (op : Opcode) (v : ℕ) (operands : List Simple) (store : Option ℕ) (branch : Option Branch) →
-    Owned (naming limits op v operands store branch) []
+    Owned (naming limits op v operands store branch) (branch_labels branch) []
 unfolding naming
-owned_naming limits op v operands store branch o = owned_item limits (Instruction _) o
+owned_naming limits op v operands store branch o =
+    owned_parts_laid limits
+    (record { opcode = op; operands = Small v ∷ map written operands; store = store; branch = branch; text = [] })
+    (branch_labels branch) (written_none operands) refl o
 
-pub owned_jump : (limits : Limits) (l : Label) → Owned (jumped limits l) []
+pub owned_jump : (limits : Limits) (l : Label) → Owned (jumped limits l) (l.number ∷ []) []
 unfolding jumped
 owned_jump limits l o = owned_item limits (Instruction _) o
 
-pub owned_mark : (limits : Limits) (l : Label) → Owned (marked limits l) (l.number ∷ [])
+pub owned_mark : {needs : List ℕ} (limits : Limits) (l : Label) → Owned (marked limits l) needs (l.number ∷ [])
 unfolding marked
-owned_mark limits l o = owned_item limits (Mark l) o
+owned_mark {needs} limits l o =
+    owned_free {c = laid limits (Mark l)} {needs = needs} {given = l.number ∷ []} (owned_item limits (Mark l)) o
 
 -- nor does the name of a supplied routine
 by_used_next : (limits : Limits) (f : Option ReferFault) (name : List ℕ) (o : Out) → (used_by limits f name o).next ≡ o.next
@@ -248,9 +426,9 @@ used_next : (limits : Limits) (v : Veneer) (o : Out) → (used limits v o).next 
 unfolding used
 used_next limits v o = by_used_next limits (refer_fault limits (name_of v) o.names) (name_of v) o
 
-pub owned_routine : {body : Simple → Code} {given : List ℕ} (limits : Limits) (v : Veneer) → ((r : Simple) → Owned (body r) given) →
-    Owned (with_routine limits v body) given
-owned_routine {body} {given} limits v f o =
+pub owned_routine : {body : Simple → Code} {needs given : List ℕ} (limits : Limits) (v : Veneer) →
+    ((r : Simple) → Owned (body r) needs given) → Owned (with_routine limits v body) needs given
+owned_routine {body} {needs} {given} limits v f o =
     let x = f (routine limits v o) (used limits v o) in
     record {
       items = x.items;
@@ -262,6 +440,6 @@ owned_routine {body} {given} limits v f o =
             ∙ ap (λ c. code_behind o.kept x.items c) (used_code limits v o);
       };
       own =
-          λ few. subst (λ n. Within given n (body (routine limits v o) (used limits v o)).next (marks x.items)) (used_next limits v o)
+          λ few. subst (λ n. Settles needs given n (body (routine limits v o) (used limits v o)).next x.items) (used_next limits v o)
           (x.own few);
     }

@@ -1,7 +1,12 @@
 -- The code of an expression, anywhere in a program, with the labels looked up.
-use Rattle.std.specs.Prelude.{◌≡◌, ℕ, ◌==◌, Bool, false, List, [], ◌∷◌, ◌++◌, Some, if◌then◌else◌}
+use Rattle.std.specs.Prelude.{◌≡◌, ℕ, ◌==◌, Bool, false, List, [], ◌∷◌, ◌++◌, Option, Some, None, if◌then◌else◌}
 use Rattle.inf_settings.specs.Bounds.{Limits}
+use Rattle.inf_opcode.specs.declared.instructions.Branch.{Branch}
+use Rattle.inf_opcode.specs.declared.instructions.Destination.{Destination}
+use Rattle.inf_opcode.specs.declared.instructions.Destination.TheVariants.{To, ReturnFalse, ReturnTrue}
 use Rattle.inf_opcode.specs.declared.instructions.Label.{Label}
+use Rattle.inf_opcode.specs.declared.instructions.Operand.{Operand}
+use Rattle.inf_opcode.specs.declared.instructions.Operand.TheVariants.{Offset}
 use Rattle.inf_expressions.specs.Trees.{Tree}
 use Rattle.inf_output.specs.declared.items.Item.{Item}
 use Rattle.inf_output.specs.declared.items.Item.TheVariants.{Instruction, Mark}
@@ -24,6 +29,26 @@ abbrev pub marks : List Item → List ℕ
 marks [] = []
 marks ((Instruction i) ∷ items) = marks items
 marks ((Mark m) ∷ items) = m.number ∷ marks items
+
+-- the labels to which items branch or jump
+abbrev pub target_labels : Destination → List ℕ
+target_labels (To label) = label.number ∷ []
+target_labels ReturnFalse = []
+target_labels ReturnTrue = []
+
+abbrev pub branch_labels : Option Branch → List ℕ
+branch_labels None = []
+branch_labels (Some branch) = target_labels branch.target
+
+abbrev pub operand_labels : List Operand → List ℕ
+operand_labels [] = []
+operand_labels ((Offset label) ∷ others) = label.number ∷ operand_labels others
+operand_labels (operand ∷ others) = operand_labels others
+
+abbrev pub uses : List Item → List ℕ
+uses [] = []
+uses ((Instruction i) ∷ items) = operand_labels i.operands ++ (branch_labels i.branch ++ uses items)
+uses ((Mark m) ∷ items) = uses items
 
 -- All labels that a program marks are different.
 abbrev pub IsAbsent : ℕ → List ℕ → Type 0

@@ -1,2 +1,4 @@
 pub mod Standing
 pub mod Operands
+pub mod Names
+pub mod Values

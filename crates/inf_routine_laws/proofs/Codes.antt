@@ -1,0 +1,361 @@
+-- The code of statements marks labels of its own, and needs no others but those to which `break`, `continue` and conditions go.
+use Rattle.std.proofs.Common.{arith, ◌≡◌, ◌≤◌, ℕ, List, [], ◌∷◌, ◌++◌, Bool, true, false, Option, Some, None, refl, ◌∙◌, ap, sym, subst}
+use Rattle.std.specs.Prelude.{◌==◌, ◌+◌, ◌<◌, if◌then◌else◌}
+use Rattle.inf_settings.specs.Bounds.{Limits}
+use Rattle.inf_area.specs.declared.targets.Target.{Target}
+use Rattle.inf_characters.specs.declared.characters.CharSet.{CharSet}
+use Rattle.inf_characters.specs.declared.texts.TextItem.{TextItem}
+use Rattle.inf_text.specs.Packing.{packed}
+use Rattle.inf_opcode.specs.declared.instructions.Label.{Label}
+use Rattle.inf_opcode.specs.declared.opcodes.Opcode.{Opcode}
+use Rattle.inf_opcode.specs.declared.opcodes.Opcode.TheVariants as opcode
+use Rattle.inf_opcode.specs.Instructions.{bare}
+use Rattle.inf_expressions.specs.Questions.{range_of}
+use Rattle.inf_expressions.specs.Trees.{Tree}
+use Rattle.inf_output.specs.declared.items.Item.{Item as CodeItem}
+use Rattle.inf_output.specs.declared.items.Item.TheVariants.{Instruction, Mark}
+use Rattle.inf_output.specs.declared.operands.Simple.{Simple}
+use Rattle.inf_output.specs.declared.operands.Simple.TheVariants.{Known, Later, Variable}
+use Rattle.inf_output.specs.declared.veneer.Veneer.{Veneer}
+use Rattle.inf_output.specs.declared.veneer.Veneer.TheVariants as veneer
+use Rattle.inf_output.specs.Output.{Code, Out, instruction, laid, laid_all, low_string_at, nothing, to, with_low_text}
+use Rattle.inf_output.specs.Output.{with_low_text_by}
+use Rattle.inf_output.specs.Texts.{used_in}
+use Rattle.inf_tables.specs.LowStrings.{low_fits}
+use Rattle.inf_templates.specs.Meaning.{Meaning, meaning, part}
+use Rattle.inf_templates.specs.Parts.{Part, SP, TEMP, is}
+use Rattle.inf_unit.specs.Tokens.{SourceToken}
+use Rattle.inf_unit.specs.declared.items.Item.{Item}
+use Rattle.inf_unit.specs.declared.items.Item.TheVariants as item
+use Rattle.inf_unit.specs.declared.items.PrintRule.{PrintRule}
+use Rattle.inf_unit.specs.declared.items.PrintRule.TheVariants as rule
+use Rattle.inf_constructs.specs.Cases.{SWITCHED, beside, case_code, case_tested, group_tested, grouped, is_empty, is_open, laid_before}
+use Rattle.inf_constructs.specs.Cases.{operand_in, range_tested, value_grouped, value_laid, within}
+use Rattle.inf_statements.specs.Printing.{called_with, ends_behind, ended, item_code, items_printed, rule_code, text_at, text_opcode}
+use Rattle.inf_statements.specs.Printing.{trees_behind, veneer_called}
+use Rattle.inf_statements.specs.Statements.{abbreviations, action_laid, action_on, alone, are_several, attribute_code, attribute_opcode}
+use Rattle.inf_statements.specs.Statements.{attributes_changed, attributes_given, given_by, jumped_to, moved, one_worked, plain, printed}
+use Rattle.inf_statements.specs.Statements.{rest, returned, returned_by, returned_number, spaced, string_changed, string_set}
+use Rattle.inf_statements.specs.Statements.{styled_by, switched, tested, text_packed, unless}
+use Rattle.inf_label_laws.specs.Labels.{times}
+use Rattle.inf_label_laws.specs.Programs.{branch_labels, marks, operand_labels, uses}
+use Rattle.inf_label_laws.proofs.Owning.{Owned, Owns, Settles, has_first, has_later, owned_at, owned_before, owned_behind, owned_free}
+use Rattle.inf_label_laws.proofs.Owning.{owned_instruction, owned_jump, owned_label, owned_mark, owned_nothing}
+use Rattle.inf_label_laws.proofs.Owning.{owned_item, owned_parts_laid, owned_then, owned_wide, times_joined}
+use Rattle.inf_label_laws.proofs.OwnRows.{OwnsAll, OwnsPart, owned_ask, owned_call, owned_worked, owns, simple_owns}
+use Rattle.inf_interpreter.specs.Claims.{code_behind, kept_behind}
+
+-- An output in which something beside code has changed
+pub record Idle (o p : Out) : Type 0 where
+  pub code : p.code ≡ o.code
+  pub next : p.next ≡ o.next
+  pub kept : p.kept ≡ o.kept
+  pub fits : p.past ≡ None → o.past ≡ None
+
+pub idle_owns : {c d : Code} {needs given : List ℕ} (o p : Out) → Idle o p → d o ≡ c p → Owns c needs given p → Owns d needs given o
+idle_owns {c} {d} {needs} {given} o p i e x = record {
+  items = x.items;
+  laid = record {
+    kept = ap (λ (q : Out). q.kept) e ∙ (x.laid.kept ∙ ap (λ k. kept_behind k x.items) i.kept);
+    fits = λ h. i.fits (x.laid.fits (ap (λ (q : Out). q.past) (sym e) ∙ h));
+    code =
+        λ h. ap (λ (q : Out). q.code) e ∙ (x.laid.code (ap (λ (q : Out). q.past) (sym e) ∙ h)
+        ∙ (ap (λ k. code_behind k x.items p.code) i.kept ∙ ap (code_behind o.kept x.items) i.code));
+  };
+  own = λ few.
+      let same = ap (λ (q : Out). q.next) e in
+      subst (λ n. Settles needs given o.next n x.items) (sym same)
+      (subst (λ n. Settles needs given n (c p).next x.items) i.next (x.own (subst (λ n. n < 4294967295) same few)));
+}
+
+-- Statements
+
+if_owns : (b : Bool) (c d : Code) → Owned c [] [] → Owned d [] [] → Owned (if b then c else d) [] []
+if_owns true c d h k = h
+if_owns false c d h k = k
+
+pub plain_owns : (limits : Limits) (op : Opcode) → Owned (plain limits op) [] []
+plain_owns limits op = owned_instruction limits op [] None None
+
+part_owns : (limits : Limits) (e : Tree) → OwnsPart (part (meaning limits e))
+part_owns limits e = (owns limits e).value
+
+pub one_owns : (limits : Limits) (op : Opcode) (trees : List Tree) → Owned (one_worked limits op trees) [] []
+one_owns limits op [] = owned_nothing
+one_owns limits op (e ∷ trees) = owned_worked limits op (part (meaning limits e) ∷ []) (part_owns limits e, tt) None None
+
+pub printed_owns : (limits : Limits) (op : Opcode) (text : Option (List TextItem)) → Owned (printed limits op text) [] []
+printed_owns limits op None o = owned_nothing {needs = []} o
+printed_owns limits op (Some text) o =
+    let i = record (bare op) { text = packed text (used_in o.texts) } in
+    idle_owns {c = laid limits (Instruction i)} {d = printed limits op (Some text)} o (text_packed o)
+    (record { code = refl; next = refl; kept = refl; fits = λ e. e }) refl (owned_parts_laid limits i [] refl refl (text_packed o))
+
+number_owns : (limits : Limits) (n : ℕ) → Owned (returned_number limits n) [] []
+number_owns limits n =
+    if_owns (n == 1) (plain limits opcode.Rtrue)
+    (if n == 0 then plain limits opcode.Rfalse else instruction limits opcode.Ret (Known n ∷ [])
+    None None) (plain_owns limits opcode.Rtrue)
+    (if_owns (n == 0) (plain limits opcode.Rfalse) (instruction limits opcode.Ret (Known n ∷ []) None None)
+    (plain_owns limits opcode.Rfalse)
+    (owned_instruction limits opcode.Ret (Known n ∷ []) None None))
+
+by_owns : (limits : Limits) (x : Option Simple) (m : Meaning) → OwnsAll m → Owned (returned_by limits x m) [] []
+by_owns limits (Some (Known n)) m h = number_owns limits n
+by_owns limits (Some (Variable v)) m h = owned_instruction limits opcode.Ret (Variable v ∷ []) None None
+by_owns limits (Some (Later t)) m h = owned_instruction limits opcode.Ret (Later t ∷ []) None None
+by_owns limits None m h = owned_before (h.value SP) (plain_owns limits opcode.RetPopped)
+
+pub returned_owns : (limits : Limits) (trees : List Tree) → Owned (returned limits trees) [] []
+returned_owns limits [] = plain_owns limits opcode.Rtrue
+returned_owns limits (e ∷ trees) = by_owns limits (meaning limits e).operand (meaning limits e) (owns limits e)
+
+pub alone_owns : (limits : Limits) (trees : List Tree) → Owned (alone limits trees) [] []
+alone_owns limits [] = owned_nothing
+alone_owns limits (e ∷ trees) = (owns limits e).alone
+
+pub moved_owns : (limits : Limits) (trees : List Tree) → Owned (moved limits trees) [] []
+moved_owns limits [] = owned_nothing
+moved_owns limits (a ∷ []) = owned_nothing
+moved_owns limits (a ∷ b ∷ trees) =
+    owned_worked limits opcode.InsertObj (part (meaning limits a) ∷ part (meaning limits b) ∷ [])
+    (part_owns limits a, (part_owns limits b, tt)) None None
+
+pub spaced_owns : (limits : Limits) (trees : List Tree) → Owned (spaced limits trees) [] []
+spaced_owns limits [] = owned_nothing
+spaced_owns limits (e ∷ trees) = owned_ask limits veneer.Spaces (part (meaning limits e) ∷ []) (part_owns limits e, tt) None
+
+action_owns_on : (limits : Limits) (action : Part) → OwnsPart action → (trees : List Tree) → Owned (action_on limits action trees) [] []
+action_owns_on limits action h [] = owned_ask limits veneer.Process (action ∷ []) (h, tt) None
+action_owns_on limits action h (a ∷ []) =
+    owned_ask limits veneer.Process (action ∷ part (meaning limits a) ∷ []) (h, (part_owns limits a, tt)) None
+action_owns_on limits action h (a ∷ b ∷ trees) =
+    owned_ask limits veneer.Process (action ∷ part (meaning limits a) ∷ part (meaning limits b) ∷ [])
+    (h, (part_owns limits a, (part_owns limits b, tt))) None
+
+pub action_owns : (limits : Limits) (trees : List Tree) → Owned (action_laid limits trees) [] []
+action_owns limits [] = owned_nothing
+action_owns limits (e ∷ trees) = action_owns_on limits (part (meaning limits e)) (part_owns limits e) trees
+
+attribute_owns : (limits : Limits) (op : Opcode) (object : Part) → OwnsPart object → (trees : List Tree) →
+    Owned (attribute_code limits op object trees) [] []
+attribute_owns limits op object h [] = owned_nothing
+attribute_owns limits op object h (a ∷ attributes) =
+    owned_worked limits op (object ∷ part (meaning limits a) ∷ []) (h, (part_owns limits a, tt)) None None
+
+attributes_owns : (limits : Limits) (object : Part) → OwnsPart object → (items : List Item) (attributes : List Tree) →
+    Owned (attributes_given limits object items attributes) [] []
+attributes_owns limits object h [] attributes = owned_nothing
+attributes_owns limits object h (i ∷ items) attributes =
+    owned_before (attribute_owns limits (attribute_opcode i) object h attributes) (attributes_owns limits object h items (rest attributes))
+
+given_owns : (limits : Limits) (several : Bool) (x : Option Simple) (m : Meaning) → OwnsAll m →
+    (items : List Item) (attributes : List Tree) →
+    Owned (given_by limits several x m items attributes) [] []
+given_owns limits true None m h items attributes =
+    owned_before (h.value TEMP) (attributes_owns limits (is (Variable TEMP)) (simple_owns (Variable TEMP)) items attributes)
+given_owns limits true (Some x) m h items attributes = attributes_owns limits (part m) h.value items attributes
+given_owns limits false None m h items attributes = attributes_owns limits (part m) h.value items attributes
+given_owns limits false (Some x) m h items attributes = attributes_owns limits (part m) h.value items attributes
+
+pub changed_owns : (limits : Limits) (items : List Item) (trees : List Tree) → Owned (attributes_changed limits items trees) [] []
+changed_owns limits items [] = owned_nothing
+changed_owns limits items (e ∷ trees) =
+    given_owns limits (are_several items) (meaning limits e).operand (meaning limits e) (owns limits e) items trees
+
+pub styled_owns : (limits : Limits) (style : Option ℕ) → Owned (styled_by limits style) [] []
+styled_owns limits None = owned_nothing
+styled_owns limits (Some style) = owned_instruction limits opcode.SetTextStyle (Known style ∷ []) None None
+
+set_owns : (limits : Limits) (low : Target) (trees : List Tree) → Owned (string_set limits low trees) [] []
+set_owns limits low [] = owned_nothing
+set_owns limits low (e ∷ trees) =
+    owned_worked limits opcode.Storew (is (Later abbreviations) ∷ part (meaning limits e) ∷ is (Later low) ∷ [])
+    (simple_owns (Later abbreviations), (part_owns limits e, (simple_owns (Later low), tt))) None None
+
+past_none : {A : Type 0} {B : Type 0} {a : A} → Some a ≡ None → B
+past_none e = absurd (cc e)
+
+low_idle : (limits : Limits) (b : Bool) (text : List ℕ) (o : Out) → Idle o (with_low_text_by limits b text o)
+low_idle limits true text o = record { code = refl; next = refl; kept = refl; fits = λ e. e }
+low_idle limits false text o = record { code = refl; next = refl; kept = refl; fits = λ e. past_none e }
+
+pub idle_then : (o p q : Out) → Idle o p → Idle p q → Idle o q
+idle_then o p q x y = record {
+  code = y.code ∙ x.code;
+  next = y.next ∙ x.next;
+  kept = y.kept ∙ x.kept;
+  fits = λ e. x.fits (y.fits e);
+}
+
+pub string_owns : (limits : Limits) (text : Option (List TextItem)) (trees : List Tree) → Owned (string_changed limits text trees) [] []
+string_owns limits None trees o = owned_nothing {needs = []} o
+string_owns limits (Some text) trees o =
+    let p = text_packed o in
+    let low = packed text [] in
+    let q = with_low_text limits low p in
+    idle_owns {c = string_set limits (low_string_at p) trees} {d = string_changed limits (Some text) trees} o q
+    (idle_then o p q (record { code = refl; next = refl; kept = refl; fits = λ e. e })
+    (low_idle limits (low_fits limits low p.tables.low_strings) low p)) refl (set_owns limits (low_string_at p) trees q)
+
+-- Conditions, and the value of a `switch`
+
+unless_owns : (limits : Limits) (trees : List Tree) (l : Label) → Owned (unless limits trees l) (l.number ∷ []) []
+unless_owns limits [] l = owned_nothing
+unless_owns limits (e ∷ trees) l = (owns limits e).branch false l
+
+abbrev pub label_in : Option Label → List ℕ
+label_in None = []
+label_in (Some l) = l.number ∷ []
+
+pub tested_owns : (limits : Limits) (l : Option Label) (trees : List Tree) → Owned (tested limits l trees) (label_in l) []
+tested_owns limits None trees = owned_nothing
+tested_owns limits (Some l) trees = unless_owns limits trees l
+
+pub switched_owns : (limits : Limits) (trees : List Tree) → Owned (switched limits trees) [] []
+switched_owns limits [] = owned_nothing
+switched_owns limits (e ∷ trees) = (owns limits e).value SWITCHED
+
+pub jumped_owns : (limits : Limits) (l : Option Label) → Owned (jumped_to limits l) (label_in l) []
+jumped_owns limits None = owned_nothing
+jumped_owns limits (Some l) = owned_jump limits l
+
+-- Printing
+
+ended_owns : (limits : Limits) (b : Bool) → Owned (ended limits b) [] []
+ended_owns limits true = owned_before (plain_owns limits opcode.NewLine) (plain_owns limits opcode.Rtrue)
+ended_owns limits false = owned_nothing
+
+called_owns : (limits : Limits) (trees : List Tree) → Owned (called_with limits trees) [] []
+called_owns limits [] = owned_nothing
+called_owns limits (f ∷ []) = owned_nothing
+called_owns limits (f ∷ e ∷ trees) =
+    owned_call limits (part (meaning limits f)) (part (meaning limits e) ∷ []) (part_owns limits f) (part_owns limits e, tt) None
+
+veneer_owns : (limits : Limits) (v : Veneer) (trees : List Tree) → Owned (veneer_called limits v trees) [] []
+veneer_owns limits v [] = owned_nothing
+veneer_owns limits v (e ∷ trees) = owned_ask limits v (part (meaning limits e) ∷ []) (part_owns limits e, tt) None
+
+rule_owns : (limits : Limits) (r : PrintRule) (trees : List Tree) → Owned (rule_code limits r trees) [] []
+unfolding rule_code
+rule_owns limits rule.Character trees = one_owns limits opcode.PrintChar trees
+rule_owns limits rule.String trees = one_owns limits opcode.PrintPaddr trees
+rule_owns limits rule.Address trees = one_owns limits opcode.PrintAddr trees
+rule_owns limits rule.Object trees = one_owns limits opcode.PrintObj trees
+rule_owns limits rule.ShortName trees = veneer_owns limits veneer.ShortName trees
+rule_owns limits rule.DefiniteArticle trees = veneer_owns limits veneer.DefiniteArticle trees
+rule_owns limits rule.CapitalArticle trees = veneer_owns limits veneer.CapitalArticle trees
+rule_owns limits rule.IndefiniteArticle trees = veneer_owns limits veneer.IndefiniteArticle trees
+rule_owns limits rule.EnglishNumber trees = veneer_owns limits veneer.EnglishNumber trees
+rule_owns limits rule.Routine trees = called_owns limits trees
+
+item_owns : (limits : Limits) (set : CharSet) (tokens : List SourceToken) (returns : Bool) (others : List Item) (i : Item)
+    (trees : List Tree) → Owned (item_code limits set tokens returns others i trees) [] []
+item_owns limits set tokens returns others (item.Text at) trees = printed_owns limits (text_opcode returns others) (text_at set tokens at)
+item_owns limits set tokens returns others item.Value trees = one_owns limits opcode.PrintNum trees
+item_owns limits set tokens returns others (item.Ruled r) trees = rule_owns limits r trees
+item_owns limits set tokens returns others _ trees = owned_nothing
+
+pub items_own : (limits : Limits) (set : CharSet) (tokens : List SourceToken) (returns ends : Bool) (items : List Item)
+    (trees : List Tree) →
+    Owned (items_printed limits set tokens returns ends items trees) [] []
+items_own limits set tokens returns ends [] trees = ended_owns limits ends
+items_own limits set tokens returns ends (i ∷ items) trees =
+    owned_before (item_owns limits set tokens returns items i trees)
+    (items_own limits set tokens returns (ends_behind i returns) items (trees_behind i trees))
+
+-- The tests of a case, which lead to its body or to the next one
+
+group_owns : (limits : Limits) (group : List Simple) (sense : Bool) (l : Label) →
+    Owned (group_tested limits group sense l) (l.number ∷ []) []
+unfolding group_tested
+group_owns limits [] sense l = owned_nothing
+group_owns limits (a ∷ others) sense l = owned_instruction limits opcode.Je (Variable SWITCHED ∷ a ∷ others) None (to sense l)
+
+-- code that needs the first of two labels, or the second
+at_here : {c : Code} (here next : Label) → Owned c (here.number ∷ []) [] → Owned c (here.number ∷ next.number ∷ []) []
+at_here {c} here next f = owned_at {c = c} {l = here.number} (has_first here.number (next.number ∷ [])) f
+
+at_next : {c : Code} (here next : Label) → Owned c (next.number ∷ []) [] → Owned c (here.number ∷ next.number ∷ []) []
+at_next {c} here next f =
+    owned_at {c = c} {l = next.number} (has_later next.number here.number (next.number ∷ []) (has_first next.number [])) f
+
+beside_owns : (limits : Limits) (a b : Simple) (next : Label) → Owned (beside limits a b next) (next.number ∷ []) []
+beside_owns limits a b next =
+    owned_behind (owned_instruction limits opcode.Jl (Variable SWITCHED ∷ a ∷ []) None (to true next))
+    (owned_instruction limits opcode.Jg (Variable SWITCHED ∷ b ∷ []) None (to true next))
+
+within_owns : (limits : Limits) (a b : Simple) (here : Label) → Owned (within limits a b here) (here.number ∷ []) []
+within_owns limits a b here =
+    owned_label λ beyond.
+    owned_behind (at_here beyond here (owned_instruction limits opcode.Jl (Variable SWITCHED ∷ a ∷ []) None (to true beyond)))
+    (owned_behind (at_next beyond here (owned_instruction limits opcode.Jg (Variable SWITCHED ∷ b ∷ []) None (to false here)))
+    (owned_mark limits beyond))
+
+range_owns : (limits : Limits) (is_last : Bool) (a b : Simple) (here next : Label) →
+    Owned (range_tested limits is_last a b here next) (here.number ∷ next.number ∷ []) []
+unfolding range_tested
+range_owns limits true a b here next = at_next here next (beside_owns limits a b next)
+range_owns limits false a b here next = at_here here next (within_owns limits a b here)
+
+full_owns : (limits : Limits) (b : Bool) (group : List Simple) (here : Label) →
+    Owned (if b then nothing else group_tested limits group true here) (here.number ∷ []) []
+full_owns limits true group here = owned_nothing
+full_owns limits false group here = group_owns limits group true here
+
+before_owns : (limits : Limits) (ends : Option (Tree × Tree)) (is_last : Bool) (group : List Simple) (here next : Label) →
+    Owned (laid_before limits ends is_last group here next) (here.number ∷ next.number ∷ []) []
+before_owns limits (Some ends) is_last group here next =
+    owned_behind (at_here here next (group_owns limits group true here))
+    (range_owns limits is_last (operand_in limits ends.0) (operand_in limits ends.1) here next)
+before_owns limits None is_last group here next = at_here here next (full_owns limits (is_open group) group here)
+
+value_owns : (limits : Limits) (v : Tree) (is_last : Bool) (group : List Simple) (here next : Label) →
+    Owned (value_laid limits v is_last group here next) (here.number ∷ next.number ∷ []) []
+unfolding value_laid
+value_owns limits v is_last group here next = before_owns limits (range_of v) is_last group here next
+
+grouped_owns : (limits : Limits) (group : List Simple) (values : List Tree) (here next : Label) →
+    Owned (grouped limits group values here next) (here.number ∷ next.number ∷ []) []
+grouped_owns limits group [] here next = at_next here next (group_owns limits group false next)
+grouped_owns limits group (v ∷ values) here next =
+    owned_behind (value_owns limits v (is_empty values) group here next)
+    (grouped_owns limits (value_grouped limits v group) values here next)
+
+case_owns : (limits : Limits) (values : List Tree) (next : Label) → Owned (case_tested limits values next) (next.number ∷ []) []
+case_owns limits values next =
+    owned_label λ here. owned_behind (grouped_owns limits [] values here next) (owned_mark limits here)
+
+pub case_code_owns : (limits : Limits) (next : Option Label) (values : List Tree) → Owned (case_code limits next values) (label_in next) []
+unfolding case_code
+case_code_owns limits None values = owned_nothing
+case_code_owns limits (Some next) values = case_owns limits values next
+
+-- Items that were kept apart are laid as they are.
+pub items_laid_own : (limits : Limits) (items : List CodeItem) → Owned (laid_all limits items) (uses items) (marks items)
+items_laid_own limits [] = owned_nothing
+items_laid_own limits ((Instruction i) ∷ items) =
+    owned_then {c = laid limits (Instruction i)} {d = laid_all limits items}
+    {needs = uses (Instruction i ∷ items)} {a = []} {b = marks items}
+    (owned_wide {c = laid limits (Instruction i)} {a = uses (Instruction i ∷ [])} (λ n h. first n h) (owned_item limits (Instruction i)))
+    (owned_wide {c = laid_all limits items} {a = uses items} (λ n h. later n h) (items_laid_own limits items))
+  where
+    parts : (n : ℕ) → times n (uses (Instruction i ∷ items)) ≡ times n (operand_labels i.operands) + (times n (branch_labels i.branch)
+        + times n (uses items))
+    parts n =
+        times_joined n (operand_labels i.operands) (branch_labels i.branch ++ uses items)
+        ∙ ap (λ k. times n (operand_labels i.operands) + k) (times_joined n (branch_labels i.branch) (uses items))
+
+    alone : (n : ℕ) → times n (uses (Instruction i ∷ [])) ≡ times n (operand_labels i.operands) + (times n (branch_labels i.branch) + 0)
+    alone n =
+        times_joined n (operand_labels i.operands) (branch_labels i.branch ++ [])
+        ∙ ap (λ k. times n (operand_labels i.operands) + k) (times_joined n (branch_labels i.branch) [])
+
+    first : (n : ℕ) → 1 ≤ times n (uses (Instruction i ∷ [])) → 1 ≤ times n (uses (Instruction i ∷ items))
+    first n h = let e = parts n in let d = alone n in omega (arith, h, e, d)
+
+    later : (n : ℕ) → 1 ≤ times n (uses items) → 1 ≤ times n (uses (Instruction i ∷ items))
+    later n h = let e = parts n in omega (arith, h, e)
+items_laid_own limits ((Mark l) ∷ items) =
+    owned_then {c = laid limits (Mark l)} {d = laid_all limits items} {needs = uses items} {a = l.number ∷ []} {b = marks items}
+    (owned_free {c = laid limits (Mark l)} (owned_item limits (Mark l))) (items_laid_own limits items)

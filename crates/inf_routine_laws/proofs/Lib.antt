@@ -1,0 +1,14 @@
+mod Counting
+mod Booking
+mod Codes
+mod Balance
+mod Constructing
+mod Casing
+mod Naming
+mod Settling
+mod Stating
+mod Acting
+mod Stepping
+mod Nesting
+mod Whole
+mod Reading

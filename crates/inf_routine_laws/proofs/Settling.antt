@@ -1,0 +1,147 @@
+-- The names of a unit are used, and its texts, words and actions are added: nothing is laid, and no label is handed out.
+use Rattle.std.proofs.Common.{◌≡◌, ℕ, List, [], ◌∷◌, Option, Some, None, Bool, true, false, refl}
+use Rattle.inf_settings.specs.Bounds.{Limits}
+use Rattle.inf_characters.specs.declared.characters.CharSet.{CharSet}
+use Rattle.inf_characters.specs.declared.texts.TextItem.{TextItem}
+use Rattle.inf_dictionary.specs.declared.dictionary.AddFault.{AddFault}
+use Rattle.inf_dictionary.specs.declared.dictionary.AddFault.TheVariants as word_fault
+use Rattle.inf_dictionary.specs.declared.uses.WordUse.{WordUse}
+use Rattle.inf_dictionary.specs.declared.uses.WordUse.TheVariants as word_use
+use Rattle.inf_dictionary.specs.Texts.{Text}
+use Rattle.inf_dictionary.specs.Words.{add_fault, word_of}
+use Rattle.inf_scanner.specs.declared.tokens.Place.{Place}
+use Rattle.inf_text.specs.Packing.{packed}
+use Rattle.inf_expressions.specs.declared.operators.Operand.{Operand}
+use Rattle.inf_expressions.specs.declared.operators.Operand.TheVariants as operand
+use Rattle.inf_gathering.specs.declared.gathering.Leaf.{Leaf}
+use Rattle.inf_gathering.specs.declared.gathering.Leaf.TheVariants as leaf
+use Rattle.inf_names.specs.Locals.{Local, number_of}
+use Rattle.inf_names.specs.Spellings.{Name}
+use Rattle.inf_names.specs.Symbols.{declare_fault, refer_fault}
+use Rattle.inf_names.specs.declared.symbols.DeclareFault.{DeclareFault}
+use Rattle.inf_names.specs.declared.symbols.ReferFault.{ReferFault}
+use Rattle.inf_settings.specs.Bounds.{unbounded}
+use Rattle.inf_unit.proofs.Cases.{of_both}
+use Rattle.inf_unit.specs.Tokens.{SourceToken}
+use Rattle.inf_unit.specs.Units.{bytes_at, name_at}
+use Rattle.inf_verbs.specs.Routines.{action_fault}
+use Rattle.inf_verbs.specs.declared.routines.ActionFault.{ActionFault}
+use Rattle.inf_output.specs.Actions.{action_by, appeared, fake_number, key_of, numbered_as, numbered_by, routine_name, routine_of}
+use Rattle.inf_output.specs.Actions.{seen_by}
+use Rattle.inf_output.specs.Output.{Out, referred, referred_as, referred_by, with_text, with_text_by, with_word, with_word_by}
+use Rattle.inf_output.specs.Strings.{fits}
+use Rattle.inf_output.specs.Texts.{used_in}
+use Rattle.inf_statements.specs.Operands.{Settled, is_stack, settled, settled_action, settled_alone, settled_by, settled_leaf, settled_name}
+use Rattle.inf_statements.specs.Operands.{settled_text, with_settled}
+use Rattle.inf_statements.specs.Printing.{text_at}
+use Rattle.inf_statements.specs.Statements.{text_packed}
+use Rattle.inf_routine_laws.proofs.Codes.{Idle, idle_then}
+
+passed : {A B : Type 0} {a : A} → Some a ≡ None → B
+passed e = absurd (cc e)
+
+pub idle_self : (o : Out) → Idle o o
+idle_self o = record { code = refl; next = refl; kept = refl; fits = λ e. e }
+
+-- a name
+by_referred : (limits : Limits) (f : Option ReferFault) (name : List ℕ) (place : Place) (o : Out) →
+    Idle o (referred_by limits f name place o)
+by_referred limits None name place o =
+    record { code = refl; next = refl; kept = refl; fits = λ e. e }
+by_referred limits (Some fault) name place o =
+    record { code = refl; next = refl; kept = refl; fits = λ e. passed e }
+
+referred_idle : (limits : Limits) (name : List ℕ) (place : Place) (o : Out) → Idle o (referred limits name place o)
+referred_idle limits name place o = by_referred limits (refer_fault limits name o.names) name place o
+
+by_local : (limits : Limits) (local : Option ℕ) (name : List ℕ) (place : Place) (o : Out) →
+    Idle o (settled_by limits local name place o).0
+by_local limits (Some local) name place o = idle_self o
+by_local limits None name place o = referred_idle limits name place o
+
+name_idle : (limits : Limits) (locals : List Local) (name : Option Name) (o : Out) → Idle o (settled_name limits locals name o).0
+name_idle limits locals None o = idle_self o
+name_idle limits locals (Some n) o = by_local limits (number_of n.bytes locals) n.bytes n.place o
+
+alone_idle : (limits : Limits) (locals : List Local) (tokens : List SourceToken) (at : ℕ) (o : Out) →
+    Idle o (settled_alone limits locals tokens at o).0
+alone_idle limits locals tokens at o =
+    of_both (λ (r : Out × Operand). Idle o r.0) (is_stack (bytes_at tokens at) (number_of (bytes_at tokens at) locals))
+    (o, operand.Variable 0) (settled_name limits locals (name_at tokens at) o) (λ _. idle_self o)
+    (λ _. name_idle limits locals (name_at tokens at) o)
+
+-- a text
+by_fitting : (limits : Limits) (b : Bool) (text : List ℕ) (o : Out) → Idle o (with_text_by limits b text o)
+by_fitting limits true text o = record { code = refl; next = refl; kept = refl; fits = λ e. e }
+by_fitting limits false text o =
+    record { code = refl; next = refl; kept = refl; fits = λ e. passed e }
+
+text_idle : (limits : Limits) (text : Option (List TextItem)) (o : Out) → Idle o (settled_text limits text o).0
+text_idle limits None o = idle_self o
+text_idle limits (Some items) o =
+    let m = text_packed o in
+    let text = packed items (used_in o.texts) in
+    idle_then o m (with_text limits text m) (record { code = refl; next = refl; kept = refl; fits = λ e. e })
+    (by_fitting limits (fits limits text m.strings) text m)
+
+-- a word of the dictionary
+by_word : (limits : Limits) (f : Option AddFault) (text : Text) (how : WordUse) (is_plural : Bool) (o : Out) →
+    Idle o (with_word_by limits f text how is_plural o)
+by_word limits None text how is_plural o = record { code = refl; next = refl; kept = refl; fits = λ e. e }
+by_word limits (Some word_fault.Full) text how is_plural o =
+    record { code = refl; next = refl; kept = refl; fits = λ e. passed e }
+by_word limits (Some word_fault.OtherVerb) text how is_plural o = idle_self o
+by_word limits (Some word_fault.Memory) text how is_plural o = idle_self o
+
+word_idle : (limits : Limits) (text : Text) (how : WordUse) (is_plural : Bool) (o : Out) →
+    Idle o (with_word limits text how is_plural o)
+word_idle limits text how is_plural o =
+    by_word limits (add_fault limits (word_of text o.tables.dictionary.list) how o.tables.dictionary) text how is_plural o
+
+-- an action
+by_seen : (f : Option (DeclareFault Place)) (key : List ℕ) (place : Place) (o : Out) → Idle o (seen_by f key place o)
+by_seen None key place o = record { code = refl; next = refl; kept = refl; fits = λ e. e }
+by_seen (Some fault) key place o = idle_self o
+
+by_number : (limits : Limits) (f : Option ActionFault) (routine : ℕ) (o : Out) → Idle o (numbered_by limits f routine o).0
+by_number limits None routine o = record { code = refl; next = refl; kept = refl; fits = λ e. e }
+by_number limits (Some fault) routine o =
+    record { code = refl; next = refl; kept = refl; fits = λ e. passed e }
+
+number_idle : (limits : Limits) (routine : Option ℕ) (o : Out) → Idle o (numbered_as limits routine o).0
+number_idle limits None o = idle_self o
+number_idle limits (Some routine) o = by_number limits (action_fault limits routine o.tables.actions) routine o
+
+by_fake : (limits : Limits) (fake : Option ℕ) (name : List ℕ) (place : Place) (o : Out) → Idle o (action_by limits fake name place o).0
+by_fake limits (Some fake) name place o = idle_self o
+by_fake limits None name place o =
+    let m = appeared (key_of name) place o in
+    let used = referred limits (routine_name name) place m in
+    let number = routine_of (referred_as limits (routine_name name) m) in
+    idle_then o m (numbered_as limits number used).0 (by_seen (declare_fault unbounded (key_of name) o.seen) (key_of name) place o)
+    (idle_then m used (numbered_as limits number used).0 (referred_idle limits (routine_name name) place m)
+    (number_idle limits number used))
+
+action_idle : (limits : Limits) (name : Option Name) (o : Out) → Idle o (settled_action limits name o).0
+action_idle limits None o = idle_self o
+action_idle limits (Some n) o = by_fake limits (fake_number (key_of n.bytes) o) n.bytes n.place o
+
+-- each leaf, and all leaves of a unit
+leaf_idle : (limits : Limits) (set : CharSet) (locals : List Local) (tokens : List SourceToken) (l : Leaf) (o : Out) →
+    Idle o (settled_leaf limits set locals tokens l o).0
+leaf_idle limits set locals tokens (leaf.Name at) o = name_idle limits locals (name_at tokens at) o
+leaf_idle limits set locals tokens (leaf.Alone at) o = alone_idle limits locals tokens at o
+leaf_idle limits set locals tokens (leaf.Number number) o = idle_self o
+leaf_idle limits set locals tokens (leaf.Char zscii) o = idle_self o
+leaf_idle limits set locals tokens (leaf.Word word) o = word_idle limits word.text word_use.Other word.is_plural o
+leaf_idle limits set locals tokens (leaf.Text at) o = text_idle limits (text_at set tokens at) o
+leaf_idle limits set locals tokens (leaf.Action at) o = action_idle limits (name_at tokens at) o
+leaf_idle limits set locals tokens (leaf.System at) o = idle_self o
+
+pub settled_idle : (limits : Limits) (set : CharSet) (locals : List Local) (tokens : List SourceToken) (leaves : List Leaf) (s : Settled) →
+    Idle s.out (settled limits set locals tokens leaves s).out
+settled_idle limits set locals tokens [] s = idle_self s.out
+settled_idle limits set locals tokens (l ∷ leaves) s =
+    let n = with_settled (settled_leaf limits set locals tokens l s.out) s.operands in
+    idle_then s.out n.out (settled limits set locals tokens leaves n).out (leaf_idle limits set locals tokens l s.out)
+    (settled_idle limits set locals tokens leaves n)
