@@ -12,9 +12,10 @@ use Rattle.inf_conditionals.specs.declared.pending.Awaits.{Awaits}
 use Rattle.inf_conditionals.specs.declared.pending.Awaits.TheVariants as awaits
 use Rattle.inf_conditionals.specs.declared.pending.Effect.TheVariants as effect
 use Rattle.inf_conditionals.specs.declared.pending.Pending.{Pending}
-use Rattle.inf_conditional_sides.specs.Sides.{Ends, Kept, Lone, Side, Sides, Text, Unfit, closes, opens, turns, unfit, with_side}
-use Rattle.inf_conditional_sides.specs.Judged.{Agree, AreFronts, ComeToTheSame, conditions_of, given_of, heard, open_sides, outer_sides}
-use Rattle.inf_conditional_sides.specs.Judged.{pendings, side_of}
+use Rattle.inf_conditional_sides.specs.Sides.{Ends, Kept, Lone, Side, Sides, Text, Unfit, closes, heard, opens, outer_sides, side_of, turns}
+use Rattle.inf_conditional_sides.specs.Sides.{unfit, with_side}
+use Rattle.inf_conditional_sides.specs.Judged.{Agree, AreFronts, ComeToTheSame, conditions_of, given_of, open_sides}
+use Rattle.inf_conditional_sides.specs.Judged.{pendings}
 
 -- Conditionals and sides where all stay
 

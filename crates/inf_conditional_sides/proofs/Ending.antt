@@ -7,9 +7,8 @@ use Rattle.inf_unit.specs.Messages.{FileNames, Reported}
 use Rattle.inf_conditionals.specs.Ends.{piece_told, with_all_lone, with_lone}
 use Rattle.inf_conditionals.specs.Open.{Conditions}
 use Rattle.inf_conditionals.specs.declared.open.LeftOut.{LeftOut}
-use Rattle.inf_conditional_sides.specs.Sides.{Side, Sides, all_stay, at_end, only_between}
-use Rattle.inf_conditional_sides.specs.Judged.{Agree, AllAre, IsLeftOut, LeftInside, StandFor, is_settled_by, open_sides, outer_sides}
-use Rattle.inf_conditional_sides.specs.Judged.{side_of}
+use Rattle.inf_conditional_sides.specs.Sides.{Side, Sides, all_stay, at_end, only_between, outer_sides, side_of}
+use Rattle.inf_conditional_sides.specs.Judged.{Agree, AllAre, IsLeftOut, LeftInside, StandFor, is_settled_by, open_sides}
 use Rattle.inf_conditional_sides.specs.Ends.{EndsAreToldBySides, inner_only, piece_told_by, with_lone_sides}
 use Rattle.inf_conditional_sides.proofs.Left.{left_at_end, open_stay, outer_stay}
 
@@ -37,7 +36,7 @@ at_end_by (Some side) [] (x ∷ among) sides stand settled =
     ap at_end l.all ∙ left_at_end l.inside (outer_sides among) false x (outer_stay among)
 at_end_by (Some side) (x ∷ inner) among sides stand settled = inside_end side.is_inner side x inner among sides stand settled
 
-between_of : (inner among : List Conditional) → only_between (open_sides inner among) ≡ outer_sides among
+pub between_of : (inner among : List Conditional) → only_between (open_sides inner among) ≡ outer_sides among
 between_of [] [] = refl
 between_of [] (x ∷ among) = refl
 between_of (x ∷ inner) among = between_of inner among

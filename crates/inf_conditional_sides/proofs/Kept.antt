@@ -11,7 +11,7 @@ use Rattle.inf_output.specs.Output.{Out}
 use Rattle.inf_sources.specs.declared.open_file.Conditional.{Conditional}
 use Rattle.inf_unit.specs.Tokens.{SourceToken, atom_of, is_mark, keyword}
 use Rattle.inf_conditionals.specs.Condition.{Condition, condition_begun, condition_took, is_whole, verdict_of}
-use Rattle.inf_conditionals.specs.Judging.{Behind, asked as token_asked, at_front as front_judged, awaited}
+use Rattle.inf_conditionals.specs.Judging.{asked as token_asked, at_front as front_judged, awaited}
 use Rattle.inf_conditionals.specs.Judging.{behind_front as behind_front_judged, asked_on as asked_on_judged, begun as begun_judged, decided}
 use Rattle.inf_conditionals.specs.Judging.{effected, held as held_judged, named, none_handed, offered as offered_judged}
 use Rattle.inf_conditionals.specs.Judging.{offered_to as offered_in_judged, passed, saying, tokens_counted, unfit as unfit_judged, went_on}
@@ -27,10 +27,10 @@ use Rattle.inf_conditionals.specs.declared.pending.Pending.{Pending}
 use Rattle.inf_conditionals.specs.declared.words.ConditionalWord.{ConditionalWord}
 use Rattle.inf_conditionals.specs.declared.words.ConditionalWord.TheVariants as word
 use Rattle.inf_conditional_sides.specs.Sides.{Asked, Directive, Ended, Ends, Front, Misfit, Sides, Sign, Text, Whole, asked, at_front}
-use Rattle.inf_conditional_sides.specs.Sides.{behind_front, begun, condition_form, condition_of, condition_read, condition_holds, giving}
-use Rattle.inf_conditional_sides.specs.Sides.{goes_on, hash, held, is_name, name_form, offered, offered_in, offered_to, opens, read_as}
-use Rattle.inf_conditional_sides.specs.Sides.{tokens_in, unfit}
-use Rattle.inf_conditional_sides.specs.Judged.{Agree, AreFronts, ComeToTheSame, IsFront, awaits_behind, condition_in, conditions_of}
+use Rattle.inf_conditional_sides.specs.Sides.{begun, behind_front, condition_form, condition_holds, condition_in, condition_of}
+use Rattle.inf_conditional_sides.specs.Sides.{condition_read, giving, goes_on, hash, held, is_name, name_form, offered, offered_in}
+use Rattle.inf_conditional_sides.specs.Sides.{offered_to, opens, read_as, tokens_in, unfit}
+use Rattle.inf_conditional_sides.specs.Judged.{Agree, AreFronts, ComeToTheSame, IsFront, awaits_behind, conditions_of}
 use Rattle.inf_conditional_sides.specs.Judged.{given_of, pending_of, pendings, with_condition}
 use Rattle.inf_conditional_sides.proofs.Acts.{agree, both_heard, closed_same, conditional, end_heard, kept_heard, none_heard, opened_same}
 use Rattle.inf_conditional_sides.proofs.Acts.{reading, state, staying, turned_same, turning_pending, unfit_same}

@@ -1,9 +1,9 @@
 -- Where a side is left out, a token has the same result for conditionals and for sides; and so has the end of a piece.
-use Rattle.std.proofs.Common.{◌≡◌, ℕ, ◌+◌, ◌-◌, ◌<◌, List, [], ◌∷◌, ◌++◌, length, Bool, true, false, not, ◌&&◌, Option, Some, None, refl}
-use Rattle.std.proofs.Common.{◌∙◌, ap, arith, subst, sym}
-use Rattle.std.specs.Prelude.{◌==◌, if◌then◌else◌, min, unwrap_or}
-use Rattle.std.proofs.Math.Nat.{min-eq_left}
-use Rattle.std.proofs.lemmas.Bool.{ne_eqb}
+use Rattle.std.proofs.Common.{◌≡◌, ℕ, suc, ◌+◌, ◌-◌, ◌<◌, ◌≤◌, List, [], ◌∷◌, ◌++◌, length, Bool, true, false, not, ◌&&◌, Option, Some, None}
+use Rattle.std.proofs.Common.{refl, ◌∙◌, ap, arith, subst, sym}
+use Rattle.std.specs.Prelude.{◌==◌, if◌then◌else◌, min, nat_lt, unwrap_or}
+use Rattle.std.proofs.Math.Nat.{min-eq_left, min-eq_right}
+use Rattle.std.proofs.lemmas.Bool.{ltb-false, ltb-true, ne_eqb}
 use Rattle.inf_scanner.specs.declared.tokens.Place.{Place}
 use Rattle.inf_sources.specs.declared.open_file.Conditional.{Conditional}
 use Rattle.inf_conditionals.specs.Judging.{awaiting, word_passed as word_judged}
@@ -13,9 +13,10 @@ use Rattle.inf_conditionals.specs.declared.pending.Awaits.TheVariants as awaits
 use Rattle.inf_conditionals.specs.declared.pending.Effect.TheVariants as effect
 use Rattle.inf_conditionals.specs.declared.words.ConditionalWord.{ConditionalWord}
 use Rattle.inf_conditionals.specs.declared.words.ConditionalWord.TheVariants as word
-use Rattle.inf_conditional_sides.specs.Sides.{Ended, Side, Sides, Text, all_stay, at_end, sides_behind, turned_over, word_passed}
-use Rattle.inf_conditional_sides.specs.Judged.{Agree, AllAre, AreFronts, IsLeftOut, StandFor, conditions_of, open_sides, outer_sides}
-use Rattle.inf_conditional_sides.specs.Judged.{pendings, side_of}
+use Rattle.inf_conditional_sides.specs.Sides.{Ended, Side, Sides, Text, all_stay, at_end, count_inside, most_inside, outer_sides, side_of}
+use Rattle.inf_conditional_sides.specs.Sides.{sides_behind, turned_over, with_inside, word_passed}
+use Rattle.inf_conditional_sides.specs.Judged.{Agree, AllAre, AreFronts, IsLeftOut, StandFor, conditions_of, open_sides}
+use Rattle.inf_conditional_sides.specs.Judged.{pendings}
 use Rattle.inf_conditional_sides.proofs.Acts.{reading}
 
 -- Sides that stay, and sides of which one does not
@@ -60,30 +61,68 @@ turned_inner x = same_inner x.is_second x
 not_zero : (xs : List Side) (x : Side) (levels : ℕ) → length (x ∷ xs) ≡ levels → (levels == 0) ≡ false
 not_zero xs x levels count = ne_eqb levels 0 (λ zero. omega (arith, count, zero))
 
-one_deeper : (y : Side) (inside : List Side) (place : Place) (is_inner : Bool) (x : Conditional) (around : List Side) (levels : ℕ)
-    → AllAre is_inner (y ∷ inside) → length (y ∷ inside) ≡ levels → levels < most_levels
-    → IsLeftOut is_inner (min (levels + 1) most_levels) x around
-    (record { place = place; is_inner = y.is_inner; is_second = false; stays = true } ∷ y ∷ (inside ++ side_of is_inner false x ∷ around))
-one_deeper y inside place is_inner x around levels are count few =
-    let less : min (levels + 1) most_levels ≡ levels + 1 = min-eq_left (omega (arith, few)) in
+-- the number of sides inside of the one that is left out
+inside_of : (inside around : List Side) (is_inner : Bool) (x : Conditional) → all_stay around ≡ true
+    → count_inside (inside ++ side_of is_inner false x ∷ around) ≡ length inside
+inside_of [] around is_inner x stay = ap (λ b. if b then 0 else suc (count_inside around)) stay
+inside_of (y ∷ inside) around is_inner x stay =
+    ap (λ b. if b then 0 else suc (count_inside (inside ++ side_of is_inner false x ∷ around))) (one_left inside around is_inner x)
+    ∙ ap suc (inside_of inside around is_inner x stay)
+
+-- One side more is open there, or as many as may be.
+one_by : (y : Side) (inside : List Side) (place : Place) (is_inner : Bool) (x : Conditional) (around : List Side) (levels : ℕ)
+    → AllAre is_inner (y ∷ inside) → length (y ∷ inside) ≡ levels → levels ≤ most_levels → (is_few : Bool)
+    → nat_lt levels most_levels ≡ is_few
+    → let sides = (y ∷ inside) ++ side_of is_inner false x ∷ around in
+    IsLeftOut is_inner (min (levels + 1) most_levels) x around
+    (if is_few then record { place = place; is_inner = y.is_inner; is_second = false; stays = true } ∷ sides else sides)
+one_by y inside place is_inner x around levels are count few true free =
+    let fewer : levels < most_levels = ltb-true levels most_levels free in
+    let less : min (levels + 1) most_levels ≡ levels + 1 = min-eq_left (omega (arith, fewer)) in
     record {
       inside = record { place = place; is_inner = y.is_inner; is_second = false; stays = true } ∷ y ∷ inside;
       are = (are.0, are);
       count = omega (arith, count, less);
       all = refl;
     }
+one_by y inside place is_inner x around levels are count few false full =
+    let most : most_levels ≤ levels = ltb-false levels most_levels full in
+    let less : min (levels + 1) most_levels ≡ most_levels = min-eq_right (omega (arith, most)) in
+    record { inside = y ∷ inside; are = are; count = omega (arith, count, less, most, few); all = refl }
+
+one_deeper : (y : Side) (inside : List Side) (place : Place) (is_inner : Bool) (x : Conditional) (around : List Side) (levels : ℕ)
+    → all_stay around ≡ true → AllAre is_inner (y ∷ inside) → length (y ∷ inside) ≡ levels → levels ≤ most_levels
+    → IsLeftOut is_inner (min (levels + 1) most_levels) x around (with_inside place ((y ∷ inside) ++ side_of is_inner false x ∷ around))
+one_deeper y inside place is_inner x around levels stay are count few =
+    let sides = (y ∷ inside) ++ side_of is_inner false x ∷ around in
+    one_by y inside place is_inner x around levels are count few (nat_lt (count_inside sides) most_inside)
+    (ap (λ n. nat_lt n most_levels) (sym count ∙ sym (inside_of (y ∷ inside) around is_inner x stay)))
 
 deeper : (w : ConditionalWord) (place : Place) (y : Side) (inside : List Side) (is_inner : Bool) (x : Conditional) (around : List Side)
-    (levels : ℕ) → AllAre is_inner (y ∷ inside) → length (y ∷ inside) ≡ levels → levels < most_levels
+    (levels : ℕ) → all_stay around ≡ true → AllAre is_inner (y ∷ inside) → length (y ∷ inside) ≡ levels → levels ≤ most_levels
     → IsLeftOut is_inner (levels_behind w levels) x around (sides_behind w place ((y ∷ inside) ++ side_of is_inner false x ∷ around))
-deeper word.Endif place y inside is_inner x around levels are count few =
+deeper word.Endif place y inside is_inner x around levels stay are count few =
     record { inside = inside; are = are.1; count = omega (arith, count); all = refl }
-deeper word.Ifnot place y inside is_inner x around levels are count few =
+deeper word.Ifnot place y inside is_inner x around levels stay are count few =
     record { inside = turned_over y ∷ inside; are = (turned_inner y ∙ are.0, are.1); count = count; all = refl }
-deeper word.Ifdef place y inside is_inner x around levels are count few = one_deeper y inside place is_inner x around levels are count few
-deeper word.Ifndef place y inside is_inner x around levels are count few = one_deeper y inside place is_inner x around levels are count few
-deeper word.Iftrue place y inside is_inner x around levels are count few = one_deeper y inside place is_inner x around levels are count few
-deeper word.Iffalse place y inside is_inner x around levels are count few = one_deeper y inside place is_inner x around levels are count few
+deeper word.Ifdef place y inside is_inner x around levels stay are count few =
+    one_deeper y inside place is_inner x around levels stay are count few
+deeper word.Ifndef place y inside is_inner x around levels stay are count few =
+    one_deeper y inside place is_inner x around levels stay are count few
+deeper word.Iftrue place y inside is_inner x around levels stay are count few =
+    one_deeper y inside place is_inner x around levels stay are count few
+deeper word.Iffalse place y inside is_inner x around levels stay are count few =
+    one_deeper y inside place is_inner x around levels stay are count few
+
+-- the first side inside of the one that is left out
+first_inside : (around : List Side) (is_inner : Bool) (x : Conditional) (place : Place) → all_stay around ≡ true
+    → with_inside place (side_of is_inner false x ∷ around)
+    ≡ record { place = place; is_inner = is_inner; is_second = false; stays = true } ∷ side_of is_inner false x ∷ around
+first_inside around is_inner x place stay =
+    ap (λ n. if nat_lt n most_inside
+    then record { place = place; is_inner = is_inner; is_second = false; stays = true } ∷ side_of is_inner false x ∷ around
+    else side_of is_inner false x ∷ around)
+    (inside_of [] around is_inner x stay)
 
 -- Conditionals of which a side is left out, and sides beside them
 
@@ -139,38 +178,51 @@ goes_deeper w at c inner among texts sign is_inner levels x around y inside fron
 abbrev conditional : Place → Bool → Conditional
 conditional place is_second = record { place = place; is_second = is_second }
 
-opens_in_outer : (w : ConditionalWord) (place begins : Place) (is_second : Bool) (c : Conditions) (among : List Conditional)
-    (texts : List Text)
+opens_in_outer : (place begins : Place) (is_second : Bool) (c : Conditions) (among : List Conditional) (texts : List Text)
+    (sign : Option Place)
     → AreFronts texts
     → let x = conditional begins is_second in
-    let new : Side = record { place = place; is_inner = false; is_second = false; stays = true } in
+    let sides = side_of false false x ∷ outer_sides among in
+    let now = with_inside place sides in
     Agree (record (leaving c [] (x ∷ among) texts None (side_at false 1)) { sign = None })
-    (sided (new ∷ side_of false false x ∷ outer_sides among) texts None)
-opens_in_outer w place begins is_second c among texts fronts =
+    (word_passed (all_stay now) place now (sided sides texts sign))
+opens_in_outer place begins is_second c among texts sign fronts =
+    let x = conditional begins is_second in
+    let sides = side_of false false x ∷ outer_sides among in
     let new : Side = record { place = place; is_inner = false; is_second = false; stays = true } in
-    record {
+    subst (λ (now : List Side). Agree (record (leaving c [] (x ∷ among) texts None (side_at false 1)) { sign = None })
+    (word_passed (all_stay now) place now (sided sides texts sign)))
+    (sym (first_inside (outer_sides among) false x place (outer_stay among)))
+    (record {
       pending = refl;
       conditions = refl;
       sign = refl;
       sides = (refl, record { inside = new ∷ []; are = (refl, tt); count = refl; all = refl });
       fronts = fronts;
-    }
+    })
 
 opens_in_inner : (place begins : Place) (is_second : Bool) (c : Conditions) (inner among : List Conditional) (texts : List Text)
+    (sign : Option Place)
     → AreFronts texts
     → let x = conditional begins is_second in
-    let new : Side = record { place = place; is_inner = true; is_second = false; stays = true } in
+    let sides = side_of true false x ∷ open_sides inner among in
+    let now = with_inside place sides in
     Agree (record (leaving c (x ∷ inner) among texts None (side_at true 1)) { sign = None })
-    (sided (new ∷ side_of true false x ∷ open_sides inner among) texts None)
-opens_in_inner place begins is_second c inner among texts fronts =
+    (word_passed (all_stay now) place now (sided sides texts sign))
+opens_in_inner place begins is_second c inner among texts sign fronts =
+    let x = conditional begins is_second in
+    let sides = side_of true false x ∷ open_sides inner among in
     let new : Side = record { place = place; is_inner = true; is_second = false; stays = true } in
-    record {
+    subst (λ (now : List Side). Agree (record (leaving c (x ∷ inner) among texts None (side_at true 1)) { sign = None })
+    (word_passed (all_stay now) place now (sided sides texts sign)))
+    (sym (first_inside (open_sides inner among) true x place (open_stay inner among)))
+    (record {
       pending = refl;
       conditions = refl;
       sign = refl;
       sides = record { inside = new ∷ []; are = (refl, tt); count = refl; all = refl };
       fronts = fronts;
-    }
+    })
 
 -- where all sides stay behind the word, its directive is read to its end
 all_kept : (c : Conditions) (inner among : List Conditional) (texts : List Text) (place : Place) (sides : List Side) (sign : Option Place)
@@ -200,13 +252,13 @@ word_outer word.Ifnot at begins false c among texts sign fronts =
     let turned : List Conditional = conditional begins true ∷ among in
     all_kept c [] turned texts (unwrap_or sign at) sides sign (outer_sides turned) refl fronts
 word_outer word.Ifdef at begins is_second c among texts sign fronts =
-    opens_in_outer word.Ifdef (unwrap_or sign at) begins is_second c among texts fronts
+    opens_in_outer (unwrap_or sign at) begins is_second c among texts sign fronts
 word_outer word.Ifndef at begins is_second c among texts sign fronts =
-    opens_in_outer word.Ifndef (unwrap_or sign at) begins is_second c among texts fronts
+    opens_in_outer (unwrap_or sign at) begins is_second c among texts sign fronts
 word_outer word.Iftrue at begins is_second c among texts sign fronts =
-    opens_in_outer word.Iftrue (unwrap_or sign at) begins is_second c among texts fronts
+    opens_in_outer (unwrap_or sign at) begins is_second c among texts sign fronts
 word_outer word.Iffalse at begins is_second c among texts sign fronts =
-    opens_in_outer word.Iffalse (unwrap_or sign at) begins is_second c among texts fronts
+    opens_in_outer (unwrap_or sign at) begins is_second c among texts sign fronts
 
 word_inner : (w : ConditionalWord) (at begins : Place) (is_second : Bool) (c : Conditions) (inner among : List Conditional)
     (texts : List Text) (sign : Option Place) → AreFronts texts
@@ -227,34 +279,34 @@ word_inner word.Ifnot at begins false c inner among texts sign fronts =
     let turned : List Conditional = conditional begins true ∷ inner in
     all_kept c turned among texts (unwrap_or sign at) sides sign (open_sides turned among) refl fronts
 word_inner word.Ifdef at begins is_second c inner among texts sign fronts =
-    opens_in_inner (unwrap_or sign at) begins is_second c inner among texts fronts
+    opens_in_inner (unwrap_or sign at) begins is_second c inner among texts sign fronts
 word_inner word.Ifndef at begins is_second c inner among texts sign fronts =
-    opens_in_inner (unwrap_or sign at) begins is_second c inner among texts fronts
+    opens_in_inner (unwrap_or sign at) begins is_second c inner among texts sign fronts
 word_inner word.Iftrue at begins is_second c inner among texts sign fronts =
-    opens_in_inner (unwrap_or sign at) begins is_second c inner among texts fronts
+    opens_in_inner (unwrap_or sign at) begins is_second c inner among texts sign fronts
 word_inner word.Iffalse at begins is_second c inner among texts sign fronts =
-    opens_in_inner (unwrap_or sign at) begins is_second c inner among texts fronts
+    opens_in_inner (unwrap_or sign at) begins is_second c inner among texts sign fronts
 
 -- a word has the same result in a side between directives, with `levels` open in it
 pub outer_words : (inside : List Side) (w : ConditionalWord) (at : Place) (c : Conditions) (x : Conditional) (among : List Conditional)
     (texts : List Text) (sign : Option Place) (levels : ℕ) → AreFronts texts → AllAre false inside → length inside ≡ levels
-    → levels < most_levels
+    → levels ≤ most_levels
     → WordsAgree w at c [] (x ∷ among) texts sign (side_at false levels) (inside ++ side_of false false x ∷ outer_sides among)
 outer_words [] w at c x among texts sign levels fronts are count few =
     subst (λ n. WordsAgree w at c [] (x ∷ among) texts sign (side_at false n) (side_of false false x ∷ outer_sides among)) count
     (word_outer w at x.place x.is_second c among texts sign fronts)
 outer_words (y ∷ inside) w at c x among texts sign levels fronts are count few =
-    let l = deeper w (unwrap_or sign at) y inside false x (outer_sides among) levels are count few in
+    let l = deeper w (unwrap_or sign at) y inside false x (outer_sides among) levels (outer_stay among) are count few in
     goes_deeper w at c [] (x ∷ among) texts sign false levels x (outer_sides among) y inside fronts count l (refl, l)
 
 pub inner_words : (inside : List Side) (w : ConditionalWord) (at : Place) (c : Conditions) (x : Conditional)
     (inner among : List Conditional)
     (texts : List Text) (sign : Option Place) (levels : ℕ) → AreFronts texts → AllAre true inside → length inside ≡ levels
-    → levels < most_levels
+    → levels ≤ most_levels
     → WordsAgree w at c (x ∷ inner) among texts sign (side_at true levels) (inside ++ side_of true false x ∷ open_sides inner among)
 inner_words [] w at c x inner among texts sign levels fronts are count few =
     subst (λ n. WordsAgree w at c (x ∷ inner) among texts sign (side_at true n) (side_of true false x ∷ open_sides inner among)) count
     (word_inner w at x.place x.is_second c inner among texts sign fronts)
 inner_words (y ∷ inside) w at c x inner among texts sign levels fronts are count few =
-    let l = deeper w (unwrap_or sign at) y inside true x (open_sides inner among) levels are count few in
+    let l = deeper w (unwrap_or sign at) y inside true x (open_sides inner among) levels (open_stay inner among) are count few in
     goes_deeper w at c (x ∷ inner) among texts sign true levels x (open_sides inner among) y inside fronts count l l

@@ -8,3 +8,4 @@ pub mod Seating
 pub mod Running
 pub mod Ending
 pub mod Keeping
+pub mod Telling

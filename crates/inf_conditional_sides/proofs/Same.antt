@@ -1,5 +1,5 @@
 -- Conditionals and sides give the same result by any token, and at the end of a piece.
-use Rattle.std.proofs.Common.{◌≡◌, ℕ, ◌<◌, List, [], ◌∷◌, ◌++◌, length, map, Bool, true, false, Option, Some, None, refl, sym, ◌∙◌, ap}
+use Rattle.std.proofs.Common.{◌≡◌, ℕ, ◌≤◌, List, [], ◌∷◌, ◌++◌, length, map, Bool, true, false, Option, Some, None, refl, sym, ◌∙◌, ap}
 use Rattle.std.proofs.Common.{subst}
 use Rattle.std.specs.Prelude.{◌&&◌, if◌then◌else◌}
 use Rattle.inf_scanner.specs.declared.tokens.Place.{Place}
@@ -14,9 +14,9 @@ use Rattle.inf_conditionals.specs.declared.filtered.Site.{Site}
 use Rattle.inf_conditionals.specs.declared.open.LeftOut.{LeftOut}
 use Rattle.inf_conditionals.specs.declared.words.ConditionalWord.{ConditionalWord}
 use Rattle.inf_conditional_sides.specs.Sides.{Side, Sides, Text, all_stay, at_end, giving, kept_step, left_step, offered, only_between}
-use Rattle.inf_conditional_sides.specs.Sides.{passed_over, step}
+use Rattle.inf_conditional_sides.specs.Sides.{outer_sides, passed_over, side_of, step}
 use Rattle.inf_conditional_sides.specs.Judged.{Agree, AllAre, AreFronts, ComeToTheSame, FewIn, IsLeftOut, SidesAreJudged, StandFor}
-use Rattle.inf_conditional_sides.specs.Judged.{conditions_of, is_settled, is_settled_by, open_sides, outer_sides, pendings, side_of}
+use Rattle.inf_conditional_sides.specs.Judged.{conditions_of, is_settled, is_settled_by, open_sides, pendings}
 use Rattle.inf_conditional_sides.proofs.Acts.{none_heard, reading}
 use Rattle.inf_conditional_sides.proofs.Kept.{offered_same}
 use Rattle.inf_conditional_sides.proofs.Left.{inner_words, leaving, left_at_end, one_left, open_stay, outer_stay, outer_words, side_at}
@@ -60,7 +60,7 @@ PassesAgree t c inner among texts sign side sides w =
 
 outer_passes : (w : Option ConditionalWord) (t : SourceToken) (c : Conditions) (x : Conditional) (among : List Conditional)
     (texts : List Text) (sign : Option Place) (levels : ℕ) (inside : List Side) → AreFronts texts → AllAre false inside
-    → length inside ≡ levels → levels < most_levels
+    → length inside ≡ levels → levels ≤ most_levels
     → PassesAgree t c [] (x ∷ among) texts sign (side_at false levels) (inside ++ side_of false false x ∷ outer_sides among) w
 outer_passes None t c x among texts sign levels inside fronts are count few = record {
   pending = refl;
@@ -74,7 +74,7 @@ outer_passes (Some w) t c x among texts sign levels inside fronts are count few 
 
 inner_passes : (w : Option ConditionalWord) (t : SourceToken) (c : Conditions) (x : Conditional) (inner among : List Conditional)
     (texts : List Text) (sign : Option Place) (levels : ℕ) (inside : List Side) → AreFronts texts → AllAre true inside
-    → length inside ≡ levels → levels < most_levels
+    → length inside ≡ levels → levels ≤ most_levels
     → PassesAgree t c (x ∷ inner) among texts sign (side_at true levels) (inside ++ side_of true false x ∷ open_sides inner among) w
 inner_passes None t c x inner among texts sign levels inside fronts are count few = record {
   pending = refl;
@@ -115,7 +115,7 @@ left_stepped site o t c inner among texts sign side sides fronts not_all ends pa
     (left_same (is_end t.kind) site o t c inner among texts sign side sides fronts ends passes)
 
 outer_left : (site : Site) (o : Out) (t : SourceToken) (c : Conditions) (x : Conditional) (among : List Conditional) (texts : List Text)
-    (sign : Option Place) (levels : ℕ) (sides : List Side) → AreFronts texts → levels < most_levels
+    (sign : Option Place) (levels : ℕ) (sides : List Side) → AreFronts texts → levels ≤ most_levels
     → IsLeftOut false levels x (outer_sides among) sides
     → ComeToTheSame site.is_quiet t (judged site o t (leaving c [] (x ∷ among) texts sign (side_at false levels)))
     (step site.is_between c.declared o t (sided sides texts sign))
@@ -128,7 +128,7 @@ outer_left site o t c x among texts sign levels sides fronts few l =
     (outer_passes (word_of (keyword t)) t c x among texts sign levels l.inside fronts l.are l.count few))
 
 inner_left : (site : Site) (o : Out) (t : SourceToken) (c : Conditions) (x : Conditional) (inner among : List Conditional)
-    (texts : List Text) (sign : Option Place) (levels : ℕ) (sides : List Side) → AreFronts texts → levels < most_levels
+    (texts : List Text) (sign : Option Place) (levels : ℕ) (sides : List Side) → AreFronts texts → levels ≤ most_levels
     → IsLeftOut true levels x (open_sides inner among) sides
     → ComeToTheSame site.is_quiet t (judged site o t (leaving c (x ∷ inner) among texts sign (side_at true levels)))
     (step site.is_between c.declared o t (sided sides texts sign))
@@ -142,7 +142,7 @@ inner_left site o t c x inner among texts sign levels sides fronts few l =
 
 -- Any token
 
-abbrev stated : Conditions → Option LeftOut → List Conditional → List Conditional → List Text → Option Place → Conditions
+abbrev pub stated : Conditions → Option LeftOut → List Conditional → List Conditional → List Text → Option Place → Conditions
 stated c left inner among texts sign = record c {
   among = among;
   inner = inner;
@@ -155,7 +155,7 @@ stated c left inner among texts sign = record c {
 inside_left : (is_inner : Bool) (site : Site) (o : Out) (t : SourceToken) (c : Conditions) (x : Conditional)
     (inner among : List Conditional)
     (texts : List Text) (sign : Option Place) (levels : ℕ) (sides : List Side) → AreFronts texts
-    → StandFor (Some (side_at is_inner levels)) (x ∷ inner) among sides → is_inner ≡ true → levels < most_levels
+    → StandFor (Some (side_at is_inner levels)) (x ∷ inner) among sides → is_inner ≡ true → levels ≤ most_levels
     → ComeToTheSame site.is_quiet t (judged site o t (leaving c (x ∷ inner) among texts sign (side_at is_inner levels)))
     (step site.is_between c.declared o t (sided sides texts sign))
 inside_left true site o t c x inner among texts sign levels sides fronts stand settled few =

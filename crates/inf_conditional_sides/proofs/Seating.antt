@@ -1,7 +1,7 @@
 -- Each token leaves directives seated, and sides settled but for a moment: behind a `#`, in a side that is left out, and for any token.
-use Rattle.std.proofs.Common.{◌≡◌, ◌≤◌, ℕ, suc, ◌+◌, ◌⊎◌, inl, inr, min, List, [], ◌∷◌, Bool, true, false, not, ◌&&◌, ◌==◌, Option, Some}
+use Rattle.std.proofs.Common.{◌≡◌, ◌≤◌, ℕ, ◌+◌, ◌⊎◌, inl, inr, min, List, [], ◌∷◌, Bool, true, false, not, ◌&&◌, ◌==◌, Option, Some}
 use Rattle.std.proofs.Common.{None, refl, ◌∙◌, arith}
-use Rattle.std.proofs.Math.Nat.{min-le_left}
+use Rattle.std.proofs.Math.Nat.{min-le_right}
 use Rattle.std.specs.Prelude.{unwrap_or}
 use Rattle.inf_scanner.specs.declared.tokens.Mark.TheVariants as mark
 use Rattle.inf_scanner.specs.declared.tokens.Place.{Place}
@@ -27,8 +27,8 @@ use Rattle.inf_conditionals.specs.declared.pending.Effect.TheVariants as effect
 use Rattle.inf_conditionals.specs.declared.pending.Pending.{Pending}
 use Rattle.inf_conditionals.specs.declared.words.ConditionalWord.{ConditionalWord}
 use Rattle.inf_conditionals.specs.declared.words.ConditionalWord.TheVariants as word
-use Rattle.inf_conditional_sides.specs.Judged.{is_settled, is_settled_by}
-use Rattle.inf_conditional_sides.specs.Rests.{AreSeated, AreUpTo, HandsNone, IsOutermost, IsSeated, Rests, TokensRest}
+use Rattle.inf_conditional_sides.specs.Judged.{FewIn, is_settled, is_settled_by}
+use Rattle.inf_conditional_sides.specs.Rests.{AreSeated, HandsNone, IsOutermost, IsSeated, Rests, TokensRest}
 use Rattle.inf_conditional_sides.proofs.Acts.{state}
 use Rattle.inf_conditional_sides.proofs.Resting.{begun_rests, offered_rests}
 
@@ -41,9 +41,9 @@ signed b place h = record b { judged = record b.judged { sign = sign_handed plac
 hands_none : (j : Filtered) (place : Place) → HandsNone j → HandsNone (record j { sign = sign_handed place (Some handed.Condition) })
 hands_none j place none = (refl, none.1)
 
-condition_signed : (between : Bool) (n declared : ℕ) (b : Behind) (place : Place) → Rests between n declared b
-    → Rests between n declared (signed b place (Some handed.Condition))
-condition_signed between n declared b place r = record {
+condition_signed : (between : Bool) (declared : ℕ) (b : Behind) (place : Place) → Rests between declared b
+    → Rests between declared (signed b place (Some handed.Condition))
+condition_signed between declared b place r = record {
   seated = r.seated;
   quiet = by_quiet r.quiet;
   settled = by_settled r.settled;
@@ -63,12 +63,12 @@ condition_signed between n declared b place r = record {
     by_settled (inr u) = inr (u.0, (u.1.0, hands_none b.judged place u.1.1))
 
 -- No directive is being read behind the `#`, whether it is kept or does not fit.
-none_signed : (site : Site) (o : Out) (t : SourceToken) (n : ℕ) (c : Conditions) (place : Place) (h : Option Forwarded)
+none_signed : (site : Site) (o : Out) (t : SourceToken) (c : Conditions) (place : Place) (h : Option Forwarded)
     (inner among : List Conditional) (conditions : List Condition)
-    → Rests site.is_between n c.declared (signed (offered false site o t (state c inner among [] conditions)) place h)
-none_signed site o t n c place h inner among conditions =
+    → Rests site.is_between c.declared (signed (offered false site o t (state c inner among [] conditions)) place h)
+none_signed site o t c place h inner among conditions =
     let before : Conditions = state c inner among [] conditions in
-    of_both (λ (b : Behind). Rests site.is_between n c.declared (signed b place h)) (is_mark mark.Hash t.kind) (passed (held false t.place before))
+    of_both (λ (b : Behind). Rests site.is_between c.declared (signed b place h)) (is_mark mark.Hash t.kind) (passed (held false t.place before))
     (kept before)
     (λ _. record { seated = tt; quiet = inl (refl, refl); settled = inl refl; levels = tt; declared = refl })
     (λ _. record { seated = tt; quiet = inl (refl, refl); settled = inl refl; levels = tt; declared = refl })
@@ -77,44 +77,44 @@ never_front : (between : Bool) (pending : List Pending) → false ≡ true → I
 never_front between pending e = cc
 
 -- The condition of the innermost directive takes the `#`, or does not.
-sign_asked_rests : (conditions : List Condition) (wanted : Bool) (site : Site) (o : Out) (t : SourceToken) (n : ℕ) (c : Conditions)
+sign_asked_rests : (conditions : List Condition) (wanted : Bool) (site : Site) (o : Out) (t : SourceToken) (c : Conditions)
     (place : Place) (p : Pending) (inner among : List Conditional) (pending : List Pending) (others : List Condition)
     → IsSeated site.is_between (awaits.Condition wanted) p.is_inner pending → AreSeated site.is_between pending
     → let s = sign_asked conditions wanted place site p (state c inner among pending others) in
-    Rests site.is_between n c.declared (signed (offered false site o t s.now) place s.judged.token)
-sign_asked_rests [] wanted site o t n c place p inner among pending others seat seated =
-    none_signed site o t n c place (Some handed.Unfit) inner among []
-sign_asked_rests (k ∷ conditions) wanted site o t n c place p inner among pending others seat seated =
+    Rests site.is_between c.declared (signed (offered false site o t s.now) place s.judged.token)
+sign_asked_rests [] wanted site o t c place p inner among pending others seat seated =
+    none_signed site o t c place (Some handed.Unfit) inner among []
+sign_asked_rests (k ∷ conditions) wanted site o t c place p inner among pending others seat seated =
     let rest : Conditions = state c inner among pending conditions in
     let q : Pending = record { place = p.place; is_inner = p.is_inner; awaits = awaits.Condition wanted } in
     let x : Condition = condition_took (hash place) k in
     let on : Behind = asked_on wanted site (hash place) x p rest in
-    of_both (λ (s : Behind). Rests site.is_between n c.declared (signed (offered false site o t s.now) place s.judged.token))
+    of_both (λ (s : Behind). Rests site.is_between c.declared (signed (offered false site o t s.now) place s.judged.token))
     (fits grammar known (atom_of (hash place)) k.stack) on (unfit rest)
-    (λ _. condition_signed site.is_between n c.declared (offered false site o t on.now) place
-    (offered_rests false site o t n on.now inner among (q ∷ pending) (x ∷ conditions) (never_front site.is_between (q ∷ pending)) (seat, seated)))
-    (λ _. none_signed site o t n c place (Some handed.Unfit) inner among [])
+    (λ _. condition_signed site.is_between c.declared (offered false site o t on.now) place
+    (offered_rests false site o t on.now inner among (q ∷ pending) (x ∷ conditions) (never_front site.is_between (q ∷ pending)) (seat, seated)))
+    (λ _. none_signed site o t c place (Some handed.Unfit) inner among [])
 
-sign_awaited_rests : (a : Awaits) (site : Site) (o : Out) (t : SourceToken) (n : ℕ) (c : Conditions)
+sign_awaited_rests : (a : Awaits) (site : Site) (o : Out) (t : SourceToken) (c : Conditions)
     (place : Place) (p : Pending) (inner among : List Conditional) (pending : List Pending) (conditions : List Condition)
     → IsSeated site.is_between a p.is_inner pending → AreSeated site.is_between pending
     → let s = sign_awaited a place site p (state c inner among pending conditions) in
-    Rests site.is_between n c.declared (signed (offered false site o t s.now) place s.judged.token)
-sign_awaited_rests (awaits.Condition wanted) site o t n c place p inner among pending conditions seat seated =
-    sign_asked_rests conditions wanted site o t n c place p inner among pending conditions seat seated
-sign_awaited_rests a site o t n c place p inner among pending conditions seat seated =
-    none_signed site o t n c place (Some handed.Unfit) inner among []
+    Rests site.is_between c.declared (signed (offered false site o t s.now) place s.judged.token)
+sign_awaited_rests (awaits.Condition wanted) site o t c place p inner among pending conditions seat seated =
+    sign_asked_rests conditions wanted site o t c place p inner among pending conditions seat seated
+sign_awaited_rests a site o t c place p inner among pending conditions seat seated =
+    none_signed site o t c place (Some handed.Unfit) inner among []
 
-behind_sign_rests : (w : Option ConditionalWord) (site : Site) (o : Out) (t : SourceToken) (n : ℕ) (c : Conditions) (place : Place)
+behind_sign_rests : (w : Option ConditionalWord) (site : Site) (o : Out) (t : SourceToken) (c : Conditions) (place : Place)
     (inner among : List Conditional) (pending : List Pending) (conditions : List Condition) (sign : Option Place)
     → AreSeated site.is_between pending
-    → Rests site.is_between n c.declared (behind_sign w place site o t (record (state c inner among pending conditions) { sign = sign }))
-behind_sign_rests (Some w) site o t n c place inner among pending conditions sign seated =
-    begun_rests w site.is_between n c t place true inner among pending conditions tt seated
-behind_sign_rests None site o t n c place inner among [] conditions sign seated =
-    none_signed site o t n c place (Some handed.Kept) inner among []
-behind_sign_rests None site o t n c place inner among (p ∷ pending) conditions sign seated =
-    sign_awaited_rests p.awaits site o t n c place p inner among pending conditions seated.0 seated.1
+    → Rests site.is_between c.declared (behind_sign w place site o t (record (state c inner among pending conditions) { sign = sign }))
+behind_sign_rests (Some w) site o t c place inner among pending conditions sign seated =
+    begun_rests w site.is_between c t place true inner among pending conditions tt seated
+behind_sign_rests None site o t c place inner among [] conditions sign seated =
+    none_signed site o t c place (Some handed.Kept) inner among []
+behind_sign_rests None site o t c place inner among (p ∷ pending) conditions sign seated =
+    sign_awaited_rests p.awaits site o t c place p inner among pending conditions seated.0 seated.1
 
 -- A side that is left out
 
@@ -122,17 +122,13 @@ abbrev leaving : Conditions → LeftOut → Option Place → List Conditional �
 leaving c side sign inner among pending conditions =
     record (state c inner among pending conditions) { left_out = Some side; sign = sign }
 
-levels_grow : (w : ConditionalWord) (most levels : ℕ) → levels ≤ most → levels_behind w levels ≤ suc most
-levels_grow word.Ifdef most levels few =
-    let less : min (levels + 1) most_levels ≤ levels + 1 = min-le_left (levels + 1) most_levels in omega (arith, few, less)
-levels_grow word.Ifndef most levels few =
-    let less : min (levels + 1) most_levels ≤ levels + 1 = min-le_left (levels + 1) most_levels in omega (arith, few, less)
-levels_grow word.Iftrue most levels few =
-    let less : min (levels + 1) most_levels ≤ levels + 1 = min-le_left (levels + 1) most_levels in omega (arith, few, less)
-levels_grow word.Iffalse most levels few =
-    let less : min (levels + 1) most_levels ≤ levels + 1 = min-le_left (levels + 1) most_levels in omega (arith, few, less)
-levels_grow word.Ifnot most levels few = omega (arith, few)
-levels_grow word.Endif most levels few = omega (arith, few)
+levels_few : (w : ConditionalWord) (levels : ℕ) → levels ≤ most_levels → levels_behind w levels ≤ most_levels
+levels_few word.Ifdef levels few = min-le_right (levels + 1) most_levels
+levels_few word.Ifndef levels few = min-le_right (levels + 1) most_levels
+levels_few word.Iftrue levels few = min-le_right (levels + 1) most_levels
+levels_few word.Iffalse levels few = min-le_right (levels + 1) most_levels
+levels_few word.Ifnot levels few = few
+levels_few word.Endif levels few = omega (arith, few)
 
 same_settled : (inner : List Conditional) (side : LeftOut) (levels : ℕ)
     → is_settled_by (Some (record side { levels = levels })) inner ≡ is_settled_by (Some side) inner
@@ -140,62 +136,62 @@ same_settled [] side levels = refl
 same_settled (x ∷ inner) side levels = refl
 
 -- the word that ends the side has acted, and its directive is read to its end
-acted_rests : (w : ConditionalWord) (between : Bool) (n : ℕ) (c : Conditions) (side : LeftOut) (sign : Option Place) (place : Place)
+acted_rests : (w : ConditionalWord) (between : Bool) (c : Conditions) (side : LeftOut) (sign : Option Place) (place : Place)
     (inner among : List Conditional) (pending : List Pending) (conditions : List Condition) → AreSeated between pending
-    → Rests between n c.declared (passed (awaiting place false (awaits.End effect.Nothing)
+    → Rests between c.declared (passed (awaiting place false (awaits.End effect.Nothing)
     (record (ended_by w (leaving c side sign inner among pending conditions)) { left_out = None; sign = None })))
-acted_rests word.Endif between n c side sign place [] among pending conditions seated =
+acted_rests word.Endif between c side sign place [] among pending conditions seated =
     record { seated = (tt, seated); quiet = inr (refl, λ t. refl); settled = inl refl; levels = tt; declared = refl }
-acted_rests word.Endif between n c side sign place (x ∷ inner) among pending conditions seated =
+acted_rests word.Endif between c side sign place (x ∷ inner) among pending conditions seated =
     record { seated = (tt, seated); quiet = inr (refl, λ t. refl); settled = inl refl; levels = tt; declared = refl }
-acted_rests w between n c side sign place [] among pending conditions seated =
+acted_rests w between c side sign place [] among pending conditions seated =
     record { seated = (tt, seated); quiet = inr (refl, λ t. refl); settled = inl refl; levels = tt; declared = refl }
-acted_rests w between n c side sign place (x ∷ inner) among pending conditions seated =
+acted_rests w between c side sign place (x ∷ inner) among pending conditions seated =
     record { seated = (tt, seated); quiet = inr (refl, λ t. refl); settled = inl refl; levels = tt; declared = refl }
 
-word_rests : (w : ConditionalWord) (between : Bool) (n : ℕ) (c : Conditions) (t : SourceToken) (side : LeftOut) (sign : Option Place)
+word_rests : (w : ConditionalWord) (between : Bool) (c : Conditions) (t : SourceToken) (side : LeftOut) (sign : Option Place)
     (inner among : List Conditional) (pending : List Pending) (conditions : List Condition) → AreSeated between pending
-    → is_settled_by (Some side) inner ≡ true → side.levels ≤ n
-    → Rests between (suc n) c.declared (passed (word_passed w t.place side (leaving c side sign inner among pending conditions)))
-word_rests w between n c t side sign inner among pending conditions seated settled few =
+    → is_settled_by (Some side) inner ≡ true → side.levels ≤ most_levels
+    → Rests between c.declared (passed (word_passed w t.place side (leaving c side sign inner among pending conditions)))
+word_rests w between c t side sign inner among pending conditions seated settled few =
     let before : Conditions = leaving c side sign inner among pending conditions in
     let place : Place = unwrap_or sign t.place in
-    of_both (λ (x : Conditions). Rests between (suc n) c.declared (passed x)) ((side.levels == 0) && ends_at w (is_second (latest before)))
+    of_both (λ (x : Conditions). Rests between c.declared (passed x)) ((side.levels == 0) && ends_at w (is_second (latest before)))
     (awaiting place false (awaits.End effect.Nothing) (record (ended_by w before) { left_out = None; sign = None }))
     (record before { left_out = Some (record side { levels = levels_behind w side.levels }); sign = None })
-    (λ _. acted_rests w between (suc n) c side sign place inner among pending conditions seated)
+    (λ _. acted_rests w between c side sign place inner among pending conditions seated)
     (λ _. record {
       seated = seated;
       quiet = inr (refl, λ x. refl);
       settled = inl (same_settled inner side (levels_behind w side.levels) ∙ settled);
-      levels = levels_grow w n side.levels few;
+      levels = levels_few w side.levels few;
       declared = refl;
     })
 
-passes_rest : (w : Option ConditionalWord) (between : Bool) (n : ℕ) (c : Conditions) (t : SourceToken) (side : LeftOut) (sign : Option Place)
+passes_rest : (w : Option ConditionalWord) (between : Bool) (c : Conditions) (t : SourceToken) (side : LeftOut) (sign : Option Place)
     (inner among : List Conditional) (pending : List Pending) (conditions : List Condition) → AreSeated between pending
-    → is_settled_by (Some side) inner ≡ true → side.levels ≤ n
-    → Rests between (suc n) c.declared (passed (passed_by w t side (leaving c side sign inner among pending conditions)))
-passes_rest None between n c t side sign inner among pending conditions seated settled few = record {
+    → is_settled_by (Some side) inner ≡ true → side.levels ≤ most_levels
+    → Rests between c.declared (passed (passed_by w t side (leaving c side sign inner among pending conditions)))
+passes_rest None between c t side sign inner among pending conditions seated settled few = record {
   seated = seated;
   quiet = inr (refl, λ x. refl);
   settled = inl settled;
-  levels = omega (arith, few);
+  levels = few;
   declared = refl;
 }
-passes_rest (Some w) between n c t side sign inner among pending conditions seated settled few =
-    word_rests w between n c t side sign inner among pending conditions seated settled few
+passes_rest (Some w) between c t side sign inner among pending conditions seated settled few =
+    word_rests w between c t side sign inner among pending conditions seated settled few
 
-in_side_rests : (site : Site) (o : Out) (t : SourceToken) (n : ℕ) (c : Conditions) (side : LeftOut) (sign : Option Place)
+in_side_rests : (site : Site) (o : Out) (t : SourceToken) (c : Conditions) (side : LeftOut) (sign : Option Place)
     (inner among : List Conditional) (pending : List Pending) (conditions : List Condition) → AreSeated site.is_between pending
-    → is_settled_by (Some side) inner ≡ true → side.levels ≤ n
-    → Rests site.is_between (suc n) c.declared (in_side site o t side (leaving c side sign inner among pending conditions))
-in_side_rests site o t n c side sign inner among pending conditions seated settled few =
+    → is_settled_by (Some side) inner ≡ true → side.levels ≤ most_levels
+    → Rests site.is_between c.declared (in_side site o t side (leaving c side sign inner among pending conditions))
+in_side_rests site o t c side sign inner among pending conditions seated settled few =
     let before : Conditions = leaving c side sign inner among pending conditions in
-    of_both (Rests site.is_between (suc n) c.declared) (is_end t.kind) (offered false site o t (record before { left_out = None; sign = None }))
+    of_both (Rests site.is_between c.declared) (is_end t.kind) (offered false site o t (record before { left_out = None; sign = None }))
     (passed (passed_by (word_of (keyword t)) t side before))
-    (λ _. offered_rests false site o t (suc n) c inner among pending conditions (never_front site.is_between pending) seated)
-    (λ _. passes_rest (word_of (keyword t)) site.is_between n c t side sign inner among pending conditions seated settled few)
+    (λ _. offered_rests false site o t c inner among pending conditions (never_front site.is_between pending) seated)
+    (λ _. passes_rest (word_of (keyword t)) site.is_between c t side sign inner among pending conditions seated settled few)
 
 -- Any token
 
@@ -204,19 +200,19 @@ front_of true [] e = (refl, refl)
 front_of true (p ∷ pending) e = cc
 front_of false pending e = cc
 
-by_state : (left : Option LeftOut) (sign : Option Place) (site : Site) (o : Out) (t : SourceToken) (n : ℕ) (c : Conditions)
+by_state : (left : Option LeftOut) (sign : Option Place) (site : Site) (o : Out) (t : SourceToken) (c : Conditions)
     (inner among : List Conditional) (pending : List Pending) (conditions : List Condition) → AreSeated site.is_between pending
-    → is_settled_by left inner ≡ true → AreUpTo n left
-    → Rests site.is_between (suc n) c.declared
+    → is_settled_by left inner ≡ true → FewIn left
+    → Rests site.is_between c.declared
     (judged site o t (record (state c inner among pending conditions) { left_out = left; sign = sign }))
-by_state (Some side) sign site o t n c inner among pending conditions seated settled few =
-    in_side_rests site o t n c side sign inner among pending conditions seated settled few
-by_state None (Some place) site o t n c inner among pending conditions seated settled few =
-    behind_sign_rests (word_of (keyword t)) site o t (suc n) c place inner among pending conditions (Some place) seated
-by_state None None site o t n c inner among pending conditions seated settled few =
-    offered_rests (site.is_between && is_none_pending pending) site o t (suc n) c inner among pending conditions
+by_state (Some side) sign site o t c inner among pending conditions seated settled few =
+    in_side_rests site o t c side sign inner among pending conditions seated settled few
+by_state None (Some place) site o t c inner among pending conditions seated settled few =
+    behind_sign_rests (word_of (keyword t)) site o t c place inner among pending conditions (Some place) seated
+by_state None None site o t c inner among pending conditions seated settled few =
+    offered_rests (site.is_between && is_none_pending pending) site o t c inner among pending conditions
     (front_of site.is_between pending) seated
 
 pub tokens_rest : TokensRest
-tokens_rest n site o t c seated settled few =
-    by_state c.left_out c.sign site o t n c c.inner c.among c.pending c.conditions seated settled few
+tokens_rest site o t c seated settled few =
+    by_state c.left_out c.sign site o t c c.inner c.among c.pending c.conditions seated settled few

@@ -27,9 +27,9 @@ use Rattle.inf_conditionals.specs.declared.pending.Pending.{Pending}
 use Rattle.inf_conditionals.specs.declared.words.ConditionalWord.{ConditionalWord}
 use Rattle.inf_conditionals.specs.declared.words.ConditionalWord.TheVariants as word
 use Rattle.inf_conditional_sides.specs.Sides.{Asked, Directive, Ended, Given, Kept, Sign, Step, Text, Unfit, asked, behind_sign}
-use Rattle.inf_conditional_sides.specs.Sides.{condition_form, condition_of, giving, goes_on, hash, offered, sign_asked}
+use Rattle.inf_conditional_sides.specs.Sides.{condition_form, condition_of, giving, goes_on, hash, heard, offered, sign_asked}
 use Rattle.inf_conditional_sides.specs.Judged.{AreFronts, ComeToTheSame, IsFront, as_handed, awaits_behind, conditions_of, end_given}
-use Rattle.inf_conditional_sides.specs.Judged.{given_of, heard, lone_given, pending_of, pendings, sign_given, token_given, with_condition}
+use Rattle.inf_conditional_sides.specs.Judged.{given_of, lone_given, pending_of, pendings, sign_given, token_given, with_condition}
 use Rattle.inf_conditional_sides.proofs.Acts.{kept_heard, none_heard, reading, state, staying, unfit_heard}
 use Rattle.inf_conditional_sides.proofs.Kept.{asking, asking_pending, begun_same, condition_more, goes_past, offered_same}
 

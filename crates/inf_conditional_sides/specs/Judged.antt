@@ -1,6 +1,6 @@
 -- Sides beside the conditionals of the compiler's contracts: the sides that agree with conditionals, and the same results of each token
 -- for both.
-use Rattle.std.specs.Prelude.{◌≡◌, ℕ, ◌<◌, List, [], ◌∷◌, ◌++◌, length, map, Bool, true, false, not, Option, Some, None, is_some}
+use Rattle.std.specs.Prelude.{◌≡◌, ℕ, ◌≤◌, List, [], ◌∷◌, ◌++◌, length, map, Bool, true, false, not, Option, Some, None, is_some}
 use Rattle.inf_scanner.specs.declared.tokens.Place.{Place}
 use Rattle.inf_output.specs.Output.{Out}
 use Rattle.inf_sources.specs.declared.open_file.Conditional.{Conditional}
@@ -22,7 +22,8 @@ use Rattle.inf_conditionals.specs.declared.pending.Pending.{Pending}
 use Rattle.inf_conditionals.specs.declared.words.ConditionalWord.{ConditionalWord}
 use Rattle.inf_conditionals.specs.declared.words.ConditionalWord.TheVariants as word
 use Rattle.inf_conditional_sides.specs.Sides.{Asked, Directive, Ended, Ends, Front, Given, Kept, Lone, Side, Sides, Sign, Step, Text, Unfit}
-use Rattle.inf_conditional_sides.specs.Sides.{condition_of, end_form, hash, name_form, no_sides, piece_ended, step}
+use Rattle.inf_conditional_sides.specs.Sides.{condition_in, condition_of, end_form, hash, heard, name_form, no_sides, outer_sides, piece_ended}
+use Rattle.inf_conditional_sides.specs.Sides.{side_of, step}
 
 -- The directives that are being read
 
@@ -50,11 +51,6 @@ abbrev pub with_condition : Option Condition → List Condition → List Conditi
 with_condition None conditions = conditions
 with_condition (Some k) conditions = k ∷ conditions
 
-abbrev pub condition_in : ConditionalWord → SourceToken → List Asked → Option Condition
-condition_in word.Iftrue first others = condition_of first others
-condition_in word.Iffalse first others = condition_of first others
-condition_in _ first others = None
-
 abbrev pub conditions_of : List Text → List Condition
 conditions_of [] = []
 conditions_of (Sign place ∷ texts) = conditions_of texts
@@ -78,13 +74,7 @@ AreFronts (Directive place is_inner w first others ∷ texts) = IsFront w first 
 
 -- The sides that are open
 
-abbrev pub side_of : Bool → Bool → Conditional → Side
-side_of is_inner stays x = record { place = x.place; is_inner = is_inner; is_second = x.is_second; stays = stays }
-
 -- the sides where all stay: those of conditionals inside of the directive at hand, and behind them those of the others
-abbrev pub outer_sides : List Conditional → List Side
-outer_sides among = map (side_of false true) among
-
 abbrev pub open_sides : List Conditional → List Conditional → List Side
 open_sides inner among = map (side_of true true) inner ++ outer_sides among
 
@@ -134,10 +124,10 @@ is_settled_by left_out inner = true
 abbrev pub is_settled : Conditions → Bool
 is_settled c = is_settled_by c.left_out c.inner
 
--- Fewer levels are open in a side that is left out than are counted at most.
+-- No more levels are open in a side that is left out than are counted at most.
 abbrev pub FewIn : Option LeftOut → Type 0
 FewIn None = Unit {0}
-FewIn (Some side) = side.levels < most_levels
+FewIn (Some side) = side.levels ≤ most_levels
 
 -- The things that are given of a token
 
@@ -164,15 +154,6 @@ end_given (Some place) = Ends place ∷ []
 
 abbrev pub given_of : SourceToken → Filtered → List Given
 given_of t j = sign_given j.sign ++ (token_given j.token t ++ (lone_given j.unmatched ++ end_given j.ended))
-
--- the things that are given; among tokens that are passed over behind a bad one those about directives are not
-abbrev pub heard : Bool → List Given → List Given
-heard false given = given
-heard true [] = []
-heard true (Kept t ∷ given) = Kept t ∷ heard true given
-heard true (Unfit t ∷ given) = Unfit t ∷ heard true given
-heard true (Lone place ∷ given) = heard true given
-heard true (Ends place ∷ given) = heard true given
 
 -- A token has the same result: the sides behind it agree with the conditionals behind it, and the same things are given.
 pub record ComeToTheSame (is_quiet : Bool) (t : SourceToken) (b : Behind) (n : Step) : Type 0 where

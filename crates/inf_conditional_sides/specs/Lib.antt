@@ -4,3 +4,5 @@ pub mod Rests
 pub mod Runs
 pub mod Ends
 pub mod Keeping
+pub mod Told
+pub mod Tellings

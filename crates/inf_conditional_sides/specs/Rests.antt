@@ -1,17 +1,16 @@
 -- Conditionals behind a token: where directives stand that are being read, and where a side is left out.
-use Rattle.std.specs.Prelude.{◌≡◌, ◌≤◌, ◌⊎◌, ℕ, suc, List, [], ◌∷◌, Bool, true, false, Option, Some, None}
+use Rattle.std.specs.Prelude.{◌≡◌, ◌⊎◌, ℕ, List, [], ◌∷◌, Bool, true, false, None}
 use Rattle.inf_output.specs.Output.{Out}
 use Rattle.inf_unit.specs.Tokens.{SourceToken}
 use Rattle.inf_conditionals.specs.Judging.{Behind, judged}
 use Rattle.inf_conditionals.specs.Open.{Conditions}
 use Rattle.inf_conditionals.specs.declared.filtered.Filtered.{Filtered}
 use Rattle.inf_conditionals.specs.declared.filtered.Site.{Site}
-use Rattle.inf_conditionals.specs.declared.open.LeftOut.{LeftOut}
 use Rattle.inf_conditionals.specs.declared.pending.Awaits.{Awaits}
 use Rattle.inf_conditionals.specs.declared.pending.Awaits.TheVariants as awaits
 use Rattle.inf_conditionals.specs.declared.pending.Effect.TheVariants as effect
 use Rattle.inf_conditionals.specs.declared.pending.Pending.{Pending}
-use Rattle.inf_conditional_sides.specs.Judged.{is_settled, sign_given, token_given}
+use Rattle.inf_conditional_sides.specs.Judged.{FewIn, is_settled, sign_given, token_given}
 
 -- A directive that opens a conditional between the other directives is read between them, and no other is read around it.
 abbrev pub IsOutermost : Bool → List Pending → Type 0
@@ -38,21 +37,16 @@ AreSeated is_between (p ∷ pending) = IsSeated is_between p.awaits p.is_inner p
 abbrev pub HandsNone : Filtered → Type 0
 HandsNone j = (sign_given j.sign ≡ []) × ((t : SourceToken) → token_given j.token t ≡ [])
 
--- At most this many levels are open in a side that is left out.
-abbrev pub AreUpTo : ℕ → Option LeftOut → Type 0
-AreUpTo most None = Unit {0}
-AreUpTo most (Some side) = side.levels ≤ most
-
 -- Behind a token directives are seated. Where one is still being read, or a side is left out, no token was handed on. A side that is left out
 -- behind others is one of a conditional between the directives, which was opened just now.
-pub record Rests (is_between : Bool) (most names : ℕ) (b : Behind) : Type 0 where
+pub record Rests (is_between : Bool) (names : ℕ) (b : Behind) : Type 0 where
   pub seated : AreSeated is_between b.now.pending
   pub quiet : ((b.now.pending ≡ []) × (b.now.left_out ≡ None)) ⊎ HandsNone b.judged
   pub settled : (is_settled b.now ≡ true) ⊎ ((is_between ≡ true) × ((b.now.pending ≡ []) × HandsNone b.judged))
-  pub levels : AreUpTo most b.now.left_out
+  pub levels : FewIn b.now.left_out
   pub declared : b.now.declared ≡ names
 
 -- Each token leaves conditionals so that were so before it.
 abbrev pub TokensRest : Type 0
-TokensRest = (most : ℕ) (site : Site) (o : Out) (t : SourceToken) (c : Conditions) → AreSeated site.is_between c.pending
-    → is_settled c ≡ true → AreUpTo most c.left_out → Rests site.is_between (suc most) c.declared (judged site o t c)
+TokensRest = (site : Site) (o : Out) (t : SourceToken) (c : Conditions) → AreSeated site.is_between c.pending → is_settled c ≡ true
+    → FewIn c.left_out → Rests site.is_between c.declared (judged site o t c)

@@ -1,14 +1,14 @@
 -- Tokens one behind the other, with the ends of directives between them: by the sides that are open each is handed on as by the
 -- conditionals of the compiler, as long as reading stands still where no token is handed on.
-use Rattle.std.specs.Prelude.{◌≡◌, ◌≤◌, ℕ, List, [], ◌∷◌, length, Bool, true, Option, Some, None, is_some}
+use Rattle.std.specs.Prelude.{◌≡◌, ℕ, List, [], ◌∷◌, Bool, true, Option, Some, None, is_some}
 use Rattle.inf_output.specs.Output.{Out}
 use Rattle.inf_unit.specs.Tokens.{SourceToken}
 use Rattle.inf_conditionals.specs.Ends.{piece_ended as conditions_ended}
 use Rattle.inf_conditionals.specs.Judging.{Behind, judged}
-use Rattle.inf_conditionals.specs.Open.{Conditions, most_levels, no_conditions}
+use Rattle.inf_conditionals.specs.Open.{Conditions, no_conditions}
 use Rattle.inf_conditionals.specs.declared.filtered.Site.{Site}
-use Rattle.inf_conditional_sides.specs.Sides.{Given, Sides, no_sides, piece_ended, step}
-use Rattle.inf_conditional_sides.specs.Judged.{given_of, heard}
+use Rattle.inf_conditional_sides.specs.Sides.{Given, Sides, heard, no_sides, piece_ended, step}
+use Rattle.inf_conditional_sides.specs.Judged.{given_of}
 use Rattle.inf_conditional_sides.specs.Rests.{HandsNone}
 
 -- A token, where it comes and what is known there; and the number of names that are declared, where a directive ends behind it.
@@ -67,8 +67,6 @@ AreRead [] c = Unit {0}
 AreRead (e ∷ events) c =
     StandsStill e (judged_at e c) events × AreRead events (ended_by e.ended (judged_at e c).now)
 
--- From where nothing is open each token of a file is handed on by its sides as by the conditionals. A file has fewer tokens than levels are
--- counted.
+-- From where nothing is open each token of a file is handed on by its sides as by the conditionals.
 abbrev pub TokensGoBySides : Type 0
-TokensGoBySides = (events : List Event) → length events ≤ most_levels → AreRead events no_conditions
-    → all_judged events no_conditions ≡ all_given events 0 no_sides
+TokensGoBySides = (events : List Event) → AreRead events no_conditions → all_judged events no_conditions ≡ all_given events 0 no_sides

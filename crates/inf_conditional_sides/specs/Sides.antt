@@ -1,8 +1,8 @@
 -- Conditionals as sides. Each conditional that is open has a side at hand, which stays or is left out, and a token is kept where all
 -- sides around it stay. Beside them are the conditional directives that are being read, each with its tokens so far; whether these begin
 -- a directive, or are one, is asked of the tokens themselves.
-use Rattle.std.specs.Prelude.{ℕ, codes, ◌&&◌, List, [], ◌∷◌, ◌++◌, map, Bool, true, false, not, if◌then◌else◌, Option, Some, None}
-use Rattle.std.specs.Prelude.{unwrap_or}
+use Rattle.std.specs.Prelude.{ℕ, suc, codes, nat_lt, ◌&&◌, List, [], ◌∷◌, ◌++◌, map, Bool, true, false, not, if◌then◌else◌, Option, Some}
+use Rattle.std.specs.Prelude.{None, unwrap_or}
 use Rattle.inf_scanner.specs.declared.tokens.Mark.TheVariants as mark
 use Rattle.inf_scanner.specs.declared.tokens.Place.{Place}
 use Rattle.inf_scanner.specs.declared.tokens.TokenKind.{TokenKind}
@@ -11,6 +11,7 @@ use Rattle.inf_machine.specs.Machine.{fits}
 use Rattle.inf_grammar.specs.Language.{grammar, known}
 use Rattle.inf_names.specs.Symbols.{declared_before}
 use Rattle.inf_output.specs.Output.{Out}
+use Rattle.inf_sources.specs.declared.open_file.Conditional.{Conditional}
 use Rattle.inf_unit.specs.Tokens.{SourceToken, atom_of, is_end, is_mark, keyword}
 use Rattle.inf_conditionals.specs.Condition.{Condition, condition_begun, condition_took, is_whole, verdict_of}
 use Rattle.inf_conditionals.specs.Words.{word_of}
@@ -107,6 +108,12 @@ tokens_in others = map (λ (a : Asked). a.token) others
 
 abbrev pub condition_of : SourceToken → List Asked → Option Condition
 condition_of first others = condition_read (first ∷ tokens_in others) condition_begun
+
+-- the condition of a directive, if it has one
+abbrev pub condition_in : ConditionalWord → SourceToken → List Asked → Option Condition
+condition_in word.Iftrue first others = condition_of first others
+condition_in word.Iffalse first others = condition_of first others
+condition_in _ first others = None
 
 abbrev pub form_of : ConditionalWord → SourceToken → List Asked → Form
 form_of word.Ifdef first others = name_form others
@@ -273,10 +280,24 @@ abbrev pub first_is_inner : List Side → Bool
 first_is_inner [] = false
 first_is_inner (x ∷ sides) = x.is_inner
 
+-- the number of sides inside of the outermost one that is left out
+abbrev pub count_inside : List Side → ℕ
+count_inside [] = 0
+count_inside (x ∷ sides) = if all_stay sides then 0 else suc (count_inside sides)
+
+-- the most sides inside of one that is left out; no file has as many
+abbrev pub most_inside : ℕ
+most_inside = 4294967295
+
+abbrev pub with_inside : Place → List Side → List Side
+with_inside place sides =
+    if nat_lt (count_inside sides) most_inside
+    then record { place = place; is_inner = first_is_inner sides; is_second = false; stays = true } ∷ sides else sides
+
 abbrev pub sides_behind : ConditionalWord → Place → List Side → List Side
 sides_behind word.Ifnot place sides = turned sides
 sides_behind word.Endif place sides = closed sides
-sides_behind w place sides = record { place = place; is_inner = first_is_inner sides; is_second = false; stays = true } ∷ sides
+sides_behind w place sides = with_inside place sides
 
 abbrev pub word_passed : Bool → Place → List Side → Sides → Sides
 word_passed true place sides s = record s { sides = sides; sign = None; texts = Ended place ∷ s.texts }
@@ -311,3 +332,24 @@ only_between (x ∷ sides) = if x.is_inner then only_between sides else x ∷ si
 
 abbrev pub piece_ended : Sides → Sides
 piece_ended s = record s { sides = only_between s.sides }
+
+-- Files
+
+-- the side of a conditional
+abbrev pub side_of : Bool → Bool → Conditional → Side
+side_of is_inner stays x = record { place = x.place; is_inner = is_inner; is_second = x.is_second; stays = stays }
+
+-- the sides of conditionals that are open between the directives of a file; all of them stay
+abbrev pub outer_sides : List Conditional → List Side
+outer_sides among = map (side_of false true) among
+
+-- Among tokens that are passed over
+
+-- the things that are given; among tokens that are passed over behind a bad one those about directives are not
+abbrev pub heard : Bool → List Given → List Given
+heard false given = given
+heard true [] = []
+heard true (Kept t ∷ given) = Kept t ∷ heard true given
+heard true (Unfit t ∷ given) = Unfit t ∷ heard true given
+heard true (Lone place ∷ given) = heard true given
+heard true (Ends place ∷ given) = heard true given

@@ -4,11 +4,12 @@ ghost use Rattle.inf_conditional_sides.specs.Judged.{SidesAreJudged};
 ghost use Rattle.inf_conditional_sides.specs.Keeping.{DirectivesChooseSides, SidesKeepTokens};
 ghost use Rattle.inf_conditional_sides.specs.Rests.{TokensRest};
 ghost use Rattle.inf_conditional_sides.specs.Runs.{TokensGoBySides};
+ghost use Rattle.inf_conditional_sides.specs.Tellings.{ConditionsAreTold};
 
 /// Shows that no side is open before the first token, as no conditional is. Where sides agree with the conditionals
 /// that are open, a token is handed on in the same way by both, and both report the same directives that have ended, or
 /// that have no conditional; and behind the token, and behind the end of a piece, the sides agree with the conditionals
-/// again. In a side that is left out fewer levels than 4,294,967,295 are open, and no side is left out behind those
+/// again. In a side that is left out no more levels than 4,294,967,295 are open, and no side is left out behind those
 /// that are open inside of the directive at hand.
 pub fn sides_are_judged()
     ensures { SidesAreJudged }
@@ -21,8 +22,7 @@ pub fn tokens_rest()
 {}
 
 /// Shows that each token of a file is handed on by the sides that are open as by the conditionals of the compiler, from where nothing is
-/// open, and the same directives are reported: as long as reading stands still where no token is handed on, and the file has fewer
-/// than 4,294,967,295 tokens.
+/// open, and the same directives are reported: as long as reading stands still where no token is handed on.
 pub fn tokens_go_by_sides()
     ensures { TokensGoBySides }
 {}
@@ -44,4 +44,10 @@ pub fn sides_keep_tokens()
 /// conditional acts at once on the sides that are open, and no other token does.
 pub fn directives_choose_sides()
     ensures { DirectivesChooseSides }
+{}
+
+/// Shows that of each token the same is told of a condition by the sides that are open as by the conditionals of the compiler, and
+/// that both count the same tokens of conditions.
+pub fn conditions_are_told()
+    ensures { ConditionsAreTold }
 {}

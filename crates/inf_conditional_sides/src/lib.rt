@@ -6,6 +6,6 @@
 mod laws;
 
 pub use laws::{
-    directives_choose_sides, ends_are_told_by_sides, sides_are_judged, sides_keep_tokens,
-    tokens_go_by_sides, tokens_rest,
+    conditions_are_told, directives_choose_sides, ends_are_told_by_sides, sides_are_judged,
+    sides_keep_tokens, tokens_go_by_sides, tokens_rest,
 };

@@ -5,17 +5,21 @@ use Rattle.inf_settings.specs.Bounds.{Limits, limits_of}
 use Rattle.inf_devices.specs.Files.{Sources}
 use Rattle.inf_session.specs.Choices.{Choices}
 use Rattle.inf_session.specs.Ending.{Outcome}
-use Rattle.inf_session.specs.Session.{State, has_ended, run, start, told_out}
+use Rattle.inf_session.specs.Session.{State as TurnState, has_ended, run, start, told_out}
 use Rattle.inf_compile.specs.Outcome.{IsCompiled, IsOutcome, IsOutcomeOf, ending_of}
 use Rattle.inf_compile.proofs.OutcomeLaws.{outcomes_are_unique}
 use Rattle.inf_compile.proofs.Reaching.{outcomes_exist}
-use Rattle.inf_program.specs.Writing.{silent_run, unwritten}
+use Rattle.inf_program.specs.SideTurns.{silent_run}
+use Rattle.inf_program.specs.Writing.{silent_run as turn_run, unwritten}
 use Rattle.inf_program.proofs.Turns.{lines_are_written_at_any_time}
-use Rattle.inf_program.specs.definition.Written.{IsOutcomeOfProgram}
+use Rattle.inf_program.specs.BySides.{with_conditions}
+use Rattle.inf_program.specs.definition.States.{State, has_ended as has_ended_by, start as start_by}
+use Rattle.inf_program.specs.definition.Written.{IsOutcomeOfProgram, turned_to}
 use Rattle.inf_program.specs.Readings.{ProgramOf, SourcesAreRegular, SourcesHavePrograms}
 use Rattle.inf_program.proofs.Outcomes.{programs_have_their_outcome, unwritten_same}
 use Rattle.inf_program.proofs.Readings.{regular_readings_are_programs}
 use Rattle.inf_program.proofs.RegularTurns.{sources_regular}
+use Rattle.inf_program.proofs.SideTurns.{Ran, source_ran}
 
 pub sources_are_regular : SourcesAreRegular
 sources_are_regular sources o name n = sources_regular (limits_of o.settings) sources o name n
@@ -23,20 +27,24 @@ sources_are_regular sources o name n = sources_regular (limits_of o.settings) so
 pub sources_have_programs : SourcesHavePrograms
 sources_have_programs sources o name source there =
     let limits : Limits = limits_of o.settings in
-    let s : State = start sources o name in
+    let s : TurnState = start sources o name in
     let out : (e : Outcome) × IsOutcome sources o [] name e = outcomes_exist sources o [] name in
     let c : IsCompiled sources o [] name out.0 = subst (λ (x : Option (List ℕ)). IsOutcomeOf x sources o [] name out.0) there out.1 in
     let n : ℕ = c.is_read.turns in
-    let silent : unwritten (run limits sources o n s) ≡ silent_run limits sources o n s =
-    (lines_are_written_at_any_time limits).all sources o n s ∙ ap (silent_run limits sources o n) (unwritten_same s refl) in
-    let ends : has_ended (silent_run limits sources o n s) ≡ true =
-    ap has_ended (sym silent) ∙ (ap has_ended c.is_read.leads ∙ c.is_read.ends) in
-    let p : ProgramOf limits sources o n s = regular_readings_are_programs limits sources o n s refl (sources_regular limits sources o name n) ends in
+    let first : State = start_by sources o name in
+    let x : State = silent_run limits sources o n first in
+    let a : Ran (turn_run limits sources o n s) x = source_ran limits sources o name n in
+    let silent : unwritten (run limits sources o n s) ≡ with_conditions a.conditions a.quoted x =
+    (lines_are_written_at_any_time limits).all sources o n s
+    ∙ (ap (turn_run limits sources o n) (unwritten_same s refl) ∙ a.same) in
+    let ends : has_ended_by x ≡ true = ap has_ended (sym silent) ∙ (ap has_ended c.is_read.leads ∙ c.is_read.ends) in
+    let p : ProgramOf limits sources o n first =
+    regular_readings_are_programs limits sources o n first refl (sources_regular limits sources o name n) ends in
     (p.final, p.is_program)
 
 -- where reading does not end before the first token
 pub outcomes_are_those_of_programs : (sources : Sources) (o : Choices) (serial name source : List ℕ) (e : Outcome) → sources name ≡ Some source
-    → has_ended (start sources o name) ≡ false → IsOutcome sources o serial name e ↔ IsOutcomeOfProgram sources o serial name e
+    → has_ended_by (start_by sources o name) ≡ false → IsOutcome sources o serial name e ↔ IsOutcomeOfProgram sources o serial name e
 outcomes_are_those_of_programs sources o serial name source e there going = (onward, back)
   where
     onward : IsOutcome sources o serial name e → IsOutcomeOfProgram sources o serial name e
@@ -45,7 +53,7 @@ outcomes_are_those_of_programs sources o serial name source e there going = (onw
         record {
           final = p.0;
           is_program = p.1;
-          is_ending = outcomes_are_unique sources o serial name e (ending_of (limits_of o.settings) o serial (told_out p.0)) outcome
+          is_ending = outcomes_are_unique sources o serial name e (ending_of (limits_of o.settings) o serial (told_out (turned_to p.0))) outcome
               (programs_have_their_outcome sources o serial name source p.0 there going p.1);
         }
 

@@ -17,19 +17,18 @@ use Rattle.inf_reader.specs.Reading.{Reading, ReaderState}
 use Rattle.inf_reader.specs.declared.recovery.Recovery.{Recovery}
 use Rattle.inf_reader.specs.declared.recovery.Recovery.TheVariants as mode
 use Rattle.inf_session.specs.Choices.{Choices}
-use Rattle.inf_session.specs.Session.{State, context_of, stand_of, stepped}
 use Rattle.inf_laws.specs.KeptTokens.{Kept, Unfit}
 use Rattle.inf_program.specs.definition.Steps.{AllKept}
 use Rattle.inf_program.specs.definition.Steps.{Ends, Passes, Reads, Step}
-use Rattle.inf_program.specs.Turns.{AllFit, IsQuiet, step_by, steps_by, steps_of}
-use Rattle.inf_program.specs.Writing.{silent_turn, silent_turned}
+use Rattle.inf_program.specs.Turns.{AllFit, step_by, steps_by}
 use Rattle.inf_program.proofs.Grouping.{step_fit}
-use Rattle.inf_program.proofs.TurnSteps.{turns_are_steps}
 use Rattle.inf_program.specs.definition.NextToken.{Position, afresh, steps_at, within}
 use Rattle.inf_program.specs.definition.Fronts.{AllGoOn, IsOpen, PieceState, are_over, atoms_from, is_whole, kept_atoms, moved, walked}
 use Rattle.inf_program.proofs.Stacks.{IsRest, none_left}
 use Rattle.inf_program.proofs.Stepping.{followed_plainly, position_within}
 use Rattle.inf_program.proofs.Walking.{IsAt, next_is_at}
+use Rattle.inf_program.specs.definition.States.{State, context_of}
+use Rattle.inf_program.specs.SideTurns.{IsQuiet, silent_turn, silent_turned, stand_of, stepped, steps_of}
 
 -- Tokens that fit lead on.
 
@@ -115,9 +114,7 @@ turns_lead limits sources o (suc n) q atoms events left all l =
     let a : List Step = steps_of limits o q2 in
     let b : List Step = later_steps limits sources o n q2 in
     let r : Led b atoms (stepped limits o q2).reading.stack left = turns_lead limits sources o n q2 atoms events left all.1 l in
-    let there : Leads grammar (steps_by limits c a (stand_of q2)).reading.stack (kept_atoms b ++ atoms) r.events left =
-    subst (λ (x : ReaderState). Leads grammar x.reading.stack (kept_atoms b ++ atoms) r.events left)
-    (turns_are_steps limits sources o zero q2 tt) r.leads in
+    let there : Leads grammar (steps_by limits c a (stand_of q2)).reading.stack (kept_atoms b ++ atoms) r.events left = r.leads in
     let w : Led a (kept_atoms b ++ atoms) q2.reading.stack left =
     fit_leads limits c a (stand_of q2) (kept_atoms b ++ atoms) r.events left all.0.are_fit there in
     record {

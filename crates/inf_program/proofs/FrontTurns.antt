@@ -15,15 +15,13 @@ use Rattle.inf_reader.specs.Reading.{Reading, ReaderState, between, is_mode_ende
 use Rattle.inf_reader.specs.declared.recovery.Recovery.{Recovery}
 use Rattle.inf_reader.specs.declared.recovery.Recovery.TheVariants as mode
 use Rattle.inf_session.specs.Choices.{Choices}
-use Rattle.inf_session.specs.Session.{State, context_of, followed, has_ended, stand_of, stepped}
 use Rattle.inf_laws.specs.KeptTokens.{Given, IsBad, Kept, Unfit, token_in}
 use Rattle.inf_laws.proofs.KeptTokens.{At, no_token, stops}
 use Rattle.inf_statement_laws.specs.Happenings.{Between}
 use Rattle.inf_language.proofs.TextsActed.{rule_is_spaced}
 use Rattle.inf_program.specs.definition.Steps.{AllKept}
 use Rattle.inf_program.specs.definition.Steps.{Passes, Reads, Step}
-use Rattle.inf_program.specs.Turns.{AllFit, IsQuiet, steps_by, steps_of}
-use Rattle.inf_program.specs.Writing.{silent_turned}
+use Rattle.inf_program.specs.Turns.{AllFit, steps_by}
 use Rattle.inf_program.specs.definition.NextToken.{afresh, at_front, steps_at, within}
 use Rattle.inf_program.specs.definition.Fronts.{Course, Derives, FirstKept, Front, IsOpen, PieceState, Progress, begun_piece, done_by, fresh_progress}
 use Rattle.inf_program.specs.definition.Fronts.{kept_atoms, progress_of, reached}
@@ -38,6 +36,8 @@ use Rattle.inf_program.proofs.Skipping.{bad_alone, bad_behind, bad_first, skips_
 use Rattle.inf_program.proofs.Stacks.{piece_is_rest}
 use Rattle.inf_program.proofs.Stepping.{stand}
 use Rattle.inf_program.proofs.Walking.{IsAt, begun_is_at, first_step, front_steps, whole_is}
+use Rattle.inf_program.specs.definition.States.{State, context_of, followed, has_ended}
+use Rattle.inf_program.specs.SideTurns.{IsQuiet, silent_turned, stand_of, stepped, steps_of}
 
 -- The first turn
 

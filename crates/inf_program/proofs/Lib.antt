@@ -17,11 +17,14 @@ pub mod Outcomes
 pub mod EndStacks
 pub mod Asking
 pub mod Shapes
+pub mod Given
 pub mod RegularTurns
 pub mod Forward
 pub mod FrontTurns
 pub mod Soundness
 pub mod Readings
+pub mod SideStates
+pub mod SideTurns
 pub mod Existing
 pub mod Early
 pub mod Written

@@ -12,7 +12,6 @@ use Rattle.inf_reader.specs.Reading.{ReaderState, between, judged, piece_begun, 
 use Rattle.inf_reader.specs.declared.recovery.Recovery.{Recovery}
 use Rattle.inf_reader.specs.declared.recovery.Recovery.TheVariants as mode
 use Rattle.inf_session.specs.Choices.{Choices}
-use Rattle.inf_session.specs.Session.{State, context_of, followed, has_ended, stepped}
 use Rattle.inf_laws.specs.KeptTokens.{Kept}
 use Rattle.inf_statement_laws.specs.Laid.{passed}
 use Rattle.inf_program.specs.definition.Steps.{Ends, Passes, Reads, Step}
@@ -23,8 +22,10 @@ use Rattle.inf_program.specs.definition.BadPieces.{all_passed, all_skipped, cut_
 use Rattle.inf_program.specs.definition.Program.{Bad, BrokenOff, Conditional, FileEnd, FileEnds, Next, NoneGiven, Piece, front_passed}
 use Rattle.inf_program.proofs.Events.{not_ahead}
 use Rattle.inf_program.proofs.Skipping.{bad_walked, skip_walked}
-use Rattle.inf_program.proofs.Stepping.{Comes, comes_next, comes_same, comes_then, followed_over, position_of, stand, turn_lands}
+use Rattle.inf_program.proofs.Stepping.{Comes, comes_next, comes_same, comes_then, followed_over, stand, turn_lands}
 use Rattle.inf_program.proofs.Walking.{IsAt, Walked, afresh_same, front_steps, front_walked, whole_is}
+use Rattle.inf_program.specs.definition.States.{State, context_of, followed, has_ended}
+use Rattle.inf_program.specs.SideTurns.{position_of, stepped}
 
 -- Turns lead from one state to another; or a fatal message ends reading there, but for the rest of a piece that is broken off.
 pub record Done (limits : Limits) (sources : Sources) (o : Choices) (s t : State) : Type 0 where

@@ -4,13 +4,13 @@ use Rattle.std.specs.Prelude.{if◌then◌else◌}
 use Rattle.inf_settings.specs.Bounds.{Limits}
 use Rattle.inf_devices.specs.Files.{Sources}
 use Rattle.inf_session.specs.Choices.{Choices}
-use Rattle.inf_session.specs.Session.{State, has_ended}
-use Rattle.inf_program.specs.Writing.{silent_run, silent_turn}
 use Rattle.inf_program.specs.definition.NextToken.{afresh}
 use Rattle.inf_program.specs.Programs.{EndsAs, ProgramsEndInOneWay, TurnsDoPrograms}
 use Rattle.inf_program.specs.definition.Program.{Continues, IsOver}
 use Rattle.inf_program.proofs.Nexts.{Done, next_done}
 use Rattle.inf_program.proofs.Stepping.{over_ends}
+use Rattle.inf_program.specs.definition.States.{State, has_ended}
+use Rattle.inf_program.specs.SideTurns.{silent_run, silent_turn}
 
 -- Turns behind the end
 

@@ -6,30 +6,30 @@ use Rattle.inf_scanner.specs.declared.tokens.TokenKind.TheVariants as kind
 use Rattle.inf_devices.specs.Files.{Sources}
 use Rattle.inf_unit.specs.Tokens.{SourceToken, is_end}
 use Rattle.inf_compilation.specs.Context.{Context}
-use Rattle.inf_conditionals.specs.Judging.{Behind}
 use Rattle.inf_reader.specs.Reading.{between}
 use Rattle.inf_reader.specs.declared.recovery.Recovery.TheVariants as mode
 use Rattle.inf_session.specs.Choices.{Choices}
-use Rattle.inf_session.specs.Session.{State, context_of, followed, has_ended, stepped}
 use Rattle.inf_laws.specs.KeptTokens.{Given, Kept, Unfit, token_in}
 use Rattle.inf_laws.proofs.KeptTokens.{no_token}
 use Rattle.inf_statement_laws.specs.Happenings.{Between}
 use Rattle.inf_program.specs.definition.Steps.{AllKept}
 use Rattle.inf_program.specs.definition.Steps.{Passes, Reads, Step}
 use Rattle.inf_program.specs.Turns.{AllFit}
-use Rattle.inf_program.specs.Writing.{silent_run, silent_turned}
-use Rattle.inf_program.specs.definition.NextToken.{afresh, at_front, coming, judged_at, steps_at}
+use Rattle.inf_program.specs.definition.NextToken.{afresh, at_front, steps_at}
 use Rattle.inf_program.specs.definition.BadPieces.{IsNoEnd}
 use Rattle.inf_program.specs.Programs.{EndsAs}
 use Rattle.inf_program.specs.definition.Program.{Conditional, Continues, FileEnd, FileEnds, IsOver, NoneGiven}
 use Rattle.inf_program.specs.Readings.{RegularReadingsArePrograms}
 use Rattle.inf_program.specs.Regular.{AreRegular}
 use Rattle.inf_program.proofs.FrontTurns.{FirstFit, alone_bad, first_bad, not_over, piece_start}
+use Rattle.inf_program.proofs.Given.{shape_at}
 use Rattle.inf_program.proofs.Nexts.{conditional_is, file_end_is}
 use Rattle.inf_program.proofs.Programs.{same_end, turns_do_programs}
-use Rattle.inf_program.proofs.Shapes.{CutFirst, CutSecond, Fit, NoToken, OneToken, Shape, Sorted, TwoTokens, shape_of, sorted}
+use Rattle.inf_program.proofs.Shapes.{CutFirst, CutSecond, Fit, NoToken, OneToken, Shape, Sorted, TwoTokens, sorted}
 use Rattle.inf_program.proofs.Soundness.{All, HasProgram, Main, Regular, Search, Skip, bad_on, behind_end, ended_on, followed_reads}
 use Rattle.inf_program.proofs.Soundness.{never_ends, open_on, quiet_within, run_on, search_by, skip_all, skip_more}
+use Rattle.inf_program.specs.definition.States.{State, context_of, followed, has_ended}
+use Rattle.inf_program.specs.SideTurns.{silent_run, silent_turned, stepped}
 
 -- The first turn
 
@@ -135,8 +135,7 @@ main_more limits sources o k all s fresh regular ends true over = (s, IsOver ove
 main_more limits sources o k all s fresh regular ends false going =
     let c : Context = context_of o s in
     let steps : List Step = steps_at limits o at_front s in
-    let b : Behind = judged_at o at_front s in
-    let shape : Shape steps = shape_of limits c (coming at_front s) b.now.said b.judged in
+    let shape : Shape steps = shape_at limits o at_front s in
     begun_on limits sources o k all s (record {
       is_fresh = fresh;
       is_going = going;

@@ -1,5 +1,5 @@
 -- Each turn of a reading is regular: a directive asks for something at the end of its piece alone.
-use Rattle.std.proofs.Common.{◌≡◌, ℕ, zero, suc, List, [], ◌∷◌, ◌++◌, ◌&&◌, ◌||◌, Bool, true, false, Option, Some, None, refl}
+use Rattle.std.proofs.Common.{◌≡◌, ℕ, zero, suc, List, [], ◌∷◌, ◌&&◌, ◌||◌, Bool, true, false, refl}
 use Rattle.std.proofs.Common.{sym, ◌∙◌, ap, cond, subst, true≢false}
 use Rattle.std.specs.Prelude.{if◌then◌else◌}
 use Rattle.inf_settings.specs.Bounds.{Limits}
@@ -11,64 +11,28 @@ use Rattle.inf_sources.specs.declared.open_files.Included.{Included}
 use Rattle.inf_sources.specs.declared.open_files.Included.TheVariants as answer
 use Rattle.inf_grammar.specs.Language.{grammar, known}
 use Rattle.inf_unit.specs.Directives.{Characters, End, Include, Nothing, Request}
-use Rattle.inf_unit.specs.Messages.{FileNames}
-use Rattle.inf_unit.specs.Tokens.{SourceToken}
 use Rattle.inf_unit.proofs.Cases.{of_both}
 use Rattle.inf_compilation.specs.Context.{Context}
-use Rattle.inf_conditionals.specs.declared.filtered.Filtered.{Filtered}
-use Rattle.inf_conditionals.specs.Said.{Said}
 use Rattle.inf_reader.specs.Handing.{is_between, is_empty, reads}
 use Rattle.inf_reader.specs.Reading.{Reading, ReaderState, is_mode_ended}
 use Rattle.inf_reader.specs.declared.recovery.Recovery.{Recovery}
 use Rattle.inf_reader.specs.declared.recovery.Recovery.TheVariants as mode
 use Rattle.inf_session.specs.Choices.{Choices}
-use Rattle.inf_session.specs.Session.{State, answered, asked_nothing, carried_out, context_of, file_closed, followed, has_ended, included_by}
-use Rattle.inf_session.specs.Session.{is_resting, left, left_by, none_included, piece_closed, rested, stand_of, start, stepped, token_of}
-use Rattle.inf_laws.specs.KeptTokens.{Given, given_sign, given_token}
 use Rattle.inf_statement_laws.specs.Happenings.{Between}
-use Rattle.inf_program.specs.definition.Steps.{Ends, Passes, Reads, Step, end_steps, given_steps, judged_steps}
-use Rattle.inf_program.specs.Turns.{judgement, judgement_said}
-use Rattle.inf_program.specs.definition.Steps.{lone_between, steps_behind}
-use Rattle.inf_program.specs.Turns.{step_by, steps_by, steps_of}
-use Rattle.inf_program.proofs.TurnSteps.{turns_are_steps}
+use Rattle.inf_program.specs.definition.Steps.{Ends, Passes, Reads, Step}
+use Rattle.inf_program.specs.Turns.{step_by, steps_by}
 use Rattle.inf_program.specs.definition.Program.{NoneGiven}
 use Rattle.inf_program.proofs.Stepping.{followed_over, over_ends}
 use Rattle.inf_program.specs.Regular.{AreRegular}
 use Rattle.inf_program.proofs.Asking.{Calm, given_settled}
 use Rattle.inf_program.proofs.EndStacks.{ends_last}
-use Rattle.inf_program.proofs.Shapes.{NoToken, OneToken, Shape, TwoTokens, shape_of}
+use Rattle.inf_program.proofs.Given.{mild_at, shape_at}
+use Rattle.inf_program.proofs.Shapes.{AllMild, NoToken, OneToken, Shape, TwoTokens}
+use Rattle.inf_program.specs.definition.States.{State, answered, asked_nothing, carried_out, context_of, file_closed, followed, has_ended}
+use Rattle.inf_program.specs.definition.States.{included_by, is_resting, left, left_by, none_included, piece_closed, rested, start}
+use Rattle.inf_program.specs.SideTurns.{position_of, stand_of, stepped, steps_of}
 
--- Conditional directives ask for nothing.
-
-abbrev pub AllMild : List Step → Type 0
-AllMild [] = Unit {0}
-AllMild (Reads given ∷ steps) = AllMild steps
-AllMild (Passes m ∷ steps) = ((a : Request) → m.asked a ≡ a) × AllMild steps
-AllMild (Ends m ∷ steps) = ((a : Request) → m.asked a ≡ a) × AllMild steps
-
-given_mild : (given : List Given) (steps : List Step) → AllMild steps → AllMild (given_steps given ++ steps)
-given_mild [] steps mild = mild
-given_mild (g ∷ given) steps mild = given_mild given steps mild
-
-ends_mild : (limits : Limits) (files : FileNames) (place : Option Place) → AllMild (end_steps limits files place)
-ends_mild limits files None = tt
-ends_mild limits files (Some place) = ((λ a. refl), tt)
-
-behind_mild : (limits : Limits) (files : FileNames) (unmatched ended : Option Place) (j : Filtered) → j.unmatched ≡ unmatched
-    → AllMild (steps_behind limits files j)
-behind_mild limits files None ended j e =
-    ((λ a. ap (λ (u : Option Place). (lone_between files u).asked a) e), ends_mild limits files j.ended)
-behind_mild limits files (Some place) ended j e =
-    ((λ a. ap (λ (u : Option Place). (lone_between files u).asked a) e), ends_mild limits files j.ended)
-
-pub judged_mild : (limits : Limits) (context : Context) (t : SourceToken) (said : Option Said) (j : Filtered)
-    → AllMild (judged_steps limits context t said j)
-judged_mild limits context t said j = (
-  (λ a. refl),
-  given_mild (given_sign j.sign) (given_steps (given_token j.token t) ++ steps_behind limits context.names j)
-      (given_mild (given_token j.token t) (steps_behind limits context.names j)
-      (behind_mild limits context.names j.unmatched j.ended j refl)),
-)
+-- Steps
 
 -- steps that hand nothing on
 pub none_asked : (limits : Limits) (context : Context) (steps : List Step) (x : ReaderState) → NoneGiven steps → AllMild steps
@@ -132,10 +96,8 @@ turn_by limits context steps x mild (TwoTokens m given next rest is is_hash free
 
 pub turn_rests : (limits : Limits) (sources : Sources) (o : Choices) (s : State) → Calm (stand_of s) → Rests (stand_of (stepped limits o s))
 turn_rests limits sources o s c =
-    subst (λ (x : ReaderState). Rests x) (sym (turns_are_steps limits sources o zero s tt))
-    (turn_by limits (context_of o s) (steps_of limits o s) (stand_of s)
-    (judged_mild limits (context_of o s) (token_of s) (judgement_said o s) (judgement o s))
-    (shape_of limits (context_of o s) (token_of s) (judgement_said o s) (judgement o s)) c)
+    turn_by limits (context_of o s) (steps_of limits o s) (stand_of s) (mild_at limits o (position_of s.reading) s)
+    (shape_at limits o (position_of s.reading) s) c
 
 -- Behind a turn
 

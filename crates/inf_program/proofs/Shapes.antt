@@ -1,11 +1,10 @@
 -- The steps of a turn: at most two tokens are handed on, of which the first of two is a `#`. Within a piece they all fit, or one is the
 -- bad token.
-use Rattle.std.proofs.Common.{◌≡◌, ℕ, List, [], ◌∷◌, ◌++◌, map, Bool, true, false, Option, Some, None, refl, sym, ◌∙◌, ap, subst, cond}
+use Rattle.std.proofs.Common.{◌≡◌, ℕ, List, [], ◌∷◌, ◌++◌, map, Bool, true, false, refl, sym, ◌∙◌, ap, subst, cond}
 use Rattle.std.proofs.Common.{true≢false}
 use Rattle.std.proofs.lemmas.List.{map-append}
 use Rattle.inf_settings.specs.Bounds.{Limits}
 use Rattle.inf_scanner.specs.declared.tokens.Mark.TheVariants as mark
-use Rattle.inf_scanner.specs.declared.tokens.Place.{Place}
 use Rattle.inf_scanner.specs.declared.tokens.TokenKind.{TokenKind}
 use Rattle.inf_scanner.specs.declared.tokens.TokenKind.TheVariants as kind
 use Rattle.inf_machine.specs.Grammar.{IsText, here}
@@ -19,28 +18,21 @@ use Rattle.inf_grammar.specs.Evaluated.{language_is_decided}
 use Rattle.inf_grammar.specs.Language.{grammar, known}
 use Rattle.inf_grammar.specs.Routines.{is_in_routine}
 use Rattle.inf_unit.specs.Atoms.{atom_of_kind}
-use Rattle.inf_unit.specs.Messages.{FileNames}
+use Rattle.inf_unit.specs.Directives.{Request}
 use Rattle.inf_unit.specs.Tokens.{SourceToken, atom_of}
 use Rattle.inf_compilation.specs.Context.{Context}
-use Rattle.inf_conditionals.specs.Said.{Said}
-use Rattle.inf_conditionals.specs.declared.filtered.Filtered.{Filtered}
-use Rattle.inf_conditionals.specs.declared.filtered.Forwarded.{Forwarded}
-use Rattle.inf_conditionals.specs.declared.filtered.Forwarded.TheVariants as handed
-use Rattle.inf_conditionals.specs.declared.filtered.Sign.{Sign}
-use Rattle.inf_reader.specs.Handing.{hash, is_empty, skips}
+use Rattle.inf_reader.specs.Handing.{is_empty, skips}
 use Rattle.inf_reader.specs.Pieces.{IsPiece}
 use Rattle.inf_reader.specs.Reading.{Reading, ReaderState, passed as mode_behind, piece_rule, skip_of}
 use Rattle.inf_reader.specs.declared.recovery.Recovery.{Recovery}
 use Rattle.inf_reader.specs.declared.recovery.Recovery.TheVariants as mode
-use Rattle.inf_laws.specs.KeptTokens.{Given, Kept, Unfit, given_as, given_sign, given_token, token_in}
+use Rattle.inf_laws.specs.KeptTokens.{Given, Kept, Unfit, token_in}
 use Rattle.inf_laws.proofs.Hashes.{no_piece_ends_with_a_hash}
 use Rattle.inf_laws.proofs.KeptTokens.{At, goes}
 use Rattle.inf_statement_laws.specs.Happenings.{Between}
 use Rattle.inf_program.specs.definition.Steps.{AllKept}
-use Rattle.inf_program.specs.definition.Steps.{Ends, Passes, Reads, Step, end_steps, given_steps, judged_steps, said_between}
-use Rattle.inf_program.specs.Turns.{AllFit, IsFit}
-use Rattle.inf_program.specs.definition.Steps.{steps_behind}
-use Rattle.inf_program.specs.Turns.{step_by}
+use Rattle.inf_program.specs.definition.Steps.{Ends, Passes, Reads, Step}
+use Rattle.inf_program.specs.Turns.{AllFit, IsFit, step_by}
 use Rattle.inf_program.proofs.Grouping.{step_fit}
 use Rattle.inf_program.specs.definition.BadPieces.{AllSkipped}
 use Rattle.inf_program.specs.definition.Program.{NoneGiven}
@@ -53,40 +45,12 @@ pub data Shape (all : List Step) : Type 0 where
   TwoTokens : (m : Between) (given next : Given) (rest : List Step) → all ≡ Passes m ∷ Reads given ∷ Reads next ∷ rest
       → (token_in given).kind ≡ kind.Mark mark.Hash → NoneGiven rest → Shape all
 
--- the steps of a token behind a `#` that was handed on in some way
-shape_signed : (m : Between) (rest : List Step) → NoneGiven rest → (h : Forwarded) (place : Place) (token : Option Forwarded)
-    (t : SourceToken)
-    → Shape (Passes m ∷ (given_steps (given_as h (hash place)) ++ (given_steps (given_token token t) ++ rest)))
-shape_signed m rest free handed.Condition place None t = NoToken free
-shape_signed m rest free handed.Condition place (Some handed.Condition) t = NoToken free
-shape_signed m rest free handed.Condition place (Some handed.Kept) t = OneToken m (Kept t) rest refl free
-shape_signed m rest free handed.Condition place (Some handed.Unfit) t = OneToken m (Unfit t) rest refl free
-shape_signed m rest free handed.Kept place None t = OneToken m (Kept (hash place)) rest refl free
-shape_signed m rest free handed.Kept place (Some handed.Condition) t = OneToken m (Kept (hash place)) rest refl free
-shape_signed m rest free handed.Kept place (Some handed.Kept) t = TwoTokens m (Kept (hash place)) (Kept t) rest refl refl free
-shape_signed m rest free handed.Kept place (Some handed.Unfit) t = TwoTokens m (Kept (hash place)) (Unfit t) rest refl refl free
-shape_signed m rest free handed.Unfit place None t = OneToken m (Unfit (hash place)) rest refl free
-shape_signed m rest free handed.Unfit place (Some handed.Condition) t = OneToken m (Unfit (hash place)) rest refl free
-shape_signed m rest free handed.Unfit place (Some handed.Kept) t = TwoTokens m (Unfit (hash place)) (Kept t) rest refl refl free
-shape_signed m rest free handed.Unfit place (Some handed.Unfit) t = TwoTokens m (Unfit (hash place)) (Unfit t) rest refl refl free
-
-shape_with : (m : Between) (rest : List Step) → NoneGiven rest → (sign : Option Sign) (token : Option Forwarded) (t : SourceToken)
-    → Shape (Passes m ∷ (given_steps (given_sign sign) ++ (given_steps (given_token token t) ++ rest)))
-shape_with m rest free None None t = NoToken free
-shape_with m rest free None (Some handed.Condition) t = NoToken free
-shape_with m rest free None (Some handed.Kept) t = OneToken m (Kept t) rest refl free
-shape_with m rest free None (Some handed.Unfit) t = OneToken m (Unfit t) rest refl free
-shape_with m rest free (Some sign) token t = shape_signed m rest free sign.handed sign.place token t
-
-ends_free : (limits : Limits) (files : FileNames) (place : Option Place) → NoneGiven (end_steps limits files place)
-ends_free limits files None = tt
-ends_free limits files (Some place) = tt
-
-pub shape_of : (limits : Limits) (context : Context) (t : SourceToken) (said : Option Said) (j : Filtered)
-    → Shape (judged_steps limits context t said j)
-shape_of limits context t said j =
-    shape_with (said_between limits context.names said) (steps_behind limits context.names j)
-    (ends_free limits context.names j.ended) j.sign j.token t
+-- Conditional directives ask for nothing.
+abbrev pub AllMild : List Step → Type 0
+AllMild [] = Unit {0}
+AllMild (Reads given ∷ steps) = AllMild steps
+AllMild (Passes m ∷ steps) = ((a : Request) → m.asked a ≡ a) × AllMild steps
+AllMild (Ends m ∷ steps) = ((a : Request) → m.asked a ≡ a) × AllMild steps
 
 -- Steps that hand nothing on
 

@@ -15,14 +15,13 @@ use Rattle.inf_grammar.specs.Sources.{is_inside}
 use Rattle.inf_unit.specs.Tokens.{SourceToken, atom_of}
 use Rattle.inf_compilation.specs.Actions.{Compilation, piece_begun as work_begun}
 use Rattle.inf_compilation.specs.Context.{Context}
-use Rattle.inf_conditionals.specs.Judging.{is_none_pending}
+use Rattle.inf_conditional_sides.specs.Sides.{has_none}
 use Rattle.inf_reader.specs.Handing.{is_empty, skips, unfit_in}
 use Rattle.inf_reader.specs.Reading.{Reading, ReaderState, bad, between, is_mode_ended, passed as mode_behind, piece_begun, piece_rule}
 use Rattle.inf_reader.specs.Reading.{skip_of}
 use Rattle.inf_reader.specs.declared.recovery.Recovery.{Recovery}
 use Rattle.inf_reader.specs.declared.recovery.Recovery.TheVariants as mode
 use Rattle.inf_session.specs.Choices.{Choices}
-use Rattle.inf_session.specs.Session.{State, context_of, followed, has_ended, stand_of, stepped}
 use Rattle.inf_laws.specs.BadTokens.{skip_behind}
 use Rattle.inf_laws.specs.KeptTokens.{Given, IsBad, Kept, Unfit, token_in, took_by}
 use Rattle.inf_laws.proofs.BadTokens.{bracketed}
@@ -30,7 +29,7 @@ use Rattle.inf_laws.proofs.KeptTokens.{At, begins, goes, no_token}
 use Rattle.inf_statement_laws.specs.Happenings.{Between}
 use Rattle.inf_statement_laws.specs.Laid.{passed}
 use Rattle.inf_program.specs.definition.Steps.{Ends, Passes, Reads, Step}
-use Rattle.inf_program.specs.Turns.{IsQuiet, IsUnfit, step_by, steps_by}
+use Rattle.inf_program.specs.Turns.{IsUnfit, step_by, steps_by}
 use Rattle.inf_program.proofs.Grouping.{turns_take_tokens}
 use Rattle.inf_program.specs.definition.NextToken.{Position, at_front, behind_at, passed_over, steps_at, within}
 use Rattle.inf_program.specs.definition.Fronts.{Derives, IsOpen, PieceState, Progress, done_by, fresh_progress, is_whole, kept_atoms, progress_of}
@@ -40,9 +39,11 @@ use Rattle.inf_program.specs.definition.BadPieces.{SkipState, SkipsOn, all_passe
 use Rattle.inf_program.specs.definition.BadPieces.{cut_first, cut_in, cut_of, lands, skip_from, skipped_behind, skipped_on}
 use Rattle.inf_program.proofs.Events.{Agrees, not_ahead, steps_agree}
 use Rattle.inf_program.proofs.Stacks.{some_left}
-use Rattle.inf_program.proofs.Stepping.{Comes, comes_next, comes_same, comes_then, followed_plainly, goes_on, position_of, stand}
+use Rattle.inf_program.proofs.Stepping.{Comes, comes_next, comes_same, comes_then, followed_plainly, goes_on, stand}
 use Rattle.inf_program.proofs.Stepping.{turn_lands, turn_steps}
 use Rattle.inf_program.proofs.Walking.{IsAt, Walked, comes_at, first_step, front_agrees, front_steps, front_walked, is_within}
+use Rattle.inf_program.specs.definition.States.{State, context_of, followed, has_ended}
+use Rattle.inf_program.specs.SideTurns.{IsQuiet, position_of, stand_of, stepped}
 
 -- The bad token
 
@@ -240,7 +241,7 @@ skip_quiet limits o k on = record {
   is_not_over = on.is_not_over;
   has_more = skips_not_ended k.skip on.skips_more;
   asks_nothing = on.asks_nothing;
-  is_inside = ap (λ b. b && is_none_pending k.state.conditions.pending)
+  is_inside = ap (λ b. b && has_none k.state.sides.texts)
       (ap (λ (p : Position). p.is_front) (position_skips k.skip on.skips_more));
 }
 

@@ -10,30 +10,30 @@ use Rattle.inf_sources.specs.Inclusions.{Waiting}
 use Rattle.inf_syntax.specs.declared.actions.Action.{Action}
 use Rattle.inf_unit.specs.Directives.{Nothing}
 use Rattle.inf_unit.specs.Tokens.{SourceToken}
-use Rattle.inf_conditionals.specs.Judging.{Behind, is_none_pending}
+use Rattle.inf_conditional_sides.specs.Sides.{has_none}
 use Rattle.inf_reader.specs.Handing.{is_between, is_empty, reads, skips}
 use Rattle.inf_reader.specs.Reading.{Reading, between, is_mode_ended}
 use Rattle.inf_reader.specs.declared.recovery.Recovery.{Recovery}
 use Rattle.inf_reader.specs.declared.recovery.Recovery.TheVariants as mode
 use Rattle.inf_session.specs.Choices.{Choices}
-use Rattle.inf_session.specs.Session.{State, answered, asked_nothing, carried_out, context_of, file_closed, followed, has_ended, is_resting}
-use Rattle.inf_session.specs.Session.{left, left_by, piece_closed, rested, stand_of, stepped, token_of}
 use Rattle.inf_laws.specs.KeptTokens.{Kept}
 use Rattle.inf_laws.proofs.KeptTokens.{At}
-use Rattle.inf_laws.proofs.KeptTurns.{carried_out_reading, rested_reading}
 use Rattle.inf_program.specs.definition.Steps.{Passes, Reads}
-use Rattle.inf_program.specs.Turns.{AllFit, IsQuiet, judgement, judgement_said, steps_of}
-use Rattle.inf_program.specs.Writing.{silent_run, silent_turn, silent_turned}
-use Rattle.inf_program.specs.definition.NextToken.{Position, afresh, coming, judged_at, passed_over, steps_at}
+use Rattle.inf_program.specs.Turns.{AllFit}
+use Rattle.inf_program.specs.definition.NextToken.{Position, afresh, passed_over, steps_at}
 use Rattle.inf_program.specs.definition.Fronts.{reached}
 use Rattle.inf_program.specs.definition.BadPieces.{AllSkipOn, SkipState, SkipsOn, all_skipped, cut_of, lands, skipped_on}
 use Rattle.inf_program.specs.definition.Program.{Bad, Continues, IsOver, IsProgram}
 use Rattle.inf_program.specs.Regular.{AreRegular, IsRegular}
 use Rattle.inf_program.proofs.Forward.{FitTurn, FitTurns}
 use Rattle.inf_program.proofs.FrontTurns.{BadRead, FirstFit, IsFront, bad_read, broken_next, front_of, whole_next}
-use Rattle.inf_program.proofs.Shapes.{CutFirst, CutSecond, Fit, Sorted, shape_of, shape_skipped, sorted}
+use Rattle.inf_program.proofs.Given.{shape_at}
+use Rattle.inf_program.proofs.Shapes.{CutFirst, CutSecond, Fit, Sorted, shape_skipped, sorted}
 use Rattle.inf_program.proofs.Skipping.{position_skips, skip_turn}
-use Rattle.inf_program.proofs.Stepping.{followed_over, followed_plainly, goes_on, over_ends}
+use Rattle.inf_program.proofs.Stepping.{carried_out_reading, followed_over, followed_plainly, goes_on, over_ends, rested_reading}
+use Rattle.inf_program.specs.definition.States.{State, answered, asked_nothing, carried_out, context_of, file_closed, followed, has_ended}
+use Rattle.inf_program.specs.definition.States.{is_resting, left, left_by, piece_closed, rested}
+use Rattle.inf_program.specs.SideTurns.{IsQuiet, position_of, silent_run, silent_turn, silent_turned, stand_of, stepped, steps_of}
 
 -- Readings behind a turn
 
@@ -183,7 +183,7 @@ skip_is_quiet from x same skip over asks =
       is_not_over = over;
       has_more = has_more;
       asks_nothing = asks (ap (λ b. b || is_mode_ended x.reading.mode) front ∙ has_more);
-      is_inside = ap (λ b. b && is_none_pending x.conditions.pending) front;
+      is_inside = ap (λ b. b && has_none x.sides.texts) front;
     }
   where
     not_ended : (m : Recovery) → skips m ≡ true → is_mode_ended m ≡ false
@@ -196,14 +196,13 @@ skip_is_quiet from x same skip over asks =
 pub skip_more : (limits : Limits) (sources : Sources) (o : Choices) (k : ℕ) → Skip limits sources o k → (from : SkipState) (x : State)
     → x ≡ lands from → skips from.skip ≡ true → IsQuiet x → Regular limits sources o (suc k) x → SkipEnd limits sources o from
 skip_more limits sources o k later from x same skip quiet r =
-    let b : Behind = judged_at o passed_over from.state in
     let on : SkipsOn limits o from = record {
       is_going = ap (λ (y : State). y.is_over) (sym same) ∙ r.is_going;
       is_not_over = ap (λ (y : State). y.work.report.counts.is_over) (sym same) ∙ quiet.is_not_over;
       asks_nothing = ap (λ (y : State). y.work.asked) (sym same) ∙ quiet.asks_nothing;
       skips_more = skip;
       are_skipped = shape_skipped (steps_at limits o passed_over from.state) from.skip
-          (shape_of limits (context_of o from.state) (coming passed_over from.state) b.now.said b.judged) skip;
+          (shape_at limits o passed_over from.state) skip;
     } in
     let w : SkipEnd limits sources o (skipped_on limits o from) =
     later (skipped_on limits o from) (stepped limits o x) (ap (stepped limits o) same ∙ skip_turn limits sources o from on)
@@ -276,7 +275,7 @@ quiet_within x reading some over asks =
       is_not_over = over;
       has_more = has_more;
       asks_nothing = asks (ap (λ b. b || is_mode_ended x.reading.mode) inside ∙ has_more);
-      is_inside = ap (λ b. b && is_none_pending x.conditions.pending) inside;
+      is_inside = ap (λ b. b && has_none x.sides.texts) inside;
     }
 
 inside_of : (x : State) → x.reading.mode ≡ mode.Reads → is_empty x.reading.stack ≡ false → is_between x.reading ≡ false
@@ -331,7 +330,7 @@ open_on limits sources o k skip search s i first all tokens at some over r =
     within_by limits sources o k skip search s i first all quiet (inside_of z at.reads some) r.is_going some
     (onward limits sources o k z quiet r)
     (sorted limits (context_of o z) (steps_of limits o z) (stand_of z) tokens
-    (shape_of limits (context_of o z) (token_of z) (judgement_said o z) (judgement o z)) at some)
+    (shape_at limits o (position_of z.reading) z) at some)
 
 -- the piece behind some turns: broken off, whole, or still open
 pub search_by : (limits : Limits) (sources : Sources) (o : Choices) (k : ℕ) → Main limits sources o k → (s : State) (i : ℕ)

@@ -1,22 +1,25 @@
 -- Turns of a reading whose messages are still to be written: which of them lead from one state to another, and what a turn does where
 -- nothing else happens behind its token.
-use Rattle.std.proofs.Common.{◌≡◌, ℕ, zero, suc, ◌+◌, ◌&&◌, ◌||◌, Bool, true, false, refl, sym, ◌∙◌, ap, arith}
+use Rattle.std.proofs.Common.{◌≡◌, ℕ, suc, ◌+◌, List, ◌&&◌, ◌||◌, Bool, true, false, refl, sym, ◌∙◌, ap, arith}
 use Rattle.std.specs.Prelude.{if◌then◌else◌}
 use Rattle.inf_settings.specs.Bounds.{Limits}
+use Rattle.inf_scanner.specs.declared.tokens.Place.{Place}
 use Rattle.inf_devices.specs.Files.{Sources}
-use Rattle.inf_unit.specs.Directives.{Nothing, Request}
+use Rattle.inf_sources.specs.Inclusions.{Inclusion, Opens, OpensNone, inclusion}
+use Rattle.inf_sources.specs.declared.open_files.Included.TheVariants as answer
+use Rattle.inf_unit.specs.Directives.{Characters, End, Include, Nothing, Request}
+use Rattle.inf_unit.proofs.Cases.{of_both}
 use Rattle.inf_compilation.specs.Actions.{Compilation}
-use Rattle.inf_reader.specs.Handing.{is_between, is_empty, reads, skips}
+use Rattle.inf_reader.specs.Handing.{is_empty, reads, skips}
 use Rattle.inf_reader.specs.Reading.{Reading, ReaderState, is_mode_ended}
 use Rattle.inf_reader.specs.declared.recovery.Recovery.{Recovery}
 use Rattle.inf_reader.specs.declared.recovery.Recovery.TheVariants as mode
 use Rattle.inf_session.specs.Choices.{Choices}
-use Rattle.inf_session.specs.Session.{State, answered, asked_nothing, carried_out, context_of, followed, has_ended, is_resting, left}
-use Rattle.inf_session.specs.Session.{piece_closed, rested, stand_of, stepped}
-use Rattle.inf_program.specs.Turns.{IsQuiet, steps_by}
-use Rattle.inf_program.specs.Writing.{silent_run, silent_turn}
-use Rattle.inf_program.proofs.TurnSteps.{turns_are_steps}
+use Rattle.inf_program.specs.Turns.{steps_by}
 use Rattle.inf_program.specs.definition.NextToken.{Position, afresh, behind_at, position, steps_at, within}
+use Rattle.inf_program.specs.definition.States.{State, answered, asked_nothing, carried_out, context_of, followed, has_ended, included_by}
+use Rattle.inf_program.specs.definition.States.{is_resting, left, piece_closed, rested}
+use Rattle.inf_program.specs.SideTurns.{IsQuiet, position_of, silent_run, silent_turn, stand_of, stepped}
 
 -- Turns that lead from one state to another
 
@@ -105,14 +108,39 @@ followed_over sources o s over =
     (ap (λ b. if b then s else if is_mode_ended s.reading.mode then left s else answered s.work.asked sources o (asked_nothing s)) over)
     ∙ ap (λ b. if b then s else if is_resting s then piece_closed s else s) (over_ends s over)
 
+-- The reading behind a token
+
+included_reading : (sources : Sources) (o : Choices) (unit : Place) (text : List ℕ) (i : Inclusion) (s : State)
+    → (included_by sources o unit text i s).reading ≡ s.reading
+included_reading sources o unit text (Opens name) s = refl
+included_reading sources o unit text (OpensNone answer.Entered) s = refl
+included_reading sources o unit text (OpensNone answer.NotThere) s = refl
+included_reading sources o unit text (OpensNone answer.TooDeep) s = refl
+
+answered_reading : (asked : Request) (sources : Sources) (o : Choices) (s : State) → (answered asked sources o s).reading ≡ s.reading
+answered_reading (Include text unit) sources o s = included_reading sources o unit text (inclusion sources o.directories text s.nesting) s
+answered_reading End sources o s = refl
+answered_reading (Characters set) sources o s = refl
+answered_reading Nothing sources o s = refl
+
+pub carried_out_reading : (sources : Sources) (o : Choices) (s : State) → is_mode_ended s.reading.mode ≡ false
+    → (carried_out sources o s).reading ≡ s.reading
+carried_out_reading sources o s going =
+    of_both (λ (x : State). x.reading ≡ s.reading) s.work.report.counts.is_over s
+    (if is_mode_ended s.reading.mode then left s else answered s.work.asked sources o (asked_nothing s))
+    (λ _. refl)
+    (λ _. ap (λ b. (if b then left s else answered s.work.asked sources o (asked_nothing s)).reading) going
+    ∙ answered_reading s.work.asked sources o (asked_nothing s))
+
+pub rested_reading : (s : State) → (rested s).reading ≡ s.reading
+rested_reading s =
+    of_both (λ (x : State). x.reading ≡ s.reading) (has_ended s) s (if is_resting s then piece_closed s else s) (λ _. refl)
+    (λ _. of_both (λ (x : State). x.reading ≡ s.reading) (is_resting s) (piece_closed s) s (λ _. refl) (λ _. refl))
+
 -- The steps of a turn
 
 abbrev pub stand : Reading → Compilation → ReaderState
 stand r w = record { reading = r; work = w }
-
--- the position at which the next token comes
-abbrev pub position_of : Reading → Position
-position_of r = position (is_between r) (skips r.mode)
 
 pub position_within : (r : Reading) → r.mode ≡ mode.Reads → is_empty r.stack ≡ false → position_of r ≡ within
 position_within r reading some =
@@ -121,8 +149,7 @@ position_within r reading some =
 pub turn_steps : (limits : Limits) (sources : Sources) (o : Choices) (s : State) (p : Position) → position_of s.reading ≡ p
     → stand_of (stepped limits o s) ≡ steps_by limits (context_of o s) (steps_at limits o p (afresh s)) (stand_of s)
 turn_steps limits sources o s p at =
-    turns_are_steps limits sources o zero s tt
-    ∙ ap (λ (q : Position). steps_by limits (context_of o s) (steps_at limits o q (afresh s)) (stand_of s)) at
+    ap (λ (q : Position). steps_by limits (context_of o s) (steps_at limits o q (afresh s)) (stand_of s)) at
 
 -- the state behind the token of a turn
 pub turn_behind : (limits : Limits) (o : Choices) (s : State) (p : Position) (w : Compilation) → position_of s.reading ≡ p

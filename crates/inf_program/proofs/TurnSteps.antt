@@ -18,15 +18,15 @@ use Rattle.inf_session.specs.Choices.{Choices}
 use Rattle.inf_session.specs.Session.{State, answered, asked_nothing, carried_out, context_of, followed, has_ended, is_resting, left}
 use Rattle.inf_session.specs.Session.{piece_closed, rested, stand_of, stepped, token_of}
 use Rattle.inf_laws.specs.KeptTokens.{given_as, given_sign, given_token}
-use Rattle.inf_program.specs.definition.Steps.{Passes, Step, end_steps, given_steps, judged_steps}
-use Rattle.inf_program.specs.Turns.{AreQuiet, IsQuiet, all_steps, judgement}
-use Rattle.inf_program.specs.definition.Steps.{lone_between, said_between, steps_behind}
-use Rattle.inf_program.specs.Turns.{judgement_said, step_by, steps_by, steps_of}
+use Rattle.inf_program.specs.definition.Steps.{Passes, Step}
+use Rattle.inf_program.specs.Turns.{AreQuiet, IsQuiet, all_steps, end_steps, given_steps, judged_steps, judgement, judgement_said, step_by}
+use Rattle.inf_program.specs.Turns.{steps_behind, steps_by, steps_of}
+use Rattle.inf_program.specs.definition.Steps.{lone_between, said_between}
 use Rattle.inf_program.specs.Writing.{silent_turn, silent_turned}
 
 -- Steps one behind the other
 
-steps_joined : (limits : Limits) (context : Context) (a b : List Step) (s : ReaderState)
+pub steps_joined : (limits : Limits) (context : Context) (a b : List Step) (s : ReaderState)
     → steps_by limits context (a ++ b) s ≡ steps_by limits context b (steps_by limits context a s)
 steps_joined limits context [] b s = refl
 steps_joined limits context (x ∷ a) b s = steps_joined limits context a b (step_by limits context x s)

@@ -9,11 +9,10 @@ use Rattle.inf_syntax.specs.declared.actions.Action.{Action}
 use Rattle.inf_unit.specs.Tokens.{SourceToken, is_end}
 use Rattle.inf_compilation.specs.Actions.{Compilation, piece_begun as work_begun}
 use Rattle.inf_compilation.specs.Context.{Context}
-use Rattle.inf_conditionals.specs.Judging.{is_none_pending}
+use Rattle.inf_conditional_sides.specs.Sides.{has_none}
 use Rattle.inf_reader.specs.Reading.{Reading, ReaderState, between, is_mode_ended, judged, piece_begun, piece_rule, step}
 use Rattle.inf_reader.specs.declared.recovery.Recovery.TheVariants as mode
 use Rattle.inf_session.specs.Choices.{Choices}
-use Rattle.inf_session.specs.Session.{State, context_of, followed, has_ended, stand_of, stepped}
 use Rattle.inf_laws.specs.KeptTokens.{Kept}
 use Rattle.inf_laws.proofs.KeptTokens.{no_token}
 use Rattle.inf_statement_laws.specs.Happenings.{Between}
@@ -21,14 +20,16 @@ use Rattle.inf_statement_laws.specs.Laid.{passed}
 use Rattle.inf_language.proofs.TextsActed.{rule_is_spaced}
 use Rattle.inf_program.specs.definition.Steps.{AllKept}
 use Rattle.inf_program.specs.definition.Steps.{Passes, Reads, Step}
-use Rattle.inf_program.specs.Turns.{IsQuiet, piece_first, step_by, steps_by}
+use Rattle.inf_program.specs.Turns.{piece_first, step_by, steps_by}
 use Rattle.inf_program.specs.definition.NextToken.{Position, afresh, at_front, steps_at, within}
 use Rattle.inf_program.specs.definition.Fronts.{AllGoOn, Course, Derives, FirstKept, Front, IsOpen, PieceState, Progress, atoms_from, begun_piece}
 use Rattle.inf_program.specs.definition.Fronts.{done_by, fresh_progress, kept_atoms, moved, piece_behind, reached, walked}
 use Rattle.inf_program.proofs.Events.{Agrees, InPiece, steps_agree}
 use Rattle.inf_program.proofs.Stacks.{none_left, piece_is_rest, some_left}
-use Rattle.inf_program.proofs.Stepping.{Comes, comes_next, comes_same, comes_then, followed_plainly, goes_on, position_of}
+use Rattle.inf_program.proofs.Stepping.{Comes, comes_next, comes_same, comes_then, followed_plainly, goes_on}
 use Rattle.inf_program.proofs.Stepping.{position_within, stand, turn_behind, turn_steps}
+use Rattle.inf_program.specs.definition.States.{State, context_of, followed, has_ended}
+use Rattle.inf_program.specs.SideTurns.{IsQuiet, position_of, stand_of, stepped}
 
 -- A state of the reading, behind the token of a turn, is that of a piece of which these atoms are still to come, and these symbols are
 -- left.
@@ -85,7 +86,7 @@ quiet_at m x atoms left s is = record {
   has_more = ap is_mode_ended s.inside.at.reads;
   asks_nothing = ap (λ (q : State). q.work.asked) (sym s.same) ∙ is.asks_nothing;
   is_inside =
-      ap (λ b. b && is_none_pending x.conditions.pending) (ap (λ (p : Position). p.is_front) (is_within m x atoms left s is));
+      ap (λ b. b && has_none x.sides.texts) (ap (λ (p : Position). p.is_front) (is_within m x atoms left s is));
 }
 
 pub going_at : (m : PieceState) (x : State) (atoms : List ℕ) (left : List (Symbol Action)) → IsAt atoms left m x → IsOpen left m

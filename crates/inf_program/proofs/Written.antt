@@ -5,13 +5,14 @@ use Rattle.inf_settings.specs.Bounds.{Limits, limits_of}
 use Rattle.inf_devices.specs.Files.{Sources}
 use Rattle.inf_session.specs.Choices.{Choices}
 use Rattle.inf_session.specs.Ending.{Outcome}
-use Rattle.inf_session.specs.Session.{State, has_ended, start, told_out}
+use Rattle.inf_session.specs.Session.{State as TurnState, start as turn_start, told_out}
 use Rattle.inf_session.proofs.Leadings.{run_ended}
 use Rattle.inf_compile.specs.Outcome.{IsCompiled, IsOutcome, IsOutcomeOf, ending_of}
 use Rattle.inf_compile.proofs.OutcomeLaws.{outcomes_are_unique}
 use Rattle.inf_compile.proofs.Reaching.{outcomes_exist}
 use Rattle.inf_program.specs.definition.Program.{Continues, IsOver, IsProgram}
-use Rattle.inf_program.specs.definition.Written.{IsOutcomeOfProgram, IsWritten, IsWrittenOf}
+use Rattle.inf_program.specs.definition.States.{State, has_ended, start}
+use Rattle.inf_program.specs.definition.Written.{IsOutcomeOfProgram, IsWritten, IsWrittenOf, turned_to}
 use Rattle.inf_program.specs.Writings.{OutcomesAreWritten}
 use Rattle.inf_program.proofs.Early.{ending_told, start_over}
 use Rattle.inf_program.proofs.Existing.{outcomes_are_those_of_programs}
@@ -28,13 +29,13 @@ early_onward : (sources : Sources) (o : Choices) (serial name : List ℕ) (e : O
     → IsCompiled sources o serial name e → IsOutcomeOfProgram sources o serial name e
 early_onward sources o serial name e ended c =
     let limits : Limits = limits_of o.settings in
-    let s : State = start sources o name in
+    let s : TurnState = turn_start sources o name in
     let final : c.final ≡ s = sym c.is_read.leads ∙ run_ended limits sources o c.is_read.turns s ended in
     record {
-      final = s;
+      final = start sources o name;
       is_program = IsOver ended refl;
       is_ending = c.is_ending
-          ∙ (ap (λ (x : State). ending_of limits o serial x) final ∙ sym (ending_told limits o serial s (start_over sources o name ended)));
+          ∙ (ap (λ (x : TurnState). ending_of limits o serial x) final ∙ sym (ending_told limits o serial s (start_over sources o name ended)));
     }
 
 early_back : (sources : Sources) (o : Choices) (serial name : List ℕ) (e : Outcome) → has_ended (start sources o name) ≡ true
@@ -44,11 +45,11 @@ early_back sources o serial name e ended p =
     let s : State = start sources o name in
     let final : s ≡ p.final = nothing_comes limits sources o p.final s ended p.is_program in
     record {
-      final = s;
+      final = turn_start sources o name;
       is_read = record { turns = zero; leads = refl; ends = ended };
       is_ending = p.is_ending
-          ∙ (ap (λ (x : State). ending_of limits o serial (told_out x)) (sym final)
-          ∙ ending_told limits o serial s (start_over sources o name ended));
+          ∙ (ap (λ (x : State). ending_of limits o serial (told_out (turned_to x))) (sym final)
+          ∙ ending_told limits o serial (turn_start sources o name) (start_over sources o name ended));
     }
 
 -- Outcomes

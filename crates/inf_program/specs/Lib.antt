@@ -2,6 +2,8 @@ pub mod definition
 pub mod Compiling
 pub mod Writing
 pub mod Turns
+pub mod SideTurns
+pub mod BySides
 pub mod Programs
 pub mod Regular
 pub mod Readings

@@ -3,11 +3,13 @@ use Rattle.std.specs.Prelude.{◌≡◌, ℕ, List, Some, true, false}
 use Rattle.inf_settings.specs.Bounds.{Limits, limits_of}
 use Rattle.inf_devices.specs.Files.{Sources}
 use Rattle.inf_session.specs.Choices.{Choices}
-use Rattle.inf_session.specs.Session.{State, has_ended, start, told_out}
+use Rattle.inf_session.specs.Session.{told_out}
 use Rattle.inf_compile.specs.Outcome.{IsOutcome, ending_of}
-use Rattle.inf_program.specs.Writing.{silent_run}
 use Rattle.inf_program.specs.definition.NextToken.{afresh}
 use Rattle.inf_program.specs.definition.Program.{IsProgram}
+use Rattle.inf_program.specs.definition.Written.{turned_to}
+use Rattle.inf_program.specs.definition.States.{State, has_ended, start}
+use Rattle.inf_program.specs.SideTurns.{silent_run}
 
 -- Some turns end reading in the state `final`, but for the rest of a piece that is broken off there.
 pub record EndsAs (limits : Limits) (sources : Sources) (o : Choices) (final s : State) : Type 0 where
@@ -32,4 +34,4 @@ abbrev pub ProgramsHaveTheirOutcome : Type 0
 ProgramsHaveTheirOutcome =
     (sources : Sources) (o : Choices) (serial name source : List ℕ) (final : State) → sources name ≡ Some source
     → has_ended (start sources o name) ≡ false → IsProgram (limits_of o.settings) sources o final (start sources o name)
-    → IsOutcome sources o serial name (ending_of (limits_of o.settings) o serial (told_out final))
+    → IsOutcome sources o serial name (ending_of (limits_of o.settings) o serial (told_out (turned_to final)))

@@ -3,13 +3,13 @@ use Rattle.std.specs.Prelude.{◌≡◌, ℕ, List, Some, true}
 use Rattle.inf_settings.specs.Bounds.{Limits, limits_of}
 use Rattle.inf_devices.specs.Files.{Sources}
 use Rattle.inf_session.specs.Choices.{Choices}
-use Rattle.inf_session.specs.Session.{State, has_ended, start}
 use Rattle.inf_reader.specs.Reading.{between}
 use Rattle.inf_reader.specs.declared.recovery.Recovery.TheVariants as mode
-use Rattle.inf_program.specs.Writing.{silent_run}
 use Rattle.inf_program.specs.definition.NextToken.{afresh}
 use Rattle.inf_program.specs.definition.Program.{IsProgram}
 use Rattle.inf_program.specs.Regular.{AreRegular}
+use Rattle.inf_program.specs.definition.States.{State, has_ended, start}
+use Rattle.inf_program.specs.SideTurns.{silent_run}
 
 -- A program from a state on that ends as `n` turns do, but for the rest of a piece that is broken off there.
 pub record ProgramOf (limits : Limits) (sources : Sources) (o : Choices) (n : ℕ) (s : State) : Type 0 where

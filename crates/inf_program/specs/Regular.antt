@@ -6,8 +6,8 @@ use Rattle.inf_unit.specs.Directives.{Nothing}
 use Rattle.inf_reader.specs.Handing.{is_between}
 use Rattle.inf_reader.specs.Reading.{is_mode_ended}
 use Rattle.inf_session.specs.Choices.{Choices}
-use Rattle.inf_session.specs.Session.{State, has_ended, stepped}
-use Rattle.inf_program.specs.Writing.{silent_turn}
+use Rattle.inf_program.specs.definition.States.{State, has_ended}
+use Rattle.inf_program.specs.SideTurns.{silent_turn, stepped}
 
 pub record IsRegular (limits : Limits) (o : Choices) (s : State) : Type 0 where
   pub asks_at_ends : (is_between (stepped limits o s).reading || is_mode_ended (stepped limits o s).reading.mode) ≡ false

@@ -3,11 +3,13 @@
 use Rattle.std.specs.Prelude.{◌≡◌, ℕ, zero, suc, List, [], ◌∷◌, ◌++◌, true, false, Option, Some, None}
 use Rattle.inf_settings.specs.Bounds.{Limits}
 use Rattle.inf_devices.specs.Files.{Sources}
+use Rattle.inf_scanner.specs.declared.tokens.Place.{Place}
 use Rattle.inf_machine.specs.Machine.{fits}
 use Rattle.inf_machine.specs.declared.symbols.Symbol.TheVariants.{Rule}
 use Rattle.inf_grammar.specs.Language.{grammar, known}
 use Rattle.inf_grammar.specs.Routines.{closings}
 use Rattle.inf_unit.specs.Directives.{Nothing}
+use Rattle.inf_unit.specs.Messages.{FileNames}
 use Rattle.inf_unit.specs.Tokens.{SourceToken, atom_of, is_end}
 use Rattle.inf_compilation.specs.Actions.{Compilation, piece_begun as work_begun}
 use Rattle.inf_compilation.specs.Context.{Context}
@@ -20,11 +22,11 @@ use Rattle.inf_reader.specs.Reading.{Reading, ReaderState, bad, between, is_mode
 use Rattle.inf_reader.specs.declared.recovery.Recovery.TheVariants as mode
 use Rattle.inf_session.specs.Choices.{Choices}
 use Rattle.inf_session.specs.Session.{State, context_of, is_resting, stand_of, stepped, token_of}
-use Rattle.inf_laws.specs.KeptTokens.{Given, Kept, Unfit, token_in}
+use Rattle.inf_laws.specs.KeptTokens.{Given, Kept, Unfit, given_sign, given_token, token_in}
 use Rattle.inf_statement_laws.specs.Happenings.{Between}
 use Rattle.inf_statement_laws.specs.Laid.{passed}
-use Rattle.inf_statement_laws.specs.Readings.{Seen, all_taken, directed, nothing_between, then_between}
-use Rattle.inf_program.specs.definition.Steps.{Ends, Passes, Reads, Step, judged_steps}
+use Rattle.inf_statement_laws.specs.Readings.{Seen, all_taken, directed, directive_between, nothing_between, then_between}
+use Rattle.inf_program.specs.definition.Steps.{Ends, Passes, Reads, Step, lone_between, said_between}
 use Rattle.inf_program.specs.Writing.{silent_turn, silent_turned}
 
 -- the reading behind a token that is handed on
@@ -42,6 +44,24 @@ steps_by limits context [] s = s
 steps_by limits context (x ∷ steps) s = steps_by limits context steps (step_by limits context x s)
 
 -- The steps of a turn
+
+abbrev pub given_steps : List Given → List Step
+given_steps [] = []
+given_steps (g ∷ given) = Reads g ∷ given_steps given
+
+abbrev pub end_steps : Limits → FileNames → Option Place → List Step
+end_steps limits files None = []
+end_steps limits files (Some place) = Ends (directive_between limits files place) ∷ []
+
+-- the steps behind the tokens that are handed on
+abbrev pub steps_behind : Limits → FileNames → Filtered → List Step
+steps_behind limits files j = Passes (lone_between files j.unmatched) ∷ end_steps limits files j.ended
+
+-- the steps of a token, by its judgement
+abbrev pub judged_steps : Limits → Context → SourceToken → Option Said → Filtered → List Step
+judged_steps limits context t said j =
+    Passes (said_between limits context.names said)
+    ∷ (given_steps (given_sign j.sign) ++ (given_steps (given_token j.token t) ++ steps_behind limits context.names j))
 
 -- the judgement of the token that comes, and the message about its condition
 abbrev pub judgement : Choices → State → Filtered

@@ -5,9 +5,11 @@
 --
 -- A piece is a text of the grammar: by the rows of the grammar its tokens and the actions between them are derived as a whole (`Derives` of
 -- `Fronts`), and a bad token is one with which the tokens before it begin no such text (`IsBad`). No stack of a machine says so, and no turn.
+-- Conditionals are sides, each of which stays or is left out, and a token is kept where all sides around it stay (`step_at` of `NextToken`).
 -- Not a tree yet is what a piece does: its actions act in the order of the derivation, so a unit grows token by token, up to the action that
--- ends it (`taken_by`). Token by token go the conditionals, too, by their states (`steps_at` of `NextToken`), and the texts of the routines
--- that the compiler supplies, behind the program (`ending_of` of `inf_compile`).
+-- ends it (`taken_by`). Token by token go the texts of the routines that the compiler supplies, too, behind the program (`ending_of` of
+-- `inf_compile`).
+pub mod States
 pub mod Steps
 pub mod NextToken
 pub mod Fronts

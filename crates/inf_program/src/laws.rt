@@ -1,5 +1,6 @@
 //! Laws of programs.
 ghost use Rattle.inf_settings.specs.Bounds.{Limits};
+ghost use Rattle.inf_program.specs.BySides.{TurnsGoBySides};
 ghost use Rattle.inf_program.specs.Programs.{ProgramsEndInOneWay, ProgramsHaveTheirOutcome, TurnsDoPrograms};
 ghost use Rattle.inf_program.specs.Readings.{RegularReadingsArePrograms, SourcesAreRegular, SourcesHavePrograms};
 ghost use Rattle.inf_program.specs.Turns.{TurnsTakeTokens};
@@ -19,7 +20,13 @@ pub fn turns_take_tokens()
     ensures { (limits : Limits) → TurnsTakeTokens limits }
 {}
 
-/// Shows that turns do what a program does: they end reading in the state in which the program ends.
+/// Shows that the turns of a source, with the files that it includes, lead to the state to which turns by the sides of conditionals lead,
+/// and that the same things are given of each token by the conditionals and by their sides.
+pub fn turns_go_by_sides()
+    ensures { TurnsGoBySides }
+{}
+
+/// Shows that turns by sides do what a program does: they end reading in the state in which the program ends.
 pub fn turns_do_programs()
     ensures { (limits : Limits) → TurnsDoPrograms limits }
 {}
@@ -34,12 +41,12 @@ pub fn programs_have_their_outcome()
     ensures { ProgramsHaveTheirOutcome }
 {}
 
-/// Shows that regular turns from a state between two pieces, which end reading, are a program that ends as they do.
+/// Shows that regular turns by sides from a state between two pieces, which end reading, are a program that ends as they do.
 pub fn regular_readings_are_programs()
     ensures { (limits : Limits) → RegularReadingsArePrograms limits }
 {}
 
-/// Shows that each turn of the reading of a main source is regular.
+/// Shows that each turn by sides of the reading of a main source is regular.
 pub fn sources_are_regular()
     ensures { SourcesAreRegular }
 {}

@@ -18,10 +18,10 @@ use Rattle.inf_reader.specs.Acting.{all_acted}
 use Rattle.inf_reader.specs.Handing.{is_empty}
 use Rattle.inf_reader.specs.Reading.{piece_rule}
 use Rattle.inf_session.specs.Choices.{Choices}
-use Rattle.inf_session.specs.Session.{State, context_of}
 use Rattle.inf_laws.specs.KeptTokens.{Kept, Unfit}
 use Rattle.inf_statement_laws.specs.Happenings.{Between}
 use Rattle.inf_statement_laws.specs.Laid.{passed}
+use Rattle.inf_program.specs.definition.States.{State, context_of}
 use Rattle.inf_program.specs.definition.Steps.{AllKept}
 use Rattle.inf_program.specs.definition.Steps.{Ends, Passes, Reads, Step}
 use Rattle.inf_program.specs.definition.NextToken.{Position, at_front, behind_at, steps_at, within}

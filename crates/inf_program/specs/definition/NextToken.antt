@@ -1,22 +1,21 @@
 -- The next token of the innermost file, by the position at which it comes: at the front of a piece, within one, or among tokens that are
--- passed over behind a bad one. It is read and judged by the open files, the conditionals and the compilation, and by nothing else of a
--- reading.
-use Rattle.std.specs.Prelude.{List, Bool, true, false}
+-- passed over behind a bad one. It is read, and kept or not, by the open files, the sides of conditionals and the compilation, and by
+-- nothing else of a reading.
+use Rattle.std.specs.Prelude.{List, Bool, true, false, None}
 use Rattle.inf_settings.specs.Bounds.{Limits}
 use Rattle.inf_settings.specs.Settings.{number_of}
 use Rattle.inf_settings.specs.declared.setting.Setting.TheVariants as setting
-use Rattle.inf_conditionals.specs.Judging.{Behind, judged}
-use Rattle.inf_conditionals.specs.Open.{silent}
-use Rattle.inf_conditionals.specs.declared.filtered.Site.{Site}
+use Rattle.inf_sources.specs.Cursors.{behind, read}
+use Rattle.inf_unit.specs.Tokens.{SourceToken}
 use Rattle.inf_compilation.specs.Actions.{Compilation}
+use Rattle.inf_conditional_sides.specs.Sides.{Step as SideStep, heard, step as side_step}
+use Rattle.inf_conditional_sides.specs.Told.{Told, told_of}
 use Rattle.inf_reader.specs.Reading.{between}
 use Rattle.inf_reader.specs.declared.recovery.Recovery.TheVariants as mode
 use Rattle.inf_session.specs.Choices.{Choices}
-use Rattle.inf_session.specs.Session.{State, context_of}
-use Rattle.inf_session.specs.Taking.{quoted_behind, token_at}
-use Rattle.inf_sources.specs.Cursors.{behind, read}
-use Rattle.inf_unit.specs.Tokens.{SourceToken}
-use Rattle.inf_program.specs.definition.Steps.{Step, judged_steps}
+use Rattle.inf_session.specs.Taking.{token_at}
+use Rattle.inf_program.specs.definition.States.{State}
+use Rattle.inf_program.specs.definition.Steps.{Step, token_steps}
 
 -- The position at which a token comes: at the front of a piece or not, and among tokens that are passed over or not.
 pub record Position : Type 0 where
@@ -35,33 +34,34 @@ within = position false false
 abbrev pub passed_over : Position
 passed_over = position false true
 
-abbrev pub site_at : Choices → Position → Site
-site_at o p = record { is_between = p.is_front; is_quiet = p.is_passed; longest = number_of setting.ExpressionNodes o.settings }
-
 -- the next token of the innermost file
 abbrev pub coming : Position → State → SourceToken
 coming p s =
     let r = read s.nesting.cursor in
     token_at p.is_front r.kind r.kept.bytes (record { file = s.nesting.cursor.file; line = r.line }) s.work
 
--- the conditionals behind the next token, and how they judge it
-abbrev pub judged_at : Choices → Position → State → Behind
-judged_at o p s = judged (site_at o p) s.work.output (coming p s) s.conditions
+-- the sides behind the next token, and what is given of it
+abbrev pub step_at : Position → State → SideStep
+step_at p s = side_step p.is_front s.declared s.work.output (coming p s) s.sides
+
+-- what the next token tells of a condition
+abbrev pub told_at : Choices → Position → State → Told
+told_at o p s =
+    let longest = number_of setting.ExpressionNodes o.settings in
+    told_of p.is_passed longest s.declared s.work.output (coming p s) s.sides (record { said = None; most_tokens = s.most_tokens })
 
 -- the tokens that are handed on for the next one, and the effects of conditional directives before and behind them
 abbrev pub steps_at : Limits → Choices → Position → State → List Step
-steps_at limits o p s =
-    let b = judged_at o p s in judged_steps limits (context_of o s) (coming p s) b.now.said b.judged
+steps_at limits o p s = token_steps limits s.nesting.names (told_at o p s).said (heard p.is_passed (step_at p s).given)
 
 -- the state behind the next token, with the compilation to which these steps lead
 abbrev pub behind_at : Choices → Position → Compilation → State → State
 behind_at o p w s =
-    let b = judged_at o p s in
     record s {
       nesting = record s.nesting { cursor = behind s.nesting.cursor (read s.nesting.cursor) };
-      conditions = silent b.now;
+      sides = (step_at p s).now;
+      most_tokens = (told_at o p s).most_tokens;
       work = w;
-      quoted = quoted_behind (site_at o p) b.judged (coming p s) s.quoted;
     }
 
 -- the state without the rest of the piece at hand

@@ -8,9 +8,9 @@ use Rattle.inf_unit.specs.Tokens.{SourceToken, is_end}
 use Rattle.inf_reader.specs.Reading.{between}
 use Rattle.inf_reader.specs.declared.recovery.Recovery.TheVariants as mode
 use Rattle.inf_session.specs.Choices.{Choices}
-use Rattle.inf_session.specs.Session.{State, followed, has_ended}
 use Rattle.inf_laws.specs.KeptTokens.{Kept}
 use Rattle.inf_statement_laws.specs.Happenings.{Between}
+use Rattle.inf_program.specs.definition.States.{State, followed, has_ended}
 use Rattle.inf_program.specs.definition.Steps.{Ends, Passes, Reads, Step}
 use Rattle.inf_program.specs.definition.NextToken.{at_front, behind_at, steps_at}
 use Rattle.inf_program.specs.definition.Fronts.{Front, reached}

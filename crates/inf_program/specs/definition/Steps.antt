@@ -1,14 +1,14 @@
--- The tokens that conditionals hand on for a token of a file, and the effects of conditional directives between them, one behind the other.
-use Rattle.std.specs.Prelude.{List, [], ◌∷◌, ◌++◌, Option, Some, None}
+-- The tokens that the sides of conditionals keep of a token of a file, and the effects of conditional directives between them, one behind the
+-- other.
+use Rattle.std.specs.Prelude.{List, [], ◌∷◌, Option, Some, None}
 use Rattle.inf_settings.specs.Bounds.{Limits}
 use Rattle.inf_scanner.specs.declared.tokens.Place.{Place}
 use Rattle.inf_unit.specs.Messages.{FileNames}
-use Rattle.inf_unit.specs.Tokens.{SourceToken}
-use Rattle.inf_compilation.specs.Context.{Context}
 use Rattle.inf_conditionals.specs.Ends.{with_lone}
 use Rattle.inf_conditionals.specs.Said.{Said, with_right, with_said}
-use Rattle.inf_conditionals.specs.declared.filtered.Filtered.{Filtered}
-use Rattle.inf_laws.specs.KeptTokens.{Given, Kept, Unfit, given_sign, given_token}
+use Rattle.inf_conditional_sides.specs.Sides as by_sides
+use Rattle.inf_conditional_sides.specs.Sides.{Given as GivenBySides}
+use Rattle.inf_laws.specs.KeptTokens.{Given, Kept, Unfit}
 use Rattle.inf_statement_laws.specs.Happenings.{Between}
 use Rattle.inf_statement_laws.specs.Readings.{directive_between, nothing_between}
 
@@ -26,23 +26,20 @@ abbrev pub lone_between : FileNames → Option Place → Between
 lone_between files None = nothing_between
 lone_between files (Some place) = record nothing_between { report = λ o r. with_lone files place r }
 
-abbrev pub given_steps : List Given → List Step
-given_steps [] = []
-given_steps (g ∷ given) = Reads g ∷ given_steps given
+-- the step by a thing that is given of a token
+abbrev pub step_of : Limits → FileNames → GivenBySides → Step
+step_of limits files (by_sides.Kept t) = Reads (Kept t)
+step_of limits files (by_sides.Unfit t) = Reads (Unfit t)
+step_of limits files (by_sides.Lone place) = Passes (lone_between files (Some place))
+step_of limits files (by_sides.Ends place) = Ends (directive_between limits files place)
 
-abbrev pub end_steps : Limits → FileNames → Option Place → List Step
-end_steps limits files None = []
-end_steps limits files (Some place) = Ends (directive_between limits files place) ∷ []
+abbrev pub steps_of_all : Limits → FileNames → List GivenBySides → List Step
+steps_of_all limits files [] = []
+steps_of_all limits files (g ∷ given) = step_of limits files g ∷ steps_of_all limits files given
 
--- the steps behind the tokens that are handed on
-abbrev pub steps_behind : Limits → FileNames → Filtered → List Step
-steps_behind limits files j = Passes (lone_between files j.unmatched) ∷ end_steps limits files j.ended
-
--- the steps of a token, by its judgement
-abbrev pub judged_steps : Limits → Context → SourceToken → Option Said → Filtered → List Step
-judged_steps limits context t said j =
-    Passes (said_between limits context.names said)
-    ∷ (given_steps (given_sign j.sign) ++ (given_steps (given_token j.token t) ++ steps_behind limits context.names j))
+-- the steps of a token, behind the message about a condition
+abbrev pub token_steps : Limits → FileNames → Option Said → List GivenBySides → List Step
+token_steps limits files said given = Passes (said_between limits files said) ∷ steps_of_all limits files given
 
 -- all tokens are kept
 abbrev pub AllKept : List Step → Type 0
