@@ -1,0 +1,4 @@
+pub mod Room
+pub mod Simple
+pub mod Bodies
+pub mod Routines
