@@ -1,24 +1,22 @@
 -- The body of a routine is a tree: statements, and cases among them.
-use Rattle.std.proofs.Common.{◌≡◌, ℕ, zero, suc, ◌+◌, ◌≤◌, ◌<◌, List, [], ◌∷◌, ◌++◌, length, Bool, true, false, None, refl, sym, ◌∙◌, ap, subst}
-use Rattle.std.proofs.Common.{append_assoc, append-nil, arith}
+use Rattle.std.proofs.Common.{◌≡◌, ℕ, zero, suc, ◌+◌, ◌≤◌, ◌<◌, List, [], ◌∷◌, ◌++◌, length, true, false, refl, sym, ◌∙◌, ap, subst}
+use Rattle.std.proofs.Common.{append_assoc, arith}
 use Rattle.inf_settings.specs.Bounds.{Limits}
 use Rattle.inf_scanner.specs.declared.tokens.Place.{Place}
 use Rattle.inf_machine.specs.declared.symbols.Symbol.{Symbol}
-use Rattle.inf_machine.specs.declared.symbols.Symbol.TheVariants.{Rule}
-use Rattle.inf_machine.specs.Grammar.{Event, IsOneOf, IsText, Leads, Row, action, first, here, later, token}
+use Rattle.inf_machine.specs.Grammar.{Event, IsOneOf, IsText, Leads, action, first, here, later, token}
 use Rattle.inf_machine.specs.Grammar.{row as a_row}
 use Rattle.inf_syntax.specs.Parts.{ !begin, !name, !outer, !outer_word, 'comma', 'default', 'do', 'else', 'for', 'give', 'if', 'jump', 'move'}
 use Rattle.inf_syntax.specs.Parts.{'objectloop', 'return', 'string', 'style', 'switch', 'while', CASENAME, case_end, directive_2, do_rest}
 use Rattle.inf_syntax.specs.Parts.{if_rest, plain_word, top_item, top_item_10, top_item_11, top_item_18, top_item_2, top_item_5, top_item_6}
 use Rattle.inf_syntax.specs.Parts.{top_item_7, top_item_8, top_item_9, top_next, top_range, top_values, top_word, while_rest}
+use Rattle.inf_syntax.specs.Parts.{objectloop_rest}
 use Rattle.inf_syntax.specs.Rows.{row}
 use Rattle.inf_syntax.specs.declared.actions.Action.{Action}
 use Rattle.inf_grammar.specs.Language.{grammar}
-use Rattle.inf_compilation.specs.Context.{Context}
-use Rattle.inf_compilation.specs.Actions.{Compilation}
 use Rattle.inf_expression_laws.proofs.OperatorRows.{free}
 use Rattle.inf_statement_laws.specs.Laid.{laid}
-use Rattle.inf_statement_laws.specs.Nested.{Nested, Plain, happenings}
+use Rattle.inf_statement_laws.specs.Nested.{Plain, happenings}
 use Rattle.inf_statement_laws.specs.Nested.{Then as After}
 use Rattle.inf_statement_laws.specs.Readings.{Seen}
 use Rattle.inf_statement_laws.proofs.Nesting.{body_is_nested}
@@ -31,11 +29,12 @@ use Rattle.inf_trees.proofs.RuleRows.{of_rows}
 use Rattle.inf_trees.proofs.StatementTexts.{Rows}
 use Rattle.inf_trees.proofs.TopTexts.{item_text}
 use Rattle.inf_trees.proofs.UnitsRead.{place_before, seen_parts}
-use Rattle.inf_routine_trees.specs.Bodies.{BodiesAreLaidAsTrees, IsTold, Nothing, Then, Told, told_statements, tree_laid, tree_seen}
+use Rattle.inf_routine_trees.specs.Bodies.{BodiesAreLaidAsTrees, Nothing, Then, Told, told_statements, tree_laid, tree_seen}
 use Rattle.inf_routine_trees.specs.Simple.{other_items}
 use Rattle.inf_routine_trees.proofs.Endings.{end_so, ends, text_ends}
 use Rattle.inf_routine_trees.proofs.Loops.{block_tree, do_tree, nonempty, statement_trees}
-use Rattle.inf_routine_trees.proofs.Pieces.{PartsOf, are_of, parts_of}
+use Rattle.inf_routine_trees.proofs.ObjectLoops.{loop_tree}
+use Rattle.inf_routine_trees.proofs.Pieces.{are_of, parts_of}
 use Rattle.inf_routine_trees.proofs.SimpleRead.{beside_item, simple_text}
 use Rattle.inf_routine_trees.proofs.SimpleTexts.{Another, OneUnit, SimpleText}
 use Rattle.inf_routine_trees.proofs.Trees.{AreAll, Below, IsTree, if_tree, moved_seen, simple_tree, tree_closed, tree_opening, tree_runs}
@@ -80,6 +79,10 @@ do_rows : Rows top_item_7 (row (do_rest ∷ []) ∷ row (top_word ∷ []) ∷ []
 unfolding grammar
 do_rows = refl
 
+loop_rows : Rows top_item_9 (row (objectloop_rest ∷ []) ∷ row (top_word ∷ []) ∷ [])
+unfolding grammar
+loop_rows = refl
+
 module _ (limits : Limits) (n : ℕ) (below : Below limits n) (next : Place) (seen : List Seen) (events : List (Event Action))
     (are_seen : AreAll seen) (few : length seen + 1 < 4294967295) (fewer : length seen ≤ suc n)
     (whole : IsText grammar (top_item ∷ []) (atoms_of seen) events) where
@@ -108,7 +111,7 @@ module _ (limits : Limits) (n : ℕ) (below : Below limits n) (next : Place) (se
       with_rows (IsTree true limits next seen events) ('if' ∷ []) (number top_item_5) [] (row (if_rest ∷ []) ∷ row (top_word ∷ []) ∷ [])
       (atoms_of seen) events if_rows (
         (λ t. if_tree limits n below false next seen events t are_seen few fewer),
-        ((λ t. told_item ('if' ∷ top_word ∷ []) (later (later (later (later (later (later (later (later (later (later (first))))))))))) t), tt),
+        ((λ t. told_item ('if' ∷ top_word ∷ []) (later (later (later (later (later (later (later (later (later (first)))))))))) t), tt),
       )
       text
 
@@ -117,7 +120,7 @@ module _ (limits : Limits) (n : ℕ) (below : Below limits n) (next : Place) (se
       with_rows (IsTree true limits next seen events) ('while' ∷ []) (number top_item_6) []
       (row (while_rest ∷ []) ∷ row (top_word ∷ []) ∷ []) (atoms_of seen) events while_rows (
         (λ t. while_tree limits n below false next seen events t are_seen few fewer),
-        ((λ t. told_item ('while' ∷ top_word ∷ []) (later (later (later (later (later (later (later (later (later (later (later (first)))))))))))) t), tt),
+        ((λ t. told_item ('while' ∷ top_word ∷ []) (later (later (later (later (later (later (later (later (later (later (first))))))))))) t), tt),
       )
       text
 
@@ -126,33 +129,42 @@ module _ (limits : Limits) (n : ℕ) (below : Below limits n) (next : Place) (se
       with_rows (IsTree true limits next seen events) ('do' ∷ []) (number top_item_7) [] (row (do_rest ∷ []) ∷ row (top_word ∷ []) ∷ [])
       (atoms_of seen) events do_rows (
         (λ t. do_tree limits n below false next seen events t are_seen few fewer),
-        ((λ t. told_item ('do' ∷ top_word ∷ []) (later (later (later (later (later (later (later (later (later (later (later (later (first))))))))))))) t), tt),
+        ((λ t. told_item ('do' ∷ top_word ∷ []) (later (later (later (later (later (later (later (later (later (later (later (first)))))))))))) t), tt),
+      )
+      text
+
+  by_loop : IsText grammar ('objectloop' ∷ top_item_9 ∷ []) (atoms_of seen) events → IsTree true limits next seen events
+  by_loop text =
+      with_rows (IsTree true limits next seen events) ('objectloop' ∷ []) (number top_item_9) []
+      (row (objectloop_rest ∷ []) ∷ row (top_word ∷ []) ∷ []) (atoms_of seen) events loop_rows (
+        (λ t. loop_tree limits n below false next seen events t are_seen few fewer),
+        ((λ t. told_item ('objectloop' ∷ top_word ∷ []) (later (later (later (first)))) t), tt),
       )
       text
 
   other_item : (symbols : List (Symbol Action)) → IsOneOf symbols other_items → IsText grammar symbols (atoms_of seen) events
       → IsTree true limits next seen events
   other_item _ first text = block_tree limits n below next seen events text are_seen few fewer
-  other_item _ (later first) text = told_item (!begin ∷ !outer ∷ CASENAME ∷ !name ∷ case_end ∷ []) (later (later (later (later (later (later (first))))))) text
-  other_item _ (later (later first)) text = told_item (!begin ∷ !outer ∷ CASENAME ∷ !name ∷ top_range ∷ []) (later (later (later (later (later (later (later (first)))))))) text
-  other_item _ (later (later (later first))) text = told_item (!begin ∷ !outer ∷ CASENAME ∷ !name ∷ 'comma' ∷ top_next ∷ []) (later (later (later (later (later (later (later (later (first))))))))) text
-  other_item _ (later (later (later (later first)))) text = told_item (!begin ∷ !outer ∷ 'default' ∷ top_item_2 ∷ []) (later (later (later (later (later (later (later (later (later (first)))))))))) text
+  other_item _ (later first) text = told_item (!begin ∷ !outer ∷ CASENAME ∷ !name ∷ case_end ∷ []) (later (later (later (later (later (first)))))) text
+  other_item _ (later (later first)) text = told_item (!begin ∷ !outer ∷ CASENAME ∷ !name ∷ top_range ∷ []) (later (later (later (later (later (later (first))))))) text
+  other_item _ (later (later (later first))) text = told_item (!begin ∷ !outer ∷ CASENAME ∷ !name ∷ 'comma' ∷ top_next ∷ []) (later (later (later (later (later (later (later (first)))))))) text
+  other_item _ (later (later (later (later first)))) text = told_item (!begin ∷ !outer ∷ 'default' ∷ top_item_2 ∷ []) (later (later (later (later (later (later (later (later (first))))))))) text
   other_item _ (later (later (later (later (later first))))) text = by_if text
   other_item _ (later (later (later (later (later (later first)))))) text = by_while text
   other_item _ (later (later (later (later (later (later (later first))))))) text = by_do text
-  other_item _ (later (later (later (later (later (later (later (later first)))))))) text = told_item ('for' ∷ top_item_8 ∷ []) (later (later (later (first)))) text
-  other_item _ (later (later (later (later (later (later (later (later (later first))))))))) text = told_item ('objectloop' ∷ top_item_9 ∷ []) (later (later (later (later (first))))) text
-  other_item _ (later (later (later (later (later (later (later (later (later (later first)))))))))) text = told_item ('switch' ∷ top_item_10 ∷ []) (later (later (later (later (later (first)))))) text
-  other_item _ (later (later (later (later (later (later (later (later (later (later (later first))))))))))) text = told_item (!begin ∷ top_item_11 ∷ top_word ∷ []) (later (later (later (later (later (later (later (later (later (later (later (later (later (first)))))))))))))) text
-  other_item _ (later (later (later (later (later (later (later (later (later (later (later (later first)))))))))))) text = told_item (!begin ∷ 'return' ∷ top_word ∷ []) (later (later (later (later (later (later (later (later (later (later (later (later (later (later (first))))))))))))))) text
-  other_item _ (later (later (later (later (later (later (later (later (later (later (later (later (later first))))))))))))) text = told_item (!begin ∷ plain_word ∷ top_word ∷ []) (later (later (later (later (later (later (later (later (later (later (later (later (later (later (later (first)))))))))))))))) text
-  other_item _ (later (later (later (later (later (later (later (later (later (later (later (later (later (later first)))))))))))))) text = told_item (!begin ∷ 'jump' ∷ !outer_word ∷ !name ∷ top_values ∷ []) (later (later (later (later (later (later (later (later (later (later (later (later (later (later (later (later (first))))))))))))))))) text
-  other_item _ (later (later (later (later (later (later (later (later (later (later (later (later (later (later (later first))))))))))))))) text = told_item (!begin ∷ 'give' ∷ top_word ∷ []) (later (later (later (later (later (later (later (later (later (later (later (later (later (later (later (later (later (first)))))))))))))))))) text
-  other_item _ (later (later (later (later (later (later (later (later (later (later (later (later (later (later (later (later first)))))))))))))))) text = told_item (!begin ∷ 'move' ∷ top_word ∷ []) (later (later (later (later (later (later (later (later (later (later (later (later (later (later (later (later (later (later (first))))))))))))))))))) text
-  other_item _ (later (later (later (later (later (later (later (later (later (later (later (later (later (later (later (later (later first))))))))))))))))) text = told_item (!begin ∷ top_item_18 ∷ top_word ∷ []) (later (later (later (later (later (later (later (later (later (later (later (later (later (later (later (later (later (later (later (first)))))))))))))))))))) text
-  other_item _ (later (later (later (later (later (later (later (later (later (later (later (later (later (later (later (later (later (later first)))))))))))))))))) text = told_item (!begin ∷ 'string' ∷ top_word ∷ []) (later (later (later (later (later (later (later (later (later (later (later (later (later (later (later (later (later (later (later (later (first))))))))))))))))))))) text
-  other_item _ (later (later (later (later (later (later (later (later (later (later (later (later (later (later (later (later (later (later (later first))))))))))))))))))) text = told_item (!begin ∷ 'style' ∷ top_word ∷ []) (later (later (later (later (later (later (later (later (later (later (later (later (later (later (later (later (later (later (later (later (later (first)))))))))))))))))))))) text
-  other_item _ (later (later (later (later (later (later (later (later (later (later (later (later (later (later (later (later (later (later (later (later first)))))))))))))))))))) text = told_item (!outer ∷ 'else' ∷ top_word ∷ []) (later (later (later (later (later (later (later (later (later (later (later (later (later (later (later (later (later (later (later (later (later (later (first))))))))))))))))))))))) text
+  other_item _ (later (later (later (later (later (later (later (later first)))))))) text = told_item ('for' ∷ top_item_8 ∷ []) (later (later (first))) text
+  other_item _ (later (later (later (later (later (later (later (later (later first))))))))) text = by_loop text
+  other_item _ (later (later (later (later (later (later (later (later (later (later first)))))))))) text = told_item ('switch' ∷ top_item_10 ∷ []) (later (later (later (later (first))))) text
+  other_item _ (later (later (later (later (later (later (later (later (later (later (later first))))))))))) text = told_item (!begin ∷ top_item_11 ∷ top_word ∷ []) (later (later (later (later (later (later (later (later (later (later (later (later (first))))))))))))) text
+  other_item _ (later (later (later (later (later (later (later (later (later (later (later (later first)))))))))))) text = told_item (!begin ∷ 'return' ∷ top_word ∷ []) (later (later (later (later (later (later (later (later (later (later (later (later (later (first)))))))))))))) text
+  other_item _ (later (later (later (later (later (later (later (later (later (later (later (later (later first))))))))))))) text = told_item (!begin ∷ plain_word ∷ top_word ∷ []) (later (later (later (later (later (later (later (later (later (later (later (later (later (later (first))))))))))))))) text
+  other_item _ (later (later (later (later (later (later (later (later (later (later (later (later (later (later first)))))))))))))) text = told_item (!begin ∷ 'jump' ∷ !outer_word ∷ !name ∷ top_values ∷ []) (later (later (later (later (later (later (later (later (later (later (later (later (later (later (later (first)))))))))))))))) text
+  other_item _ (later (later (later (later (later (later (later (later (later (later (later (later (later (later (later first))))))))))))))) text = told_item (!begin ∷ 'give' ∷ top_word ∷ []) (later (later (later (later (later (later (later (later (later (later (later (later (later (later (later (later (first))))))))))))))))) text
+  other_item _ (later (later (later (later (later (later (later (later (later (later (later (later (later (later (later (later first)))))))))))))))) text = told_item (!begin ∷ 'move' ∷ top_word ∷ []) (later (later (later (later (later (later (later (later (later (later (later (later (later (later (later (later (later (first)))))))))))))))))) text
+  other_item _ (later (later (later (later (later (later (later (later (later (later (later (later (later (later (later (later (later first))))))))))))))))) text = told_item (!begin ∷ top_item_18 ∷ top_word ∷ []) (later (later (later (later (later (later (later (later (later (later (later (later (later (later (later (later (later (later (first))))))))))))))))))) text
+  other_item _ (later (later (later (later (later (later (later (later (later (later (later (later (later (later (later (later (later (later first)))))))))))))))))) text = told_item (!begin ∷ 'string' ∷ top_word ∷ []) (later (later (later (later (later (later (later (later (later (later (later (later (later (later (later (later (later (later (later (first)))))))))))))))))))) text
+  other_item _ (later (later (later (later (later (later (later (later (later (later (later (later (later (later (later (later (later (later (later first))))))))))))))))))) text = told_item (!begin ∷ 'style' ∷ top_word ∷ []) (later (later (later (later (later (later (later (later (later (later (later (later (later (later (later (later (later (later (later (later (first))))))))))))))))))))) text
+  other_item _ (later (later (later (later (later (later (later (later (later (later (later (later (later (later (later (later (later (later (later (later first)))))))))))))))))))) text = told_item (!outer ∷ 'else' ∷ top_word ∷ []) (later (later (later (later (later (later (later (later (later (later (later (later (later (later (later (later (later (later (later (later (later (first)))))))))))))))))))))) text
   other_item _ (later (later (later (later (later (later (later (later (later (later (later (later (later (later (later (later (later (later (later (later (later missing))))))))))))))))))))) text = elim missing [ ]
 
   by_text : SimpleText other_items (atoms_of seen) events → IsTree true limits next seen events
@@ -181,7 +193,7 @@ no_items limits next here [] is = record {
 }
 no_items limits next here (s ∷ seen) is = cc
 
--- Bodies of at most so many tokens
+-- bodies of at most `m` tokens
 abbrev Bodies : Limits → ℕ → Type 0
 Bodies limits m =
     (next : Place) (seen : List Seen) (events : List (Event Action)) → IsText grammar (directive_2 ∷ []) (atoms_of seen) events

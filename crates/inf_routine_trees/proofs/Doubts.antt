@@ -1,5 +1,5 @@
 -- An expression that is known to be one only behind its first tokens: a text, or a name in brackets.
-use Rattle.std.proofs.Common.{◌≡◌, ℕ, ◌+◌, ◌≤◌, ◌<◌, List, [], ◌∷◌, ◌++◌, length, Bool, true, false, Option, Some, None, refl, sym, ◌∙◌, ap}
+use Rattle.std.proofs.Common.{◌≡◌, ℕ, ◌+◌, ◌≤◌, ◌<◌, List, [], ◌∷◌, ◌++◌, length, false, Option, Some, None, refl, sym, ◌∙◌, ap}
 use Rattle.std.proofs.Common.{append_assoc, append-nil, arith, subst}
 use Rattle.std.proofs.lemmas.List.{length-append, map-append}
 use Rattle.inf_settings.specs.Bounds.{Limits}
@@ -37,7 +37,7 @@ use Rattle.inf_trees.proofs.StatementTexts.{OnlySteps}
 use Rattle.inf_trees.proofs.UnitsRead.{at, before-append, note_first, place_before, ready, seen_parts, told_beside, tokens_count, tokens_opening}
 use Rattle.inf_trees.proofs.UnitsRead.{value_reads}
 use Rattle.inf_trees.proofs.ValueForms.{form_of, other_prim_text}
-use Rattle.inf_routine_trees.proofs.UnitsGo.{Going, Goes, steps_quiet}
+use Rattle.inf_routine_trees.proofs.UnitsGo.{Going, steps_quiet}
 
 -- Reading by two lists of events
 

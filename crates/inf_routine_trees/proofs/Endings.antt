@@ -7,7 +7,7 @@ use Rattle.inf_settings.specs.Bounds.{Limits}
 use Rattle.inf_scanner.specs.declared.tokens.Place.{Place}
 use Rattle.inf_machine.specs.declared.symbols.Symbol.{Symbol}
 use Rattle.inf_machine.specs.declared.symbols.Symbol.TheVariants.{Act, Rule, Token}
-use Rattle.inf_machine.specs.Grammar.{Did, Event, IsOneOf, IsText, Leads, Row, Took, action, here, row, token}
+use Rattle.inf_machine.specs.Grammar.{Did, Event, IsOneOf, Leads, Row, Took, action, here, row, token}
 use Rattle.inf_syntax.specs.Parts.{case_end, do_rest, else_part, end, for_rest, give_rest, if_rest, jump_rest, mark_statement, move_rest}
 use Rattle.inf_syntax.specs.Parts.{objectloop_rest, of_expression, print_rest, return_rest, statement, statement_3, statement_end}
 use Rattle.inf_syntax.specs.Parts.{string_rest, style_rest, switch_rest, text_more, text_statement, text_statement_1, top_following}
@@ -18,7 +18,6 @@ use Rattle.inf_syntax.specs.Parts.{while_rest}
 use Rattle.inf_syntax.specs.declared.actions.Action.{Action}
 use Rattle.inf_syntax.specs.declared.actions.Action.TheVariants as action_of
 use Rattle.inf_grammar.specs.Language.{grammar}
-use Rattle.inf_constructs.specs.declared.constructs.Construct.{Construct}
 use Rattle.inf_unit.proofs.Cases.{of_both}
 use Rattle.inf_compilation.specs.Context.{Context}
 use Rattle.inf_compilation.specs.Actions.{Compilation, took}

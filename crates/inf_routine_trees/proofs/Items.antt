@@ -1,11 +1,11 @@
 -- The items of a statement that prints.
-use Rattle.std.proofs.Common.{◌≡◌, ℕ, zero, suc, ◌+◌, ◌≤◌, ◌<◌, List, [], ◌∷◌, ◌++◌, length, Bool, true, false, refl, sym, ◌∙◌, ap, subst}
+use Rattle.std.proofs.Common.{◌≡◌, ℕ, zero, suc, ◌+◌, ◌≤◌, List, [], ◌∷◌, ◌++◌, length, Bool, true, false, refl, sym, ◌∙◌, ap, subst}
 use Rattle.std.proofs.Common.{append_assoc, append-nil, arith}
 use Rattle.std.proofs.lemmas.List.{length-append}
 use Rattle.inf_settings.specs.Bounds.{Limits}
 use Rattle.inf_machine.specs.declared.symbols.Symbol.{Symbol}
 use Rattle.inf_machine.specs.declared.symbols.Symbol.TheVariants.{Act, Token}
-use Rattle.inf_machine.specs.Grammar.{Did, Event, IsOneOf, IsText, Leads, Row, Took, action, first, here, later, token}
+use Rattle.inf_machine.specs.Grammar.{Did, Event, IsOneOf, IsText, Took, action, first, here, later, token}
 use Rattle.inf_syntax.specs.Parts.{ !bracket, !bracketed, !comma, !name, !outer, !outer_end, !outer_maybe, !outer_sure, !print_rule}
 use Rattle.inf_syntax.specs.Parts.{ !print_text, !print_value, !rule, !text, 'close_parenthesis', 'comma', 'minus', 'open_parenthesis'}
 use Rattle.inf_syntax.specs.Parts.{ !negate, OPERAND, RESERVED, TEXT, after_prim, after_unary, assign, bracket_item, bracket_name}
@@ -15,7 +15,7 @@ use Rattle.inf_syntax.specs.Rows.{row}
 use Rattle.inf_syntax.specs.declared.actions.Action.{Action}
 use Rattle.inf_syntax.specs.declared.actions.Action.TheVariants as action_of
 use Rattle.inf_grammar.specs.Language.{grammar}
-use Rattle.inf_unit.specs.Units.{Unit as UnitAtHand, depth_behind, noted}
+use Rattle.inf_unit.specs.Units.{depth_behind, noted}
 use Rattle.inf_unit.specs.declared.roles.Note.TheVariants as note
 use Rattle.inf_expression_laws.specs.Laws.{forms}
 use Rattle.inf_expression_laws.specs.Precedence.{assignments, primaries}
@@ -26,10 +26,10 @@ use Rattle.inf_language.proofs.TextsSplit.{split}
 use Rattle.inf_trees.proofs.Expanded.{with_rows}
 use Rattle.inf_trees.proofs.RuleRows.{of_rows}
 use Rattle.inf_trees.proofs.StatementsRead.{behind}
-use Rattle.inf_trees.proofs.StatementTexts.{OnlySteps, Rows}
+use Rattle.inf_trees.proofs.StatementTexts.{Rows}
 use Rattle.inf_trees.proofs.UnitsRead.{ready}
 use Rattle.inf_trees.proofs.ValueForms.{HasForm, by_row, form_of, is_value, values_have_forms}
-use Rattle.inf_routine_trees.proofs.Doubts.{Apart, apart, doubted_expression, formed_doubt}
+use Rattle.inf_routine_trees.proofs.Doubts.{apart, doubted_expression, formed_doubt}
 use Rattle.inf_routine_trees.proofs.Pieces.{act_first, token_first}
 use Rattle.inf_routine_trees.proofs.PrintRules.{rule_events, ruled_value}
 use Rattle.inf_routine_trees.proofs.StepRules.{have_steps, is_step_rule, only_steps}

@@ -9,6 +9,8 @@ pub mod SimpleRead
 pub mod Endings
 pub mod Wider
 pub mod Trees
+pub mod ObjectLoops
 pub mod Loops
 pub mod BodyTrees
 pub mod RoutineTrees
+pub mod Examples

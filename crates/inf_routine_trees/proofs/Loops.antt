@@ -1,7 +1,6 @@
 -- A `do` and a block are trees; and so is each statement.
-use Rattle.std.proofs.Common.{◌≡◌, ℕ, zero, suc, ◌+◌, ◌≤◌, ◌<◌, List, [], ◌∷◌, ◌++◌, length, Bool, true, false, None, refl, sym, ◌∙◌, ap, subst}
-use Rattle.std.proofs.Common.{append_assoc, append-nil, arith}
-use Rattle.std.proofs.lemmas.List.{length-append}
+use Rattle.std.proofs.Common.{◌≡◌, ℕ, zero, suc, ◌+◌, ◌≤◌, ◌<◌, List, [], ◌∷◌, ◌++◌, length, Bool, true, false, None, refl, sym, ◌∙◌, ap}
+use Rattle.std.proofs.Common.{append_assoc, arith}
 use Rattle.inf_settings.specs.Bounds.{Limits}
 use Rattle.inf_scanner.specs.declared.tokens.Place.{Place}
 use Rattle.inf_machine.specs.declared.symbols.Symbol.{Symbol}
@@ -18,9 +17,9 @@ use Rattle.inf_constructs.specs.Constructs.{between, opened}
 use Rattle.inf_constructs.specs.declared.constructs.Kind.TheVariants as kind
 use Rattle.inf_compilation.specs.Context.{Context}
 use Rattle.inf_compilation.specs.Actions.{Compilation}
-use Rattle.inf_statement_laws.specs.Happenings.{Acts, Happening, Moment, Quiet, Takes}
+use Rattle.inf_statement_laws.specs.Happenings.{Acts, Happening, Quiet, Takes}
 use Rattle.inf_statement_laws.specs.Laid.{ended_as, holding, laid, opened_at, run}
-use Rattle.inf_statement_laws.specs.Nested.{Do, Nested, Plain, happenings}
+use Rattle.inf_statement_laws.specs.Nested.{Do, Plain, happenings}
 use Rattle.inf_statement_laws.specs.Nested.{Then as After}
 use Rattle.inf_statement_laws.specs.Readings.{Seen, plainly_at}
 use Rattle.inf_statement_laws.proofs.Acts.{quiet_run}
@@ -34,16 +33,17 @@ use Rattle.inf_trees.proofs.Expanded.{with_rows}
 use Rattle.inf_trees.proofs.RuleRows.{of_rows}
 use Rattle.inf_trees.proofs.StatementTexts.{Rows, statement_text}
 use Rattle.inf_trees.proofs.UnitsRead.{place_before, seen_parts}
-use Rattle.inf_routine_trees.specs.Bodies.{Block, Do as DoTree, Nothing, Then, Tree, bracketed_done, bracketed_seen, moment_before}
+use Rattle.inf_routine_trees.specs.Bodies.{Block, Do as DoTree, Nothing, Then, bracketed_seen, moment_before}
 use Rattle.inf_routine_trees.specs.Bodies.{IsTold, StatementsAreLaidAsTrees, opening_of, token_done, told_statements, tree_laid, tree_seen, word_done}
 use Rattle.inf_routine_trees.specs.Simple.{holding_statements}
 use Rattle.inf_routine_trees.proofs.Endings.{end_so, ends, last_took, text_ends}
+use Rattle.inf_routine_trees.proofs.ObjectLoops.{loop_tree}
 use Rattle.inf_routine_trees.proofs.Pieces.{PartsOf, Worded, act_first, before_word, bracketed_text, closed_text, parts_of, test_happen, test_happens}
 use Rattle.inf_routine_trees.proofs.Pieces.{nothing_left, quiet-append, test_quiet, test_runs, token_first, word_happens, worded}
 use Rattle.inf_routine_trees.proofs.Wider.{wider, wider_laid, wider_same}
 use Rattle.inf_routine_trees.proofs.SimpleRead.{beside_statement, simple_text}
 use Rattle.inf_routine_trees.proofs.SimpleTexts.{Another, OneUnit, SimpleText}
-use Rattle.inf_routine_trees.proofs.Trees.{AreAll, Below, IsTree, if_tree, moved_seen, simple_tree, test_closed, told_tree, tree_closed}
+use Rattle.inf_routine_trees.proofs.Trees.{AreAll, Below, IsTree, if_tree, moved_seen, simple_tree, told_tree, tree_closed}
 use Rattle.inf_routine_trees.proofs.Trees.{tree_opening, tree_runs, while_tree, word_closed, word_quiet}
 
 pub statement_ends : end_so false (statement ∷ []) ≡ true
@@ -183,7 +183,7 @@ nonempty (Did a ∷ events) seen all last = nonempty events seen all last
 nonempty (Took atom ∷ events) [] all last = absurd all
 nonempty (Took atom ∷ events) (s ∷ seen) all last = omega arith
 
--- Lists of at most so many tokens, beside that they are at most `n`
+-- lists of at most `m` tokens, and of at most `n`
 abbrev Lists : Limits → ℕ → ℕ → Type 0
 Lists limits n m =
     (next : Place) (seen : List Seen) (events : List (Event Action)) → IsText grammar (mark_statement_1 ∷ []) (atoms_of seen) events
@@ -320,8 +320,8 @@ module _ (limits : Limits) (n : ℕ) (below : Below limits n) (next : Place) (se
             (
               (λ t. told_tree limits next seen events (told_by (!deeper ∷ 'for' ∷ for_rest ∷ []) first t) whole),
               (
-                (λ t. told_tree limits next seen events (told_by (!deeper ∷ 'objectloop' ∷ objectloop_rest ∷ []) (later first) t) whole),
-                ((λ t. told_tree limits next seen events (told_by (!deeper ∷ 'switch' ∷ switch_rest ∷ []) (later (later first)) t) whole), tt),
+                (λ t. loop_tree limits n below true next seen events t are_seen few fewer),
+                ((λ t. told_tree limits next seen events (told_by (!deeper ∷ 'switch' ∷ switch_rest ∷ []) (later first) t) whole), tt),
               ),
             ),
           ),
@@ -346,7 +346,6 @@ statement_trees limits zero next seen events text are_seen few fewer =
   where
     none : 1 ≤ 0 → ⊥
     none e = omega (arith, e)
-
 statement_trees limits (suc n) next seen events text are_seen few fewer =
     by_text limits n (statement_trees limits n) next seen events are_seen few fewer text
     (simple_text other_statements holding_statements (atoms_of seen) events (beside_statement (atoms_of seen) events)

@@ -1,22 +1,22 @@
 -- The pieces of statements that hold others: their tokens, events and happenings.
-use Rattle.std.proofs.Common.{◌≡◌, ℕ, zero, suc, ◌+◌, ◌≤◌, ◌<◌, List, [], ◌∷◌, ◌++◌, length, Bool, true, false, ◌&&◌, None, refl, sym, ◌∙◌, ap, subst}
-use Rattle.std.proofs.Common.{append_assoc, append-nil, arith}
+use Rattle.std.proofs.Common.{◌≡◌, ℕ, suc, ◌+◌, ◌≤◌, ◌<◌, List, [], ◌∷◌, ◌++◌, length, Bool, true, false, refl, sym, ◌∙◌, ap, subst}
+use Rattle.std.proofs.Common.{append_assoc, arith}
 use Rattle.std.proofs.lemmas.Bool.{and_from, and_parts}
 use Rattle.std.proofs.lemmas.List.{length-append}
 use Rattle.inf_settings.specs.Bounds.{Limits}
 use Rattle.inf_scanner.specs.declared.tokens.Place.{Place}
 use Rattle.inf_machine.specs.declared.symbols.Symbol.{Symbol}
 use Rattle.inf_machine.specs.declared.symbols.Symbol.TheVariants.{Act, Token}
-use Rattle.inf_machine.specs.Grammar.{Did, Event, IsText, Leads, Took, action, here, token}
+use Rattle.inf_machine.specs.Grammar.{Did, Event, IsText, Took, action, here, token}
 use Rattle.inf_syntax.specs.Parts.{ !begin, !close, !deeper, !outer, 'close_parenthesis', 'open_parenthesis', expression}
 use Rattle.inf_syntax.specs.declared.actions.Action.{Action}
 use Rattle.inf_syntax.specs.declared.actions.Action.TheVariants as action_of
 use Rattle.inf_grammar.specs.Language.{grammar}
-use Rattle.inf_unit.specs.Units.{Unit as UnitAtHand, begun, no_unit}
+use Rattle.inf_unit.specs.Units.{Unit as UnitAtHand, no_unit}
 use Rattle.inf_compilation.specs.Context.{Context}
 use Rattle.inf_compilation.specs.Actions.{Compilation}
 use Rattle.inf_expression_laws.specs.Gathered.{AreSeen}
-use Rattle.inf_statement_laws.specs.Happenings.{Acts, AreOf, Happening, Quiet, Takes, happen_quietly, happens_quietly, is_quiet}
+use Rattle.inf_statement_laws.specs.Happenings.{Acts, AreOf, Happening, Takes, happen_quietly, happens_quietly, is_quiet}
 use Rattle.inf_statement_laws.specs.Laid.{run}
 use Rattle.inf_statement_laws.specs.Readings.{Seen, plainly_at}
 use Rattle.inf_statement_laws.proofs.Laying.{run_then}
@@ -27,12 +27,11 @@ use Rattle.inf_language.specs.Texts.{atoms_of, happenings_before, tokens_of}
 use Rattle.inf_language.specs.Units.{TakeAll}
 use Rattle.inf_language.proofs.Derivations.{texts_take_all}
 use Rattle.inf_language.proofs.TextsSplit.{split}
-use Rattle.inf_trees.specs.Statements.{IsBracketed, with_unit}
-use Rattle.inf_trees.specs.Trees.{Part, all_seen}
+use Rattle.inf_trees.specs.Trees.{all_seen}
 use Rattle.inf_trees.proofs.StatementsRead.{bracketed_units_are_trees}
 use Rattle.inf_trees.proofs.UnitsRead.{before-append, place_before, seen_parts}
 use Rattle.inf_routine_trees.specs.Bodies.{Bracketed, UnitWritten, bracketed_done, bracketed_seen, token_done, unit_done, word_done}
-use Rattle.inf_routine_trees.proofs.Doubts.{Apart, apart}
+use Rattle.inf_routine_trees.proofs.Doubts.{apart}
 
 -- The happenings of events
 
@@ -159,7 +158,7 @@ parts_of xs ys seen events text =
 abbrev pub unit_symbols : List (Symbol Action)
 unit_symbols = !begin ∷ !outer ∷ expression ∷ []
 
-unit_quiet : all_quiet unit_symbols ≡ true
+pub unit_quiet : all_quiet unit_symbols ≡ true
 unfolding is_quiet_rule
 unit_quiet = refl
 

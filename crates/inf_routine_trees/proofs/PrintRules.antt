@@ -1,7 +1,7 @@
 -- A print rule, which is a name in brackets, and the value that is printed by it.
-use Rattle.std.proofs.Common.{◌≡◌, ℕ, ◌+◌, ◌-◌, ◌≤◌, ◌<◌, List, [], ◌∷◌, ◌++◌, length, Bool, true, false, Option, Some, None, refl, sym, ◌∙◌, ap}
+use Rattle.std.proofs.Common.{◌≡◌, ℕ, ◌+◌, ◌-◌, List, [], ◌∷◌, ◌++◌, length, Bool, true, false, Some, None, refl, ◌∙◌, ap}
 use Rattle.std.proofs.Common.{arith}
-use Rattle.std.specs.Prelude.{◌&&◌, ◌==◌}
+use Rattle.std.specs.Prelude.{◌&&◌}
 use Rattle.std.proofs.lemmas.Bool.{and_parts, ne_eqb}
 use Rattle.std.proofs.lemmas.List.{length-append}
 use Rattle.inf_settings.specs.Bounds.{Limits}
@@ -10,25 +10,25 @@ use Rattle.inf_machine.specs.Grammar.{Did, Event, Took}
 use Rattle.inf_syntax.specs.declared.actions.Action.{Action}
 use Rattle.inf_syntax.specs.declared.actions.Action.TheVariants as action_of
 use Rattle.inf_expressions.specs.Sources.{Source}
-use Rattle.inf_unit.specs.Units.{Unit as UnitAtHand, is_alone, is_assembly, kind_at, last_leaf, leaf_gathered, noted, ruled, stepped, taken}
+use Rattle.inf_unit.specs.Units.{Unit as UnitAtHand, is_alone, is_assembly, kind_at, last_leaf, leaf_gathered, noted, stepped, taken}
 use Rattle.inf_unit.specs.Units.{with_last}
 use Rattle.inf_unit.specs.declared.roles.Note.TheVariants as note
 use Rattle.inf_unit.specs.declared.steps.GatherStep.TheVariants as step
 use Rattle.inf_compilation.specs.Context.{Context}
 use Rattle.inf_compilation.specs.Actions.{Compilation}
-use Rattle.inf_expression_laws.specs.Gathered.{AreSeen, read_by}
+use Rattle.inf_expression_laws.specs.Gathered.{read_by}
 use Rattle.inf_statement_laws.specs.Happenings.{Acts, Happening, Takes}
 use Rattle.inf_statement_laws.specs.Laid.{passed, run}
 use Rattle.inf_statement_laws.specs.Readings.{Seen, nothing_between, plainly_at}
 use Rattle.inf_language.specs.Texts.{atoms_of, happenings_before, tokens_of}
 use Rattle.inf_language.specs.Units.{AllSteps, TakeAll}
 use Rattle.inf_language.proofs.Derivations.{texts_take_all}
-use Rattle.inf_trees.specs.Trees.{Ruled, Value, told_at, tokens_told, with_outer, with_rule, with_value, without_outer}
-use Rattle.inf_trees.proofs.UnitsRead.{expressed_does, gathers, note_first, one_taken, ready, seen_parts, told_at_opening, tokens_count}
+use Rattle.inf_trees.specs.Trees.{Ruled, Value, tokens_told, with_outer, with_rule, with_value, without_outer}
+use Rattle.inf_trees.proofs.UnitsRead.{expressed_does, gathers, note_first, one_taken, ready, seen_parts, tokens_count}
 use Rattle.inf_trees.proofs.UnitsRead.{tokens_opening}
 use Rattle.inf_trees.proofs.ValueForms.{HasForm}
 use Rattle.inf_routine_trees.specs.Room.{has_room, have_room}
-use Rattle.inf_routine_trees.proofs.UnitsGo.{AreQuiet, Going, Goes, end_acts, noted_goes, rule_acts, steps_quiet}
+use Rattle.inf_routine_trees.proofs.UnitsGo.{AreQuiet, Going, end_acts, noted_goes, rule_acts, steps_quiet}
 
 -- a unit whose next token may begin an expression, and units behind the tokens of the rule
 abbrev maybe : UnitAtHand → UnitAtHand

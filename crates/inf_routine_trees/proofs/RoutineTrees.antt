@@ -1,10 +1,9 @@
 -- Routines are trees.
-use Rattle.std.proofs.Common.{◌≡◌, ℕ, zero, suc, ◌+◌, ◌≤◌, ◌<◌, List, [], ◌∷◌, ◌++◌, length, true, None, refl, sym, ◌∙◌, ap, subst}
-use Rattle.std.proofs.Common.{append_assoc, append-nil, arith}
+use Rattle.std.proofs.Common.{◌≡◌, ℕ, suc, ◌+◌, List, [], ◌∷◌, ◌++◌, length, refl, sym, ◌∙◌, ap, subst}
+use Rattle.std.proofs.Common.{append-nil, arith}
 use Rattle.inf_settings.specs.Bounds.{Limits}
 use Rattle.inf_scanner.specs.declared.tokens.Place.{Place}
 use Rattle.inf_machine.specs.declared.symbols.Symbol.{Symbol}
-use Rattle.inf_machine.specs.declared.symbols.Symbol.TheVariants.{Rule}
 use Rattle.inf_machine.specs.Grammar.{Event, IsOneOf, IsText, Took, first, here, token}
 use Rattle.inf_machine.specs.Grammar.{row as a_row}
 use Rattle.inf_syntax.specs.Parts.{ !end_locals, !end_routine, !routine, 'close_bracket', 'open_bracket', 'semicolon', NAME, directive}
@@ -13,25 +12,23 @@ use Rattle.inf_syntax.specs.Rows.{row}
 use Rattle.inf_syntax.specs.declared.actions.Action.{Action}
 use Rattle.inf_syntax.specs.declared.actions.Action.TheVariants as action_of
 use Rattle.inf_grammar.specs.Language.{grammar}
-use Rattle.inf_compilation.specs.Context.{Context}
-use Rattle.inf_compilation.specs.Actions.{Compilation}
 use Rattle.inf_reader.specs.Acting.{act}
 use Rattle.inf_expression_laws.proofs.OperatorRows.{free}
-use Rattle.inf_statement_laws.specs.Happenings.{Acts, Happening, Quiet, Takes, happen_quietly}
-use Rattle.inf_statement_laws.specs.Laid.{next_comes, passed, run}
-use Rattle.inf_statement_laws.specs.Readings.{Seen, all_taken, nothing_between, plainly_at}
+use Rattle.inf_statement_laws.specs.Happenings.{Acts, Happening, Quiet, Takes}
+use Rattle.inf_statement_laws.specs.Laid.{next_comes, run}
+use Rattle.inf_statement_laws.specs.Readings.{Seen, plainly_at}
 use Rattle.inf_statement_laws.proofs.Acts.{inside_act, quiet_run, took_none}
 use Rattle.inf_statement_laws.proofs.Laying.{run_then}
 use Rattle.inf_statement_laws.proofs.Rules.{header_parts, number, quiet_header}
-use Rattle.inf_language.specs.Texts.{NoneClosesAhead, atoms_of, happenings_before, happenings_of}
+use Rattle.inf_language.specs.Texts.{atoms_of, happenings_before, happenings_of}
 use Rattle.inf_language.proofs.Derivations.{happenings-append, texts_take_all}
 use Rattle.inf_language.proofs.TextsActed.{texts_do_their_actions}
 use Rattle.inf_trees.proofs.UnitsRead.{before-append, place_before, seen_parts}
-use Rattle.inf_routine_trees.specs.Bodies.{token_done, tree_laid, tree_seen}
-use Rattle.inf_routine_trees.specs.Routines.{IsRoutine, Routine, RoutinesAreTrees, routine_done, routine_symbols}
+use Rattle.inf_routine_trees.specs.Bodies.{token_done}
+use Rattle.inf_routine_trees.specs.Routines.{Routine, RoutinesAreTrees, routine_symbols}
 use Rattle.inf_routine_trees.proofs.BodyTrees.{body_tree}
-use Rattle.inf_routine_trees.proofs.Pieces.{PartsOf, act_first, nothing_left, parts_of, quiet_text, token_first}
-use Rattle.inf_routine_trees.proofs.Trees.{AreAll, moved_seen, tree_runs}
+use Rattle.inf_routine_trees.proofs.Pieces.{act_first, nothing_left, parts_of, quiet_text, token_first}
+use Rattle.inf_routine_trees.proofs.Trees.{moved_seen, tree_runs}
 
 -- A routine is a directive.
 

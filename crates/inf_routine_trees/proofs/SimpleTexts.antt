@@ -1,13 +1,12 @@
 -- The text of a statement of one unit: how the tokens before its end are read as a unit; or another statement.
-use Rattle.std.proofs.Common.{◌≡◌, ℕ, ◌+◌, ◌<◌, List, [], ◌∷◌, ◌++◌, length, Bool, true, false, refl, sym, ◌∙◌, ap, subst, append_assoc}
+use Rattle.std.proofs.Common.{◌≡◌, ℕ, ◌+◌, List, [], ◌∷◌, ◌++◌, Bool, true, false, refl, sym, ◌∙◌, ap, subst, append_assoc}
 use Rattle.std.specs.Prelude.{if◌then◌else◌}
-use Rattle.std.proofs.Common.{append-nil, arith}
-use Rattle.std.proofs.lemmas.List.{length-append}
+use Rattle.std.proofs.Common.{append-nil}
 use Rattle.inf_settings.specs.Bounds.{Limits}
 use Rattle.inf_machine.specs.declared.symbols.Symbol.{Symbol}
 use Rattle.inf_machine.specs.declared.symbols.Symbol.TheVariants.{Rule, Token}
-use Rattle.inf_machine.specs.Grammar.{Did, Event, IsOneOf, IsText, Leads, Row, Took, action, first, here, later, token}
-use Rattle.inf_syntax.specs.Parts.{ !asm_text, !begin, !outer, !outer_end, !outer_maybe, !outer_sure, !print_text, !text, 'arrow', 'at'}
+use Rattle.inf_machine.specs.Grammar.{Did, Event, IsOneOf, IsText, Took, action, first, here, later, token}
+use Rattle.inf_syntax.specs.Parts.{ !asm_text, !begin, !outer, !outer_end, !outer_maybe, !outer_sure, !print_text, !text, 'at'}
 use Rattle.inf_syntax.specs.Parts.{'comma', 'double_greater', 'double_less', 'give', 'greater', 'less', 'print', 'print_ret', 'string', !comma}
 use Rattle.inf_syntax.specs.Parts.{NAME, TEXT, act, assembly, assembly_1, assembly_2, assembly_3, assign, end, expression_tail, give_rest}
 use Rattle.inf_syntax.specs.Parts.{give_rest_1, item, operands, operator, post, print_rest, print_rest_1, statement_4, statement_end}
@@ -25,21 +24,16 @@ use Rattle.inf_expression_laws.specs.Precedence.{commas}
 use Rattle.inf_statement_laws.specs.Readings.{Seen}
 use Rattle.inf_statement_laws.proofs.Rules.{number}
 use Rattle.inf_language.specs.Texts.{atoms_of}
-use Rattle.inf_language.proofs.TextsSplit.{split}
-use Rattle.inf_trees.specs.Statements.{other_statements}
-use Rattle.inf_trees.specs.Statements.{other_items as items_beside}
 use Rattle.inf_trees.proofs.Expanded.{with_rows}
 use Rattle.inf_trees.proofs.StatementsRead.{behind}
-use Rattle.inf_trees.proofs.StatementTexts.{Flat, Formed, OnlySteps, Others, Printed, Rows, StatementText, statement_text, unit_end, with_end}
-use Rattle.inf_trees.proofs.TopTexts.{item_text}
+use Rattle.inf_trees.proofs.StatementTexts.{OnlySteps, Rows, unit_end, with_end}
 use Rattle.inf_trees.proofs.UnitTexts.{AnyNotes, Kinds, is_flat, is_unit, parsed}
 use Rattle.inf_trees.proofs.UnitsRead.{ready}
 use Rattle.inf_trees.proofs.ValueForms.{HasForm, form_of, is_value}
-use Rattle.inf_routine_trees.specs.Simple.{holding_statements, other_items}
 use Rattle.inf_routine_trees.proofs.Doubts.{doubted_expression, formed_doubt, text_doubt}
 use Rattle.inf_routine_trees.proofs.Items.{print_goes, text_printed}
 use Rattle.inf_routine_trees.proofs.StepRules.{have_steps, is_step_rule, only_steps}
-use Rattle.inf_routine_trees.proofs.UnitsGo.{Going, Goes, alone, alone_goes, expressed, moved, noted_goes, nothing, nothing_goes, units_go}
+use Rattle.inf_routine_trees.proofs.UnitsGo.{Going, alone, alone_goes, expressed, moved, noted_goes, nothing, nothing_goes, units_go}
 
 -- Tokens that are a text of some symbols are the parts of a unit.
 abbrev pub Reading : List (Symbol Action) → Type 0

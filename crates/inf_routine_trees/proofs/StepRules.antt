@@ -1,6 +1,6 @@
 -- The rules by which expressions are read, from their front or behind an operand: while their texts are read, steps are gathered, and
 -- nothing is noted.
-use Rattle.std.proofs.Common.{◌≡◌, ℕ, List, [], ◌∷◌, ◌++◌, Bool, true, false, ◌&&◌, refl}
+use Rattle.std.proofs.Common.{◌≡◌, ℕ, List, [], ◌∷◌, ◌++◌, Bool, true, ◌&&◌, refl}
 use Rattle.std.proofs.lemmas.Bool.{agree_below, and_from, and_parts}
 use Rattle.inf_machine.specs.declared.symbols.Symbol.{Symbol}
 use Rattle.inf_machine.specs.declared.symbols.Symbol.TheVariants.{Act, Rule, Token}

@@ -1,57 +1,51 @@
 -- Statements are trees, and have their effects.
-use Rattle.std.proofs.Common.{◌≡◌, ℕ, zero, suc, ◌+◌, ◌≤◌, ◌<◌, List, [], ◌∷◌, ◌++◌, length, Bool, true, false, None, refl, sym, ◌∙◌, ap, subst}
-use Rattle.std.proofs.Common.{append_assoc, append-nil, arith}
+use Rattle.std.proofs.Common.{◌≡◌, ℕ, suc, ◌+◌, ◌≤◌, ◌<◌, List, [], ◌∷◌, ◌++◌, length, Bool, true, false, None, refl, sym, ◌∙◌, ap, subst}
+use Rattle.std.proofs.Common.{append-nil, arith}
 use Rattle.std.specs.Prelude.{if◌then◌else◌}
 use Rattle.std.proofs.lemmas.Bool.{and_from}
-use Rattle.std.proofs.lemmas.List.{length-append}
 use Rattle.inf_settings.specs.Bounds.{Limits}
 use Rattle.inf_scanner.specs.declared.tokens.Place.{Place}
 use Rattle.inf_machine.specs.declared.symbols.Symbol.{Symbol}
-use Rattle.inf_machine.specs.declared.symbols.Symbol.TheVariants.{Act, Rule, Token}
-use Rattle.inf_machine.specs.Grammar.{Did, Event, IsOneOf, IsText, Took, first, later}
-use Rattle.inf_syntax.specs.Parts.{ !begin, !close, !deeper, !else, !end_if, !end_objectloop, !end_until, !end_while, !loop, !open_do}
-use Rattle.inf_syntax.specs.Parts.{ !open_if, !open_objectloop, !open_while, !outer, !until, 'close_brace', 'close_parenthesis', 'do', 'else'}
-use Rattle.inf_syntax.specs.Parts.{'for', 'if', 'objectloop', 'open_brace', 'open_parenthesis', 'semicolon', 'switch', 'until', 'while'}
-use Rattle.inf_syntax.specs.Parts.{do_rest, else_part, expression, for_rest, if_rest, mark_statement_1, objectloop_rest, statement, statement_3}
-use Rattle.inf_syntax.specs.Parts.{switch_rest, while_rest}
+use Rattle.inf_machine.specs.Grammar.{Did, Event, IsText, Took}
+use Rattle.inf_syntax.specs.Parts.{ !begin, !close, !else, !end_if, !end_while}
+use Rattle.inf_syntax.specs.Parts.{ !open_if, !open_while, !outer, 'close_parenthesis', 'else'}
+use Rattle.inf_syntax.specs.Parts.{'if', 'open_parenthesis', 'while'}
+use Rattle.inf_syntax.specs.Parts.{else_part, expression, if_rest, statement}
+use Rattle.inf_syntax.specs.Parts.{while_rest}
 use Rattle.inf_syntax.specs.Rows.{row, row_unless}
 use Rattle.inf_syntax.specs.declared.actions.Action.{Action}
 use Rattle.inf_syntax.specs.declared.actions.Action.TheVariants as action_of
 use Rattle.inf_grammar.specs.Language.{grammar}
 use Rattle.inf_constructs.specs.Constructs.{between, opened}
 use Rattle.inf_constructs.specs.declared.constructs.Kind.TheVariants as kind
-use Rattle.inf_constructs.specs.declared.constructs.Over.TheVariants as over
 use Rattle.inf_unit.specs.Units.{Unit as UnitAtHand, begun, no_unit}
 use Rattle.inf_compilation.specs.Context.{Context}
 use Rattle.inf_compilation.specs.Actions.{Compilation}
-use Rattle.inf_reader.specs.Acting.{act}
 use Rattle.inf_expression_laws.specs.Gathered.{AreSeen}
-use Rattle.inf_statement_laws.specs.Happenings.{Acts, Happening, Moment, Quiet, Takes, happen_quietly, is_quiet}
-use Rattle.inf_statement_laws.specs.Laid.{ended_as, holding, laid, opened_at, run, with_kind_in}
-use Rattle.inf_statement_laws.specs.Nested.{Do, If, IfElse, Nested, Objectloop, Plain, While, happenings}
+use Rattle.inf_statement_laws.specs.Happenings.{Acts, Quiet, Takes, happen_quietly, is_quiet}
+use Rattle.inf_statement_laws.specs.Laid.{ended_as, holding, laid, opened_at, run}
+use Rattle.inf_statement_laws.specs.Nested.{If, IfElse, Nested, Plain, While, happenings}
 use Rattle.inf_statement_laws.specs.Nested.{Then as After}
 use Rattle.inf_statement_laws.specs.Readings.{Seen, plainly_at}
 use Rattle.inf_statement_laws.proofs.Acts.{quiet_run}
-use Rattle.inf_statement_laws.proofs.Laying.{laid_as, run_then}
+use Rattle.inf_statement_laws.proofs.Laying.{laid_as}
 use Rattle.inf_statement_laws.proofs.Nesting.{statement_is_nested}
-use Rattle.inf_statement_laws.proofs.Rules.{all_quiet, is_quiet_rule, number}
+use Rattle.inf_statement_laws.proofs.Rules.{number}
 use Rattle.inf_language.specs.Texts.{atoms_of, happenings_before, tokens_of}
 use Rattle.inf_language.proofs.Derivations.{texts_take_all}
 use Rattle.inf_language.specs.Units.{TakeAll}
-use Rattle.inf_trees.specs.Statements.{Statement, statement_done}
-use Rattle.inf_trees.proofs.StatementsRead.{Parted, behind, parted}
-use Rattle.inf_trees.proofs.Expanded.{with_rows}
+use Rattle.inf_trees.specs.Statements.{statement_done}
+use Rattle.inf_trees.proofs.StatementsRead.{behind, parted}
 use Rattle.inf_trees.proofs.RuleRows.{of_rows}
 use Rattle.inf_trees.proofs.StatementTexts.{Rows, unit_end}
 use Rattle.inf_trees.proofs.UnitsRead.{place_before, seen_parts}
-use Rattle.inf_routine_trees.specs.Bodies.{Bracketed, IsTold, Simple, Told, Tree, TreeWritten, bracketed_done, bracketed_seen, moment_before}
-use Rattle.inf_routine_trees.specs.Bodies.{opening_of, token_done, tree_laid, tree_seen, unit_done, word_done}
-use Rattle.inf_routine_trees.specs.Bodies.{If as IfTree, IfElse as ElseTree, While as WhileTree, Do as DoTree}
+use Rattle.inf_routine_trees.specs.Bodies.{IsTold, Simple, Told, Tree, TreeWritten, bracketed_done, bracketed_seen}
+use Rattle.inf_routine_trees.specs.Bodies.{opening_of, token_done, tree_laid, tree_seen, word_done}
+use Rattle.inf_routine_trees.specs.Bodies.{If as IfTree, IfElse as ElseTree, While as WhileTree}
 use Rattle.inf_routine_trees.specs.Room.{have_room}
-use Rattle.inf_routine_trees.specs.Simple.{IsSimple}
-use Rattle.inf_routine_trees.proofs.Endings.{end_so, ends, goes_on, last_took, none_behind, text_ends}
-use Rattle.inf_routine_trees.proofs.Pieces.{ActFirst, BracketedText, PartsOf, act_first, are_of, bracketed_text, parts_of}
-use Rattle.inf_routine_trees.proofs.Pieces.{Closed, Worded, closed_text, test_happen, test_happens, test_quiet, test_runs, token_first}
+use Rattle.inf_routine_trees.proofs.Endings.{last_took, none_behind}
+use Rattle.inf_routine_trees.proofs.Pieces.{BracketedText, PartsOf, act_first, are_of, bracketed_text, parts_of}
+use Rattle.inf_routine_trees.proofs.Pieces.{Worded, closed_text, test_happen, test_happens, test_quiet, test_runs, token_first}
 use Rattle.inf_routine_trees.proofs.Pieces.{before_word, word_happens, worded}
 use Rattle.inf_routine_trees.proofs.SimpleRead.{IsRead, is_simple, parted_quiet}
 use Rattle.inf_routine_trees.proofs.SimpleTexts.{Reading}
@@ -165,16 +159,16 @@ test_closed {limits} t quiet context w ahead =
     ∙ ((quiet_run limits context (test_happens t) w (test_quiet t quiet)).1 ∙ ahead)
 
 -- a statement and its closing
-record BodyText (limits : Limits) (next : Place) (seen : List Seen) (events : List (Event Action)) : Type 0 where
-  tree : Tree
-  all : tree_seen tree ≡ seen
-  written : TreeWritten tree
-  nested : Nested false
-  happen : happenings_before next events seen ≡ happenings nested ++ Acts (plainly_at next) action_of.Close ∷ []
-  lays : (context : Context) (w : Compilation) → w.closed ≡ 0 → w.opening ≡ None
+pub record BodyText (limits : Limits) (next : Place) (seen : List Seen) (events : List (Event Action)) : Type 0 where
+  pub tree : Tree
+  pub all : tree_seen tree ≡ seen
+  pub written : TreeWritten tree
+  pub nested : Nested false
+  pub happen : happenings_before next events seen ≡ happenings nested ++ Acts (plainly_at next) action_of.Close ∷ []
+  pub lays : (context : Context) (w : Compilation) → w.closed ≡ 0 → w.opening ≡ None
       → laid limits context nested w ≡ tree_laid limits context tree w
 
-body_text : (limits : Limits) (n : ℕ) → Below limits n → (next : Place) (seen : List Seen) (events : List (Event Action))
+pub body_text : (limits : Limits) (n : ℕ) → Below limits n → (next : Place) (seen : List Seen) (events : List (Event Action))
     → IsText grammar (statement ∷ !close ∷ []) (atoms_of seen) events → AreAll seen → length seen + 1 < 4294967295 → length seen ≤ n
     → BodyText limits next seen events
 body_text limits n below next seen events text are_seen few fewer =

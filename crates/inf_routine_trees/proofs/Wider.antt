@@ -1,9 +1,8 @@
 -- A nested statement in which no case may stand, where one may.
-use Rattle.std.proofs.Common.{◌≡◌, List, [], ◌∷◌, ◌++◌, Bool, true, false, refl, sym, ◌∙◌, ap}
+use Rattle.std.proofs.Common.{◌≡◌, ◌++◌, Bool, false, refl, ◌∙◌, ap}
 use Rattle.inf_settings.specs.Bounds.{Limits}
 use Rattle.inf_compilation.specs.Context.{Context}
 use Rattle.inf_compilation.specs.Actions.{Compilation}
-use Rattle.inf_statement_laws.specs.Happenings.{Acts, Happening, Takes}
 use Rattle.inf_statement_laws.specs.Laid.{laid}
 use Rattle.inf_statement_laws.specs.Nested.{Do, For, If, IfElse, Nested, Objectloop, Plain, Switch, Then, While, happenings}
 

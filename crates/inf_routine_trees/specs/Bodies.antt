@@ -1,26 +1,27 @@
 -- The statements of a routine as trees: each that is one unit with this unit, each that holds others with the units in its brackets and
 -- with its body. Cases, and statements over them, are nested as their tokens tell, and read token by token.
-use Rattle.std.specs.Prelude.{◌≡◌, ◌+◌, ◌<◌, List, [], ◌∷◌, ◌++◌, length, Bool, true, None, if◌then◌else◌}
+use Rattle.std.specs.Prelude.{◌≡◌, ◌+◌, ◌<◌, List, [], ◌∷◌, ◌++◌, length, Bool, None, if◌then◌else◌}
 use Rattle.inf_settings.specs.Bounds.{Limits}
 use Rattle.inf_scanner.specs.declared.tokens.Place.{Place}
 use Rattle.inf_machine.specs.declared.symbols.Symbol.{Symbol}
 use Rattle.inf_machine.specs.Grammar.{Event, IsOneOf, IsText}
 use Rattle.inf_syntax.specs.Parts.{ !begin, !deeper, !name, !outer, !outer_word, 'comma', 'default', 'do', 'else', 'for', 'give', 'if'}
 use Rattle.inf_syntax.specs.Parts.{'jump', 'move', 'objectloop', 'return', 'string', 'style', 'switch', 'while', CASENAME, case_end, directive_2}
-use Rattle.inf_syntax.specs.Parts.{for_rest, objectloop_rest, plain_word, statement, switch_rest, top_item_10, top_item_11, top_item_18}
-use Rattle.inf_syntax.specs.Parts.{top_item_2, top_item_8, top_item_9, top_next, top_range, top_values, top_word}
+use Rattle.inf_syntax.specs.Parts.{for_rest, plain_word, statement, switch_rest, top_item_10, top_item_11, top_item_18}
+use Rattle.inf_syntax.specs.Parts.{top_item_2, top_item_8, top_next, top_range, top_values, top_word}
 use Rattle.inf_syntax.specs.declared.actions.Action.{Action}
 use Rattle.inf_syntax.specs.declared.actions.Action.TheVariants as action
 use Rattle.inf_grammar.specs.Language.{grammar}
 use Rattle.inf_constructs.specs.Constructs.{between, opened}
 use Rattle.inf_constructs.specs.declared.constructs.Kind.TheVariants as kind
+use Rattle.inf_constructs.specs.declared.constructs.Over.TheVariants as over
 use Rattle.inf_unit.specs.Units.{Unit as UnitAtHand, begun, no_unit}
 use Rattle.inf_compilation.specs.Context.{Context}
 use Rattle.inf_compilation.specs.Actions.{Compilation, took}
 use Rattle.inf_reader.specs.Acting.{act}
 use Rattle.inf_expression_laws.specs.Gathered.{AreSeen}
 use Rattle.inf_statement_laws.specs.Happenings.{Moment, Quiet}
-use Rattle.inf_statement_laws.specs.Laid.{ended_as, holding, laid, next_comes, opened_at, passed, run}
+use Rattle.inf_statement_laws.specs.Laid.{ended_as, holding, laid, next_comes, opened_at, passed, run, with_kind_in}
 use Rattle.inf_statement_laws.specs.Nested.{Nested}
 use Rattle.inf_statement_laws.specs.Readings.{Seen, plainly_at}
 use Rattle.inf_language.specs.Texts.{atoms_of, happenings_before, tokens_of}
@@ -46,6 +47,7 @@ pub data Tree : Type 0 where
   IfElse : (is_inner : Bool) (word : Seen) (test : Bracketed) (body : Tree) (joins : Seen) (other : Tree) → Tree
   While : (is_inner : Bool) (word : Seen) (test : Bracketed) (body : Tree) → Tree
   Do : (is_inner : Bool) (word : Seen) (body : Tree) (joins : Seen) (test : Bracketed) (semicolon : Seen) → Tree
+  Objectloop : (is_inner : Bool) (word : Seen) (loop : Bracketed) (body : Tree) → Tree
 
 -- The tokens of trees
 
@@ -66,20 +68,20 @@ tree_seen (IfElse is_inner word test body joins other) = word ∷ (bracketed_see
 tree_seen (While is_inner word test body) = word ∷ (bracketed_seen test ++ tree_seen body)
 tree_seen (Do is_inner word body joins test semicolon) =
     word ∷ (tree_seen body ++ joins ∷ (bracketed_seen test ++ semicolon ∷ []))
+tree_seen (Objectloop is_inner word loop body) = word ∷ (bracketed_seen loop ++ tree_seen body)
 
 -- Tells whether each expression in trees is that of its tokens, by the levels of operators, whichever unit is before its own.
 abbrev pub UnitWritten : (UnitAtHand → List Part) → Type 0
 UnitWritten unit = (u : UnitAtHand) → AreWritten (begun u) (unit u)
 
--- The statements and items that are not taken apart here: those with the words `for`, `objectloop` and `switch`, and cases of a routine
+-- The statements and items that are not taken apart here: those with the words `for` and `switch`, and cases of a routine
 -- with what may be one.
 abbrev pub told_statements : List (List (Symbol Action))
 told_statements =
     (!deeper ∷ 'for' ∷ for_rest ∷ [])
-    ∷ (!deeper ∷ 'objectloop' ∷ objectloop_rest ∷ [])
     ∷ (!deeper ∷ 'switch' ∷ switch_rest ∷ [])
     ∷ ('for' ∷ top_item_8 ∷ [])
-    ∷ ('objectloop' ∷ top_item_9 ∷ [])
+    ∷ ('objectloop' ∷ top_word ∷ [])
     ∷ ('switch' ∷ top_item_10 ∷ [])
     ∷ (!begin ∷ !outer ∷ CASENAME ∷ !name ∷ case_end ∷ [])
     ∷ (!begin ∷ !outer ∷ CASENAME ∷ !name ∷ top_range ∷ [])
@@ -116,6 +118,7 @@ TreeWritten (If is_inner word test body) = UnitWritten test.unit × TreeWritten 
 TreeWritten (IfElse is_inner word test body joins other) = UnitWritten test.unit × (TreeWritten body × TreeWritten other)
 TreeWritten (While is_inner word test body) = UnitWritten test.unit × TreeWritten body
 TreeWritten (Do is_inner word body joins test semicolon) = TreeWritten body × UnitWritten test.unit
+TreeWritten (Objectloop is_inner word loop body) = UnitWritten loop.unit × TreeWritten body
 
 -- The effects of trees
 
@@ -179,6 +182,14 @@ tree_laid limits context (Do is_inner word body joins test semicolon) w =
     let joined = between limits c.0 first.output in
     ended_as limits (opening_of test) joined.0 v.constructs
     (token_done context semicolon (bracketed_done limits context action.EndUntil test (holding (opening_of test) joined v.constructs first)))
+tree_laid limits context (Objectloop is_inner word loop body) w =
+    let v = word_done limits context is_inner word w in
+    let c = opened limits (kind.Objects over.Nothing 0) v.output in
+    let looped =
+    act limits context loop.closing.token.place action.EndObjectloop (unit_done context loop (opened_at context (opening_of loop) c v)) in
+    let joined = between limits (with_kind_in looped.constructs c.0) looped.output in
+    ended_as limits (opening_of loop) joined.0 v.constructs
+    (tree_laid limits context body (token_done context loop.closing (holding (opening_of loop) joined v.constructs looped)))
 
 -- Tells whether tokens are statements as trees, and whether taking them by some events, before another token at a place, lays what the
 -- trees lay, where no statement is closed ahead.

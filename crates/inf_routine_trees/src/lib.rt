@@ -1,7 +1,10 @@
-//! Statements of a source as trees, and the effects of these trees as a whole: statements of one unit, whichever they are. Each
-//! function carries a law as its clause, and does nothing.
+//! Statements and routines of a source as trees, and the effects of these trees as a whole. Each function carries a law as its
+//! clause, and does nothing.
 #![tactic(auto)]
 
 mod laws;
 
-pub use laws::{bodies_are_laid_as_trees, routines_are_trees, simple_statements_are_trees, statements_are_laid_as_trees};
+pub use laws::{
+    bodies_are_laid_as_trees, routines_are_trees, simple_statements_are_trees,
+    statements_are_laid_as_trees,
+};
