@@ -10,7 +10,7 @@ use Rattle.inf_syntax.specs.Parts.{ !begin, !name, !outer, !outer_word, 'comma',
 use Rattle.inf_syntax.specs.Parts.{'objectloop', 'return', 'string', 'style', 'switch', 'while', CASENAME, case_end, directive_2, do_rest}
 use Rattle.inf_syntax.specs.Parts.{if_rest, plain_word, top_item, top_item_10, top_item_11, top_item_18, top_item_2, top_item_5, top_item_6}
 use Rattle.inf_syntax.specs.Parts.{top_item_7, top_item_8, top_item_9, top_next, top_range, top_values, top_word, while_rest}
-use Rattle.inf_syntax.specs.Parts.{objectloop_rest}
+use Rattle.inf_syntax.specs.Parts.{for_rest, objectloop_rest}
 use Rattle.inf_syntax.specs.Rows.{row}
 use Rattle.inf_syntax.specs.declared.actions.Action.{Action}
 use Rattle.inf_grammar.specs.Language.{grammar}
@@ -33,6 +33,7 @@ use Rattle.inf_routine_trees.specs.Bodies.{BodiesAreLaidAsTrees, Nothing, Then, 
 use Rattle.inf_routine_trees.specs.Simple.{other_items}
 use Rattle.inf_routine_trees.proofs.Endings.{end_so, ends, text_ends}
 use Rattle.inf_routine_trees.proofs.Loops.{block_tree, do_tree, nonempty, statement_trees}
+use Rattle.inf_routine_trees.proofs.ForLoops.{for_tree}
 use Rattle.inf_routine_trees.proofs.ObjectLoops.{loop_tree}
 use Rattle.inf_routine_trees.proofs.Pieces.{are_of, parts_of}
 use Rattle.inf_routine_trees.proofs.SimpleRead.{beside_item, simple_text}
@@ -79,6 +80,10 @@ do_rows : Rows top_item_7 (row (do_rest ∷ []) ∷ row (top_word ∷ []) ∷ []
 unfolding grammar
 do_rows = refl
 
+for_rows : Rows top_item_8 (row (for_rest ∷ []) ∷ row (top_word ∷ []) ∷ [])
+unfolding grammar
+for_rows = refl
+
 loop_rows : Rows top_item_9 (row (objectloop_rest ∷ []) ∷ row (top_word ∷ []) ∷ [])
 unfolding grammar
 loop_rows = refl
@@ -111,7 +116,7 @@ module _ (limits : Limits) (n : ℕ) (below : Below limits n) (next : Place) (se
       with_rows (IsTree true limits next seen events) ('if' ∷ []) (number top_item_5) [] (row (if_rest ∷ []) ∷ row (top_word ∷ []) ∷ [])
       (atoms_of seen) events if_rows (
         (λ t. if_tree limits n below false next seen events t are_seen few fewer),
-        ((λ t. told_item ('if' ∷ top_word ∷ []) (later (later (later (later (later (later (later (later (later (first)))))))))) t), tt),
+        ((λ t. told_item ('if' ∷ top_word ∷ []) (later (later (later (later (later (later (later (later (first))))))))) t), tt),
       )
       text
 
@@ -120,7 +125,7 @@ module _ (limits : Limits) (n : ℕ) (below : Below limits n) (next : Place) (se
       with_rows (IsTree true limits next seen events) ('while' ∷ []) (number top_item_6) []
       (row (while_rest ∷ []) ∷ row (top_word ∷ []) ∷ []) (atoms_of seen) events while_rows (
         (λ t. while_tree limits n below false next seen events t are_seen few fewer),
-        ((λ t. told_item ('while' ∷ top_word ∷ []) (later (later (later (later (later (later (later (later (later (later (first))))))))))) t), tt),
+        ((λ t. told_item ('while' ∷ top_word ∷ []) (later (later (later (later (later (later (later (later (later (first)))))))))) t), tt),
       )
       text
 
@@ -129,7 +134,16 @@ module _ (limits : Limits) (n : ℕ) (below : Below limits n) (next : Place) (se
       with_rows (IsTree true limits next seen events) ('do' ∷ []) (number top_item_7) [] (row (do_rest ∷ []) ∷ row (top_word ∷ []) ∷ [])
       (atoms_of seen) events do_rows (
         (λ t. do_tree limits n below false next seen events t are_seen few fewer),
-        ((λ t. told_item ('do' ∷ top_word ∷ []) (later (later (later (later (later (later (later (later (later (later (later (first)))))))))))) t), tt),
+        ((λ t. told_item ('do' ∷ top_word ∷ []) (later (later (later (later (later (later (later (later (later (later (first))))))))))) t), tt),
+      )
+      text
+
+  by_for : IsText grammar ('for' ∷ top_item_8 ∷ []) (atoms_of seen) events → IsTree true limits next seen events
+  by_for text =
+      with_rows (IsTree true limits next seen events) ('for' ∷ []) (number top_item_8) []
+      (row (for_rest ∷ []) ∷ row (top_word ∷ []) ∷ []) (atoms_of seen) events for_rows (
+        (λ t. for_tree limits n below false next seen events t are_seen few fewer),
+        ((λ t. told_item ('for' ∷ top_word ∷ []) (later (first)) t), tt),
       )
       text
 
@@ -138,33 +152,33 @@ module _ (limits : Limits) (n : ℕ) (below : Below limits n) (next : Place) (se
       with_rows (IsTree true limits next seen events) ('objectloop' ∷ []) (number top_item_9) []
       (row (objectloop_rest ∷ []) ∷ row (top_word ∷ []) ∷ []) (atoms_of seen) events loop_rows (
         (λ t. loop_tree limits n below false next seen events t are_seen few fewer),
-        ((λ t. told_item ('objectloop' ∷ top_word ∷ []) (later (later (later (first)))) t), tt),
+        ((λ t. told_item ('objectloop' ∷ top_word ∷ []) (later (later (first))) t), tt),
       )
       text
 
   other_item : (symbols : List (Symbol Action)) → IsOneOf symbols other_items → IsText grammar symbols (atoms_of seen) events
       → IsTree true limits next seen events
   other_item _ first text = block_tree limits n below next seen events text are_seen few fewer
-  other_item _ (later first) text = told_item (!begin ∷ !outer ∷ CASENAME ∷ !name ∷ case_end ∷ []) (later (later (later (later (later (first)))))) text
-  other_item _ (later (later first)) text = told_item (!begin ∷ !outer ∷ CASENAME ∷ !name ∷ top_range ∷ []) (later (later (later (later (later (later (first))))))) text
-  other_item _ (later (later (later first))) text = told_item (!begin ∷ !outer ∷ CASENAME ∷ !name ∷ 'comma' ∷ top_next ∷ []) (later (later (later (later (later (later (later (first)))))))) text
-  other_item _ (later (later (later (later first)))) text = told_item (!begin ∷ !outer ∷ 'default' ∷ top_item_2 ∷ []) (later (later (later (later (later (later (later (later (first))))))))) text
+  other_item _ (later first) text = told_item (!begin ∷ !outer ∷ CASENAME ∷ !name ∷ case_end ∷ []) (later (later (later (later (first))))) text
+  other_item _ (later (later first)) text = told_item (!begin ∷ !outer ∷ CASENAME ∷ !name ∷ top_range ∷ []) (later (later (later (later (later (first)))))) text
+  other_item _ (later (later (later first))) text = told_item (!begin ∷ !outer ∷ CASENAME ∷ !name ∷ 'comma' ∷ top_next ∷ []) (later (later (later (later (later (later (first))))))) text
+  other_item _ (later (later (later (later first)))) text = told_item (!begin ∷ !outer ∷ 'default' ∷ top_item_2 ∷ []) (later (later (later (later (later (later (later (first)))))))) text
   other_item _ (later (later (later (later (later first))))) text = by_if text
   other_item _ (later (later (later (later (later (later first)))))) text = by_while text
   other_item _ (later (later (later (later (later (later (later first))))))) text = by_do text
-  other_item _ (later (later (later (later (later (later (later (later first)))))))) text = told_item ('for' ∷ top_item_8 ∷ []) (later (later (first))) text
+  other_item _ (later (later (later (later (later (later (later (later first)))))))) text = by_for text
   other_item _ (later (later (later (later (later (later (later (later (later first))))))))) text = by_loop text
-  other_item _ (later (later (later (later (later (later (later (later (later (later first)))))))))) text = told_item ('switch' ∷ top_item_10 ∷ []) (later (later (later (later (first))))) text
-  other_item _ (later (later (later (later (later (later (later (later (later (later (later first))))))))))) text = told_item (!begin ∷ top_item_11 ∷ top_word ∷ []) (later (later (later (later (later (later (later (later (later (later (later (later (first))))))))))))) text
-  other_item _ (later (later (later (later (later (later (later (later (later (later (later (later first)))))))))))) text = told_item (!begin ∷ 'return' ∷ top_word ∷ []) (later (later (later (later (later (later (later (later (later (later (later (later (later (first)))))))))))))) text
-  other_item _ (later (later (later (later (later (later (later (later (later (later (later (later (later first))))))))))))) text = told_item (!begin ∷ plain_word ∷ top_word ∷ []) (later (later (later (later (later (later (later (later (later (later (later (later (later (later (first))))))))))))))) text
-  other_item _ (later (later (later (later (later (later (later (later (later (later (later (later (later (later first)))))))))))))) text = told_item (!begin ∷ 'jump' ∷ !outer_word ∷ !name ∷ top_values ∷ []) (later (later (later (later (later (later (later (later (later (later (later (later (later (later (later (first)))))))))))))))) text
-  other_item _ (later (later (later (later (later (later (later (later (later (later (later (later (later (later (later first))))))))))))))) text = told_item (!begin ∷ 'give' ∷ top_word ∷ []) (later (later (later (later (later (later (later (later (later (later (later (later (later (later (later (later (first))))))))))))))))) text
-  other_item _ (later (later (later (later (later (later (later (later (later (later (later (later (later (later (later (later first)))))))))))))))) text = told_item (!begin ∷ 'move' ∷ top_word ∷ []) (later (later (later (later (later (later (later (later (later (later (later (later (later (later (later (later (later (first)))))))))))))))))) text
-  other_item _ (later (later (later (later (later (later (later (later (later (later (later (later (later (later (later (later (later first))))))))))))))))) text = told_item (!begin ∷ top_item_18 ∷ top_word ∷ []) (later (later (later (later (later (later (later (later (later (later (later (later (later (later (later (later (later (later (first))))))))))))))))))) text
-  other_item _ (later (later (later (later (later (later (later (later (later (later (later (later (later (later (later (later (later (later first)))))))))))))))))) text = told_item (!begin ∷ 'string' ∷ top_word ∷ []) (later (later (later (later (later (later (later (later (later (later (later (later (later (later (later (later (later (later (later (first)))))))))))))))))))) text
-  other_item _ (later (later (later (later (later (later (later (later (later (later (later (later (later (later (later (later (later (later (later first))))))))))))))))))) text = told_item (!begin ∷ 'style' ∷ top_word ∷ []) (later (later (later (later (later (later (later (later (later (later (later (later (later (later (later (later (later (later (later (later (first))))))))))))))))))))) text
-  other_item _ (later (later (later (later (later (later (later (later (later (later (later (later (later (later (later (later (later (later (later (later first)))))))))))))))))))) text = told_item (!outer ∷ 'else' ∷ top_word ∷ []) (later (later (later (later (later (later (later (later (later (later (later (later (later (later (later (later (later (later (later (later (later (first)))))))))))))))))))))) text
+  other_item _ (later (later (later (later (later (later (later (later (later (later first)))))))))) text = told_item ('switch' ∷ top_item_10 ∷ []) (later (later (later (first)))) text
+  other_item _ (later (later (later (later (later (later (later (later (later (later (later first))))))))))) text = told_item (!begin ∷ top_item_11 ∷ top_word ∷ []) (later (later (later (later (later (later (later (later (later (later (later (first)))))))))))) text
+  other_item _ (later (later (later (later (later (later (later (later (later (later (later (later first)))))))))))) text = told_item (!begin ∷ 'return' ∷ top_word ∷ []) (later (later (later (later (later (later (later (later (later (later (later (later (first))))))))))))) text
+  other_item _ (later (later (later (later (later (later (later (later (later (later (later (later (later first))))))))))))) text = told_item (!begin ∷ plain_word ∷ top_word ∷ []) (later (later (later (later (later (later (later (later (later (later (later (later (later (first)))))))))))))) text
+  other_item _ (later (later (later (later (later (later (later (later (later (later (later (later (later (later first)))))))))))))) text = told_item (!begin ∷ 'jump' ∷ !outer_word ∷ !name ∷ top_values ∷ []) (later (later (later (later (later (later (later (later (later (later (later (later (later (later (first))))))))))))))) text
+  other_item _ (later (later (later (later (later (later (later (later (later (later (later (later (later (later (later first))))))))))))))) text = told_item (!begin ∷ 'give' ∷ top_word ∷ []) (later (later (later (later (later (later (later (later (later (later (later (later (later (later (later (first)))))))))))))))) text
+  other_item _ (later (later (later (later (later (later (later (later (later (later (later (later (later (later (later (later first)))))))))))))))) text = told_item (!begin ∷ 'move' ∷ top_word ∷ []) (later (later (later (later (later (later (later (later (later (later (later (later (later (later (later (later (first))))))))))))))))) text
+  other_item _ (later (later (later (later (later (later (later (later (later (later (later (later (later (later (later (later (later first))))))))))))))))) text = told_item (!begin ∷ top_item_18 ∷ top_word ∷ []) (later (later (later (later (later (later (later (later (later (later (later (later (later (later (later (later (later (first)))))))))))))))))) text
+  other_item _ (later (later (later (later (later (later (later (later (later (later (later (later (later (later (later (later (later (later first)))))))))))))))))) text = told_item (!begin ∷ 'string' ∷ top_word ∷ []) (later (later (later (later (later (later (later (later (later (later (later (later (later (later (later (later (later (later (first))))))))))))))))))) text
+  other_item _ (later (later (later (later (later (later (later (later (later (later (later (later (later (later (later (later (later (later (later first))))))))))))))))))) text = told_item (!begin ∷ 'style' ∷ top_word ∷ []) (later (later (later (later (later (later (later (later (later (later (later (later (later (later (later (later (later (later (later (first)))))))))))))))))))) text
+  other_item _ (later (later (later (later (later (later (later (later (later (later (later (later (later (later (later (later (later (later (later (later first)))))))))))))))))))) text = told_item (!outer ∷ 'else' ∷ top_word ∷ []) (later (later (later (later (later (later (later (later (later (later (later (later (later (later (later (later (later (later (later (later (first))))))))))))))))))))) text
   other_item _ (later (later (later (later (later (later (later (later (later (later (later (later (later (later (later (later (later (later (later (later (later missing))))))))))))))))))))) text = elim missing [ ]
 
   by_text : SimpleText other_items (atoms_of seen) events → IsTree true limits next seen events

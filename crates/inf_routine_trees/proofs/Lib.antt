@@ -10,6 +10,7 @@ pub mod Endings
 pub mod Wider
 pub mod Trees
 pub mod ObjectLoops
+pub mod ForLoops
 pub mod Loops
 pub mod BodyTrees
 pub mod RoutineTrees

@@ -37,6 +37,7 @@ use Rattle.inf_routine_trees.specs.Bodies.{Block, Do as DoTree, Nothing, Then, b
 use Rattle.inf_routine_trees.specs.Bodies.{IsTold, StatementsAreLaidAsTrees, opening_of, token_done, told_statements, tree_laid, tree_seen, word_done}
 use Rattle.inf_routine_trees.specs.Simple.{holding_statements}
 use Rattle.inf_routine_trees.proofs.Endings.{end_so, ends, last_took, text_ends}
+use Rattle.inf_routine_trees.proofs.ForLoops.{for_tree}
 use Rattle.inf_routine_trees.proofs.ObjectLoops.{loop_tree}
 use Rattle.inf_routine_trees.proofs.Pieces.{PartsOf, Worded, act_first, before_word, bracketed_text, closed_text, parts_of, test_happen, test_happens}
 use Rattle.inf_routine_trees.proofs.Pieces.{nothing_left, quiet-append, test_quiet, test_runs, token_first, word_happens, worded}
@@ -318,10 +319,10 @@ module _ (limits : Limits) (n : ℕ) (below : Below limits n) (next : Place) (se
           (
             (λ t. do_tree limits n below true next seen events t are_seen few fewer),
             (
-              (λ t. told_tree limits next seen events (told_by (!deeper ∷ 'for' ∷ for_rest ∷ []) first t) whole),
+              (λ t. for_tree limits n below true next seen events t are_seen few fewer),
               (
                 (λ t. loop_tree limits n below true next seen events t are_seen few fewer),
-                ((λ t. told_tree limits next seen events (told_by (!deeper ∷ 'switch' ∷ switch_rest ∷ []) (later first) t) whole), tt),
+                ((λ t. told_tree limits next seen events (told_by (!deeper ∷ 'switch' ∷ switch_rest ∷ []) first t) whole), tt),
               ),
             ),
           ),

@@ -1,14 +1,14 @@
 -- The statements of a routine as trees: each that is one unit with this unit, each that holds others with the units in its brackets and
 -- with its body. Cases, and statements over them, are nested as their tokens tell, and read token by token.
-use Rattle.std.specs.Prelude.{◌≡◌, ◌+◌, ◌<◌, List, [], ◌∷◌, ◌++◌, length, Bool, None, if◌then◌else◌}
+use Rattle.std.specs.Prelude.{◌≡◌, ◌+◌, ◌<◌, List, [], ◌∷◌, ◌++◌, length, Bool, None, if◌then◌else◌, Option, Some}
 use Rattle.inf_settings.specs.Bounds.{Limits}
 use Rattle.inf_scanner.specs.declared.tokens.Place.{Place}
 use Rattle.inf_machine.specs.declared.symbols.Symbol.{Symbol}
 use Rattle.inf_machine.specs.Grammar.{Event, IsOneOf, IsText}
 use Rattle.inf_syntax.specs.Parts.{ !begin, !deeper, !name, !outer, !outer_word, 'comma', 'default', 'do', 'else', 'for', 'give', 'if'}
 use Rattle.inf_syntax.specs.Parts.{'jump', 'move', 'objectloop', 'return', 'string', 'style', 'switch', 'while', CASENAME, case_end, directive_2}
-use Rattle.inf_syntax.specs.Parts.{for_rest, plain_word, statement, switch_rest, top_item_10, top_item_11, top_item_18}
-use Rattle.inf_syntax.specs.Parts.{top_item_2, top_item_8, top_next, top_range, top_values, top_word}
+use Rattle.inf_syntax.specs.Parts.{plain_word, statement, switch_rest, top_item_10, top_item_11, top_item_18}
+use Rattle.inf_syntax.specs.Parts.{top_item_2, top_next, top_range, top_values, top_word}
 use Rattle.inf_syntax.specs.declared.actions.Action.{Action}
 use Rattle.inf_syntax.specs.declared.actions.Action.TheVariants as action
 use Rattle.inf_grammar.specs.Language.{grammar}
@@ -21,7 +21,7 @@ use Rattle.inf_compilation.specs.Actions.{Compilation, took}
 use Rattle.inf_reader.specs.Acting.{act}
 use Rattle.inf_expression_laws.specs.Gathered.{AreSeen}
 use Rattle.inf_statement_laws.specs.Happenings.{Moment, Quiet}
-use Rattle.inf_statement_laws.specs.Laid.{ended_as, holding, laid, next_comes, opened_at, passed, run, with_kind_in}
+use Rattle.inf_statement_laws.specs.Laid.{ended_as, holding, laid, next_comes, opened_at, passed, run, with_kind_in, with_step_in}
 use Rattle.inf_statement_laws.specs.Nested.{Nested}
 use Rattle.inf_statement_laws.specs.Readings.{Seen, plainly_at}
 use Rattle.inf_language.specs.Texts.{atoms_of, happenings_before, tokens_of}
@@ -47,6 +47,9 @@ pub data Tree : Type 0 where
   IfElse : (is_inner : Bool) (word : Seen) (test : Bracketed) (body : Tree) (joins : Seen) (other : Tree) → Tree
   While : (is_inner : Bool) (word : Seen) (test : Bracketed) (body : Tree) → Tree
   Do : (is_inner : Bool) (word : Seen) (body : Tree) (joins : Seen) (test : Bracketed) (semicolon : Seen) → Tree
+  For : (is_inner : Bool) (word bracket : Seen) (start : Option (UnitAtHand → List Part)) (first : Seen)
+      (test : Option (UnitAtHand → List Part)) (second : Seen) (step : Option (UnitAtHand → List Part)) (closing : Seen) (body : Tree)
+      → Tree
   Objectloop : (is_inner : Bool) (word : Seen) (loop : Bracketed) (body : Tree) → Tree
 
 -- The tokens of trees
@@ -56,6 +59,11 @@ statement_seen s = all_seen s.unit ++ s.semicolon ∷ []
 
 abbrev pub bracketed_seen : Bracketed → List Seen
 bracketed_seen b = b.bracket ∷ (all_seen (b.unit no_unit) ++ b.closing ∷ [])
+
+-- those of a unit that may be missing
+abbrev pub maybe_seen : Option (UnitAtHand → List Part) → List Seen
+maybe_seen None = []
+maybe_seen (Some unit) = all_seen (unit no_unit)
 
 abbrev pub tree_seen : Tree → List Seen
 tree_seen Nothing = []
@@ -68,19 +76,25 @@ tree_seen (IfElse is_inner word test body joins other) = word ∷ (bracketed_see
 tree_seen (While is_inner word test body) = word ∷ (bracketed_seen test ++ tree_seen body)
 tree_seen (Do is_inner word body joins test semicolon) =
     word ∷ (tree_seen body ++ joins ∷ (bracketed_seen test ++ semicolon ∷ []))
+tree_seen (For is_inner word bracket start first test second step closing body) =
+    word ∷ bracket
+    ∷ (maybe_seen start ++ first ∷ (maybe_seen test ++ second ∷ (maybe_seen step ++ closing ∷ tree_seen body)))
 tree_seen (Objectloop is_inner word loop body) = word ∷ (bracketed_seen loop ++ tree_seen body)
 
 -- Tells whether each expression in trees is that of its tokens, by the levels of operators, whichever unit is before its own.
 abbrev pub UnitWritten : (UnitAtHand → List Part) → Type 0
 UnitWritten unit = (u : UnitAtHand) → AreWritten (begun u) (unit u)
 
--- The statements and items that are not taken apart here: those with the words `for` and `switch`, and cases of a routine
+abbrev pub MaybeWritten : Option (UnitAtHand → List Part) → Type 0
+MaybeWritten None = Unit {0}
+MaybeWritten (Some unit) = UnitWritten unit
+
+-- The statements and items that are not taken apart here: those with the word `switch`, and cases of a routine
 -- with what may be one.
 abbrev pub told_statements : List (List (Symbol Action))
 told_statements =
-    (!deeper ∷ 'for' ∷ for_rest ∷ [])
-    ∷ (!deeper ∷ 'switch' ∷ switch_rest ∷ [])
-    ∷ ('for' ∷ top_item_8 ∷ [])
+    (!deeper ∷ 'switch' ∷ switch_rest ∷ [])
+    ∷ ('for' ∷ top_word ∷ [])
     ∷ ('objectloop' ∷ top_word ∷ [])
     ∷ ('switch' ∷ top_item_10 ∷ [])
     ∷ (!begin ∷ !outer ∷ CASENAME ∷ !name ∷ case_end ∷ [])
@@ -118,6 +132,8 @@ TreeWritten (If is_inner word test body) = UnitWritten test.unit × TreeWritten 
 TreeWritten (IfElse is_inner word test body joins other) = UnitWritten test.unit × (TreeWritten body × TreeWritten other)
 TreeWritten (While is_inner word test body) = UnitWritten test.unit × TreeWritten body
 TreeWritten (Do is_inner word body joins test semicolon) = TreeWritten body × UnitWritten test.unit
+TreeWritten (For is_inner word bracket start first test second step closing body) =
+    MaybeWritten start × (MaybeWritten test × (MaybeWritten step × TreeWritten body))
 TreeWritten (Objectloop is_inner word loop body) = UnitWritten loop.unit × TreeWritten body
 
 -- The effects of trees
@@ -138,6 +154,11 @@ unit_done context b w = let v = token_done context b.bracket w in with_unit cont
 abbrev pub bracketed_done : Limits → Context → Action → Bracketed → Compilation → Compilation
 bracketed_done limits context end b w =
     token_done context b.closing (act limits context b.closing.token.place end (unit_done context b w))
+
+-- A unit that may be missing, with its end before a token at a place
+abbrev pub maybe_done : Limits → Context → Action → Place → Option (UnitAtHand → List Part) → Compilation → Compilation
+maybe_done limits context end place None w = w
+maybe_done limits context end place (Some unit) w = act limits context place end (with_unit context (unit w.unit) w)
 
 -- where a statement is opened that has a unit in brackets behind its word
 abbrev pub opening_of : Bracketed → Moment
@@ -182,6 +203,19 @@ tree_laid limits context (Do is_inner word body joins test semicolon) w =
     let joined = between limits c.0 first.output in
     ended_as limits (opening_of test) joined.0 v.constructs
     (token_done context semicolon (bracketed_done limits context action.EndUntil test (holding (opening_of test) joined v.constructs first)))
+tree_laid limits context (For is_inner word bracket start first test second step closing body) w =
+    let v = word_done limits context is_inner word w in
+    let at = plainly_at bracket.token.place in
+    let c = opened limits kind.For v.output in
+    let started =
+    maybe_done limits context action.EndForStart first.token.place start (token_done context bracket (opened_at context at c v)) in
+    let top = between limits c.0 started.output in
+    let tested =
+    maybe_done limits context action.EndForTest second.token.place test (token_done context first (holding at top v.constructs started)) in
+    let stepped = maybe_done limits context action.EndForStep closing.token.place step (token_done context second tested) in
+    let own = with_step_in stepped.constructs top.0 in
+    ended_as limits at own v.constructs
+    (tree_laid limits context body (token_done context closing (record stepped { constructs = own ∷ v.constructs })))
 tree_laid limits context (Objectloop is_inner word loop body) w =
     let v = word_done limits context is_inner word w in
     let c = opened limits (kind.Objects over.Nothing 0) v.output in
