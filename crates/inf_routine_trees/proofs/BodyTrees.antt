@@ -30,14 +30,15 @@ use Rattle.inf_trees.proofs.StatementTexts.{Rows}
 use Rattle.inf_trees.proofs.TopTexts.{item_text}
 use Rattle.inf_trees.proofs.UnitsRead.{place_before, seen_parts}
 use Rattle.inf_routine_trees.specs.Bodies.{BodiesAreLaidAsTrees, Nothing, Then, Told, told_statements, tree_laid, tree_seen}
-use Rattle.inf_routine_trees.specs.Simple.{other_items}
+use Rattle.inf_simple_trees.specs.Simple.{other_items}
 use Rattle.inf_routine_trees.proofs.Endings.{end_so, ends, text_ends}
 use Rattle.inf_routine_trees.proofs.Loops.{block_tree, do_tree, nonempty, statement_trees}
 use Rattle.inf_routine_trees.proofs.ForLoops.{for_tree}
 use Rattle.inf_routine_trees.proofs.ObjectLoops.{loop_tree}
-use Rattle.inf_routine_trees.proofs.Pieces.{are_of, parts_of}
-use Rattle.inf_routine_trees.proofs.SimpleRead.{beside_item, simple_text}
-use Rattle.inf_routine_trees.proofs.SimpleTexts.{Another, OneUnit, SimpleText}
+use Rattle.inf_routine_trees.proofs.Pieces.{are_of}
+use Rattle.inf_simple_trees.proofs.Symbols.{parts_of}
+use Rattle.inf_simple_trees.proofs.SimpleRead.{beside_item, simple_text}
+use Rattle.inf_simple_trees.proofs.SimpleTexts.{Another, OneUnit, SimpleText}
 use Rattle.inf_routine_trees.proofs.Trees.{AreAll, Below, IsTree, if_tree, moved_seen, simple_tree, tree_closed, tree_opening, tree_runs}
 use Rattle.inf_routine_trees.proofs.Trees.{while_tree}
 

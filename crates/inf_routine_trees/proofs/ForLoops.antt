@@ -35,7 +35,8 @@ use Rattle.inf_trees.proofs.StatementsRead.{bracketed_units_are_trees}
 use Rattle.inf_trees.proofs.StatementTexts.{Rows}
 use Rattle.inf_trees.proofs.UnitsRead.{place_before, seen_parts}
 use Rattle.inf_routine_trees.specs.Bodies.{For as ForTree, MaybeWritten, maybe_done, maybe_seen, token_done, tree_laid, tree_seen, word_done}
-use Rattle.inf_routine_trees.proofs.Pieces.{ActFirst, PartsOf, TokenFirst, Worded, act_first, before_word, nothing_left, parts_of, quiet-append, quiet_text, token_first}
+use Rattle.inf_routine_trees.proofs.Pieces.{Worded, before_word, quiet-append, quiet_text}
+use Rattle.inf_simple_trees.proofs.Symbols.{ActFirst, PartsOf, TokenFirst, act_first, nothing_left, parts_of, token_first}
 use Rattle.inf_routine_trees.proofs.Pieces.{unit_quiet, unit_symbols, word_happens, worded}
 use Rattle.inf_routine_trees.proofs.Trees.{AreAll, Below, BodyText, IsTree, body_text, moved_seen, word_closed, word_quiet}
 

@@ -1,11 +1,4 @@
-pub mod UnitsGo
-pub mod Doubts
 pub mod Pieces
-pub mod PrintRules
-pub mod StepRules
-pub mod Items
-pub mod SimpleTexts
-pub mod SimpleRead
 pub mod Endings
 pub mod Wider
 pub mod Trees

@@ -35,15 +35,17 @@ use Rattle.inf_trees.proofs.StatementTexts.{Rows, statement_text}
 use Rattle.inf_trees.proofs.UnitsRead.{place_before, seen_parts}
 use Rattle.inf_routine_trees.specs.Bodies.{Block, Do as DoTree, Nothing, Then, bracketed_seen, moment_before}
 use Rattle.inf_routine_trees.specs.Bodies.{IsTold, StatementsAreLaidAsTrees, opening_of, token_done, told_statements, tree_laid, tree_seen, word_done}
-use Rattle.inf_routine_trees.specs.Simple.{holding_statements}
+use Rattle.inf_simple_trees.specs.Simple.{holding_statements}
 use Rattle.inf_routine_trees.proofs.Endings.{end_so, ends, last_took, text_ends}
 use Rattle.inf_routine_trees.proofs.ForLoops.{for_tree}
 use Rattle.inf_routine_trees.proofs.ObjectLoops.{loop_tree}
-use Rattle.inf_routine_trees.proofs.Pieces.{PartsOf, Worded, act_first, before_word, bracketed_text, closed_text, parts_of, test_happen, test_happens}
-use Rattle.inf_routine_trees.proofs.Pieces.{nothing_left, quiet-append, test_quiet, test_runs, token_first, word_happens, worded}
+use Rattle.inf_routine_trees.proofs.Pieces.{Worded, before_word, bracketed_text, closed_text, test_happen, test_happens}
+use Rattle.inf_simple_trees.proofs.Symbols.{PartsOf, act_first, parts_of}
+use Rattle.inf_routine_trees.proofs.Pieces.{quiet-append, test_quiet, test_runs, word_happens, worded}
+use Rattle.inf_simple_trees.proofs.Symbols.{nothing_left, token_first}
 use Rattle.inf_routine_trees.proofs.Wider.{wider, wider_laid, wider_same}
-use Rattle.inf_routine_trees.proofs.SimpleRead.{beside_statement, simple_text}
-use Rattle.inf_routine_trees.proofs.SimpleTexts.{Another, OneUnit, SimpleText}
+use Rattle.inf_simple_trees.proofs.SimpleRead.{beside_statement, simple_text}
+use Rattle.inf_simple_trees.proofs.SimpleTexts.{Another, OneUnit, SimpleText}
 use Rattle.inf_routine_trees.proofs.Trees.{AreAll, Below, IsTree, if_tree, moved_seen, simple_tree, told_tree, tree_closed}
 use Rattle.inf_routine_trees.proofs.Trees.{tree_opening, tree_runs, while_tree, word_closed, word_quiet}
 

@@ -32,7 +32,8 @@ use Rattle.inf_trees.proofs.StatementTexts.{Rows}
 use Rattle.inf_trees.proofs.UnitsRead.{seen_parts}
 use Rattle.inf_routine_trees.specs.Bodies.{Bracketed, Objectloop as LoopTree, opening_of, token_done}
 use Rattle.inf_routine_trees.specs.Bodies.{unit_done, word_done}
-use Rattle.inf_routine_trees.proofs.Pieces.{Worded, act_first, before_word, parts_of, quiet_text, token_first, unit_quiet, unit_symbols}
+use Rattle.inf_routine_trees.proofs.Pieces.{Worded, before_word, quiet_text, unit_quiet, unit_symbols}
+use Rattle.inf_simple_trees.proofs.Symbols.{act_first, parts_of, token_first}
 use Rattle.inf_routine_trees.proofs.Pieces.{word_happens, worded}
 use Rattle.inf_routine_trees.proofs.Trees.{AreAll, Below, IsTree, body_text, moved_seen, word_closed, word_quiet}
 

@@ -27,7 +27,8 @@ use Rattle.inf_trees.proofs.UnitsRead.{before-append, place_before, seen_parts}
 use Rattle.inf_routine_trees.specs.Bodies.{token_done}
 use Rattle.inf_routine_trees.specs.Routines.{Routine, RoutinesAreTrees, routine_symbols}
 use Rattle.inf_routine_trees.proofs.BodyTrees.{body_tree}
-use Rattle.inf_routine_trees.proofs.Pieces.{act_first, nothing_left, parts_of, quiet_text, token_first}
+use Rattle.inf_routine_trees.proofs.Pieces.{quiet_text}
+use Rattle.inf_simple_trees.proofs.Symbols.{act_first, nothing_left, parts_of, token_first}
 use Rattle.inf_routine_trees.proofs.Trees.{moved_seen, tree_runs}
 
 -- A routine is a directive.

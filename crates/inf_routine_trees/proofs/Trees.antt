@@ -42,14 +42,16 @@ use Rattle.inf_trees.proofs.UnitsRead.{place_before, seen_parts}
 use Rattle.inf_routine_trees.specs.Bodies.{IsTold, Simple, Told, Tree, TreeWritten, bracketed_done, bracketed_seen}
 use Rattle.inf_routine_trees.specs.Bodies.{opening_of, token_done, tree_laid, tree_seen, word_done}
 use Rattle.inf_routine_trees.specs.Bodies.{If as IfTree, IfElse as ElseTree, While as WhileTree}
-use Rattle.inf_routine_trees.specs.Room.{have_room}
+use Rattle.inf_simple_trees.specs.Room.{have_room}
 use Rattle.inf_routine_trees.proofs.Endings.{last_took, none_behind}
-use Rattle.inf_routine_trees.proofs.Pieces.{BracketedText, PartsOf, act_first, are_of, bracketed_text, parts_of}
-use Rattle.inf_routine_trees.proofs.Pieces.{Worded, closed_text, test_happen, test_happens, test_quiet, test_runs, token_first}
+use Rattle.inf_routine_trees.proofs.Pieces.{BracketedText, are_of, bracketed_text}
+use Rattle.inf_simple_trees.proofs.Symbols.{PartsOf, act_first, parts_of}
+use Rattle.inf_routine_trees.proofs.Pieces.{Worded, closed_text, test_happen, test_happens, test_quiet, test_runs}
+use Rattle.inf_simple_trees.proofs.Symbols.{token_first}
 use Rattle.inf_routine_trees.proofs.Pieces.{before_word, word_happens, worded}
-use Rattle.inf_routine_trees.proofs.SimpleRead.{IsRead, is_simple, parted_quiet}
-use Rattle.inf_routine_trees.proofs.SimpleTexts.{Reading}
-use Rattle.inf_routine_trees.proofs.UnitsGo.{AreQuiet}
+use Rattle.inf_simple_trees.proofs.SimpleRead.{IsRead, is_simple, parted_quiet}
+use Rattle.inf_simple_trees.proofs.SimpleTexts.{Reading}
+use Rattle.inf_simple_trees.proofs.UnitsGo.{AreQuiet}
 
 -- Tokens are a tree, which lays what the happenings of some events lay, nested by their words, before another token at a place.
 pub record IsTree (b : Bool) (limits : Limits) (next : Place) (seen : List Seen) (events : List (Event Action)) : Type 0 where

@@ -27,7 +27,7 @@ use Rattle.inf_statement_laws.specs.Readings.{Seen, plainly_at}
 use Rattle.inf_language.specs.Texts.{atoms_of, happenings_before, tokens_of}
 use Rattle.inf_trees.specs.Statements.{Statement, statement_done, with_unit}
 use Rattle.inf_trees.specs.Trees.{AreWritten, Part, all_seen}
-use Rattle.inf_routine_trees.specs.Room.{have_room}
+use Rattle.inf_simple_trees.specs.Room.{have_room}
 
 -- A unit in brackets. The places of its tokens are by the unit before it: where a token stands between the two, it is counted.
 pub record Bracketed : Type 0 where

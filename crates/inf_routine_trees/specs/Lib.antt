@@ -1,4 +1,2 @@
-pub mod Room
-pub mod Simple
 pub mod Bodies
 pub mod Routines

@@ -2,14 +2,6 @@
 ghost use Rattle.inf_settings.specs.Bounds.{Limits};
 ghost use Rattle.inf_routine_trees.specs.Bodies.{BodiesAreLaidAsTrees, StatementsAreLaidAsTrees};
 ghost use Rattle.inf_routine_trees.specs.Routines.{RoutinesAreTrees};
-ghost use Rattle.inf_routine_trees.specs.Simple.{SimpleStatementsAreTrees};
-
-/// Shows that tokens that are a text of a statement, or of an item at the top of a routine, are one that holds others or may be
-/// a case, or a statement that is one unit, as a tree, and that taking them then has the effect of the statement as a whole,
-/// where there is room for what it prints, gives or takes (Designer's Manual, fourth edition, section 1.7).
-pub fn simple_statements_are_trees()
-    ensures { (limits : Limits) → SimpleStatementsAreTrees limits }
-{}
 
 /// Shows that each text of a statement is a tree, of units, and of statements that hold others, and that taking its tokens lays
 /// what the tree lays as a whole (Designer's Manual, fourth edition, sections 1.7 and 1.8).

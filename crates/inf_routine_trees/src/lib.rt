@@ -4,7 +4,4 @@
 
 mod laws;
 
-pub use laws::{
-    bodies_are_laid_as_trees, routines_are_trees, simple_statements_are_trees,
-    statements_are_laid_as_trees,
-};
+pub use laws::{bodies_are_laid_as_trees, routines_are_trees, statements_are_laid_as_trees};

@@ -36,7 +36,7 @@ use Rattle.inf_trees.proofs.UnitTexts.{AnyNotes, NoNotes, OperandEnds, is_end}
 use Rattle.inf_trees.proofs.UnitsRead.{expressed_does, gathers, note_first, one_taken, ready, seen_parts, told_at_opening, tokens_count}
 use Rattle.inf_trees.proofs.UnitsRead.{tokens_opening}
 use Rattle.inf_trees.proofs.ValueForms.{HasForm}
-use Rattle.inf_routine_trees.specs.Room.{has_room, have_room}
+use Rattle.inf_simple_trees.specs.Room.{has_room, have_room}
 
 -- The actions among some events neither open a statement that holds others nor go on with one nor end one.
 abbrev pub AreQuiet : List (Event Action) → Type 0

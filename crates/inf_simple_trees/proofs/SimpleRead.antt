@@ -29,11 +29,11 @@ use Rattle.inf_trees.proofs.StatementsRead.{Parted, behind, few_before, parted, 
 use Rattle.inf_trees.proofs.StatementTexts.{Flat, Formed, Others, Printed, StatementText, statement_text, unit_end}
 use Rattle.inf_trees.proofs.TopTexts.{item_text}
 use Rattle.inf_trees.proofs.UnitTexts.{OperandEnds}
-use Rattle.inf_routine_trees.specs.Simple.{IsSimple, IsSimpleOr, Other, Simple, SimpleStatementsAreTrees, holding_statements, other_items}
-use Rattle.inf_routine_trees.proofs.SimpleTexts.{Another, OneUnit, SimpleText, act_flat, act_twice_flat, by_give, by_line, by_print_word}
-use Rattle.inf_routine_trees.proofs.SimpleTexts.{by_string, by_text_more, ended, flat_reading, formed_reading, print_words, printed_reading}
-use Rattle.inf_routine_trees.proofs.SimpleTexts.{top_print_rows, top_print_words, top_string_rows}
-use Rattle.inf_routine_trees.proofs.UnitsGo.{AreQuiet, Going}
+use Rattle.inf_simple_trees.specs.Simple.{IsSimple, IsSimpleOr, Other, Simple, SimpleStatementsAreTrees, holding_statements, other_items}
+use Rattle.inf_simple_trees.proofs.SimpleTexts.{Another, OneUnit, SimpleText, act_flat, act_twice_flat, by_give, by_line, by_print_word}
+use Rattle.inf_simple_trees.proofs.SimpleTexts.{by_string, by_text_more, ended, flat_reading, formed_reading, print_words, printed_reading}
+use Rattle.inf_simple_trees.proofs.SimpleTexts.{top_print_rows, top_print_words, top_string_rows}
+use Rattle.inf_simple_trees.proofs.UnitsGo.{AreQuiet, Going}
 use Rattle.inf_trees.proofs.UnitTexts.{AnyNotes}
 
 -- Which text a statement is

@@ -27,8 +27,8 @@ use Rattle.inf_trees.specs.Trees.{Ruled, Value, tokens_told, with_outer, with_ru
 use Rattle.inf_trees.proofs.UnitsRead.{expressed_does, gathers, note_first, one_taken, ready, seen_parts, tokens_count}
 use Rattle.inf_trees.proofs.UnitsRead.{tokens_opening}
 use Rattle.inf_trees.proofs.ValueForms.{HasForm}
-use Rattle.inf_routine_trees.specs.Room.{has_room, have_room}
-use Rattle.inf_routine_trees.proofs.UnitsGo.{AreQuiet, Going, end_acts, noted_goes, rule_acts, steps_quiet}
+use Rattle.inf_simple_trees.specs.Room.{has_room, have_room}
+use Rattle.inf_simple_trees.proofs.UnitsGo.{AreQuiet, Going, end_acts, noted_goes, rule_acts, steps_quiet}
 
 -- a unit whose next token may begin an expression, and units behind the tokens of the rule
 abbrev maybe : UnitAtHand → UnitAtHand

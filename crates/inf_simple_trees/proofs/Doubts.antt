@@ -37,7 +37,7 @@ use Rattle.inf_trees.proofs.StatementTexts.{OnlySteps}
 use Rattle.inf_trees.proofs.UnitsRead.{at, before-append, note_first, place_before, ready, seen_parts, told_beside, tokens_count, tokens_opening}
 use Rattle.inf_trees.proofs.UnitsRead.{value_reads}
 use Rattle.inf_trees.proofs.ValueForms.{form_of, other_prim_text}
-use Rattle.inf_routine_trees.proofs.UnitsGo.{Going, steps_quiet}
+use Rattle.inf_simple_trees.proofs.UnitsGo.{Going, steps_quiet}
 
 -- Reading by two lists of events
 

@@ -20,7 +20,7 @@ use Rattle.inf_statement_laws.specs.Readings.{Seen}
 use Rattle.inf_language.specs.Texts.{atoms_of, happenings_before, tokens_of}
 use Rattle.inf_trees.specs.Statements.{Statement, statement_done}
 use Rattle.inf_trees.specs.Trees.{AreWritten, all_seen}
-use Rattle.inf_routine_trees.specs.Room.{have_room}
+use Rattle.inf_simple_trees.specs.Room.{have_room}
 
 -- Tells whether tokens behind a unit `u` are a statement that is one unit, whose expressions are those of their tokens by the levels
 -- of operators, and whether taking the tokens by some events has the effect of the statement, where there is room for its parts.
