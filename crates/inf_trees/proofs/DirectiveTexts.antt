@@ -22,7 +22,7 @@ use Rattle.inf_statement_laws.proofs.Rules.{number}
 use Rattle.inf_language.proofs.TextsActed.{rule_is_spaced}
 use Rattle.inf_trees.specs.Directives.{begins_directive, is_word, words}
 use Rattle.inf_trees.proofs.RuleRows.{of_rows}
-use Rattle.inf_trees.proofs.UnitTexts.{is_flat, is_unit}
+use Rattle.inf_trees.proofs.UnitTexts.{NoNotes, is_flat, is_unit}
 
 -- Atoms that are in no two sets
 
@@ -179,14 +179,14 @@ no_sign atom atoms events is text =
 -- The text of a directive that is one unit: symbols of a unit, then its end.
 pub record UnitText (atoms : List ℕ) (events : List (Event Action)) : Type 0 where
   pub front : List (Symbol Action)
-  pub flat : is_flat false false front ≡ true
+  pub flat : is_flat NoNotes false front ≡ true
   pub text : IsText grammar (front ++ unit_end) atoms events
 
-word_flat : is_flat false false (whole_directive ∷ []) ≡ true
+word_flat : is_flat NoNotes false (whole_directive ∷ []) ≡ true
 unfolding is_unit
 word_flat = refl
 
-sign_flat : is_flat false false ('hash' ∷ whole_directive ∷ []) ≡ true
+sign_flat : is_flat NoNotes false ('hash' ∷ whole_directive ∷ []) ≡ true
 unfolding is_unit
 sign_flat = refl
 

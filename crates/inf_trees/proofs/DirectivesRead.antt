@@ -28,7 +28,7 @@ use Rattle.inf_trees.specs.Trees.{parts_told, with_parts}
 use Rattle.inf_trees.proofs.DirectiveEnds.{directives_over}
 use Rattle.inf_trees.proofs.DirectiveTexts.{UnitText, piece_text}
 use Rattle.inf_trees.proofs.Semicolons.{last_atom, last_seen, opens_nothing, over_taken}
-use Rattle.inf_trees.proofs.UnitTexts.{parsed}
+use Rattle.inf_trees.proofs.UnitTexts.{NoNotes, parsed}
 use Rattle.inf_trees.proofs.UnitsRead.{Read, units_read}
 
 -- The semicolon
@@ -92,7 +92,7 @@ parted limits seen events unit are_seen few =
     let seen_again = subst (λ x. AreSeen (atoms_of x) (tokens_of x)) (sym l.same) are_seen in
     let atom = last_atom l.tokens l.last parts.front end.atom l.atoms (ap atoms_of l.same ∙ all_atoms) in
     let count : length l.tokens + 1 ≡ length seen = sym (length-append l.tokens (l.last ∷ [])) ∙ ap length l.same in
-    let reads = parsed false parts.of_front refl l.tokens l.atoms [] unit.front refl unit.flat in
+    let reads = parsed NoNotes parts.of_front refl l.tokens l.atoms [] unit.front refl unit.flat in
     record {
       tokens = l.tokens;
       semicolon = l.last;
@@ -100,7 +100,7 @@ parted limits seen events unit are_seen few =
       atom = end.atom;
       same = l.same;
       are = parts.events_are ∙ ap (λ x. parts.early ++ x) end.are;
-      read = units_read limits reads no_unit (λ e. cc) (seen_front l.tokens l.last seen_again) (omega arith) (omega (arith, few, count));
+      read = units_read limits reads refl no_unit (λ e. cc) (seen_front l.tokens l.last seen_again) (omega arith) (omega (arith, few, count));
       all = texts_take_all parts.of_front l.tokens l.atoms;
       plain = opens_nothing l.last (ap (λ n. has (grammar.atoms_of 0) n) atom ∙ end.is_semicolon) (last_seen l.tokens l.last seen_again);
     }

@@ -22,7 +22,7 @@ use Rattle.inf_language.proofs.TextsSplit.{is_rule, only_steps}
 use Rattle.inf_trees.specs.Statements.{marked, more_statements, other_statements}
 use Rattle.inf_trees.proofs.Expanded.{with_rows}
 use Rattle.inf_trees.proofs.RuleRows.{Each, of_rows}
-use Rattle.inf_trees.proofs.UnitTexts.{is_flat, is_unit}
+use Rattle.inf_trees.proofs.UnitTexts.{OperandEnds, is_flat, is_unit}
 use Rattle.inf_trees.proofs.ValueForms.{form_of, is_value}
 
 abbrev pub unit_end : List (Symbol Action)
@@ -33,7 +33,7 @@ OnlySteps symbols = (atoms : List ℕ) (events : List (Event Action)) → IsText
 
 -- A text of a statement: the parts of a unit, an expression, a text that is printed, or one of some others
 pub data StatementText (others : List (List (Symbol Action))) (atoms : List ℕ) (events : List (Event Action)) : Type 0 where
-  Flat : (front : List (Symbol Action)) → is_flat true false front ≡ true → IsText grammar (!begin ∷ (front ++ unit_end)) atoms events
+  Flat : (front : List (Symbol Action)) → is_flat OperandEnds false front ≡ true → IsText grammar (!begin ∷ (front ++ unit_end)) atoms events
       → StatementText others atoms events
   Formed : (symbols : List (Symbol Action)) (level : ℕ) → IsOneOf (form_of symbols level) forms → OnlySteps symbols
       → IsText grammar (!begin ∷ !outer ∷ (symbols ++ unit_end)) atoms events → StatementText others atoms events
@@ -134,32 +134,32 @@ statement_rows = refl
 
 -- Fronts
 
-empty_flat : is_flat true false [] ≡ true
+empty_flat : is_flat OperandEnds false [] ≡ true
 empty_flat = refl
 
-label_flat : is_flat true false ('dot' ∷ NAME ∷ []) ≡ true
+label_flat : is_flat OperandEnds false ('dot' ∷ NAME ∷ []) ≡ true
 label_flat = refl
 
-pub word_flat : is_flat true false (plain_word ∷ []) ≡ true
+pub word_flat : is_flat OperandEnds false (plain_word ∷ []) ≡ true
 unfolding is_unit
 word_flat = refl
 
-pub return_flat : is_flat true false ('return' ∷ return_rest_1 ∷ []) ≡ true
+pub return_flat : is_flat OperandEnds false ('return' ∷ return_rest_1 ∷ []) ≡ true
 unfolding is_unit
 return_flat = refl
 
-pub jump_flat : is_flat true false ('jump' ∷ NAME ∷ []) ≡ true
+pub jump_flat : is_flat OperandEnds false ('jump' ∷ NAME ∷ []) ≡ true
 jump_flat = refl
 
-pub move_flat : is_flat true false ('move' ∷ !outer ∷ post ∷ !outer_end ∷ 'to' ∷ !outer ∷ post ∷ []) ≡ true
+pub move_flat : is_flat OperandEnds false ('move' ∷ !outer ∷ post ∷ !outer_end ∷ 'to' ∷ !outer ∷ post ∷ []) ≡ true
 unfolding is_value
 move_flat = refl
 
-of_expression_flat : is_flat true false (statement_5 ∷ !outer ∷ expression ∷ []) ≡ true
+of_expression_flat : is_flat OperandEnds false (statement_5 ∷ !outer ∷ expression ∷ []) ≡ true
 unfolding is_unit is_value
 of_expression_flat = refl
 
-style_flat : is_flat true false ('style' ∷ NAME ∷ []) ≡ true
+style_flat : is_flat OperandEnds false ('style' ∷ NAME ∷ []) ≡ true
 style_flat = refl
 
 -- The end in place of its rule
@@ -171,7 +171,7 @@ module _ (others : List (List (Symbol Action))) (atoms : List ℕ) (events : Lis
       text
 
   pub by_rest : (words parts : List (Symbol Action)) (rest : ℕ) → grammar.rows_of rest ≡ row (parts ++ end ∷ []) ∷ []
-      → is_flat true false (words ++ parts) ≡ true → IsText grammar (!begin ∷ (words ++ Rule rest ∷ [])) atoms events
+      → is_flat OperandEnds false (words ++ parts) ≡ true → IsText grammar (!begin ∷ (words ++ Rule rest ∷ [])) atoms events
       → StatementText others atoms events
   by_rest words parts rest rows flat text =
       with_rows (StatementText others atoms events) (!begin ∷ words) rest [] (row (parts ++ end ∷ []) ∷ []) atoms events rows (

@@ -1,5 +1,5 @@
 -- Tokens that are a statement of one unit are that unit as a tree, and have its effect.
-use Rattle.std.proofs.Common.{◌≡◌, ℕ, ◌+◌, ◌≤◌, ◌<◌, List, [], ◌∷◌, ◌++◌, length, Bool, true, false, None, refl, sym, ◌∙◌, ap, subst}
+use Rattle.std.proofs.Common.{◌≡◌, ℕ, ◌+◌, ◌≤◌, ◌<◌, List, [], ◌∷◌, ◌++◌, length, true, false, refl, sym, ◌∙◌, ap, subst}
 use Rattle.std.proofs.Common.{append-nil, arith}
 use Rattle.std.specs.Prelude.{nat_lt, take}
 use Rattle.std.proofs.lemmas.Bool.{cond-false, le-ltb}
@@ -34,18 +34,19 @@ use Rattle.inf_language.specs.Units.{TakeAll}
 use Rattle.inf_language.proofs.Derivations.{last_apart, seen_front, texts_take_all}
 use Rattle.inf_language.proofs.TextsSplit.{split}
 use Rattle.inf_trees.specs.Statements.{BracketedUnitsAreTrees, IsOneUnit, IsStatement, One, Other, Statement, StatementsAreTrees}
+use Rattle.inf_trees.specs.Trees.{Part}
 use Rattle.inf_trees.specs.Statements.{begins_line, other_items, other_statements, statement_done, with_unit}
 use Rattle.inf_trees.proofs.Semicolons.{last_atom, last_seen, opens_nothing, over_taken}
 use Rattle.inf_trees.proofs.StatementEnds.{statement_over}
 use Rattle.inf_trees.proofs.StatementTexts.{Flat, Formed, OnlySteps, Others, Printed, StatementText, statement_text, unit_end}
 use Rattle.inf_trees.proofs.TopTexts.{item_text}
-use Rattle.inf_trees.proofs.UnitTexts.{Expressed, Finished, Reads, parsed}
+use Rattle.inf_trees.proofs.UnitTexts.{Expressed, Finished, Kinds, NoNotes, OperandEnds, Reads, parsed}
 use Rattle.inf_trees.proofs.UnitsRead.{NoLine, Read, alone_reads, before-append, note_first, noted_reads, ready, units_read}
 use Rattle.inf_trees.proofs.ValueForms.{HasForm, expression_form, form_of}
 
 -- The tokens between a unit and the one before
 
-few_before : (tokens : List SourceToken) → length (take 1 tokens) ≤ 1
+pub few_before : (tokens : List SourceToken) → length (take 1 tokens) ≤ 1
 few_before tokens = let count = length-take 1 tokens in omega (arith, count)
 
 kind_behind : (xs ys : List SourceToken) → kind_at (xs ++ ys) (length xs) ≡ kind_at ys 0
@@ -69,10 +70,10 @@ IsReader tokens events =
     (limits : Limits) (u : UnitAtHand) → begins_line tokens ≡ false → AreSeen (atoms_of tokens) (tokens_of tokens)
     → length tokens + 1 < 4294967295 → Read limits (begun u) tokens events
 
-begun_read : (tokens : List Seen) (events : List (Event Action)) → Reads true tokens events → IsReader tokens events
+begun_read : (tokens : List Seen) (events : List (Event Action)) → Reads OperandEnds tokens events → IsReader tokens events
 begun_read tokens events reads limits u plain are_seen few =
     let before = few_before u.tokens in
-    units_read limits reads (begun u) (λ e. no_line (take 1 u.tokens) tokens plain) are_seen (omega arith) (omega (arith, few, before))
+    units_read limits reads refl (begun u) (λ e. no_line (take 1 u.tokens) tokens plain) are_seen (omega arith) (omega (arith, few, before))
 
 -- A text that is printed
 
@@ -118,23 +119,23 @@ ends_unit : (atoms : List ℕ) (events : List (Event Action)) → Leads grammar 
     → EndsUnit atoms events
 ends_unit atoms events (action (token {atom = atom} h here)) = record { atom = atom; one = refl; are = refl; is_semicolon = h }
 
--- The tokens of a unit and its semicolon, with the events behind its begin
-record Parted (seen : List Seen) (events : List (Event Action)) : Type 0 where
-  tokens : List Seen
-  semicolon : Seen
-  early : List (Event Action)
-  atom : ℕ
-  same : tokens ++ semicolon ∷ [] ≡ seen
-  are : events ≡ early ++ Did action_of.EndStatement ∷ Took atom ∷ []
-  is_semicolon : has (grammar.atoms_of 0) semicolon.atom ≡ true
-  all : TakeAll early tokens
-  read : IsReader tokens early
+-- The tokens of a unit and its semicolon, with the events behind its begin, and what holds of how these are read
+pub record Parted (Reading : List Seen → List (Event Action) → Type 0) (seen : List Seen) (events : List (Event Action)) : Type 0 where
+  pub tokens : List Seen
+  pub semicolon : Seen
+  pub early : List (Event Action)
+  pub atom : ℕ
+  pub same : tokens ++ semicolon ∷ [] ≡ seen
+  pub are : events ≡ early ++ Did action_of.EndStatement ∷ Took atom ∷ []
+  pub is_semicolon : has (grammar.atoms_of 0) semicolon.atom ≡ true
+  pub all : TakeAll early tokens
+  pub read : Reading tokens early
 
-parted : (xs : List (Symbol Action)) (seen : List Seen) (events : List (Event Action))
-    → IsText grammar (xs ++ unit_end) (atoms_of seen) events
-    → ((tokens : List Seen) (early : List (Event Action)) → IsText grammar xs (atoms_of tokens) early → IsReader tokens early)
-    → Parted seen events
-parted xs seen events text reads =
+pub parted : (Reading : List Seen → List (Event Action) → Type 0) (xs : List (Symbol Action)) (seen : List Seen)
+    (events : List (Event Action)) → IsText grammar (xs ++ unit_end) (atoms_of seen) events
+    → ((tokens : List Seen) (early : List (Event Action)) → IsText grammar xs (atoms_of tokens) early → Reading tokens early)
+    → Parted Reading seen events
+parted Reading xs seen events text reads =
     let parts = split text refl xs unit_end refl in
     let end = ends_unit parts.rest parts.late parts.of_rest in
     let all_atoms = parts.atoms_are ∙ ap (λ r. parts.front ++ r) end.one in
@@ -153,14 +154,14 @@ parted xs seen events text reads =
     }
 
 -- an expression behind the action that begins it
-expressed : (notes : Bool) (tokens : List Seen) (steps : List (Event Action)) → HasForm (atoms_of tokens) steps
+expressed : (notes : Kinds) (tokens : List Seen) (steps : List (Event Action)) → HasForm (atoms_of tokens) steps
     → Reads notes tokens (Did action_of.Outer ∷ steps)
 expressed notes tokens steps f =
     Expressed action_of.Outer tokens [] steps [] refl (append-nil tokens) (sym (append-nil steps)) f Finished
 
 outer_parted : (symbols : List (Symbol Action)) (level : ℕ) → IsOneOf (form_of symbols level) forms → OnlySteps symbols
     → (seen : List Seen) (events : List (Event Action)) → IsText grammar (symbols ++ unit_end) (atoms_of seen) events
-    → Parted seen (Did action_of.Outer ∷ events)
+    → Parted IsReader seen (Did action_of.Outer ∷ events)
 outer_parted symbols level is_form only seen events text =
     let parts = split text refl symbols unit_end refl in
     let end = ends_unit parts.rest parts.late parts.of_rest in
@@ -179,36 +180,38 @@ outer_parted symbols level is_form only seen events text =
       all = texts_take_all parts.of_front l.tokens l.atoms;
       read =
           begun_read l.tokens (Did action_of.Outer ∷ parts.early)
-          (expressed true l.tokens parts.early
+          (expressed OperandEnds l.tokens parts.early
           (record { symbols = symbols; level = level; is_form = is_form; text = of_front; steps = only (atoms_of l.tokens) parts.early of_front }));
     }
 
 -- The effect of a statement
 
-statement_runs : (limits : Limits) (context : Context) (next : Place) (u : UnitAtHand) (tokens : List Seen) (semicolon : Seen)
-    (early : List (Event Action)) (atom : ℕ) (w : Compilation) → (r : Read limits (begun u) tokens early) → TakeAll early tokens
-    → opens semicolon.token.kind ≡ false → w.opening ≡ None
-    → let s : Statement = record { unit = r.parts; semicolon = semicolon } in
+pub statement_runs : (limits : Limits) (context : Context) (next : Place) (u : UnitAtHand) (tokens : List Seen) (semicolon : Seen)
+    (early : List (Event Action)) (atom : ℕ) (w : Compilation) (parts : List Part)
+    → run limits context (happenings_before semicolon.token.place early tokens) (record w { unit = begun u })
+    ≡ with_unit context parts (record w { unit = u })
+    → TakeAll early tokens → opens semicolon.token.kind ≡ false
+    → let s : Statement = record { unit = parts; semicolon = semicolon } in
     run limits context (happenings_before next (Did action_of.Begin ∷ (early ++ Did action_of.EndStatement ∷ Took atom ∷ []))
     (tokens ++ semicolon ∷ [])) (record w { unit = u })
     ≡ statement_done limits context s (record w { unit = u })
-statement_runs limits context next u tokens semicolon early atom w r all plain none =
+statement_runs limits context next u tokens semicolon early atom w parts reads all plain =
     let place = semicolon.token.place in
     let late : List (Event Action) = Did action_of.EndStatement ∷ Took atom ∷ [] in
     let front = happenings_before place early tokens in
     let end : List Happening = Acts (plainly_at place) action_of.EndStatement ∷ Takes semicolon.token semicolon.behind ∷ [] in
     let begins = record w { unit = begun u } in
-    let ready = with_unit context r.parts (record w { unit = u }) in
+    let ready = with_unit context parts (record w { unit = u }) in
     let ended = part_ended limits context place (part.Statement (statement_at ready)) ready in
     note_first limits context next action_of.Begin (tokens ++ semicolon ∷ []) (early ++ late) (record w { unit = u }) begins (λ p. refl)
     ∙ (ap (λ hs. run limits context hs begins) (before-append next early late tokens (semicolon ∷ []) all)
     ∙ (run_then limits context front end begins
-    ∙ (ap (run limits context end) (r.does context place (record w { unit = u }) none)
+    ∙ (ap (run limits context end) reads
     ∙ ap (λ x. next_comes (passed semicolon.behind x))
     (over_taken context semicolon ready.unit ended plain (statement_over limits context place (statement_at ready) ready)))))
 
 is_statement : (limits : Limits) (u : UnitAtHand) (seen : List Seen) (events behind : List (Event Action))
-    → events ≡ Did action_of.Begin ∷ behind → Parted seen behind → begins_line seen ≡ false
+    → events ≡ Did action_of.Begin ∷ behind → Parted IsReader seen behind → begins_line seen ≡ false
     → AreSeen (atoms_of seen) (tokens_of seen) → length seen + 1 < 4294967295 → IsStatement limits u seen events
 is_statement limits u seen events behind are p plain are_seen few =
     let seen_again = subst (λ x. AreSeen (atoms_of x) (tokens_of x)) (sym p.same) are_seen in
@@ -225,17 +228,18 @@ is_statement limits u seen events behind are p plain are_seen few =
           ap (λ l. run limits context (happenings_before next events l) before) (sym p.same)
           ∙ (ap (λ es. run limits context (happenings_before next es (p.tokens ++ p.semicolon ∷ [])) before) are
           ∙ (ap (λ es. run limits context (happenings_before next (Did action_of.Begin ∷ es) (p.tokens ++ p.semicolon ∷ [])) before) p.are
-          ∙ statement_runs limits context next u p.tokens p.semicolon p.early p.atom w r p.all
-          (opens_nothing p.semicolon p.is_semicolon (last_seen p.tokens p.semicolon seen_again)) none));
+          ∙ statement_runs limits context next u p.tokens p.semicolon p.early p.atom w r.parts
+          (r.does context p.semicolon.token.place before none) p.all
+          (opens_nothing p.semicolon p.is_semicolon (last_seen p.tokens p.semicolon seen_again))));
     }
 
 -- The text behind its first action
-record Behind (a : Action) (symbols : List (Symbol Action)) (atoms : List ℕ) (events : List (Event Action)) : Type 0 where
-  rest : List (Event Action)
-  are : events ≡ Did a ∷ rest
-  text : IsText grammar symbols atoms rest
+pub record Behind (a : Action) (symbols : List (Symbol Action)) (atoms : List ℕ) (events : List (Event Action)) : Type 0 where
+  pub rest : List (Event Action)
+  pub are : events ≡ Did a ∷ rest
+  pub text : IsText grammar symbols atoms rest
 
-behind : (a : Action) (symbols : List (Symbol Action)) (atoms : List ℕ) (events : List (Event Action))
+pub behind : (a : Action) (symbols : List (Symbol Action)) (atoms : List ℕ) (events : List (Event Action))
     → IsText grammar (Act a ∷ symbols) atoms events → Behind a symbols atoms events
 behind a symbols atoms events (action {events = rest} text) = record { rest = rest; are = refl; text = text }
 
@@ -245,7 +249,7 @@ by_text : (limits : Limits) (others : List (List (Symbol Action))) (u : UnitAtHa
 by_text limits others u seen events (Flat front flat text) plain are_seen few =
     let b = behind action_of.Begin (front ++ unit_end) (atoms_of seen) events text in
     One (is_statement limits u seen events b.rest b.are
-    (parted front seen b.rest b.text (λ tokens early t. begun_read tokens early (parsed true t refl tokens refl [] front refl flat))) plain
+    (parted IsReader front seen b.rest b.text (λ tokens early t. begun_read tokens early (parsed OperandEnds t refl tokens refl [] front refl flat))) plain
     are_seen few)
 by_text limits others u seen events (Formed symbols level is_form only text) plain are_seen few =
     let b = behind action_of.Begin (!outer ∷ (symbols ++ unit_end)) (atoms_of seen) events text in
@@ -255,7 +259,7 @@ by_text limits others u seen events (Formed symbols level is_form only text) pla
 by_text limits others u seen events (Printed text) plain are_seen few =
     let b = behind action_of.Begin (!outer_maybe ∷ TEXT ∷ !print_text ∷ unit_end) (atoms_of seen) events text in
     One (is_statement limits u seen events b.rest b.are
-    (parted (!outer_maybe ∷ TEXT ∷ !print_text ∷ []) seen b.rest b.text (λ tokens early t. printed_read t tokens refl)) plain are_seen few)
+    (parted IsReader (!outer_maybe ∷ TEXT ∷ !print_text ∷ []) seen b.rest b.text (λ tokens early t. printed_read t tokens refl)) plain are_seen few)
 by_text limits others u seen events (Others symbols is_other text) plain are_seen few = Other symbols is_other text
 
 pub statements_are_trees : (limits : Limits) → StatementsAreTrees limits
@@ -275,7 +279,7 @@ bracketed_units_are_trees limits u seen events text are_seen few =
     let f = expression_form (atoms_of seen) o.rest o.text in
     let before = few_before u.tokens in
     let r =
-    units_read limits (expressed false seen o.rest f) (begun u) (λ e. cc) are_seen (omega arith) (omega (arith, few, before)) in
+    units_read limits (expressed NoNotes seen o.rest f) refl (begun u) (λ e. cc) are_seen (omega arith) (omega (arith, few, before)) in
     record {
       parts = r.parts;
       same = r.same;

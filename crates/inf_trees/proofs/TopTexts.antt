@@ -26,7 +26,7 @@ use Rattle.inf_trees.proofs.RuleRows.{Each, of_rows}
 use Rattle.inf_trees.proofs.StatementTexts.{Flat, Formed, OnlySteps, Others, Rows, StatementText, by_form, by_mark, by_operand, by_prefix}
 use Rattle.inf_trees.proofs.StatementTexts.{by_rest, by_text, jump_flat, jump_rows, move_flat, move_rows}
 use Rattle.inf_trees.proofs.StatementTexts.{of_expression_rows, return_flat, return_rows, with_end, word_flat}
-use Rattle.inf_trees.proofs.UnitTexts.{is_flat, is_unit}
+use Rattle.inf_trees.proofs.UnitTexts.{OperandEnds, is_flat, is_unit}
 use Rattle.inf_trees.proofs.ValueForms.{is_value}
 
 -- Rows, by evaluation
@@ -111,10 +111,10 @@ item_rows = refl
 
 -- Fronts
 
-style_flat : is_flat true false ('style' ∷ NOTTO ∷ []) ≡ true
+style_flat : is_flat OperandEnds false ('style' ∷ NOTTO ∷ []) ≡ true
 style_flat = refl
 
-of_expression_flat : is_flat true false (top_item_18 ∷ !outer ∷ expression ∷ []) ≡ true
+of_expression_flat : is_flat OperandEnds false (top_item_18 ∷ !outer ∷ expression ∷ []) ≡ true
 unfolding is_unit is_value
 of_expression_flat = refl
 

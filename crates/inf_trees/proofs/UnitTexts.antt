@@ -5,10 +5,10 @@ use Rattle.std.proofs.lemmas.Bool.{agree_below, and_from, and_parts, or_cases, o
 use Rattle.inf_machine.specs.declared.symbols.Symbol.{Symbol}
 use Rattle.inf_machine.specs.declared.symbols.Symbol.TheVariants.{Act, Rule, Token}
 use Rattle.inf_machine.specs.Grammar.{Did, Event, IsNext_not, IsOneOf, IsText, Leads, Row, Took, action, has, here, row, token}
-use Rattle.inf_syntax.specs.Parts.{initial, plain_word, return_rest_1, statement_5, top_item_18, whole_directive}
-use Rattle.inf_syntax.specs.Parts.{whole_directive_1}
-use Rattle.inf_syntax.specs.Parts.{whole_directive_2, whole_directive_3}
-use Rattle.inf_syntax.specs.Parts.{whole_directive_4, whole_directive_5, whole_directive_6}
+use Rattle.inf_syntax.specs.Parts.{act, act_1, act_2, act_3, assembly_2, branch, branch_1, give_rest_1, initial, operands, operands_1}
+use Rattle.inf_syntax.specs.Parts.{operands_2, plain_word, return_rest_1, statement_5, store_or_branch, store_or_branch_1, top_item_18}
+use Rattle.inf_syntax.specs.Parts.{whole_directive, whole_directive_1, whole_directive_2, whole_directive_3, whole_directive_4}
+use Rattle.inf_syntax.specs.Parts.{whole_directive_5, whole_directive_6}
 use Rattle.inf_syntax.specs.declared.actions.Action.{Action}
 use Rattle.inf_syntax.specs.declared.actions.Action.TheVariants as action_of
 use Rattle.inf_grammar.specs.Language.{grammar}
@@ -27,17 +27,32 @@ outer_is : (a : Action) → is_outer a ≡ true → a ≡ action_of.Outer
 outer_is action_of.Outer is = refl
 outer_is _ is = cc
 
--- actions that note something of a unit beside its expressions
-abbrev pub is_noted : Action → Bool
-is_noted action_of.OuterEnd = true
-is_noted _ = false
+-- The actions that stand in units beside those that begin expressions: in directives there are none, in some statements the ends of
+-- operands; and in all those of statements, which say what is done with an expression or a token.
+pub data Kinds : Type 0 where
+  NoNotes : Kinds
+  OperandEnds : Kinds
+  AnyNotes : Kinds
 
-pub data IsNote : Action → Type 0 where
-  Ends : IsNote action_of.OuterEnd
+abbrev pub is_end : Action → Bool
+is_end action_of.OuterEnd = true
+is_end _ = false
 
-pub note_of : (a : Action) → is_noted a ≡ true → IsNote a
-note_of action_of.OuterEnd is = Ends
-note_of _ is = cc
+abbrev pub is_any : Action → Bool
+is_any action_of.OuterEnd = true
+is_any action_of.PrintText = true
+is_any action_of.Set = true
+is_any action_of.Clear = true
+is_any action_of.Action = true
+is_any action_of.Store = true
+is_any action_of.Branch = true
+is_any action_of.BranchNot = true
+is_any _ = false
+
+abbrev pub is_noted : Kinds → Action → Bool
+is_noted NoNotes a = false
+is_noted OperandEnds a = is_end a
+is_noted AnyNotes a = is_any a
 
 -- the rules of directives, and those of statements, in which such actions stand
 abbrev directive_rules : List (Symbol Action)
@@ -48,38 +63,49 @@ directive_rules =
 abbrev statement_rules : List (Symbol Action)
 statement_rules = return_rest_1 ∷ plain_word ∷ statement_5 ∷ top_item_18 ∷ []
 
-abbrev rules_of : Bool → List (Symbol Action)
-rules_of false = directive_rules
-rules_of true = statement_rules
+abbrev any_rules : List (Symbol Action)
+any_rules =
+    give_rest_1 ∷ act ∷ act_1 ∷ act_2 ∷ act_3 ∷ assembly_2 ∷ operands ∷ operands_1 ∷ operands_2 ∷ store_or_branch ∷ store_or_branch_1
+    ∷ branch ∷ branch_1 ∷ []
 
-unfoldable pub is_unit : Bool → ℕ → Bool
+abbrev rules_of : Kinds → List (Symbol Action)
+rules_of NoNotes = directive_rules
+rules_of OperandEnds = statement_rules
+rules_of AnyNotes = any_rules
+
+unfoldable pub is_unit : Kinds → ℕ → Bool
 is_unit notes rule = is_among rule (rules_of notes)
 
 -- Whether symbols are tokens, these rules, actions that begin an expression, each before the rule of one, and where `notes` says so
 -- other notes. The first symbol is the rule of an expression where the action stands before it.
-abbrev pub is_flat : (notes comes : Bool) → List (Symbol Action) → Bool
+abbrev pub is_flat : (notes : Kinds) (comes : Bool) → List (Symbol Action) → Bool
 is_flat notes false [] = true
 is_flat notes true [] = false
 is_flat notes false (Token class ∷ symbols) = is_flat notes false symbols
 is_flat notes true (Token class ∷ symbols) = false
 is_flat notes false (Act a ∷ symbols) =
-    (is_outer a && is_flat notes true symbols) || ((notes && is_noted a) && is_flat notes false symbols)
+    (is_outer a && is_flat notes true symbols) || (is_noted notes a && is_flat notes false symbols)
 is_flat notes true (Act a ∷ symbols) = false
 is_flat notes false (Rule rule ∷ symbols) = is_unit notes rule && is_flat notes false symbols
 is_flat notes true (Rule rule ∷ symbols) = is_value rule && is_flat notes false symbols
 
-directives_keep : agree_below (keeps (is_unit false) (is_flat false false)) (λ rule. true) 251 ≡ true
+directives_keep : agree_below (keeps (is_unit NoNotes) (is_flat NoNotes false)) (λ rule. true) 251 ≡ true
 unfolding grammar is_unit is_value
 directives_keep = refl
 
-statements_keep : agree_below (keeps (is_unit true) (is_flat true false)) (λ rule. true) 251 ≡ true
+statements_keep : agree_below (keeps (is_unit OperandEnds) (is_flat OperandEnds false)) (λ rule. true) 251 ≡ true
 unfolding grammar is_unit is_value
 statements_keep = refl
 
-unit_row : (notes : Bool) (rule : ℕ) → is_unit notes rule ≡ true → (r : Row Action) → IsOneOf r (grammar.rows_of rule)
+any_keep : agree_below (keeps (is_unit AnyNotes) (is_flat AnyNotes false)) (λ rule. true) 251 ≡ true
+unfolding grammar is_unit is_value
+any_keep = refl
+
+unit_row : (notes : Kinds) (rule : ℕ) → is_unit notes rule ≡ true → (r : Row Action) → IsOneOf r (grammar.rows_of rule)
     → is_flat notes false r.parts ≡ true
-unit_row false rule is r m = passes (is_unit false) (is_flat false false) directives_keep rule is r m
-unit_row true rule is r m = passes (is_unit true) (is_flat true false) statements_keep rule is r m
+unit_row NoNotes rule is r m = passes (is_unit NoNotes) (is_flat NoNotes false) directives_keep rule is r m
+unit_row OperandEnds rule is r m = passes (is_unit OperandEnds) (is_flat OperandEnds false) statements_keep rule is r m
+unit_row AnyNotes rule is r m = passes (is_unit AnyNotes) (is_flat AnyNotes false) any_keep rule is r m
 
 either : (a x b y more others : Bool) → ((a && x) || (b && y)) ≡ true → (x ≡ true → more ≡ true) → (y ≡ true → others ≡ true)
     → ((a && more) || (b && others)) ≡ true
@@ -89,14 +115,14 @@ either a x b y more others is f g =
       | inr i ↦ let both = and_parts b y i in or_right (a && more) (b && others) (and_from b others both.0 (g both.1))
     ]
 
-flat-append : (notes comes : Bool) (xs ys : List (Symbol Action)) → is_flat notes comes xs ≡ true → is_flat notes false ys ≡ true
+flat-append : (notes : Kinds) (comes : Bool) (xs ys : List (Symbol Action)) → is_flat notes comes xs ≡ true → is_flat notes false ys ≡ true
     → is_flat notes comes (xs ++ ys) ≡ true
 flat-append notes false [] ys x y = y
 flat-append notes true [] ys x y = cc
 flat-append notes false (Token class ∷ xs) ys x y = flat-append notes false xs ys x y
 flat-append notes true (Token class ∷ xs) ys x y = cc
 flat-append notes false (Act a ∷ xs) ys x y =
-    either (is_outer a) (is_flat notes true xs) (notes && is_noted a) (is_flat notes false xs) (is_flat notes true (xs ++ ys))
+    either (is_outer a) (is_flat notes true xs) (is_noted notes a) (is_flat notes false xs) (is_flat notes true (xs ++ ys))
     (is_flat notes false (xs ++ ys)) x (λ on. flat-append notes true xs ys on y) (λ on. flat-append notes false xs ys on y)
 flat-append notes true (Act a ∷ xs) ys x y = cc
 flat-append notes false (Rule rule ∷ xs) ys x y =
@@ -107,18 +133,18 @@ flat-append notes true (Rule rule ∷ xs) ys x y =
     and_from (is_value rule) (is_flat notes false (xs ++ ys)) both.0 (flat-append notes false xs ys both.1 y)
 
 -- Tokens and events of a unit: each token by itself, each expression with its text, and notes, where there may be such.
-pub data Reads : (notes : Bool) → List Seen → List (Event Action) → Type 0 where
-  Finished : {notes : Bool} → Reads notes [] []
-  Alone : {notes : Bool} (s : Seen) (atom : ℕ) {seen : List Seen} {events : List (Event Action)} → Reads notes seen events
+pub data Reads : (notes : Kinds) → List Seen → List (Event Action) → Type 0 where
+  Finished : {notes : Kinds} → Reads notes [] []
+  Alone : {notes : Kinds} (s : Seen) (atom : ℕ) {seen : List Seen} {events : List (Event Action)} → Reads notes seen events
       → Reads notes (s ∷ seen) (Took atom ∷ events)
-  Notes : (a : Action) {seen : List Seen} {events : List (Event Action)} → is_noted a ≡ true → Reads true seen events
-      → Reads true seen (Did a ∷ events)
-  Expressed : {notes : Bool} (a : Action) (tokens rest : List Seen) (steps late : List (Event Action)) {seen : List Seen}
+  Notes : {notes : Kinds} (a : Action) {seen : List Seen} {events : List (Event Action)} → is_noted notes a ≡ true → Reads notes seen events
+      → Reads notes seen (Did a ∷ events)
+  Expressed : {notes : Kinds} (a : Action) (tokens rest : List Seen) (steps late : List (Event Action)) {seen : List Seen}
       {events : List (Event Action)} → a ≡ action_of.Outer → tokens ++ rest ≡ seen → events ≡ steps ++ late
       → HasForm (atoms_of tokens) steps → Reads notes rest late → Reads notes seen (Did a ∷ events)
 
 -- Such tokens with others before them, which are a text of some symbols
-pub record Fronted (notes : Bool) (xs : List (Symbol Action)) (seen : List Seen) (events : List (Event Action)) : Type 0 where
+pub record Fronted (notes : Kinds) (xs : List (Symbol Action)) (seen : List Seen) (events : List (Event Action)) : Type 0 where
   pub front : List Seen
   pub rest : List Seen
   pub early : List (Event Action)
@@ -128,11 +154,11 @@ pub record Fronted (notes : Bool) (xs : List (Symbol Action)) (seen : List Seen)
   pub text : IsText grammar xs (atoms_of front) early
   pub reads : Reads notes rest late
 
-abbrev pub Parsed : (notes : Bool) → List (Symbol Action) → List Seen → List (Event Action) → Type 0
+abbrev pub Parsed : (notes : Kinds) → List (Symbol Action) → List Seen → List (Event Action) → Type 0
 Parsed notes [] seen events = Reads notes seen events
 Parsed notes (x ∷ xs) seen events = Fronted notes (x ∷ xs) seen events
 
-fronted : (notes : Bool) (xs : List (Symbol Action)) (seen : List Seen) (events : List (Event Action)) → Parsed notes xs seen events
+fronted : (notes : Kinds) (xs : List (Symbol Action)) (seen : List Seen) (events : List (Event Action)) → Parsed notes xs seen events
     → Fronted notes xs seen events
 fronted notes [] seen events reads =
     record { front = []; rest = seen; early = []; late = events; same = refl; are = refl; text = here; reads = reads }
@@ -160,11 +186,11 @@ next_in_front set (s ∷ front) rest seen same free = subst (λ l. IsNext_not se
 -- The derivation of a text
 
 -- The derivation of a text, by its front, for each front that its symbols have
-abbrev Goes : Bool → List (Symbol Action) → List Seen → List (Event Action) → Type 0
+abbrev Goes : Kinds → List (Symbol Action) → List Seen → List (Event Action) → Type 0
 Goes notes symbols seen events =
     (xs ys : List (Symbol Action)) → symbols ≡ xs ++ ys → is_flat notes false ys ≡ true → Parsed notes xs seen events
 
-begins_value : (notes : Bool) (a : Action) → a ≡ action_of.Outer → (symbols : List (Symbol Action)) (seen : List Seen)
+begins_value : (notes : Kinds) (a : Action) → a ≡ action_of.Outer → (symbols : List (Symbol Action)) (seen : List Seen)
     (events : List (Event Action)) → is_flat notes true symbols ≡ true → Goes notes symbols seen events → Reads notes seen (Did a ∷ events)
 begins_value notes a is [] seen events flat on = cc
 begins_value notes a is (Token class ∷ symbols) seen events flat on = cc
@@ -175,24 +201,19 @@ begins_value notes a is (Rule rule ∷ symbols) seen events flat on =
     Expressed a one.front one.rest one.early one.late is one.same one.are
     (values_have_forms (atoms_of one.front) one.early rule both.0 one.text) one.reads
 
-note_read : (notes : Bool) (a : Action) (symbols : List (Symbol Action)) (seen : List Seen) (events : List (Event Action))
-    → (notes && is_noted a) ≡ true → is_flat notes false symbols ≡ true → Goes notes symbols seen events → Reads notes seen (Did a ∷ events)
-note_read true a symbols seen events is flat on = Notes a is (on [] symbols refl flat)
-note_read false a symbols seen events is flat on = cc
-
-action_read : (notes : Bool) (a : Action) (symbols : List (Symbol Action)) (seen : List Seen) (events : List (Event Action))
+action_read : (notes : Kinds) (a : Action) (symbols : List (Symbol Action)) (seen : List Seen) (events : List (Event Action))
     → is_flat notes false (Act a ∷ symbols) ≡ true → Goes notes symbols seen events → Reads notes seen (Did a ∷ events)
 action_read notes a symbols seen events flat on =
-    elim (or_cases (is_outer a && is_flat notes true symbols) ((notes && is_noted a) && is_flat notes false symbols) flat) [
+    elim (or_cases (is_outer a && is_flat notes true symbols) (is_noted notes a && is_flat notes false symbols) flat) [
       | inl i ↦
           let both = and_parts (is_outer a) (is_flat notes true symbols) i in
           begins_value notes a (outer_is a both.0) symbols seen events both.1 on
       | inr i ↦
-          let both = and_parts (notes && is_noted a) (is_flat notes false symbols) i in
-          note_read notes a symbols seen events both.0 both.1 on
+          let both = and_parts (is_noted notes a) (is_flat notes false symbols) i in
+          Notes a both.0 (on [] symbols refl both.1)
     ]
 
-token_fronted : (notes : Bool) (class atom : ℕ) (s : Seen) (seen : List Seen) (events : List (Event Action)) (x : Symbol Action)
+token_fronted : (notes : Kinds) (class atom : ℕ) (s : Seen) (seen : List Seen) (events : List (Event Action)) (x : Symbol Action)
     (xs : List (Symbol Action)) → has (grammar.atoms_of class) atom ≡ true → s.atom ≡ atom → Token class ≡ x → Fronted notes xs seen events
     → Fronted notes (x ∷ xs) (s ∷ seen) (Took atom ∷ events)
 token_fronted notes class atom s seen events x xs h is same on = record {
@@ -208,7 +229,7 @@ token_fronted notes class atom s seen events x xs h is same on = record {
   reads = on.reads;
 }
 
-pub parsed : (notes : Bool) {symbols left : List (Symbol Action)} {atoms : List ℕ} {events : List (Event Action)}
+pub parsed : (notes : Kinds) {symbols left : List (Symbol Action)} {atoms : List ℕ} {events : List (Event Action)}
     → Leads grammar symbols atoms events left → left ≡ [] → (seen : List Seen) → atoms_of seen ≡ atoms
     → (xs ys : List (Symbol Action)) → symbols ≡ xs ++ ys → is_flat notes false ys ≡ true → Parsed notes xs seen events
 parsed notes here none [] is [] ys are flat = Finished

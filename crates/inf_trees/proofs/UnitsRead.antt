@@ -1,5 +1,5 @@
 -- The tokens of a unit are read: the unit is that of its parts, and beside it their reports are told.
-use Rattle.std.proofs.Common.{◌≡◌, ℕ, zero, suc, ◌+◌, ◌≤◌, ◌<◌, List, [], ◌∷◌, ◌++◌, length, Bool, true, false, Option, Some, None, refl}
+use Rattle.std.proofs.Common.{◌≡◌, ℕ, zero, suc, ◌+◌, ◌≤◌, ◌<◌, List, [], ◌∷◌, ◌++◌, length, Bool, true, false, Some, None, refl}
 use Rattle.std.proofs.Common.{sym, ◌∙◌, ap, subst}
 use Rattle.std.proofs.Common.{append_assoc, arith}
 use Rattle.std.specs.Prelude.{◌&&◌, nat_lt}
@@ -15,8 +15,6 @@ use Rattle.inf_gathering.specs.Gatherings.{Gathering}
 use Rattle.inf_unit.specs.Tokens.{SourceToken}
 use Rattle.inf_unit.specs.Units.{Unit as UnitAtHand, acted, depth_behind, is_assembly, is_full, is_some_mark, kind_at, long_at, noted}
 use Rattle.inf_unit.specs.Units.{outer_tokens, taken}
-use Rattle.inf_unit.specs.declared.items.Item.{Item}
-use Rattle.inf_unit.specs.declared.items.Item.TheVariants as item
 use Rattle.inf_unit.specs.declared.roles.Note.{Note}
 use Rattle.inf_unit.specs.declared.roles.Note.TheVariants as note
 use Rattle.inf_reader.specs.Acting.{act, operands_named}
@@ -37,7 +35,7 @@ use Rattle.inf_language.proofs.ExpressionsTold.{fields_stay, none_waits, took_is
 use Rattle.inf_trees.proofs.Beside.{acted_gathers, step_acts, told_opening}
 use Rattle.inf_trees.specs.Trees.{AreWritten, Noted, Part, Single, Value, all_seen, parts_told, tokens_told, told_at, with_outer, with_parts}
 use Rattle.inf_trees.specs.Trees.{with_value}
-use Rattle.inf_trees.proofs.UnitTexts.{Alone, Ends, Expressed, Finished, IsNote, Notes, Reads, note_of}
+use Rattle.inf_trees.proofs.UnitTexts.{Alone, AnyNotes, Expressed, Finished, Kinds, NoNotes, Notes, OperandEnds, Reads, is_end, is_noted}
 use Rattle.inf_trees.proofs.ValueForms.{HasForm}
 
 -- The happenings of two parts of a text, before another token
@@ -80,10 +78,10 @@ one_taken context s u w none =
     ∙ none_waits (record (passed s.behind told) { unit = v })
     (told_opening context s.token v.depth (long_at (longest context) v) (outer_tokens v) w ∙ none)
 
-told_at_opening : (context : Context) (u : UnitAtHand) (t : SourceToken) (w : Compilation) → (told_at context u t w).opening ≡ w.opening
+pub told_at_opening : (context : Context) (u : UnitAtHand) (t : SourceToken) (w : Compilation) → (told_at context u t w).opening ≡ w.opening
 told_at_opening context u t w = told_opening context t u.depth (long_at (longest context) u) (outer_tokens u) w
 
-tokens_opening : (context : Context) (u : UnitAtHand) (seen : List Seen) (w : Compilation) → (tokens_told context u seen w).opening ≡ w.opening
+pub tokens_opening : (context : Context) (u : UnitAtHand) (seen : List Seen) (w : Compilation) → (tokens_told context u seen w).opening ≡ w.opening
 tokens_opening context u [] w = refl
 tokens_opening context u (s ∷ seen) w =
     let v = taken s.token u in
@@ -91,10 +89,10 @@ tokens_opening context u (s ∷ seen) w =
 
 -- The tokens of an expression: their reports do not depend on what is gathered.
 
-abbrev at : UnitAtHand → List SourceToken → Gathering → ℕ → UnitAtHand
+abbrev pub at : UnitAtHand → List SourceToken → Gathering → ℕ → UnitAtHand
 at u tokens g depth = record u { tokens = tokens; gathering = g; is_over = false; depth = depth }
 
-told_beside : (limits : Limits) (context : Context) (next : Place) (u : UnitAtHand) (events : List (Event Action)) (seen : List Seen)
+pub told_beside : (limits : Limits) (context : Context) (next : Place) (u : UnitAtHand) (events : List (Event Action)) (seen : List Seen)
     (tokens : List SourceToken) (g first : Gathering) (depth : ℕ) (w : Compilation)
     → AllSteps events → TakeAll events seen → w.opening ≡ None
     → run limits context (happenings_before next events seen) (record w { unit = at u tokens g depth })
@@ -152,11 +150,11 @@ line_in_front (x ∷ xs) ys (suc place) none = line_in_front xs ys place none
 
 -- Numbers of tokens, and the atoms of parts
 
-tokens_count : (seen : List Seen) → length (tokens_of seen) ≡ length seen
+pub tokens_count : (seen : List Seen) → length (tokens_of seen) ≡ length seen
 tokens_count [] = refl
 tokens_count (s ∷ seen) = ap suc (tokens_count seen)
 
-seen_parts : (tokens rest : List Seen) → AreSeen (atoms_of (tokens ++ rest)) (tokens_of (tokens ++ rest))
+pub seen_parts : (tokens rest : List Seen) → AreSeen (atoms_of (tokens ++ rest)) (tokens_of (tokens ++ rest))
     → AreSeen (atoms_of tokens) (tokens_of tokens) × AreSeen (atoms_of rest) (tokens_of rest)
 seen_parts [] rest are = (tt, are)
 seen_parts (s ∷ tokens) rest are = let on = seen_parts tokens rest are.1 in ((are.0, on.0), on.1)
@@ -166,14 +164,14 @@ seen_parts (s ∷ tokens) rest are = let on = seen_parts tokens rest are.1 in ((
 abbrev pub ready : UnitAtHand → UnitAtHand
 ready u = record u { is_over = false }
 
-record Gathers (u : UnitAtHand) (tokens : List Seen) (steps : List (Event Action)) : Type 0 where
-  level : ℕ
-  value : Source
-  written : Written level (length u.tokens) (length u.gathering.leaves) (atoms_of tokens) value
-  reads : read_by steps (tokens_of tokens) (with_outer (ready u)) ≡ with_value (tokens_of tokens) value (ready u)
-  only : AllSteps steps
+pub record Gathers (u : UnitAtHand) (tokens : List Seen) (steps : List (Event Action)) : Type 0 where
+  pub level : ℕ
+  pub value : Source
+  pub written : Written level (length u.tokens) (length u.gathering.leaves) (atoms_of tokens) value
+  pub reads : read_by steps (tokens_of tokens) (with_outer (ready u)) ≡ with_value (tokens_of tokens) value (ready u)
+  pub only : AllSteps steps
 
-value_reads : (tokens : List SourceToken) (value : Source) (u r : UnitAtHand)
+pub value_reads : (tokens : List SourceToken) (value : Source) (u r : UnitAtHand)
     → r ≡ record (with_outer (ready u)) { tokens = r.tokens; gathering = r.gathering; depth = (with_value tokens value u).depth }
     → r.gathering ≡ with_source (Some (length u.tokens)) u.begun (u.tokens ++ tokens) value u.gathering → r.tokens ≡ u.tokens ++ tokens
     → r ≡ with_value tokens value (ready u)
@@ -181,7 +179,7 @@ value_reads tokens value u r stays gathered all =
     let v = with_value tokens value (ready u) in
     stays ∙ (ap (λ l. record v { tokens = l; gathering = r.gathering }) all ∙ ap (λ g. record v { gathering = g }) gathered)
 
-gathers : (u : UnitAtHand) (tokens : List Seen) (steps : List (Event Action))
+pub gathers : (u : UnitAtHand) (tokens : List Seen) (steps : List (Event Action))
     → HasForm (atoms_of tokens) steps → TakeAll steps tokens → AreSeen (atoms_of tokens) (tokens_of tokens)
     → u.begun ≤ length u.tokens → length u.tokens + length tokens < 4294967295 → Gathers u tokens steps
 gathers u tokens steps f all are_seen begun few =
@@ -224,7 +222,7 @@ alone_reads limits s atom u seen events on = record {
       ∙ on.does context next (passed s.behind (told_at context v s.token w)) (told_at_opening context v s.token w ∙ none);
 }
 
-expressed_does : (limits : Limits) (context : Context) (next : Place) (u : UnitAtHand) (tokens rest : List Seen)
+pub expressed_does : (limits : Limits) (context : Context) (next : Place) (u : UnitAtHand) (tokens rest : List Seen)
     (steps late : List (Event Action)) (value : Source) (w : Compilation)
     → read_by steps (tokens_of tokens) (with_outer (ready u)) ≡ with_value (tokens_of tokens) value (ready u)
     → AllSteps steps → TakeAll steps tokens → w.opening ≡ None
@@ -276,31 +274,48 @@ noted_reads limits a n u v seen events is acts on = record {
       ≡ record (parts_told context x on.parts w) { unit = with_parts on.parts x }) (sym is) (on.does context next w none);
 }
 
--- Behind a note the items of a unit are others, and its expression may be over.
-note_read : (limits : Limits) {a : Action} → IsNote a → (u : UnitAtHand) (seen : List Seen) (events : List (Event Action))
-    → is_assembly u ≡ false
-    → ((items : List Item) (outer : Option ℕ) → Read limits (record u { items = items; outer = outer }) seen events)
-    → Read limits u seen (Did a ∷ events)
-note_read limits Ends u seen events plain on =
-    noted_reads limits action_of.OuterEnd note.OuterEnd u (noted note.OuterEnd u) seen events refl
-    (λ context place w. end_acts limits context place (ready u) w plain) (on u.items None)
+-- Of the actions that stand in some units only the ends of operands are no beginnings of expressions.
+abbrev pub only_ends : Kinds → Bool
+only_ends NoNotes = true
+only_ends OperandEnds = true
+only_ends AnyNotes = false
 
--- Some tokens behind a unit are parts of it. Where there may be notes it is no assembly line.
-pub units_read : (limits : Limits) {notes : Bool} {seen : List Seen} {events : List (Event Action)} → Reads notes seen events
-    → (u : UnitAtHand) → (notes ≡ true → NoLine (u.tokens ++ tokens_of seen) u.begun) → AreSeen (atoms_of seen) (tokens_of seen)
-    → u.begun ≤ length u.tokens → length u.tokens + length seen < 4294967295 → Read limits u seen events
-units_read limits Finished u plain are_seen begun few =
+end_is : (a : Action) → is_end a ≡ true → a ≡ action_of.OuterEnd
+end_is action_of.OuterEnd is = refl
+end_is _ is = cc
+
+an_end : (notes : Kinds) (a : Action) → only_ends notes ≡ true → is_noted notes a ≡ true
+    → (a ≡ action_of.OuterEnd) × (notes ≡ OperandEnds)
+an_end NoNotes a only is = cc
+an_end OperandEnds a only is = (end_is a is, refl)
+an_end AnyNotes a only is = cc
+
+-- Behind the end of an operand no expression is open.
+end_read : (limits : Limits) (a : Action) → a ≡ action_of.OuterEnd → (u : UnitAtHand) (seen : List Seen) (events : List (Event Action))
+    → is_assembly u ≡ false → Read limits (record u { outer = None }) seen events → Read limits u seen (Did a ∷ events)
+end_read limits a is u seen events plain on =
+    subst (λ b. Read limits u seen (Did b ∷ events)) (sym is)
+    (noted_reads limits action_of.OuterEnd note.OuterEnd u (noted note.OuterEnd u) seen events refl
+    (λ context place w. end_acts limits context place (ready u) w plain) on)
+
+-- Some tokens behind a unit are parts of it. Where there are ends of operands it is no assembly line.
+pub units_read : (limits : Limits) {notes : Kinds} {seen : List Seen} {events : List (Event Action)} → Reads notes seen events
+    → only_ends notes ≡ true → (u : UnitAtHand) → (notes ≡ OperandEnds → NoLine (u.tokens ++ tokens_of seen) u.begun)
+    → AreSeen (atoms_of seen) (tokens_of seen) → u.begun ≤ length u.tokens → length u.tokens + length seen < 4294967295
+    → Read limits u seen events
+units_read limits Finished only u plain are_seen begun few =
     record { parts = []; same = refl; written = tt; does = λ context next w none. refl }
-units_read limits (Alone s atom {seen} {events} reads) u plain are_seen begun few =
+units_read limits (Alone s atom {seen} {events} reads) only u plain are_seen begun few =
     let count = length-append u.tokens (s.token ∷ []) in
     alone_reads limits s atom u seen events
-    (units_read limits reads (record u { tokens = u.tokens ++ s.token ∷ []; depth = depth_behind s.token.kind u.depth })
+    (units_read limits reads only (record u { tokens = u.tokens ++ s.token ∷ []; depth = depth_behind s.token.kind u.depth })
     (λ e. subst (λ l. NoLine l u.begun) (sym (append_assoc u.tokens (s.token ∷ []) (tokens_of seen))) (plain e)) are_seen.1
     (omega (arith, begun, count)) (omega (arith, few, count)))
-units_read limits (Notes a {seen} {events} is reads) u plain are_seen begun few =
-    note_read limits (note_of a is) u seen events (line_in_front u.tokens (tokens_of seen) u.begun (plain refl))
-    (λ items outer. units_read limits reads (record u { items = items; outer = outer }) plain are_seen begun few)
-units_read limits (Expressed a tokens rest steps late {seen} {events} is same are form reads) u plain are_seen begun few =
+units_read limits (Notes {notes} a {seen} {events} is reads) only u plain are_seen begun few =
+    let end = an_end notes a only is in
+    end_read limits a end.0 u seen events (line_in_front u.tokens (tokens_of seen) u.begun (plain end.1))
+    (units_read limits reads only (record u { outer = None }) plain are_seen begun few)
+units_read limits (Expressed a tokens rest steps late {seen} {events} is same are form reads) only u plain are_seen begun few =
     let parts = seen_parts tokens rest (subst (λ l. AreSeen (atoms_of l) (tokens_of l)) (sym same) are_seen) in
     let count = tokens_count tokens in
     let all_count = length-append u.tokens (tokens_of tokens) in
@@ -310,7 +325,7 @@ units_read limits (Expressed a tokens rest steps late {seen} {events} is same ar
     ap tokens_of (sym same) ∙ map-append (λ (s : Seen). s.token) tokens rest in
     let g = gathers u tokens steps form all parts.0 begun (omega (arith, few, seen_count)) in
     expressed_reads limits a u tokens rest steps late seen events is same are all g
-    (units_read limits reads (with_value (tokens_of tokens) g.value u)
+    (units_read limits reads only (with_value (tokens_of tokens) g.value u)
     (λ e. subst (λ l. NoLine l u.begun)
     (ap (λ l. u.tokens ++ l) all_tokens ∙ sym (append_assoc u.tokens (tokens_of tokens) (tokens_of rest))) (plain e)) parts.1
     (omega (arith, begun, all_count, count)) (omega (arith, few, seen_count, all_count, count)))

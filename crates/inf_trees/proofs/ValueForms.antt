@@ -1,26 +1,31 @@
 -- The rules by which an expression is read behind the action that begins it: each of their texts has the form of an expression.
-use Rattle.std.proofs.Common.{◌≡◌, ℕ, List, [], ◌∷◌, Bool, true, ◌||◌, ◌==◌, refl, subst, inl, inr}
+use Rattle.std.proofs.Common.{◌≡◌, ℕ, List, [], ◌∷◌, Bool, true, ◌||◌, ◌==◌, refl, subst, sym, append-nil, inl, inr}
 use Rattle.std.proofs.lemmas.Bool.{eqb-true, or_cases}
 use Rattle.inf_machine.specs.declared.symbols.Symbol.{Symbol}
 use Rattle.inf_machine.specs.declared.symbols.Symbol.TheVariants.{Rule}
-use Rattle.inf_machine.specs.Grammar.{Event, IsOneOf, IsText, Row, first, later}
+use Rattle.inf_machine.specs.Grammar.{Event, IsOneOf, IsText, Row, first, later, row as a_row}
 use Rattle.inf_syntax.specs.Rows.{row}
-use Rattle.inf_syntax.specs.Parts.{ !name, !negate, 'minus', NOTALIAS, after_prim, after_unary, assign, entry, expression, initial_1, logic}
+use Rattle.inf_syntax.specs.Parts.{ !name, !negate, !text, 'minus', NOTALIAS, OPERAND, TEXT, after_prim, after_unary, assembly_3, assign}
+use Rattle.inf_syntax.specs.Parts.{bracketed, entry, expression, initial_1, item_2, logic, plain_prim}
 use Rattle.inf_syntax.specs.Parts.{logic_tail, neg, negated, other_assign, other_prim, post, prefixed, prim}
 use Rattle.inf_syntax.specs.declared.actions.Action.{Action}
 use Rattle.inf_grammar.specs.Language.{grammar}
 use Rattle.inf_expression_laws.specs.Laws.{Form, forms}
 use Rattle.inf_expression_laws.specs.Precedence.{assignments, commas, connections, members, negations, primaries}
+use Rattle.inf_expression_laws.proofs.OperatorRows.{free}
 use Rattle.inf_statement_laws.proofs.Rules.{number}
 use Rattle.inf_language.specs.Units.{AllSteps}
 use Rattle.inf_language.proofs.TextsSplit.{is_rule, only_steps}
 use Rattle.inf_trees.proofs.RuleRows.{of_rows}
 
 -- the rules
+abbrev is_other_value : ℕ → Bool
+is_other_value rule = (rule == number entry) || ((rule == number assembly_3) || (rule == number item_2))
+
 abbrev pub is_value_rule : ℕ → Bool
 is_value_rule rule =
     (rule == number assign) || ((rule == number expression) || ((rule == number logic) || ((rule == number initial_1) ||
-    ((rule == number post) || ((rule == number prim) || (rule == number entry))))))
+    ((rule == number post) || ((rule == number prim) || is_other_value rule)))))
 
 unfoldable pub is_value : ℕ → Bool
 is_value rule = is_value_rule rule
@@ -152,28 +157,156 @@ of_rule : (atoms : List ℕ) (events : List (Event Action)) (rule : ℕ) (x : �
     → IsText grammar (Rule rule ∷ []) atoms events → IsText grammar (Rule x ∷ []) atoms events
 of_rule atoms events rule x is text = subst (λ n. IsText grammar (Rule n ∷ []) atoms events) (eqb-true rule x is) text
 
+-- The first operand of an assembly line, and a value that is printed
+
+named_steps : {atoms : List ℕ} {events : List (Event Action)} → IsText grammar (OPERAND ∷ !name ∷ after_prim ∷ []) atoms events
+    → AllSteps events
+unfolding is_rule
+named_steps text = only_steps text refl
+
+plain_steps : {atoms : List ℕ} {events : List (Event Action)} → IsText grammar (plain_prim ∷ after_prim ∷ []) atoms events → AllSteps events
+unfolding is_rule
+plain_steps text = only_steps text refl
+
+prim_rows : grammar.rows_of (number prim) ≡ row (OPERAND ∷ !name ∷ []) ∷ row (other_prim ∷ []) ∷ []
+unfolding grammar
+prim_rows = refl
+
+other_prim_rows : grammar.rows_of (number other_prim) ≡ row (plain_prim ∷ []) ∷ row (TEXT ∷ !text ∷ []) ∷ row (bracketed ∷ []) ∷ []
+unfolding grammar
+other_prim_rows = refl
+
+operand_rows : grammar.rows_of (number assembly_3)
+    ≡ row (OPERAND ∷ !name ∷ []) ∷ row (plain_prim ∷ []) ∷ row (bracketed ∷ []) ∷ row ('minus' ∷ prim ∷ !negate ∷ []) ∷ []
+unfolding grammar
+operand_rows = refl
+
+printed_rows : grammar.rows_of (number item_2)
+    ≡ row (OPERAND ∷ !name ∷ after_prim ∷ []) ∷ row (plain_prim ∷ after_prim ∷ []) ∷ row (prefixed ∷ [])
+    ∷ row ('minus' ∷ neg ∷ !negate ∷ after_unary ∷ []) ∷ []
+unfolding grammar
+printed_rows = refl
+
+-- One of the rows of a rule is a text of it.
+pub by_row : (rule : ℕ) (parts : List (Symbol Action)) (rows : List (Row Action)) (atoms : List ℕ) (events : List (Event Action))
+    → grammar.rows_of rule ≡ rows → IsOneOf (row parts) rows → IsText grammar parts atoms events → IsText grammar (Rule rule ∷ []) atoms events
+by_row rule parts rows atoms events are is text =
+    a_row (subst (λ l. IsOneOf (row parts) l) (sym are) is) (free atoms)
+    (subst (λ l. IsText grammar l atoms events) (sym (append-nil parts)) text)
+
+pub other_prim_text : (parts : List (Symbol Action)) (atoms : List ℕ) (events : List (Event Action))
+    → IsOneOf (row parts) (row (plain_prim ∷ []) ∷ row (TEXT ∷ !text ∷ []) ∷ row (bracketed ∷ []) ∷ [])
+    → IsText grammar parts atoms events → IsText grammar (prim ∷ []) atoms events
+other_prim_text parts atoms events is text =
+    by_row (number prim) (other_prim ∷ []) (row (OPERAND ∷ !name ∷ []) ∷ row (other_prim ∷ []) ∷ []) atoms events prim_rows (later first)
+    (by_row (number other_prim) parts (row (plain_prim ∷ []) ∷ row (TEXT ∷ !text ∷ []) ∷ row (bracketed ∷ []) ∷ []) atoms events
+    other_prim_rows is text)
+
+prim_form : (atoms : List ℕ) (events : List (Event Action)) → IsText grammar (prim ∷ []) atoms events → HasForm atoms events
+prim_form atoms events t =
+    record { symbols = prim ∷ []; level = primaries; is_form = later (later (later (later first))); text = t; steps = prim_steps t }
+
+entry_form : (atoms : List ℕ) (events : List (Event Action)) → IsText grammar (entry ∷ []) atoms events → HasForm atoms events
+entry_form atoms events t = record {
+  symbols = entry ∷ [];
+  level = negations;
+  is_form = later (later (later (later (later first))));
+  text = t;
+  steps = entry_steps atoms events t;
+}
+
+operand_form : (atoms : List ℕ) (events : List (Event Action)) → IsText grammar (assembly_3 ∷ []) atoms events → HasForm atoms events
+operand_form atoms events text =
+    of_rows (HasForm atoms events) (number assembly_3)
+    (row (OPERAND ∷ !name ∷ []) ∷ row (plain_prim ∷ []) ∷ row (bracketed ∷ []) ∷ row ('minus' ∷ prim ∷ !negate ∷ []) ∷ []) atoms events
+    operand_rows (
+      (λ t. prim_form atoms events
+          (by_row (number prim) (OPERAND ∷ !name ∷ []) (row (OPERAND ∷ !name ∷ []) ∷ row (other_prim ∷ []) ∷ []) atoms events prim_rows first t)),
+      (
+        (λ t. prim_form atoms events (other_prim_text (plain_prim ∷ []) atoms events first t)),
+        (
+          (λ t. prim_form atoms events (other_prim_text (bracketed ∷ []) atoms events (later (later first)) t)),
+          (
+            (λ t. entry_form atoms events
+                (by_row (number entry) ('minus' ∷ prim ∷ !negate ∷ []) (row ('minus' ∷ prim ∷ !negate ∷ []) ∷ row (prim ∷ []) ∷ []) atoms
+                events entry_rows first t)),
+            tt,
+          ),
+        ),
+      ),
+    )
+    text
+
+printed_form : (atoms : List ℕ) (events : List (Event Action)) → IsText grammar (item_2 ∷ []) atoms events → HasForm atoms events
+printed_form atoms events text =
+    of_rows (HasForm atoms events) (number item_2)
+    (row (OPERAND ∷ !name ∷ after_prim ∷ []) ∷ row (plain_prim ∷ after_prim ∷ []) ∷ row (prefixed ∷ [])
+    ∷ row ('minus' ∷ neg ∷ !negate ∷ after_unary ∷ []) ∷ []) atoms events printed_rows (
+      (λ t. record {
+        symbols = OPERAND ∷ !name ∷ after_prim ∷ [];
+        level = assignments;
+        is_form = later (later (later (later (later (later (later (later (later (later (later (later (later (later (later (later (later (later (later (later (later (later (later (later (later (later (later (later (later (first)))))))))))))))))))))))))))));
+        text = t;
+        steps = named_steps t;
+      }),
+      (
+        (λ t. record {
+          symbols = plain_prim ∷ after_prim ∷ [];
+          level = assignments;
+          is_form = later (later (later (later (later (later (later (later (later (later (later (later (later (later (later (later (later (later (later (later (later (later (later (later (later (later (later (later (later (later (first))))))))))))))))))))))))))))));
+          text = t;
+          steps = plain_steps t;
+        }),
+        (
+          (λ t. record {
+            symbols = prefixed ∷ [];
+            level = assignments;
+            is_form = later (later (later (later (later (later (later (later (later (later (later (later (later (later (later (later (later (later (later (later (later (later (later (later (later (later (later (later (later (later (later (first)))))))))))))))))))))))))))))));
+            text = t;
+            steps = other_steps_2 t;
+          }),
+          (
+            (λ t. record {
+              symbols = 'minus' ∷ neg ∷ !negate ∷ after_unary ∷ [];
+              level = assignments;
+              is_form = later (later (later (later (later (later (later (later (later (later (later (later (later (later (later (later (later (later (later (later (later (later (later (later (later (later (later (later (later (later (later (later (first))))))))))))))))))))))))))))))));
+              text = t;
+              steps = other_steps_3 t;
+            }),
+            tt,
+          ),
+        ),
+      ),
+    )
+    text
+
+other_form : (atoms : List ℕ) (events : List (Event Action)) (rule : ℕ) → is_other_value rule ≡ true
+    → IsText grammar (Rule rule ∷ []) atoms events → HasForm atoms events
+other_form atoms events rule is text =
+    elim (or_cases (rule == number entry) ((rule == number assembly_3) || (rule == number item_2)) is) [
+      | inl e ↦ entry_form atoms events (of_rule atoms events rule (number entry) e text)
+      | inr others ↦
+          elim (or_cases (rule == number assembly_3) (rule == number item_2) others) [
+            | inl a ↦ operand_form atoms events (of_rule atoms events rule (number assembly_3) a text)
+            | inr i ↦ printed_form atoms events (of_rule atoms events rule (number item_2) i text)
+          ]
+    ]
+
 late_form : (atoms : List ℕ) (events : List (Event Action)) (rule : ℕ)
-    → ((rule == number initial_1) || ((rule == number post) || ((rule == number prim) || (rule == number entry)))) ≡ true
+    → ((rule == number initial_1) || ((rule == number post) || ((rule == number prim) || is_other_value rule))) ≡ true
     → IsText grammar (Rule rule ∷ []) atoms events → HasForm atoms events
 late_form atoms events rule is text =
-    elim (or_cases (rule == number initial_1) ((rule == number post) || ((rule == number prim) || (rule == number entry))) is) [
+    elim (or_cases (rule == number initial_1) ((rule == number post) || ((rule == number prim) || is_other_value rule)) is) [
       | inl i ↦ initial_form atoms events (of_rule atoms events rule (number initial_1) i text)
       | inr others ↦
-          elim (or_cases (rule == number post) ((rule == number prim) || (rule == number entry)) others) [
+          elim (or_cases (rule == number post) ((rule == number prim) || is_other_value rule) others) [
             | inl p ↦ let t = of_rule atoms events rule (number post) p text in
                 record { symbols = post ∷ []; level = members; is_form = later (later (later first)); text = t; steps = post_steps t }
             | inr more ↦
-                elim (or_cases (rule == number prim) (rule == number entry) more) [
+                elim (or_cases (rule == number prim) (is_other_value rule) more) [
                   | inl p ↦ let t = of_rule atoms events rule (number prim) p text in
                       record { symbols = prim ∷ []; level = primaries; is_form = later (later (later (later first))); text = t; steps = prim_steps t }
-                  | inr e ↦ let t = of_rule atoms events rule (number entry) e text in
-                      record {
-                        symbols = entry ∷ [];
-                        level = negations;
-                        is_form = later (later (later (later (later first))));
-                        text = t;
-                        steps = entry_steps atoms events t;
-                      }
+                  | inr e ↦ other_form atoms events rule e text
                 ]
           ]
     ]
@@ -181,7 +314,7 @@ late_form atoms events rule is text =
 value_form : (atoms : List ℕ) (events : List (Event Action)) (rule : ℕ) → is_value_rule rule ≡ true
     → IsText grammar (Rule rule ∷ []) atoms events → HasForm atoms events
 value_form atoms events rule is text =
-    let late = (rule == number initial_1) || ((rule == number post) || ((rule == number prim) || (rule == number entry))) in
+    let late = (rule == number initial_1) || ((rule == number post) || ((rule == number prim) || is_other_value rule)) in
     elim (or_cases (rule == number assign) ((rule == number expression) || ((rule == number logic) || late)) is) [
       | inl a ↦ let t = of_rule atoms events rule (number assign) a text in
           record { symbols = assign ∷ []; level = assignments; is_form = later first; text = t; steps = assign_steps t }

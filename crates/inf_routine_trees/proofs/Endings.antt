@@ -1,0 +1,158 @@
+-- A statement, and an item at the top of a routine, ends with a token, behind which statements that hold it may be closed: no word waits
+-- for its report behind it.
+use Rattle.std.proofs.Common.{◌≡◌, ℕ, List, [], ◌∷◌, ◌++◌, Bool, true, false, ◌&&◌, ◌||◌, ◌-◌, None, refl, sym, ◌∙◌, ap, subst}
+use Rattle.std.specs.Prelude.{nat_lt}
+use Rattle.std.proofs.lemmas.Bool.{agree_below, and_parts}
+use Rattle.inf_settings.specs.Bounds.{Limits}
+use Rattle.inf_scanner.specs.declared.tokens.Place.{Place}
+use Rattle.inf_machine.specs.declared.symbols.Symbol.{Symbol}
+use Rattle.inf_machine.specs.declared.symbols.Symbol.TheVariants.{Act, Rule, Token}
+use Rattle.inf_machine.specs.Grammar.{Did, Event, IsOneOf, Leads, Row, Took, action, here, row, token}
+use Rattle.inf_syntax.specs.Parts.{case_end, do_rest, else_part, end, for_rest, give_rest, if_rest, jump_rest, mark_statement, move_rest}
+use Rattle.inf_syntax.specs.Parts.{objectloop_rest, of_expression, print_rest, return_rest, statement, statement_3, statement_end}
+use Rattle.inf_syntax.specs.Parts.{string_rest, style_rest, switch_rest, text_more, text_statement, text_statement_1, top_following}
+use Rattle.inf_syntax.specs.Parts.{top_following_1, top_item, top_item_1, top_item_10, top_item_12, top_item_13, top_item_14, top_item_15}
+use Rattle.inf_syntax.specs.Parts.{top_item_16, top_item_17, top_item_19, top_item_2, top_item_20, top_item_21, top_item_5, top_item_6}
+use Rattle.inf_syntax.specs.Parts.{top_item_7, top_item_8, top_item_9, top_more, top_next, top_range, top_values, top_word, top_word_1}
+use Rattle.inf_syntax.specs.Parts.{while_rest}
+use Rattle.inf_syntax.specs.declared.actions.Action.{Action}
+use Rattle.inf_syntax.specs.declared.actions.Action.TheVariants as action_of
+use Rattle.inf_grammar.specs.Language.{grammar}
+use Rattle.inf_unit.proofs.Cases.{of_both}
+use Rattle.inf_compilation.specs.Context.{Context}
+use Rattle.inf_compilation.specs.Actions.{Compilation, took}
+use Rattle.inf_compilation.specs.Parts.{construct_closed, construct_ended}
+use Rattle.inf_reader.specs.Acting.{act}
+use Rattle.inf_statement_laws.specs.Laid.{next_comes, passed, run}
+use Rattle.inf_statement_laws.specs.Readings.{Seen}
+use Rattle.inf_language.specs.Texts.{happenings_before}
+use Rattle.inf_language.specs.Units.{TakeAll}
+use Rattle.inf_trees.proofs.RuleRows.{is_among, keeps, passes}
+
+abbrev pub is_close : Action → Bool
+is_close action_of.Close = true
+is_close _ = false
+
+close_is : (a : Action) → is_close a ≡ true → a ≡ action_of.Close
+close_is action_of.Close is = refl
+close_is _ is = cc
+
+-- whether the last of some events that is no closing is a token, where `b` says it of those before them
+abbrev pub last_took : Bool → List (Event Action) → Bool
+last_took b [] = b
+last_took b (Did a ∷ events) = last_took (b && is_close a) events
+last_took b (Took atom ∷ events) = last_took true events
+
+-- rules all of whose texts end so, and those that do behind a token
+abbrev end_rules : List (Symbol Action)
+end_rules =
+    case_end ∷ do_rest ∷ end ∷ for_rest ∷ give_rest ∷ if_rest ∷ jump_rest ∷ mark_statement ∷ move_rest ∷ objectloop_rest ∷
+    of_expression ∷ print_rest ∷ return_rest ∷ statement ∷ statement_3 ∷ statement_end ∷ string_rest ∷ style_rest ∷ switch_rest ∷
+    text_more ∷ text_statement ∷ text_statement_1 ∷ top_following ∷ top_following_1 ∷ top_item ∷ top_item_1 ∷ top_item_10 ∷
+    top_item_12 ∷ top_item_13 ∷ top_item_14 ∷ top_item_15 ∷ top_item_16 ∷ top_item_17 ∷ top_item_19 ∷ top_item_2 ∷ top_item_20 ∷
+    top_item_21 ∷ top_item_5 ∷ top_item_6 ∷ top_item_7 ∷ top_item_8 ∷ top_item_9 ∷ top_more ∷ top_next ∷ top_range ∷ top_values ∷
+    top_word ∷ top_word_1 ∷ while_rest ∷ []
+
+unfoldable pub ends : ℕ → Bool
+ends rule = is_among rule end_rules
+
+unfoldable pub goes_on : ℕ → Bool
+goes_on rule = is_among rule (else_part ∷ [])
+
+abbrev pub end_so : Bool → List (Symbol Action) → Bool
+end_so b [] = b
+end_so b (Token class ∷ symbols) = end_so true symbols
+end_so b (Act a ∷ symbols) = end_so (b && is_close a) symbols
+end_so b (Rule rule ∷ symbols) = end_so (ends rule || (b && goes_on rule)) symbols
+
+rows_end : agree_below (keeps ends (end_so false)) (λ rule. true) 251 ≡ true
+unfolding grammar ends goes_on
+rows_end = refl
+
+rows_go_on : agree_below (keeps goes_on (end_so true)) (λ rule. true) 251 ≡ true
+unfolding grammar ends goes_on
+rows_go_on = refl
+
+-- Where symbols end so whatever is before them, they end so behind a token.
+rule_behind : (e g : Bool) (symbols : List (Symbol Action)) → ((b : Bool) → end_so false symbols ≡ true → end_so b symbols ≡ true)
+    → end_so (e || false) symbols ≡ true → end_so (e || g) symbols ≡ true
+rule_behind true g symbols on is = is
+rule_behind false g symbols on is = on g is
+
+behind_any : (b : Bool) (symbols : List (Symbol Action)) → end_so false symbols ≡ true → end_so b symbols ≡ true
+behind_any false symbols is = is
+behind_any true [] is = cc
+behind_any true (Token class ∷ symbols) is = is
+behind_any true (Act a ∷ symbols) is = behind_any (is_close a) symbols is
+behind_any true (Rule rule ∷ symbols) is = rule_behind (ends rule) (goes_on rule) symbols (λ b. behind_any b symbols) is
+
+any_parts : (b : Bool) (parts symbols : List (Symbol Action)) → end_so false symbols ≡ true → end_so b (parts ++ symbols) ≡ true
+any_parts b [] symbols is = behind_any b symbols is
+any_parts b (Token class ∷ parts) symbols is = any_parts true parts symbols is
+any_parts b (Act a ∷ parts) symbols is = any_parts (b && is_close a) parts symbols is
+any_parts b (Rule rule ∷ parts) symbols is = any_parts (ends rule || (b && goes_on rule)) parts symbols is
+
+-- Symbols behind others that end so
+end-append : (b : Bool) (parts symbols : List (Symbol Action)) → end_so b parts ≡ true → end_so true symbols ≡ true
+    → end_so b (parts ++ symbols) ≡ true
+end-append b [] symbols is behind = subst (λ x. end_so x symbols ≡ true) (sym is) behind
+end-append b (Token class ∷ parts) symbols is behind = end-append true parts symbols is behind
+end-append b (Act a ∷ parts) symbols is behind = end-append (b && is_close a) parts symbols is behind
+end-append b (Rule rule ∷ parts) symbols is behind = end-append (ends rule || (b && goes_on rule)) parts symbols is behind
+
+row_ends : (rule : ℕ) (r : Row Action) → IsOneOf r (grammar.rows_of rule) → (b : Bool) (symbols : List (Symbol Action))
+    → end_so (ends rule || (b && goes_on rule)) symbols ≡ true → end_so b (r.parts ++ symbols) ≡ true
+row_ends rule r is b symbols so = by_cases (ends rule) refl
+  where
+    by_go : (g : Bool) → goes_on rule ≡ g → (c : Bool) → end_so (c && g) symbols ≡ true → end_so c (r.parts ++ symbols) ≡ true
+    by_go true e true same = end-append true r.parts symbols (passes goes_on (end_so true) rows_go_on rule e r is) same
+    by_go true e false same = any_parts false r.parts symbols same
+    by_go false e true same = any_parts true r.parts symbols same
+    by_go false e false same = any_parts false r.parts symbols same
+
+    by_cases : (x : Bool) → ends rule ≡ x → end_so b (r.parts ++ symbols) ≡ true
+    by_cases true e =
+        end-append b r.parts symbols (behind_any b r.parts (passes ends (end_so false) rows_end rule e r is))
+        (subst (λ x. end_so (x || (b && goes_on rule)) symbols ≡ true) e so)
+    by_cases false e = by_go (goes_on rule) refl b (subst (λ x. end_so (x || (b && goes_on rule)) symbols ≡ true) e so)
+
+pub text_ends : {symbols left : List (Symbol Action)} {atoms : List ℕ} {events : List (Event Action)}
+    → Leads grammar symbols atoms events left → left ≡ [] → (b : Bool) → end_so b symbols ≡ true → last_took b events ≡ true
+text_ends (here {symbols = []}) none b so = so
+text_ends (here {symbols = x ∷ symbols}) none b so = cc
+text_ends (token h leads) none b so = text_ends leads none true so
+text_ends (action {a} leads) none b so = text_ends leads none (b && is_close a) so
+text_ends (row {rule} {r} {symbols} is_row free leads) none b so = text_ends leads none b (row_ends rule r is_row b symbols so)
+
+-- No word waits behind such events.
+
+ended_opening : (limits : Limits) (w : Compilation) → (construct_ended limits w).opening ≡ w.opening
+ended_opening limits w = refl
+
+close_opening : (limits : Limits) (w : Compilation) → (construct_closed limits w).opening ≡ w.opening
+close_opening limits w =
+    of_both (λ (v : Compilation). v.opening ≡ w.opening) (nat_lt 0 w.closed) (record w { closed = w.closed - 1 }) (construct_ended limits w)
+    (λ e. refl) (λ e. ended_opening limits w)
+
+both_true : (b : Bool) (a : Action) → (b && is_close a) ≡ true → (b ≡ true) × (a ≡ action_of.Close)
+both_true b a is = let both = and_parts b (is_close a) is in (both.0, close_is a both.1)
+
+act_opening : (limits : Limits) (context : Context) (place : Place) (a : Action) (w : Compilation) → a ≡ action_of.Close
+    → w.opening ≡ None → (act limits context place a w).opening ≡ None
+act_opening limits context place a w is none =
+    ap (λ b. (act limits context place b w).opening) is ∙ (close_opening limits w ∙ none)
+
+pub none_behind : (limits : Limits) (context : Context) (next : Place) (b : Bool) (events : List (Event Action)) (seen : List Seen)
+    (w : Compilation) → TakeAll events seen → last_took b events ≡ true → (b ≡ true → w.opening ≡ None)
+    → (run limits context (happenings_before next events seen) w).opening ≡ None
+none_behind limits context next b [] [] w all last none = none last
+none_behind limits context next b [] (s ∷ seen) w all last none = absurd all
+none_behind limits context next b (Did a ∷ events) [] w all last none =
+    none_behind limits context next (b && is_close a) events [] (act limits context next a w) all last
+    (λ e. let both = both_true b a e in act_opening limits context next a w both.1 (none both.0))
+none_behind limits context next b (Did a ∷ events) (s ∷ seen) w all last none =
+    none_behind limits context next (b && is_close a) events (s ∷ seen) (act limits context s.token.place a w) all last
+    (λ e. let both = both_true b a e in act_opening limits context s.token.place a w both.1 (none both.0))
+none_behind limits context next b (Took atom ∷ events) [] w all last none = absurd all
+none_behind limits context next b (Took atom ∷ events) (s ∷ seen) w all last none =
+    none_behind limits context next true events seen (next_comes (passed s.behind (took context s.token w))) all last (λ e. refl)

@@ -1,0 +1,156 @@
+-- `while (x) print "a";` and `[ Main; ];` meet the premises of the laws, as evaluation shows.
+use Rattle.std.proofs.Common.{◌≡◌, ℕ, List, [], ◌∷◌, ◌++◌, false, Some, None, refl, lit≤}
+use Rattle.std.specs.Prelude.{codes}
+use Rattle.inf_settings.specs.Bounds.{Limits}
+use Rattle.inf_scanner.specs.declared.tokens.Mark.{Mark}
+use Rattle.inf_scanner.specs.declared.tokens.Mark.TheVariants as mark
+use Rattle.inf_scanner.specs.declared.tokens.Place.{Place}
+use Rattle.inf_scanner.specs.declared.tokens.TokenKind.{TokenKind}
+use Rattle.inf_scanner.specs.declared.tokens.TokenKind.TheVariants as kind
+use Rattle.inf_machine.specs.Grammar.{Did, Event, IsText, Took, action, first, here, later, row, token}
+use Rattle.inf_machine.specs.Machine.{read}
+use Rattle.inf_machine.proofs.TokenLaws.{texts_are_taken}
+use Rattle.inf_syntax.specs.Atoms.{mark_atom}
+use Rattle.inf_syntax.specs.Parts.{ !close, statement}
+use Rattle.inf_syntax.specs.declared.actions.Action.{Action}
+use Rattle.inf_syntax.specs.declared.actions.Action.TheVariants as action_of
+use Rattle.inf_grammar.specs.Evaluated.{language_is_decided}
+use Rattle.inf_grammar.specs.Language.{grammar, known}
+use Rattle.inf_expression_laws.proofs.OperatorRows.{free}
+use Rattle.inf_statement_laws.specs.Readings.{Seen, nothing_between}
+use Rattle.inf_statement_laws.proofs.Rules.{number}
+use Rattle.inf_unit.specs.Tokens.{SourceToken, atom_of}
+use Rattle.inf_language.specs.Texts.{atoms_of}
+use Rattle.inf_routine_trees.specs.Bodies.{AreTrees}
+use Rattle.inf_routine_trees.specs.Routines.{IsRoutine, routine_symbols}
+use Rattle.inf_routine_trees.proofs.Loops.{statements_are_laid_as_trees}
+use Rattle.inf_routine_trees.proofs.RoutineTrees.{routines_are_trees}
+
+-- a token on the first line, with no conditional directive behind it
+abbrev seen_as : TokenKind → List ℕ → Seen
+seen_as k bytes =
+    let t : SourceToken = record { kind = k; bytes = bytes; place = record { file = 0; line = 1 }; is_class = false } in
+    record { token = t; atom = atom_of t; behind = nothing_between; directive = None }
+
+abbrev word_while : Seen
+word_while = seen_as kind.Name (codes "while")
+
+abbrev opening : Seen
+opening = seen_as (kind.Mark mark.OpenParenthesis) (codes "(")
+
+abbrev name : Seen
+name = seen_as kind.Name (codes "x")
+
+abbrev closing : Seen
+closing = seen_as (kind.Mark mark.CloseParenthesis) (codes ")")
+
+abbrev word_print : Seen
+word_print = seen_as kind.Name (codes "print")
+
+abbrev text : Seen
+text = seen_as kind.Text (codes "a")
+
+abbrev semicolon : Seen
+semicolon = seen_as (kind.Mark mark.Semicolon) (codes ";")
+
+abbrev bracket : Seen
+bracket = seen_as (kind.Mark mark.OpenBracket) (codes "[")
+
+abbrev main : Seen
+main = seen_as kind.Name (codes "Main")
+
+abbrev end_bracket : Seen
+end_bracket = seen_as (kind.Mark mark.CloseBracket) (codes "]")
+
+-- each is the mark whose atom it has
+abbrev Marked : Seen → Type 0
+Marked s = (m : Mark) → s.atom ≡ mark_atom m → s.token.kind ≡ kind.Mark m
+
+while_is_seen : Marked word_while
+while_is_seen mark.Arrow same = cc
+while_is_seen _ same = cc
+
+opening_is_seen : Marked opening
+opening_is_seen mark.OpenParenthesis same = refl
+opening_is_seen _ same = cc
+
+name_is_seen : Marked name
+name_is_seen mark.Arrow same = cc
+name_is_seen _ same = cc
+
+closing_is_seen : Marked closing
+closing_is_seen mark.CloseParenthesis same = refl
+closing_is_seen _ same = cc
+
+print_is_seen : Marked word_print
+print_is_seen mark.Arrow same = cc
+print_is_seen _ same = cc
+
+text_is_seen : Marked text
+text_is_seen mark.Arrow same = cc
+text_is_seen _ same = cc
+
+semicolon_is_seen : Marked semicolon
+semicolon_is_seen mark.Semicolon same = refl
+semicolon_is_seen _ same = cc
+
+bracket_is_seen : Marked bracket
+bracket_is_seen mark.OpenBracket same = refl
+bracket_is_seen _ same = cc
+
+main_is_seen : Marked main
+main_is_seen mark.Arrow same = cc
+main_is_seen _ same = cc
+
+end_is_seen : Marked end_bracket
+end_is_seen mark.CloseBracket same = refl
+end_is_seen _ same = cc
+
+-- The statement
+
+abbrev while_seen : List Seen
+while_seen = word_while ∷ opening ∷ name ∷ closing ∷ word_print ∷ text ∷ semicolon ∷ []
+
+abbrev while_events : List (Event Action)
+while_events =
+    Did action_of.Deeper ∷ Took word_while.atom ∷ Did action_of.OpenWhile ∷ Took opening.atom ∷ Did action_of.Begin ∷ Did action_of.Outer
+    ∷ Took name.atom ∷ Did action_of.Name ∷ Did action_of.EndWhile ∷ Took closing.atom ∷ Did action_of.Begin ∷ Took word_print.atom
+    ∷ Did action_of.OuterMaybe ∷ Took text.atom ∷ Did action_of.PrintText ∷ Did action_of.EndStatement ∷ Took semicolon.atom ∷ []
+
+while_read : read grammar known (statement ∷ []) (atoms_of while_seen) ≡ Some (record { events = while_events; left = !close ∷ [] })
+unfolding grammar known
+while_read = refl
+
+while_text : IsText grammar (statement ∷ []) (atoms_of while_seen) (while_events ++ Did action_of.Close ∷ [])
+while_text =
+    (texts_are_taken grammar known (number statement) (atoms_of while_seen) (while_events ++ Did action_of.Close ∷ [])
+    language_is_decided).1 (record { events = while_events; left = !close ∷ [] }, Did action_of.Close ∷ [], while_read, refl, action here)
+
+pub looped : (limits : Limits) (next : Place) → AreTrees limits next while_seen (while_events ++ Did action_of.Close ∷ [])
+looped limits next =
+    statements_are_laid_as_trees limits next while_seen (while_events ++ Did action_of.Close ∷ []) while_text
+    (while_is_seen, (opening_is_seen, (name_is_seen, (closing_is_seen, (print_is_seen, (text_is_seen, (semicolon_is_seen, tt)))))))
+    (lit≤ tt)
+
+-- The routine
+
+abbrev routine_seen : List Seen
+routine_seen = bracket ∷ main ∷ semicolon ∷ end_bracket ∷ semicolon ∷ []
+
+abbrev routine_events : List (Event Action)
+routine_events =
+    Did action_of.Routine ∷ Took bracket.atom ∷ Took main.atom ∷ Did action_of.EndLocals ∷ Took semicolon.atom ∷ Did action_of.EndRoutine
+    ∷ Took end_bracket.atom ∷ Took semicolon.atom ∷ []
+
+routine_text : IsText grammar routine_symbols (atoms_of routine_seen) routine_events
+unfolding grammar
+routine_text =
+    action (token refl (token refl
+    (row (later first) (free (semicolon.atom ∷ end_bracket.atom ∷ semicolon.atom ∷ []))
+    (action (token refl (row (later first) (free (end_bracket.atom ∷ semicolon.atom ∷ [])) (action (token refl (token refl here)))))))))
+
+pub named : (limits : Limits) → IsRoutine limits routine_seen
+named limits =
+    routines_are_trees limits routine_seen routine_events routine_text
+    (bracket_is_seen, (main_is_seen, (semicolon_is_seen, (end_is_seen, (semicolon_is_seen, tt))))) (lit≤ tt)
+    (refl, (refl, (refl, (refl, (refl, tt)))))

@@ -1,0 +1,386 @@
+-- A `for` is a tree.
+use Rattle.std.proofs.Common.{◌≡◌, ℕ, suc, ◌+◌, ◌≤◌, ◌<◌, List, [], ◌∷◌, ◌++◌, length, Bool, true, Option, Some, None, refl, sym, ◌∙◌, ap}
+use Rattle.std.proofs.Common.{append_assoc, append-nil, arith}
+use Rattle.std.proofs.lemmas.Bool.{and_from}
+use Rattle.inf_settings.specs.Bounds.{Limits}
+use Rattle.inf_scanner.specs.declared.tokens.Place.{Place}
+use Rattle.inf_machine.specs.declared.symbols.Symbol.{Symbol}
+use Rattle.inf_machine.specs.declared.symbols.Symbol.TheVariants.{Act, Rule}
+use Rattle.inf_machine.specs.Grammar.{Event, IsText}
+use Rattle.inf_syntax.specs.Parts.{ !close, !end_for_start, !end_for_step, !end_for_test, !for_top, !open_for, 'close_parenthesis'}
+use Rattle.inf_syntax.specs.Parts.{'colon', 'for', 'open_parenthesis', for_rest, for_rest_1, for_rest_2, for_rest_3, statement}
+use Rattle.inf_syntax.specs.Rows.{row}
+use Rattle.inf_syntax.specs.declared.actions.Action.{Action}
+use Rattle.inf_syntax.specs.declared.actions.Action.TheVariants as action_of
+use Rattle.inf_grammar.specs.Language.{grammar}
+use Rattle.inf_constructs.specs.Constructs.{between, opened}
+use Rattle.inf_constructs.specs.declared.constructs.Construct.{Construct}
+use Rattle.inf_constructs.specs.declared.constructs.Kind.TheVariants as kind
+use Rattle.inf_unit.specs.Units.{Unit as UnitAtHand, no_unit}
+use Rattle.inf_compilation.specs.Context.{Context}
+use Rattle.inf_compilation.specs.Actions.{Compilation}
+use Rattle.inf_reader.specs.Acting.{act}
+use Rattle.inf_statement_laws.specs.Happenings.{Acts, Happening, Moment, Quiet, Takes, happen_quietly, is_quiet}
+use Rattle.inf_statement_laws.specs.Laid.{ended_as, holding, laid, opened_at, run, with_step_in}
+use Rattle.inf_statement_laws.specs.Nested.{For, Nested, NoStep, Plain, Step, StepEnds, happenings, step_happenings}
+use Rattle.inf_statement_laws.specs.Nested.{Then as After}
+use Rattle.inf_statement_laws.specs.Readings.{Seen, plainly_at}
+use Rattle.inf_statement_laws.proofs.Acts.{inside_act, is_inside, quiet_run, took_none}
+use Rattle.inf_statement_laws.proofs.Laying.{run_then}
+use Rattle.inf_statement_laws.proofs.Rules.{number}
+use Rattle.inf_language.specs.Texts.{atoms_of, happenings_before}
+use Rattle.inf_trees.specs.Trees.{Part}
+use Rattle.inf_trees.proofs.RuleRows.{of_rows}
+use Rattle.inf_trees.proofs.StatementsRead.{bracketed_units_are_trees}
+use Rattle.inf_trees.proofs.StatementTexts.{Rows}
+use Rattle.inf_trees.proofs.UnitsRead.{place_before, seen_parts}
+use Rattle.inf_routine_trees.specs.Bodies.{For as ForTree, MaybeWritten, maybe_done, maybe_seen, token_done, tree_laid, tree_seen, word_done}
+use Rattle.inf_routine_trees.proofs.Pieces.{Worded, before_word, quiet-append, quiet_text}
+use Rattle.inf_simple_trees.proofs.Symbols.{ActFirst, PartsOf, TokenFirst, act_first, nothing_left, parts_of, token_first}
+use Rattle.inf_routine_trees.proofs.Pieces.{unit_quiet, unit_symbols, word_happens, worded}
+use Rattle.inf_routine_trees.proofs.Trees.{AreAll, Below, BodyText, IsTree, body_text, moved_seen, word_closed, word_quiet}
+
+-- A unit that may be missing, before another token at a place, with the action that ends it
+record MaybeText (limits : Limits) (end : Action) (place : Place) (seen : List Seen) (events : List (Event Action)) : Type 0 where
+  unit : Option (UnitAtHand → List Part)
+  all : maybe_seen unit ≡ seen
+  written : MaybeWritten unit
+  happens : List Happening
+  quiet : is_quiet end ≡ true → happen_quietly happens ≡ true
+  step : end ≡ action_of.EndForStep → Step
+  step_same : (is : end ≡ action_of.EndForStep) → step_happenings (step is) ≡ happens
+  same : happenings_before place events seen ≡ happens
+  runs : (context : Context) (w : Compilation) → w.opening ≡ None
+      → run limits context happens w ≡ maybe_done limits context end place unit w
+  closed : (context : Context) (w : Compilation) → w.closed ≡ 0 → (run limits context happens w).closed ≡ 0
+
+present : (limits : Limits) (end : Action) (place : Place) (seen : List Seen) (events : List (Event Action))
+    → IsText grammar (unit_symbols ++ Act end ∷ []) (atoms_of seen) events → is_inside end ≡ true → AreAll seen
+    → length seen + 1 < 4294967295 → MaybeText limits end place seen events
+present limits end place seen events text inside are_seen few =
+    let p = parts_of unit_symbols (Act end ∷ []) seen events text in
+    let e = act_first end [] p.rest p.late p.of_rest in
+    let n = nothing_left p.rest e.late e.text in
+    let parts = seen_parts p.front p.rest (moved_seen (sym p.same) are_seen) in
+    let at : place_before p.rest place ≡ place = ap (λ l. place_before l place) n.none in
+    let unit =
+    λ (u : UnitAtHand). bracketed_units_are_trees limits u p.front p.early p.of_front parts.0 (omega (arith, few, p.count)) in
+    let hs = happenings_before place p.early p.front in
+    let quiet_hs = quiet_text unit_symbols unit_quiet place p.front p.early p.of_front in
+    let last : List Happening = Acts (plainly_at place) end ∷ [] in
+    record {
+      unit = Some (λ u. (unit u).parts);
+      all = (unit no_unit).same ∙ (sym (append-nil p.front) ∙ (ap (λ l. p.front ++ l) (sym n.none) ∙ p.same));
+      written = λ u. (unit u).written;
+      happens = hs ++ last;
+      quiet = λ q. quiet-append hs last quiet_hs (and_from (is_quiet end) true q refl);
+      step = λ is. StepEnds (record { all = hs; are = quiet_hs }) (plainly_at place);
+      step_same = λ is. ap (λ a. hs ++ Acts (plainly_at place) a ∷ []) (sym is);
+      same =
+          p.happen place
+          ∙ (ap (λ x. happenings_before x p.early p.front ++ happenings_before place p.late p.rest) at
+          ∙ ap (λ l. hs ++ l) (e.happen place
+          ∙ (ap (λ x. Acts (plainly_at x) end ∷ happenings_before place e.late p.rest) at
+          ∙ ap (λ l. Acts (plainly_at place) end ∷ l) (n.happen place))));
+      runs = λ context w none.
+          run_then limits context hs last w ∙ ap (act limits context place end) ((unit w.unit).does context place w none);
+      closed = λ context w ahead.
+          ap (λ (z : Compilation). z.closed) (run_then limits context hs last w)
+          ∙ inside_act limits context place end (run limits context hs w) inside ((quiet_run limits context hs w quiet_hs).1 ∙ ahead);
+    }
+
+absent : (limits : Limits) (end : Action) (place : Place) (seen : List Seen) (events : List (Event Action))
+    → IsText grammar [] (atoms_of seen) events → MaybeText limits end place seen events
+absent limits end place seen events text =
+    let n = nothing_left seen events text in
+    record {
+      unit = None;
+      all = sym n.none;
+      written = tt;
+      happens = [];
+      quiet = λ q. refl;
+      step = λ is. NoStep;
+      step_same = λ is. refl;
+      same = n.happen place;
+      runs = λ context w none. refl;
+      closed = λ context w ahead. ahead;
+    }
+
+maybe_text : (limits : Limits) (end : Action) (rule : ℕ)
+    → grammar.rows_of rule ≡ row (unit_symbols ++ Act end ∷ []) ∷ row [] ∷ [] → (place : Place) (seen : List Seen)
+    (events : List (Event Action)) → IsText grammar (Rule rule ∷ []) (atoms_of seen) events → is_inside end ≡ true → AreAll seen
+    → length seen + 1 < 4294967295 → MaybeText limits end place seen events
+maybe_text limits end rule rows place seen events text inside are_seen few =
+    of_rows (MaybeText limits end place seen events) rule (row (unit_symbols ++ Act end ∷ []) ∷ row [] ∷ []) (atoms_of seen) events rows
+    ((λ t. present limits end place seen events t inside are_seen few), ((λ t. absent limits end place seen events t), tt)) text
+
+maybe_closed : {limits : Limits} {end : Action} {place : Place} {seen : List Seen} {events : List (Event Action)}
+    (m : MaybeText limits end place seen events) (context : Context) (w : Compilation) → w.opening ≡ None → w.closed ≡ 0
+    → (maybe_done limits context end place m.unit w).closed ≡ 0
+maybe_closed m context w none ahead = ap (λ (z : Compilation). z.closed) (sym (m.runs context w none)) ∙ m.closed context w ahead
+
+start_rows : Rows for_rest_1 (row (unit_symbols ++ !end_for_start ∷ []) ∷ row [] ∷ [])
+unfolding grammar
+start_rows = refl
+
+test_rows : Rows for_rest_2 (row (unit_symbols ++ !end_for_test ∷ []) ∷ row [] ∷ [])
+unfolding grammar
+test_rows = refl
+
+step_rows : Rows for_rest_3 (row (unit_symbols ++ !end_for_step ∷ []) ∷ row [] ∷ [])
+unfolding grammar
+step_rows = refl
+
+abbrev behind_step : List (Symbol Action)
+behind_step = 'close_parenthesis' ∷ statement ∷ !close ∷ []
+
+abbrev behind_test : List (Symbol Action)
+behind_test = 'colon' ∷ for_rest_3 ∷ behind_step
+
+abbrev behind_start : List (Symbol Action)
+behind_start = !for_top ∷ 'colon' ∷ for_rest_2 ∷ behind_test
+
+abbrev for_symbols : List (Symbol Action)
+for_symbols = 'open_parenthesis' ∷ for_rest_1 ∷ behind_start
+
+-- The pieces of a `for` behind its word
+record ForText (limits : Limits) (is_inner : Bool) (next : Place) (seen : List Seen) (events : List (Event Action))
+    (wd : Worded limits is_inner (for_rest ∷ []) seen events) : Type 0 where
+  o : ActFirst action_of.OpenFor for_symbols wd.rest wd.late
+  t : TokenFirst (for_rest_1 ∷ behind_start) wd.rest o.late
+  p : PartsOf (for_rest_1 ∷ []) behind_start t.rest t.late
+  j : ActFirst action_of.ForTop ('colon' ∷ for_rest_2 ∷ behind_test) p.rest p.late
+  c : TokenFirst (for_rest_2 ∷ behind_test) p.rest j.late
+  q : PartsOf (for_rest_2 ∷ []) behind_test c.rest c.late
+  d : TokenFirst (for_rest_3 ∷ behind_step) q.rest q.late
+  r : PartsOf (for_rest_3 ∷ []) behind_step d.rest d.late
+  e : TokenFirst (statement ∷ !close ∷ []) r.rest r.late
+  start : MaybeText limits action_of.EndForStart c.s.token.place p.front p.early
+  test : MaybeText limits action_of.EndForTest d.s.token.place q.front q.early
+  step : MaybeText limits action_of.EndForStep e.s.token.place r.front r.early
+  body : BodyText limits next e.rest e.late
+
+for_text : (limits : Limits) (n : ℕ) → Below limits n → (is_inner : Bool) (next : Place) (seen : List Seen)
+    (events : List (Event Action)) → (wd : Worded limits is_inner (for_rest ∷ []) seen events)
+    → IsText grammar (!open_for ∷ for_symbols) (atoms_of wd.rest) wd.late → AreAll seen → length seen + 1 < 4294967295
+    → length seen ≤ suc n → ForText limits is_inner next seen events wd
+for_text limits n below is_inner next seen events wd text are_seen few fewer =
+    let all = moved_seen (sym wd.same) are_seen in
+    let count : suc (length wd.rest) ≡ length seen = ap length wd.same in
+    let o = act_first action_of.OpenFor for_symbols wd.rest wd.late text in
+    let t = token_first (for_rest_1 ∷ behind_start) wd.rest o.late o.text in
+    let t_count : suc (length t.rest) ≡ length wd.rest = ap length t.same in
+    let seen_1 = moved_seen (sym t.same) all.1 in
+    let p = parts_of (for_rest_1 ∷ []) behind_start t.rest t.late t.text in
+    let seen_2 = seen_parts p.front p.rest (moved_seen (sym p.same) seen_1.1) in
+    let j = act_first action_of.ForTop ('colon' ∷ for_rest_2 ∷ behind_test) p.rest p.late p.of_rest in
+    let c = token_first (for_rest_2 ∷ behind_test) p.rest j.late j.text in
+    let c_count : suc (length c.rest) ≡ length p.rest = ap length c.same in
+    let seen_3 = moved_seen (sym c.same) seen_2.1 in
+    let q = parts_of (for_rest_2 ∷ []) behind_test c.rest c.late c.text in
+    let seen_4 = seen_parts q.front q.rest (moved_seen (sym q.same) seen_3.1) in
+    let d = token_first (for_rest_3 ∷ behind_step) q.rest q.late q.of_rest in
+    let d_count : suc (length d.rest) ≡ length q.rest = ap length d.same in
+    let seen_5 = moved_seen (sym d.same) seen_4.1 in
+    let r = parts_of (for_rest_3 ∷ []) behind_step d.rest d.late d.text in
+    let seen_6 = seen_parts r.front r.rest (moved_seen (sym r.same) seen_5.1) in
+    let e = token_first (statement ∷ !close ∷ []) r.rest r.late r.of_rest in
+    let e_count : suc (length e.rest) ≡ length r.rest = ap length e.same in
+    let seen_7 = moved_seen (sym e.same) seen_6.1 in
+    let few_1 : length t.rest + 1 < 4294967295 = omega (arith, few, count, t_count) in
+    let few_2 : length c.rest + 1 < 4294967295 = omega (arith, few_1, p.count, c_count) in
+    let few_3 : length d.rest + 1 < 4294967295 = omega (arith, few_2, q.count, d_count) in
+    let few_4 : length e.rest + 1 < 4294967295 = omega (arith, few_3, r.count, e_count) in
+    let fewer_4 : length e.rest ≤ n = omega (arith, fewer, count, t_count, p.count, c_count, q.count, d_count, r.count, e_count) in
+    let start =
+    maybe_text limits action_of.EndForStart (number for_rest_1) start_rows c.s.token.place p.front p.early p.of_front refl seen_2.0
+    (omega (arith, few_1, p.count)) in
+    let test =
+    maybe_text limits action_of.EndForTest (number for_rest_2) test_rows d.s.token.place q.front q.early q.of_front refl seen_4.0
+    (omega (arith, few_2, q.count)) in
+    let step =
+    maybe_text limits action_of.EndForStep (number for_rest_3) step_rows e.s.token.place r.front r.early r.of_front refl seen_6.0
+    (omega (arith, few_3, r.count)) in
+    let body = body_text limits n below next e.rest e.late e.text seen_7.1 few_4 fewer_4 in
+    record {
+      o = o;
+      t = t;
+      p = p;
+      j = j;
+      c = c;
+      q = q;
+      d = d;
+      r = r;
+      e = e;
+      start = start;
+      test = test;
+      step = step;
+      body = body;
+    }
+
+abbrev start_quiet : {limits : Limits} {is_inner : Bool} {next : Place} {seen : List Seen} {events : List (Event Action)}
+    {wd : Worded limits is_inner (for_rest ∷ []) seen events} → ForText limits is_inner next seen events wd → Quiet
+start_quiet x = record { all = Takes x.t.s.token x.t.s.behind ∷ x.start.happens; are = x.start.quiet refl }
+
+abbrev between_colons : {limits : Limits} {is_inner : Bool} {next : Place} {seen : List Seen} {events : List (Event Action)}
+    {wd : Worded limits is_inner (for_rest ∷ []) seen events} → ForText limits is_inner next seen events wd → List Happening
+between_colons x = Takes x.d.s.token x.d.s.behind ∷ []
+
+abbrev test_quiet : {limits : Limits} {is_inner : Bool} {next : Place} {seen : List Seen} {events : List (Event Action)}
+    {wd : Worded limits is_inner (for_rest ∷ []) seen events} → ForText limits is_inner next seen events wd → Quiet
+test_quiet x = record {
+  all = Takes x.c.s.token x.c.s.behind ∷ (x.test.happens ++ between_colons x);
+  are = quiet-append x.test.happens (between_colons x) (x.test.quiet refl) refl;
+}
+
+abbrev closing_quiet : {limits : Limits} {is_inner : Bool} {next : Place} {seen : List Seen} {events : List (Event Action)}
+    {wd : Worded limits is_inner (for_rest ∷ []) seen events} → ForText limits is_inner next seen events wd → Quiet
+closing_quiet x = record { all = Takes x.e.s.token x.e.s.behind ∷ []; are = refl }
+
+abbrev step_is : {limits : Limits} {is_inner : Bool} {next : Place} {seen : List Seen} {events : List (Event Action)}
+    {wd : Worded limits is_inner (for_rest ∷ []) seen events} → ForText limits is_inner next seen events wd → Step
+step_is x = x.step.step refl
+
+abbrev opens : {limits : Limits} {is_inner : Bool} {next : Place} {seen : List Seen} {events : List (Event Action)}
+    {wd : Worded limits is_inner (for_rest ∷ []) seen events} → ForText limits is_inner next seen events wd → Moment
+opens x = plainly_at x.t.s.token.place
+
+abbrev top_at : {limits : Limits} {is_inner : Bool} {next : Place} {seen : List Seen} {events : List (Event Action)}
+    {wd : Worded limits is_inner (for_rest ∷ []) seen events} → ForText limits is_inner next seen events wd → Moment
+top_at x = plainly_at x.c.s.token.place
+
+abbrev last : {limits : Limits} {is_inner : Bool} {next : Place} {seen : List Seen} {events : List (Event Action)}
+    {wd : Worded limits is_inner (for_rest ∷ []) seen events} → ForText limits is_inner next seen events wd → List Happening
+last {next = next} x = happenings x.body.nested ++ Acts (plainly_at next) action_of.Close ∷ []
+
+abbrev behind_second : {limits : Limits} {is_inner : Bool} {next : Place} {seen : List Seen} {events : List (Event Action)}
+    {wd : Worded limits is_inner (for_rest ∷ []) seen events} → ForText limits is_inner next seen events wd → List Happening
+behind_second x = step_happenings (step_is x) ++ Takes x.e.s.token x.e.s.behind ∷ last x
+
+abbrev nested_for : {b : Bool} {limits : Limits} {is_inner : Bool} {next : Place} {seen : List Seen} {events : List (Event Action)}
+    {wd : Worded limits is_inner (for_rest ∷ []) seen events} → ForText limits is_inner next seen events wd → Nested b
+nested_for {next = next} x =
+    For (opens x) (start_quiet x) (top_at x) (test_quiet x) (step_is x) (closing_quiet x) x.body.nested (plainly_at next)
+
+from_step : {limits : Limits} {is_inner : Bool} {next : Place} {seen : List Seen} {events : List (Event Action)}
+    {wd : Worded limits is_inner (for_rest ∷ []) seen events} (x : ForText limits is_inner next seen events wd) → happenings_before next x.d.late x.d.rest ≡ behind_second x
+from_step {next = next} x =
+    x.r.happen next
+    ∙ (ap (λ y. happenings_before y x.r.early x.r.front ++ happenings_before next x.r.late x.r.rest) (x.e.place next)
+    ∙ (ap (λ l. l ++ happenings_before next x.r.late x.r.rest) (x.step.same ∙ sym (x.step.step_same refl))
+    ∙ ap (λ l. step_happenings (step_is x) ++ l) (x.e.happen next ∙ ap (λ l. Takes x.e.s.token x.e.s.behind ∷ l) x.body.happen)))
+
+from_test : {limits : Limits} {is_inner : Bool} {next : Place} {seen : List Seen} {events : List (Event Action)}
+    {wd : Worded limits is_inner (for_rest ∷ []) seen events} (x : ForText limits is_inner next seen events wd)
+    → happenings_before next x.c.late x.c.rest ≡ (x.test.happens ++ between_colons x) ++ behind_second x
+from_test {next = next} x =
+    x.q.happen next
+    ∙ (ap (λ y. happenings_before y x.q.early x.q.front ++ happenings_before next x.q.late x.q.rest) (x.d.place next)
+    ∙ (ap (λ l. l ++ happenings_before next x.q.late x.q.rest) x.test.same
+    ∙ (ap (λ l. x.test.happens ++ l) (x.d.happen next ∙ ap (λ l. Takes x.d.s.token x.d.s.behind ∷ l) (from_step x))
+    ∙ sym (append_assoc x.test.happens (between_colons x) (behind_second x)))))
+
+from_start : {limits : Limits} {is_inner : Bool} {next : Place} {seen : List Seen} {events : List (Event Action)}
+    {wd : Worded limits is_inner (for_rest ∷ []) seen events} (x : ForText limits is_inner next seen events wd)
+    → happenings_before next x.t.late x.t.rest
+    ≡ x.start.happens ++ Acts (top_at x) action_of.ForTop ∷ ((test_quiet x).all ++ behind_second x)
+from_start {next = next} x =
+    x.p.happen next
+    ∙ (ap (λ y. happenings_before y x.p.early x.p.front ++ happenings_before next x.p.late x.p.rest) (x.c.place next)
+    ∙ (ap (λ l. l ++ happenings_before next x.p.late x.p.rest) x.start.same
+    ∙ ap (λ l. x.start.happens ++ l) (x.j.happen next
+    ∙ (ap (λ y. Acts (plainly_at y) action_of.ForTop ∷ happenings_before next x.j.late x.p.rest) (x.c.place next)
+    ∙ ap (λ l. Acts (top_at x) action_of.ForTop ∷ l) (x.c.happen next ∙ ap (λ l. Takes x.c.s.token x.c.s.behind ∷ l) (from_test x))))))
+
+for_same : (b : Bool) {limits : Limits} {is_inner : Bool} {next : Place} {seen : List Seen} {events : List (Event Action)}
+    {wd : Worded limits is_inner (for_rest ∷ []) seen events} (x : ForText limits is_inner next seen events wd)
+    → happenings_before next events seen ≡ word_happens is_inner wd.word ++ happenings (nested_for {b = b} x)
+for_same b {is_inner = is_inner} {next} {wd = wd} x =
+    wd.happen next
+    ∙ ap (λ y. word_happens is_inner wd.word ++ y) (x.o.happen next
+    ∙ (ap (λ y. Acts (plainly_at y) action_of.OpenFor ∷ happenings_before next x.o.late wd.rest) (x.t.place next)
+    ∙ ap (λ y. Acts (opens x) action_of.OpenFor ∷ y) (x.t.happen next ∙ ap (λ y. Takes x.t.s.token x.t.s.behind ∷ y) (from_start x))))
+
+for_all : {limits : Limits} {is_inner : Bool} {next : Place} {seen : List Seen} {events : List (Event Action)}
+    {wd : Worded limits is_inner (for_rest ∷ []) seen events} (x : ForText limits is_inner next seen events wd)
+    → tree_seen (ForTree is_inner wd.word x.t.s x.start.unit x.c.s x.test.unit x.d.s x.step.unit x.e.s x.body.tree) ≡ seen
+for_all {wd = wd} x =
+    let word = λ (y : List Seen). wd.word ∷ x.t.s ∷ y in
+    let started = λ (y : List Seen). word (x.p.front ++ y) in
+    let tested = λ (y : List Seen). started (x.c.s ∷ (x.q.front ++ y)) in
+    let stepped = λ (y : List Seen). tested (x.d.s ∷ (x.r.front ++ y)) in
+    let rest = x.e.s ∷ tree_seen x.body.tree in
+    ap (λ y. word (y ++ x.c.s ∷ (maybe_seen x.test.unit ++ x.d.s ∷ (maybe_seen x.step.unit ++ rest)))) x.start.all
+    ∙ (ap (λ y. started (x.c.s ∷ (y ++ x.d.s ∷ (maybe_seen x.step.unit ++ rest)))) x.test.all
+    ∙ (ap (λ y. tested (x.d.s ∷ (y ++ rest))) x.step.all
+    ∙ (ap (λ y. stepped (x.e.s ∷ y)) x.body.all
+    ∙ (ap stepped x.e.same
+    ∙ (ap (λ y. tested (x.d.s ∷ y)) x.r.same
+    ∙ (ap tested x.d.same
+    ∙ (ap (λ y. started (x.c.s ∷ y)) x.q.same
+    ∙ (ap started x.c.same ∙ (ap word x.p.same ∙ (ap (λ y. wd.word ∷ y) x.t.same ∙ wd.same))))))))))
+
+for_lays : (b : Bool) (limits : Limits) (is_inner : Bool) (next : Place) (seen : List Seen) (events : List (Event Action))
+    (wd : Worded limits is_inner (for_rest ∷ []) seen events) (x : ForText limits is_inner next seen events wd)
+    (context : Context) (w : Compilation) → w.closed ≡ 0 → w.opening ≡ None
+    → laid limits context (After (Plain (word_quiet wd)) (nested_for {b = b} x)) w
+    ≡ tree_laid limits context (ForTree is_inner wd.word x.t.s x.start.unit x.c.s x.test.unit x.d.s x.step.unit x.e.s x.body.tree) w
+for_lays b limits is_inner next seen events wd x context w ahead none =
+    let v = word_done limits context is_inner wd.word w in
+    let k = opened limits kind.For v.output in
+    let begins = opened_at context (opens x) k v in
+    let closed_by = λ (top : Construct) (z : Compilation).
+    let own = with_step_in z.constructs top in
+    ended_as limits (plainly_at next) own v.constructs
+    (laid limits context x.body.nested (token_done context x.e.s (record z { constructs = own ∷ v.constructs }))) in
+    let behind_start = λ (z : Compilation).
+    let top = between limits k.0 z.output in
+    closed_by top.0 (run limits context (step_happenings (step_is x)) (run limits context (test_quiet x).all (holding (top_at x) top v.constructs z))) in
+    let y = token_done context x.t.s begins in
+    let y_closed = took_none context x.t.s.token begins ∙ word_closed wd context w ahead in
+    let started = maybe_done limits context action_of.EndForStart x.c.s.token.place x.start.unit y in
+    let started_closed = maybe_closed x.start context y refl y_closed in
+    let top = between limits k.0 started.output in
+    let held = holding (top_at x) top v.constructs started in
+    let z = token_done context x.c.s held in
+    let z_closed = took_none context x.c.s.token held ∙ started_closed in
+    let in_test = maybe_done limits context action_of.EndForTest x.d.s.token.place x.test.unit z in
+    let in_test_closed = maybe_closed x.test context z refl z_closed in
+    let tested = token_done context x.d.s in_test in
+    let tested_closed = took_none context x.d.s.token in_test ∙ in_test_closed in
+    let stepped = maybe_done limits context action_of.EndForStep x.e.s.token.place x.step.unit tested in
+    let stepped_closed = maybe_closed x.step context tested refl tested_closed in
+    let own = with_step_in stepped.constructs top.0 in
+    let inside = record stepped { constructs = own ∷ v.constructs } in
+    ap (laid {b = b} limits context (nested_for x)) (wd.runs context w)
+    ∙ (ap behind_start (x.start.runs context y refl)
+    ∙ (ap (λ g. closed_by top.0 (run limits context (step_happenings (step_is x)) g))
+    (run_then limits context x.test.happens (between_colons x) z ∙ ap (token_done context x.d.s) (x.test.runs context z refl))
+    ∙ (ap (closed_by top.0)
+    (ap (λ hs. run limits context hs tested) (x.step.step_same refl) ∙ x.step.runs context tested refl)
+    ∙ ap (λ g. ended_as limits (plainly_at next) own v.constructs g)
+    (x.body.lays context (token_done context x.e.s inside) (took_none context x.e.s.token inside ∙ stepped_closed) refl))))
+
+for_built : {b : Bool} (limits : Limits) (is_inner : Bool) (next : Place) (seen : List Seen) (events : List (Event Action))
+    (wd : Worded limits is_inner (for_rest ∷ []) seen events) → ForText limits is_inner next seen events wd → IsTree b limits next seen events
+for_built {b} limits is_inner next seen events wd x = record {
+  tree = ForTree is_inner wd.word x.t.s x.start.unit x.c.s x.test.unit x.d.s x.step.unit x.e.s x.body.tree;
+  all = for_all x;
+  written = (x.start.written, (x.test.written, (x.step.written, x.body.written)));
+  nested = After (Plain (word_quiet wd)) (nested_for x);
+  same = sym (for_same b x);
+  lays = λ context w ahead none. for_lays b limits is_inner next seen events wd x context w ahead none;
+}
+
+for_rows : Rows for_rest (row (!open_for ∷ for_symbols) ∷ [])
+unfolding grammar
+for_rows = refl
+
+pub for_tree : {b : Bool} (limits : Limits) (n : ℕ) → Below limits n → (is_inner : Bool) (next : Place) (seen : List Seen)
+    (events : List (Event Action)) → IsText grammar (before_word is_inner ++ 'for' ∷ for_rest ∷ []) (atoms_of seen) events
+    → AreAll seen → length seen + 1 < 4294967295 → length seen ≤ suc n → IsTree b limits next seen events
+for_tree {b} limits n below is_inner next seen events text are_seen few fewer =
+    let wd = worded limits is_inner _ (for_rest ∷ []) seen events text in
+    of_rows (IsTree b limits next seen events) (number for_rest) (row (!open_for ∷ for_symbols) ∷ []) (atoms_of wd.rest) wd.late for_rows
+    ((λ t. for_built limits is_inner next seen events wd (for_text limits n below is_inner next seen events wd t are_seen few fewer)), tt)
+    wd.text

@@ -1,0 +1,10 @@
+pub mod Pieces
+pub mod Endings
+pub mod Wider
+pub mod Trees
+pub mod ObjectLoops
+pub mod ForLoops
+pub mod Loops
+pub mod BodyTrees
+pub mod RoutineTrees
+pub mod Examples

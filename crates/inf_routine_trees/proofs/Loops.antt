@@ -1,0 +1,365 @@
+-- A `do` and a block are trees; and so is each statement.
+use Rattle.std.proofs.Common.{◌≡◌, ℕ, zero, suc, ◌+◌, ◌≤◌, ◌<◌, List, [], ◌∷◌, ◌++◌, length, Bool, true, false, None, refl, sym, ◌∙◌, ap}
+use Rattle.std.proofs.Common.{append_assoc, arith}
+use Rattle.inf_settings.specs.Bounds.{Limits}
+use Rattle.inf_scanner.specs.declared.tokens.Place.{Place}
+use Rattle.inf_machine.specs.declared.symbols.Symbol.{Symbol}
+use Rattle.inf_machine.specs.Grammar.{Did, Event, IsOneOf, IsText, Row, Took, first, here, later}
+use Rattle.inf_syntax.specs.Parts.{ !close, !deeper, !end_until, !begin, !open_do, !outer, !until, 'close_brace', 'close_parenthesis', 'do'}
+use Rattle.inf_syntax.specs.Parts.{'for', 'if', 'objectloop', 'open_brace', 'open_parenthesis', 'semicolon', 'switch', 'until', 'while'}
+use Rattle.inf_syntax.specs.Parts.{do_rest, expression, for_rest, if_rest, mark_statement_1, objectloop_rest, statement, statement_3}
+use Rattle.inf_syntax.specs.Parts.{switch_rest, while_rest}
+use Rattle.inf_syntax.specs.Rows.{row}
+use Rattle.inf_syntax.specs.declared.actions.Action.{Action}
+use Rattle.inf_syntax.specs.declared.actions.Action.TheVariants as action_of
+use Rattle.inf_grammar.specs.Language.{grammar}
+use Rattle.inf_constructs.specs.Constructs.{between, opened}
+use Rattle.inf_constructs.specs.declared.constructs.Kind.TheVariants as kind
+use Rattle.inf_compilation.specs.Context.{Context}
+use Rattle.inf_compilation.specs.Actions.{Compilation}
+use Rattle.inf_statement_laws.specs.Happenings.{Acts, Happening, Quiet, Takes}
+use Rattle.inf_statement_laws.specs.Laid.{ended_as, holding, laid, opened_at, run}
+use Rattle.inf_statement_laws.specs.Nested.{Do, Plain, happenings}
+use Rattle.inf_statement_laws.specs.Nested.{Then as After}
+use Rattle.inf_statement_laws.specs.Readings.{Seen, plainly_at}
+use Rattle.inf_statement_laws.proofs.Acts.{quiet_run}
+use Rattle.inf_statement_laws.proofs.Laying.{run_then}
+use Rattle.inf_statement_laws.proofs.Rules.{number}
+use Rattle.inf_language.specs.Texts.{atoms_of, happenings_before}
+use Rattle.inf_language.specs.Units.{TakeAll}
+use Rattle.inf_language.proofs.Derivations.{texts_take_all}
+use Rattle.inf_trees.specs.Statements.{other_statements}
+use Rattle.inf_trees.proofs.Expanded.{with_rows}
+use Rattle.inf_trees.proofs.RuleRows.{of_rows}
+use Rattle.inf_trees.proofs.StatementTexts.{Rows, statement_text}
+use Rattle.inf_trees.proofs.UnitsRead.{place_before, seen_parts}
+use Rattle.inf_routine_trees.specs.Bodies.{Block, Do as DoTree, Nothing, Then, bracketed_seen, moment_before}
+use Rattle.inf_routine_trees.specs.Bodies.{IsTold, StatementsAreLaidAsTrees, opening_of, token_done, told_statements, tree_laid, tree_seen, word_done}
+use Rattle.inf_simple_trees.specs.Simple.{holding_statements}
+use Rattle.inf_routine_trees.proofs.Endings.{end_so, ends, last_took, text_ends}
+use Rattle.inf_routine_trees.proofs.ForLoops.{for_tree}
+use Rattle.inf_routine_trees.proofs.ObjectLoops.{loop_tree}
+use Rattle.inf_routine_trees.proofs.Pieces.{Worded, before_word, bracketed_text, closed_text, test_happen, test_happens}
+use Rattle.inf_simple_trees.proofs.Symbols.{PartsOf, act_first, parts_of}
+use Rattle.inf_routine_trees.proofs.Pieces.{quiet-append, test_quiet, test_runs, word_happens, worded}
+use Rattle.inf_simple_trees.proofs.Symbols.{nothing_left, token_first}
+use Rattle.inf_routine_trees.proofs.Wider.{wider, wider_laid, wider_same}
+use Rattle.inf_simple_trees.proofs.SimpleRead.{beside_statement, simple_text}
+use Rattle.inf_simple_trees.proofs.SimpleTexts.{Another, OneUnit, SimpleText}
+use Rattle.inf_routine_trees.proofs.Trees.{AreAll, Below, IsTree, if_tree, moved_seen, simple_tree, told_tree, tree_closed}
+use Rattle.inf_routine_trees.proofs.Trees.{tree_opening, tree_runs, while_tree, word_closed, word_quiet}
+
+pub statement_ends : end_so false (statement ∷ []) ≡ true
+unfolding ends
+statement_ends = refl
+
+-- A `do`
+
+abbrev until_front : List (Symbol Action)
+until_front = 'open_parenthesis' ∷ !begin ∷ !outer ∷ expression ∷ !end_until ∷ 'close_parenthesis' ∷ []
+
+abbrev do_symbols : List (Symbol Action)
+do_symbols = statement ∷ 'until' ∷ !until ∷ (until_front ++ 'semicolon' ∷ !close ∷ [])
+
+-- the first token of a body, where there is one, and else that behind it
+first_place : (next : Place) (front rest : List Seen) (s : Seen) → place_before rest next ≡ s.token.place
+    → plainly_at (place_before (front ++ rest) next) ≡ moment_before front s
+first_place next [] rest s is = ap plainly_at is
+first_place next (x ∷ front) rest s is = refl
+
+do_row_tree : {b : Bool} (limits : Limits) (n : ℕ) → Below limits n → (is_inner : Bool) (next : Place) (seen : List Seen)
+    (events : List (Event Action)) → (wd : Worded limits is_inner (do_rest ∷ []) seen events)
+    → IsText grammar (!open_do ∷ do_symbols) (atoms_of wd.rest) wd.late → AreAll seen → length seen + 1 < 4294967295
+    → length seen ≤ suc n → IsTree b limits next seen events
+do_row_tree {b} limits n below is_inner next seen events wd text are_seen few fewer =
+    let all = moved_seen (sym wd.same) are_seen in
+    let count : suc (length wd.rest) ≡ length seen = ap length wd.same in
+    let o = act_first action_of.OpenDo do_symbols wd.rest wd.late text in
+    let p = parts_of (statement ∷ []) ('until' ∷ !until ∷ (until_front ++ 'semicolon' ∷ !close ∷ [])) wd.rest o.late o.text in
+    let parts = seen_parts p.front p.rest (moved_seen (sym p.same) all.1) in
+    let u = token_first (!until ∷ (until_front ++ 'semicolon' ∷ !close ∷ [])) p.rest p.late p.of_rest in
+    let behind = moved_seen (sym u.same) parts.1 in
+    let u_count : suc (length u.rest) ≡ length p.rest = ap length u.same in
+    let j = act_first action_of.Until (until_front ++ 'semicolon' ∷ !close ∷ []) u.rest u.late u.text in
+    let t =
+    bracketed_text limits action_of.EndUntil ('semicolon' ∷ !close ∷ []) u.rest j.late j.text behind.1
+    (omega (arith, few, count, p.count, u_count)) in
+    let s = token_first (!close ∷ []) t.rest t.late t.text in
+    let c = closed_text s.rest s.late s.text in
+    let inner =
+    below (place_before p.rest next) p.front p.early p.of_front parts.0 (omega (arith, few, count, p.count))
+    (omega (arith, fewer, count, p.count)) in
+    let last : List Happening = Takes s.s.token s.s.behind ∷ [] in
+    let q : Quiet = record { all = test_happens t ++ last; are = quiet-append (test_happens t) last (test_quiet t refl) refl } in
+    let word_2 : Quiet = record { all = Takes u.s.token u.s.behind ∷ []; are = refl } in
+    let opens = moment_before (tree_seen inner.tree) u.s in
+    let at = opening_of t.tree in
+    let closes = plainly_at next in
+    let word = word_happens is_inner wd.word in
+    let closing : List Happening = Acts closes action_of.Close ∷ [] in
+    let opens_are : plainly_at (place_before wd.rest next) ≡ opens =
+    ap (λ l. plainly_at (place_before l next)) (sym p.same)
+    ∙ (first_place next p.front p.rest u.s (u.place next) ∙ ap (λ l. moment_before l u.s) (sym inner.all)) in
+    let until_happens : happenings_before next p.late p.rest
+    ≡ Takes u.s.token u.s.behind ∷ Acts at action_of.Until ∷ (q.all ++ closing) =
+    u.happen next
+    ∙ ap (λ l. Takes u.s.token u.s.behind ∷ l) (j.happen next
+    ∙ (ap (λ x. Acts (plainly_at x) action_of.Until ∷ happenings_before next j.late u.rest) (t.place next)
+    ∙ ap (λ l. Acts at action_of.Until ∷ l) (test_happen t next
+    ∙ (ap (λ l. test_happens t ++ l) (s.happen next ∙ ap (λ l. Takes s.s.token s.s.behind ∷ l) (c.happen next))
+    ∙ sym (append_assoc (test_happens t) last closing))))) in
+    record {
+      tree = DoTree is_inner wd.word inner.tree u.s t.tree s.s;
+      all =
+          ap (λ l. wd.word ∷ (l ++ u.s ∷ (bracketed_seen t.tree ++ s.s ∷ []))) inner.all
+          ∙ (ap (λ l. wd.word ∷ (p.front ++ u.s ∷ (bracketed_seen t.tree ++ s.s ∷ l))) (sym c.none)
+          ∙ (ap (λ l. wd.word ∷ (p.front ++ u.s ∷ (bracketed_seen t.tree ++ l))) s.same
+          ∙ (ap (λ l. wd.word ∷ (p.front ++ u.s ∷ l)) t.same
+          ∙ (ap (λ l. wd.word ∷ (p.front ++ l)) u.same ∙ (ap (λ l. wd.word ∷ l) p.same ∙ wd.same)))));
+      written = (inner.written, t.written);
+      nested = After (Plain (word_quiet wd)) (Do opens inner.nested word_2 at q closes);
+      same =
+          sym (wd.happen next
+          ∙ ap (λ l. word ++ l) (o.happen next
+          ∙ (ap (λ x. Acts x action_of.OpenDo ∷ happenings_before next o.late wd.rest) opens_are
+          ∙ ap (λ l. Acts opens action_of.OpenDo ∷ l) (p.happen next
+          ∙ (ap (λ l. l ++ happenings_before next p.late p.rest) (sym inner.same) ∙ ap (λ l. happenings inner.nested ++ l) until_happens)))));
+      lays = λ context w ahead none.
+          let v = word_done limits context is_inner wd.word w in
+          let c = opened limits kind.Do v.output in
+          let x = opened_at context opens c v in
+          let v_open = word_closed wd context w ahead in
+          let ended = λ (z : Compilation). let joined = between limits c.0 z.output in
+          ended_as limits closes joined.0 v.constructs (run limits context q.all (holding at joined v.constructs z)) in
+          let former = token_done context u.s (tree_laid limits context inner.tree x) in
+          let joined = between limits c.0 former.output in
+          let y = holding at joined v.constructs former in
+          ap (laid {b = b} limits context (Do opens inner.nested word_2 at q closes)) (wd.runs context w)
+          ∙ (ap (λ z. ended (token_done context u.s z)) (inner.lays context x v_open refl)
+          ∙ ap (λ z. ended_as limits closes joined.0 v.constructs z)
+          (run_then limits context (test_happens t) last y ∙ ap (token_done context s.s) (test_runs t context y)));
+    }
+
+do_rows : Rows do_rest (row (!open_do ∷ do_symbols) ∷ [])
+unfolding grammar
+do_rows = refl
+
+pub do_tree : {b : Bool} (limits : Limits) (n : ℕ) → Below limits n → (is_inner : Bool) (next : Place) (seen : List Seen)
+    (events : List (Event Action)) → IsText grammar (before_word is_inner ++ 'do' ∷ do_rest ∷ []) (atoms_of seen) events
+    → AreAll seen → length seen + 1 < 4294967295 → length seen ≤ suc n → IsTree b limits next seen events
+do_tree {b} limits n below is_inner next seen events text are_seen few fewer =
+    let wd = worded limits is_inner _ (do_rest ∷ []) seen events text in
+    of_rows (IsTree b limits next seen events) (number do_rest) (row (!open_do ∷ do_symbols) ∷ []) (atoms_of wd.rest) wd.late do_rows
+    ((λ t. do_row_tree limits n below is_inner next seen events wd t are_seen few fewer), tt) wd.text
+
+-- Statements in braces
+
+block_rows : Rows mark_statement_1 (row (statement ∷ mark_statement_1 ∷ []) ∷ row [] ∷ [])
+unfolding grammar
+block_rows = refl
+
+-- a list of statements, and the word that no word waits behind it where none waits before it
+record IsList (limits : Limits) (next : Place) (seen : List Seen) (events : List (Event Action)) : Type 0 where
+  list : IsTree false limits next seen events
+  opening : (context : Context) (w : Compilation) → w.closed ≡ 0 → w.opening ≡ None
+      → (tree_laid limits context list.tree w).opening ≡ None
+
+no_statements : (limits : Limits) (next : Place) {atoms : List ℕ} {events : List (Event Action)} → IsText grammar [] atoms events
+    → (seen : List Seen) → atoms_of seen ≡ atoms → IsList limits next seen events
+no_statements limits next here [] is = record {
+  list = record {
+    tree = Nothing;
+    all = refl;
+    written = tt;
+    nested = Plain (record { all = []; are = refl });
+    same = refl;
+    lays = λ context w ahead none. refl;
+  };
+  opening = λ context w ahead none. none;
+}
+no_statements limits next here (s ∷ seen) is = cc
+
+-- a statement has a token
+pub nonempty : (events : List (Event Action)) (seen : List Seen) → TakeAll events seen → last_took false events ≡ true → 1 ≤ length seen
+nonempty [] seen all last = cc
+nonempty (Did a ∷ events) seen all last = nonempty events seen all last
+nonempty (Took atom ∷ events) [] all last = absurd all
+nonempty (Took atom ∷ events) (s ∷ seen) all last = omega arith
+
+-- lists of at most `m` tokens, and of at most `n`
+abbrev Lists : Limits → ℕ → ℕ → Type 0
+Lists limits n m =
+    (next : Place) (seen : List Seen) (events : List (Event Action)) → IsText grammar (mark_statement_1 ∷ []) (atoms_of seen) events
+    → AreAll seen → length seen + 1 < 4294967295 → length seen ≤ n → length seen ≤ m → IsList limits next seen events
+
+module _ (limits : Limits) (n : ℕ) (below : Below limits n) where
+  list_by : (next : Place) (seen : List Seen) (events : List (Event Action))
+      → (p : PartsOf (statement ∷ []) (mark_statement_1 ∷ []) seen events) → IsTree false limits (place_before p.rest next) p.front p.early
+      → IsList limits next p.rest p.late → IsList limits next seen events
+  list_by next seen events p head rest =
+      let place = place_before p.rest next in
+      let all = texts_take_all p.of_front p.front refl in
+      let last = text_ends p.of_front refl false statement_ends in
+      record {
+        list = record {
+          tree = Then head.tree rest.list.tree;
+          all =
+              ap (λ l. l ++ tree_seen rest.list.tree) head.all ∙ (ap (λ l. p.front ++ l) rest.list.all ∙ p.same);
+          written = (head.written, rest.list.written);
+          nested = After head.nested rest.list.nested;
+          same =
+              ap (λ l. l ++ happenings rest.list.nested) head.same
+              ∙ (ap (λ l. happenings_before place p.early p.front ++ l) rest.list.same ∙ sym (p.happen next));
+          lays = λ context w ahead none.
+              ap (laid limits context rest.list.nested) (head.lays context w ahead none)
+              ∙ rest.list.lays context (tree_laid limits context head.tree w)
+              (tree_closed limits place p.front p.early head context w ahead none)
+              (tree_opening limits place p.front p.early head all last context w ahead none);
+        };
+        opening = λ context w ahead none.
+            rest.opening context (tree_laid limits context head.tree w) (tree_closed limits place p.front p.early head context w ahead none)
+            (tree_opening limits place p.front p.early head all last context w ahead none);
+      }
+
+  no_more : (next : Place) (seen : List Seen) (events : List (Event Action))
+      → IsText grammar (statement ∷ mark_statement_1 ∷ []) (atoms_of seen) events → length seen ≤ 0 → IsList limits next seen events
+  no_more next seen events text small =
+      let p = parts_of (statement ∷ []) (mark_statement_1 ∷ []) seen events text in
+      let one = nonempty p.early p.front (texts_take_all p.of_front p.front refl) (text_ends p.of_front refl false statement_ends) in
+      absurd (none (omega (arith, small, one, p.count)))
+    where
+      none : 1 ≤ 0 → ⊥
+      none e = omega (arith, e)
+
+  more_statements : (m : ℕ) → Lists limits n m → (next : Place) (seen : List Seen) (events : List (Event Action))
+      → IsText grammar (statement ∷ mark_statement_1 ∷ []) (atoms_of seen) events → AreAll seen → length seen + 1 < 4294967295
+      → length seen ≤ n → length seen ≤ suc m → IsList limits next seen events
+  more_statements m lists next seen events text are_seen few fewer small =
+      let p = parts_of (statement ∷ []) (mark_statement_1 ∷ []) seen events text in
+      let parts = seen_parts p.front p.rest (moved_seen (sym p.same) are_seen) in
+      let one = nonempty p.early p.front (texts_take_all p.of_front p.front refl) (text_ends p.of_front refl false statement_ends) in
+      list_by next seen events p
+      (below (place_before p.rest next) p.front p.early p.of_front parts.0 (omega (arith, few, p.count)) (omega (arith, fewer, p.count)))
+      (lists next p.rest p.late p.of_rest parts.1 (omega (arith, few, p.count)) (omega (arith, fewer, p.count))
+      (omega (arith, small, one, p.count)))
+
+  list_trees : (m : ℕ) → Lists limits n m
+  list_trees zero next seen events text are_seen few fewer small =
+      of_rows (IsList limits next seen events) (number mark_statement_1) (row (statement ∷ mark_statement_1 ∷ []) ∷ row [] ∷ [])
+      (atoms_of seen) events block_rows
+      ((λ t. no_more next seen events t small), ((λ t. no_statements limits next t seen refl), tt)) text
+  list_trees (suc m) next seen events text are_seen few fewer small =
+      of_rows (IsList limits next seen events) (number mark_statement_1) (row (statement ∷ mark_statement_1 ∷ []) ∷ row [] ∷ [])
+      (atoms_of seen) events block_rows (
+        (λ t. more_statements m (list_trees m) next seen events t are_seen few fewer small),
+        ((λ t. no_statements limits next t seen refl), tt),
+      )
+      text
+
+  pub block_tree : {b : Bool} (next : Place) (seen : List Seen) (events : List (Event Action))
+      → IsText grammar ('open_brace' ∷ mark_statement_1 ∷ 'close_brace' ∷ []) (atoms_of seen) events → AreAll seen
+      → length seen + 1 < 4294967295 → length seen ≤ suc n → IsTree b limits next seen events
+  block_tree {b} next seen events text are_seen few fewer =
+      let o = token_first (mark_statement_1 ∷ 'close_brace' ∷ []) seen events text in
+      let all = moved_seen (sym o.same) are_seen in
+      let count : suc (length o.rest) ≡ length seen = ap length o.same in
+      let p = parts_of (mark_statement_1 ∷ []) ('close_brace' ∷ []) o.rest o.late o.text in
+      let parts = seen_parts p.front p.rest (moved_seen (sym p.same) all.1) in
+      let c = token_first [] p.rest p.late p.of_rest in
+      let e = nothing_left c.rest c.late c.text in
+      let place = place_before p.rest next in
+      let inner =
+      list_trees n place p.front p.early p.of_front parts.0 (omega (arith, few, count, p.count)) (omega (arith, fewer, count, p.count))
+      (omega (arith, fewer, count, p.count)) in
+      let front_quiet : Quiet = record { all = Takes o.s.token o.s.behind ∷ []; are = refl } in
+      let last_quiet : Quiet = record { all = Takes c.s.token c.s.behind ∷ []; are = refl } in
+      record {
+        tree = Block o.s inner.list.tree c.s;
+        all =
+            ap (λ l. o.s ∷ (l ++ c.s ∷ [])) inner.list.all
+            ∙ (ap (λ l. o.s ∷ (p.front ++ c.s ∷ l)) (sym e.none)
+            ∙ (ap (λ l. o.s ∷ (p.front ++ l)) c.same ∙ (ap (λ l. o.s ∷ l) p.same ∙ o.same)));
+        written = inner.list.written;
+        nested = After (Plain front_quiet) (After (wider b inner.list.nested) (Plain last_quiet));
+        same =
+            ap (λ l. Takes o.s.token o.s.behind ∷ (l ++ Takes c.s.token c.s.behind ∷ [])) (wider_same b inner.list.nested ∙ inner.list.same)
+            ∙ sym (o.happen next
+            ∙ ap (λ l. Takes o.s.token o.s.behind ∷ l) (p.happen next
+            ∙ ap (λ l. happenings_before place p.early p.front ++ l) (c.happen next
+            ∙ ap (λ l. Takes c.s.token c.s.behind ∷ l) (e.happen next))));
+        lays = λ context w ahead none.
+            let x = token_done context o.s w in
+            ap (token_done context c.s)
+            (wider_laid b limits context inner.list.nested x
+            ∙ inner.list.lays context x ((quiet_run limits context front_quiet.all w refl).1 ∙ ahead) refl);
+      }
+
+-- Statements
+
+abbrev holding_words : List (Row Action)
+holding_words =
+    row ('if' ∷ if_rest ∷ []) ∷ row ('while' ∷ while_rest ∷ []) ∷ row ('do' ∷ do_rest ∷ []) ∷ row ('for' ∷ for_rest ∷ [])
+    ∷ row ('objectloop' ∷ objectloop_rest ∷ []) ∷ row ('switch' ∷ switch_rest ∷ []) ∷ []
+
+holding_rows : Rows statement_3 holding_words
+unfolding grammar
+holding_rows = refl
+
+module _ (limits : Limits) (n : ℕ) (below : Below limits n) (next : Place) (seen : List Seen) (events : List (Event Action))
+    (are_seen : AreAll seen) (few : length seen + 1 < 4294967295) (fewer : length seen ≤ suc n)
+    (whole : IsText grammar (statement ∷ []) (atoms_of seen) events) where
+  told_by : (symbols : List (Symbol Action)) → IsOneOf symbols told_statements → IsText grammar symbols (atoms_of seen) events → IsTold seen
+  told_by symbols is text = record { symbols = symbols; is_one = is; events = events; is_text = text }
+
+  holding_tree : IsText grammar (!deeper ∷ statement_3 ∷ []) (atoms_of seen) events → IsTree false limits next seen events
+  holding_tree text =
+      with_rows (IsTree false limits next seen events) (!deeper ∷ []) (number statement_3) [] holding_words (atoms_of seen) events
+      holding_rows (
+        (λ t. if_tree limits n below true next seen events t are_seen few fewer),
+        (
+          (λ t. while_tree limits n below true next seen events t are_seen few fewer),
+          (
+            (λ t. do_tree limits n below true next seen events t are_seen few fewer),
+            (
+              (λ t. for_tree limits n below true next seen events t are_seen few fewer),
+              (
+                (λ t. loop_tree limits n below true next seen events t are_seen few fewer),
+                ((λ t. told_tree limits next seen events (told_by (!deeper ∷ 'switch' ∷ switch_rest ∷ []) first t) whole), tt),
+              ),
+            ),
+          ),
+        ),
+      )
+      text
+
+  other_tree : (symbols : List (Symbol Action)) → IsOneOf symbols holding_statements → IsText grammar symbols (atoms_of seen) events
+      → IsTree false limits next seen events
+  other_tree _ first text = block_tree limits n below next seen events text are_seen few fewer
+  other_tree _ (later first) text = holding_tree text
+  other_tree _ (later (later missing)) text = elim missing [ ]
+
+  by_text : SimpleText holding_statements (atoms_of seen) events → IsTree false limits next seen events
+  by_text (OneUnit front reading text) = simple_tree limits next seen events front reading text are_seen few
+  by_text (Another symbols is_other text) = other_tree symbols is_other text
+
+pub statement_trees : (limits : Limits) (n : ℕ) → Below limits n
+statement_trees limits zero next seen events text are_seen few fewer =
+    let one = nonempty events seen (texts_take_all text seen refl) (text_ends text refl false statement_ends) in
+    absurd (none (omega (arith, fewer, one)))
+  where
+    none : 1 ≤ 0 → ⊥
+    none e = omega (arith, e)
+statement_trees limits (suc n) next seen events text are_seen few fewer =
+    by_text limits n (statement_trees limits n) next seen events are_seen few fewer text
+    (simple_text other_statements holding_statements (atoms_of seen) events (beside_statement (atoms_of seen) events)
+    (statement_text (atoms_of seen) events text))
+
+pub statements_are_laid_as_trees : (limits : Limits) → StatementsAreLaidAsTrees limits
+statements_are_laid_as_trees limits next seen events text are_seen few =
+    let t = statement_trees limits (length seen) next seen events text are_seen few (omega arith) in
+    record {
+      tree = t.tree;
+      same = t.all;
+      written = t.written;
+      does = λ context w ahead none. tree_runs limits next seen events t context w ahead none;
+    }

@@ -1,0 +1,139 @@
+-- A loop over objects is a tree.
+use Rattle.std.proofs.Common.{◌≡◌, ℕ, suc, ◌+◌, ◌≤◌, ◌<◌, List, [], ◌∷◌, ◌++◌, length, Bool, refl, sym, ◌∙◌, ap}
+use Rattle.std.proofs.Common.{append_assoc, arith}
+use Rattle.inf_settings.specs.Bounds.{Limits}
+use Rattle.inf_scanner.specs.declared.tokens.Place.{Place}
+use Rattle.inf_machine.specs.declared.symbols.Symbol.{Symbol}
+use Rattle.inf_machine.specs.Grammar.{Event, IsText}
+use Rattle.inf_syntax.specs.Parts.{ !close, !end_objectloop, !loop, !open_objectloop, 'close_parenthesis', 'objectloop'}
+use Rattle.inf_syntax.specs.Parts.{'open_parenthesis', objectloop_rest, statement}
+use Rattle.inf_syntax.specs.Rows.{row}
+use Rattle.inf_syntax.specs.declared.actions.Action.{Action}
+use Rattle.inf_syntax.specs.declared.actions.Action.TheVariants as action_of
+use Rattle.inf_grammar.specs.Language.{grammar}
+use Rattle.inf_constructs.specs.Constructs.{between, opened}
+use Rattle.inf_constructs.specs.declared.constructs.Kind.TheVariants as kind
+use Rattle.inf_constructs.specs.declared.constructs.Over.TheVariants as over
+use Rattle.inf_unit.specs.Units.{Unit as UnitAtHand, no_unit}
+use Rattle.inf_compilation.specs.Actions.{Compilation}
+use Rattle.inf_reader.specs.Acting.{act}
+use Rattle.inf_statement_laws.specs.Happenings.{Acts, Happening, Quiet, Takes}
+use Rattle.inf_statement_laws.specs.Laid.{ended_as, holding, laid, opened_at, run, with_kind_in}
+use Rattle.inf_statement_laws.specs.Nested.{Objectloop, Plain}
+use Rattle.inf_statement_laws.specs.Nested.{Then as After}
+use Rattle.inf_statement_laws.specs.Readings.{Seen, plainly_at}
+use Rattle.inf_statement_laws.proofs.Acts.{inside_act, quiet_run, took_none}
+use Rattle.inf_statement_laws.proofs.Rules.{number}
+use Rattle.inf_language.specs.Texts.{atoms_of, happenings_before}
+use Rattle.inf_trees.specs.Trees.{all_seen}
+use Rattle.inf_trees.proofs.RuleRows.{of_rows}
+use Rattle.inf_trees.proofs.StatementsRead.{bracketed_units_are_trees}
+use Rattle.inf_trees.proofs.StatementTexts.{Rows}
+use Rattle.inf_trees.proofs.UnitsRead.{seen_parts}
+use Rattle.inf_routine_trees.specs.Bodies.{Bracketed, Objectloop as LoopTree, opening_of, token_done}
+use Rattle.inf_routine_trees.specs.Bodies.{unit_done, word_done}
+use Rattle.inf_routine_trees.proofs.Pieces.{Worded, before_word, quiet_text, unit_quiet, unit_symbols}
+use Rattle.inf_simple_trees.proofs.Symbols.{act_first, parts_of, token_first}
+use Rattle.inf_routine_trees.proofs.Pieces.{word_happens, worded}
+use Rattle.inf_routine_trees.proofs.Trees.{AreAll, Below, IsTree, body_text, moved_seen, word_closed, word_quiet}
+
+abbrev behind_unit : List (Symbol Action)
+behind_unit = !end_objectloop ∷ !loop ∷ 'close_parenthesis' ∷ statement ∷ !close ∷ []
+
+abbrev loop_symbols : List (Symbol Action)
+loop_symbols = 'open_parenthesis' ∷ (unit_symbols ++ behind_unit)
+
+loop_row_tree : {b : Bool} (limits : Limits) (n : ℕ) → Below limits n → (is_inner : Bool) (next : Place) (seen : List Seen)
+    (events : List (Event Action)) → (wd : Worded limits is_inner (objectloop_rest ∷ []) seen events)
+    → IsText grammar (!open_objectloop ∷ loop_symbols) (atoms_of wd.rest) wd.late → AreAll seen → length seen + 1 < 4294967295
+    → length seen ≤ suc n → IsTree b limits next seen events
+loop_row_tree {b} limits n below is_inner next seen events wd text are_seen few fewer =
+    let all = moved_seen (sym wd.same) are_seen in
+    let count : suc (length wd.rest) ≡ length seen = ap length wd.same in
+    let o = act_first action_of.OpenObjectloop loop_symbols wd.rest wd.late text in
+    let t = token_first (unit_symbols ++ behind_unit) wd.rest o.late o.text in
+    let t_count : suc (length t.rest) ≡ length wd.rest = ap length t.same in
+    let seen_1 = moved_seen (sym t.same) all.1 in
+    let p = parts_of unit_symbols behind_unit t.rest t.late t.text in
+    let seen_2 = seen_parts p.front p.rest (moved_seen (sym p.same) seen_1.1) in
+    let e = act_first action_of.EndObjectloop (!loop ∷ 'close_parenthesis' ∷ statement ∷ !close ∷ []) p.rest p.late p.of_rest in
+    let l = act_first action_of.Loop ('close_parenthesis' ∷ statement ∷ !close ∷ []) p.rest e.late e.text in
+    let c = token_first (statement ∷ !close ∷ []) p.rest l.late l.text in
+    let c_count : suc (length c.rest) ≡ length p.rest = ap length c.same in
+    let seen_3 = moved_seen (sym c.same) seen_2.1 in
+    let place = c.s.token.place in
+    let unit =
+    λ (u : UnitAtHand).
+    bracketed_units_are_trees limits u p.front p.early p.of_front seen_2.0 (omega (arith, few, count, t_count, p.count, c_count)) in
+    let loop : Bracketed = record { bracket = t.s; unit = λ u. (unit u).parts; closing = c.s } in
+    let body =
+    body_text limits n below next c.rest c.late c.text seen_3.1 (omega (arith, few, count, t_count, p.count, c_count))
+    (omega (arith, fewer, count, t_count, p.count, c_count)) in
+    let hs = happenings_before place p.early p.front in
+    let q : Quiet = record {
+      all = Takes t.s.token t.s.behind ∷ hs;
+      are = quiet_text unit_symbols unit_quiet place p.front p.early p.of_front;
+    } in
+    let closed_quiet : Quiet = record { all = Takes c.s.token c.s.behind ∷ []; are = refl } in
+    let opens = opening_of loop in
+    let at = plainly_at place in
+    let closes = plainly_at next in
+    let word = word_happens is_inner wd.word in
+    let front = λ (x : List Happening). Takes t.s.token t.s.behind ∷ (hs ++ x) in
+    record {
+      tree = LoopTree is_inner wd.word loop body.tree;
+      all =
+          ap (λ x. wd.word ∷ ((t.s ∷ (all_seen (unit no_unit).parts ++ c.s ∷ [])) ++ x)) body.all
+          ∙ (ap (λ x. wd.word ∷ t.s ∷ x) (append_assoc (all_seen (unit no_unit).parts) (c.s ∷ []) c.rest
+          ∙ (ap (λ x. x ++ c.s ∷ c.rest) (unit no_unit).same ∙ (ap (λ x. p.front ++ x) c.same ∙ p.same)))
+          ∙ (ap (λ x. wd.word ∷ x) t.same ∙ wd.same));
+      written = ((λ u. (unit u).written), body.written);
+      nested = After (Plain (word_quiet wd)) (Objectloop opens q at at closed_quiet body.nested closes);
+      same =
+          sym (wd.happen next
+          ∙ ap (λ x. word ++ x) (o.happen next
+          ∙ (ap (λ x. Acts (plainly_at x) action_of.OpenObjectloop ∷ happenings_before next o.late wd.rest) (t.place next)
+          ∙ ap (λ x. Acts opens action_of.OpenObjectloop ∷ x) (t.happen next
+          ∙ ap (λ x. Takes t.s.token t.s.behind ∷ x) (p.happen next
+          ∙ (ap (λ x. happenings_before x p.early p.front ++ happenings_before next p.late p.rest) (c.place next)
+          ∙ ap (λ x. hs ++ x) (e.happen next
+          ∙ (ap (λ x. Acts (plainly_at x) action_of.EndObjectloop ∷ happenings_before next e.late p.rest) (c.place next)
+          ∙ ap (λ x. Acts at action_of.EndObjectloop ∷ x) (l.happen next
+          ∙ (ap (λ x. Acts (plainly_at x) action_of.Loop ∷ happenings_before next l.late p.rest) (c.place next)
+          ∙ ap (λ x. Acts at action_of.Loop ∷ x) (c.happen next
+          ∙ ap (λ x. Takes c.s.token c.s.behind ∷ x) body.happen)))))))))));
+      lays = λ context w ahead none.
+          let v = word_done limits context is_inner wd.word w in
+          let d = opened limits (kind.Objects over.Nothing 0) v.output in
+          let x = opened_at context opens d v in
+          let runs : run limits context q.all x ≡ unit_done context loop x =
+          (unit (token_done context t.s x).unit).does context place (token_done context t.s x) refl in
+          let ended = λ (z : Compilation).
+          let looped = act limits context place action_of.EndObjectloop z in
+          let joined = between limits (with_kind_in looped.constructs d.0) looped.output in
+          ended_as limits closes joined.0 v.constructs
+          (laid limits context body.nested (token_done context c.s (holding at joined v.constructs looped))) in
+          let read = unit_done context loop x in
+          let read_closed =
+          ap (λ (z : Compilation). z.closed) (sym runs) ∙ ((quiet_run limits context q.all x q.are).1 ∙ word_closed wd context w ahead) in
+          let looped = act limits context place action_of.EndObjectloop read in
+          let joined = between limits (with_kind_in looped.constructs d.0) looped.output in
+          let y = holding at joined v.constructs looped in
+          ap (laid {b = b} limits context (Objectloop opens q at at closed_quiet body.nested closes)) (wd.runs context w)
+          ∙ (ap ended runs
+          ∙ ap (λ z. ended_as limits closes joined.0 v.constructs z)
+          (body.lays context (token_done context c.s y)
+          (took_none context c.s.token y ∙ inside_act limits context place action_of.EndObjectloop read refl read_closed) refl));
+    }
+
+loop_rows : Rows objectloop_rest (row (!open_objectloop ∷ loop_symbols) ∷ [])
+unfolding grammar
+loop_rows = refl
+
+pub loop_tree : {b : Bool} (limits : Limits) (n : ℕ) → Below limits n → (is_inner : Bool) (next : Place) (seen : List Seen)
+    (events : List (Event Action)) → IsText grammar (before_word is_inner ++ 'objectloop' ∷ objectloop_rest ∷ []) (atoms_of seen) events
+    → AreAll seen → length seen + 1 < 4294967295 → length seen ≤ suc n → IsTree b limits next seen events
+loop_tree {b} limits n below is_inner next seen events text are_seen few fewer =
+    let wd = worded limits is_inner _ (objectloop_rest ∷ []) seen events text in
+    of_rows (IsTree b limits next seen events) (number objectloop_rest) (row (!open_objectloop ∷ loop_symbols) ∷ []) (atoms_of wd.rest) wd.late
+    loop_rows ((λ t. loop_row_tree limits n below is_inner next seen events wd t are_seen few fewer), tt) wd.text

@@ -1,0 +1,141 @@
+-- Routines are trees.
+use Rattle.std.proofs.Common.{◌≡◌, ℕ, suc, ◌+◌, List, [], ◌∷◌, ◌++◌, length, refl, sym, ◌∙◌, ap, subst}
+use Rattle.std.proofs.Common.{append-nil, arith}
+use Rattle.inf_settings.specs.Bounds.{Limits}
+use Rattle.inf_scanner.specs.declared.tokens.Place.{Place}
+use Rattle.inf_machine.specs.declared.symbols.Symbol.{Symbol}
+use Rattle.inf_machine.specs.Grammar.{Event, IsOneOf, IsText, Took, first, here, token}
+use Rattle.inf_machine.specs.Grammar.{row as a_row}
+use Rattle.inf_syntax.specs.Parts.{ !end_locals, !end_routine, !routine, 'close_bracket', 'open_bracket', 'semicolon', NAME, directive}
+use Rattle.inf_syntax.specs.Parts.{directive_1, directive_2}
+use Rattle.inf_syntax.specs.Rows.{row}
+use Rattle.inf_syntax.specs.declared.actions.Action.{Action}
+use Rattle.inf_syntax.specs.declared.actions.Action.TheVariants as action_of
+use Rattle.inf_grammar.specs.Language.{grammar}
+use Rattle.inf_reader.specs.Acting.{act}
+use Rattle.inf_expression_laws.proofs.OperatorRows.{free}
+use Rattle.inf_statement_laws.specs.Happenings.{Acts, Happening, Quiet, Takes}
+use Rattle.inf_statement_laws.specs.Laid.{next_comes, run}
+use Rattle.inf_statement_laws.specs.Readings.{Seen, plainly_at}
+use Rattle.inf_statement_laws.proofs.Acts.{inside_act, quiet_run, took_none}
+use Rattle.inf_statement_laws.proofs.Laying.{run_then}
+use Rattle.inf_statement_laws.proofs.Rules.{header_parts, number, quiet_header}
+use Rattle.inf_language.specs.Texts.{atoms_of, happenings_before, happenings_of}
+use Rattle.inf_language.proofs.Derivations.{happenings-append, texts_take_all}
+use Rattle.inf_language.proofs.TextsActed.{texts_do_their_actions}
+use Rattle.inf_trees.proofs.UnitsRead.{before-append, place_before, seen_parts}
+use Rattle.inf_routine_trees.specs.Bodies.{token_done}
+use Rattle.inf_routine_trees.specs.Routines.{Routine, RoutinesAreTrees, routine_symbols}
+use Rattle.inf_routine_trees.proofs.BodyTrees.{body_tree}
+use Rattle.inf_routine_trees.proofs.Pieces.{quiet_text}
+use Rattle.inf_simple_trees.proofs.Symbols.{act_first, nothing_left, parts_of, token_first}
+use Rattle.inf_routine_trees.proofs.Trees.{moved_seen, tree_runs}
+
+-- A routine is a directive.
+
+routine_row : IsOneOf (row routine_symbols) (grammar.rows_of (number directive))
+unfolding grammar
+routine_row = first
+
+routine_text : (atoms : List ℕ) (events : List (Event Action)) → IsText grammar routine_symbols atoms events
+    → IsText grammar (directive ∷ []) atoms events
+routine_text atoms events text =
+    a_row routine_row (free atoms) (subst (λ l. IsText grammar l atoms events) (sym (append-nil routine_symbols)) text)
+
+-- No action comes behind its last token.
+
+abbrev front_symbols : List (Symbol Action)
+front_symbols =
+    !routine ∷ 'open_bracket' ∷ NAME ∷ directive_1 ∷ !end_locals ∷ 'semicolon' ∷ directive_2 ∷ !end_routine ∷ 'close_bracket' ∷ []
+
+-- a text of the last semicolon
+record IsLast (seen : List Seen) (events : List (Event Action)) : Type 0 where
+  s : Seen
+  atom : ℕ
+  same : s ∷ [] ≡ seen
+  are : events ≡ Took atom ∷ []
+
+is_last : {atoms : List ℕ} {events : List (Event Action)} → IsText grammar ('semicolon' ∷ []) atoms events → (seen : List Seen)
+    → atoms_of seen ≡ atoms → IsLast seen events
+is_last (token h here) [] is = cc
+is_last (token {atom = atom} h here) (s ∷ []) is = record { s = s; atom = atom; same = refl; are = refl }
+is_last (token h here) (s ∷ t ∷ seen) is = cc
+
+last_happens : (next : Place) (seen : List Seen) (events : List (Event Action)) → IsText grammar routine_symbols (atoms_of seen) events
+    → happenings_of events seen ≡ happenings_before next events seen
+last_happens next seen events text =
+    let p = parts_of front_symbols ('semicolon' ∷ []) seen events text in
+    let l = is_last p.of_rest p.rest refl in
+    let all = texts_take_all p.of_front p.front refl in
+    let seen_are : p.front ++ l.s ∷ [] ≡ seen = ap (λ x. p.front ++ x) l.same ∙ p.same in
+    let events_are : events ≡ p.early ++ Took l.atom ∷ [] = p.are ∙ ap (λ x. p.early ++ x) l.are in
+    ap (λ x. happenings_of events x) (sym seen_are)
+    ∙ (ap (λ es. happenings_of es (p.front ++ l.s ∷ [])) events_are
+    ∙ (happenings-append p.early (Took l.atom ∷ []) p.front l.s [] all
+    ∙ (sym (before-append next p.early (Took l.atom ∷ []) p.front (l.s ∷ []) all)
+    ∙ (ap (λ es. happenings_before next es (p.front ++ l.s ∷ [])) (sym events_are)
+    ∙ ap (λ x. happenings_before next events x) seen_are))))
+
+-- The routine
+
+pub routines_are_trees : (limits : Limits) → RoutinesAreTrees limits
+routines_are_trees limits seen events text are_seen few none_ahead =
+    let h =
+    parts_of header_parts (!end_locals ∷ 'semicolon' ∷ directive_2 ∷ !end_routine ∷ 'close_bracket' ∷ 'semicolon' ∷ []) seen events text in
+    let parts = seen_parts h.front h.rest (moved_seen (sym h.same) are_seen) in
+    let e = act_first action_of.EndLocals ('semicolon' ∷ directive_2 ∷ !end_routine ∷ 'close_bracket' ∷ 'semicolon' ∷ []) h.rest h.late h.of_rest in
+    let s = token_first (directive_2 ∷ !end_routine ∷ 'close_bracket' ∷ 'semicolon' ∷ []) h.rest e.late e.text in
+    let behind = moved_seen (sym s.same) parts.1 in
+    let s_count : suc (length s.rest) ≡ length h.rest = ap length s.same in
+    let b = parts_of (directive_2 ∷ []) (!end_routine ∷ 'close_bracket' ∷ 'semicolon' ∷ []) s.rest s.late s.text in
+    let inside = seen_parts b.front b.rest (moved_seen (sym b.same) behind.1) in
+    let r = act_first action_of.EndRoutine ('close_bracket' ∷ 'semicolon' ∷ []) b.rest b.late b.of_rest in
+    let c = token_first ('semicolon' ∷ []) b.rest r.late r.text in
+    let l = token_first [] c.rest c.late c.text in
+    let n = nothing_left l.rest l.late l.text in
+    let place = c.s.token.place in
+    let at = place_before b.rest place in
+    let header = happenings_before (place_before h.rest place) h.early h.front in
+    let q : Quiet = record { all = header; are = quiet_text header_parts quiet_header (place_before h.rest place) h.front h.early h.of_front } in
+    let body = body_tree limits at b.front b.early b.of_front inside.0 (omega (arith, few, h.count, s_count, b.count)) in
+    let tree : Routine = record { header = h.front; one_by_one = q; semicolon = s.s; body = body.tree; closing = c.s; last = l.s } in
+    let body_happens = happenings_before at b.early b.front in
+    let heads = plainly_at s.s.token.place in
+    let ends = plainly_at place in
+    let last : List Happening =
+    Acts ends action_of.EndRoutine ∷ Takes c.s.token c.s.behind ∷ Takes l.s.token l.s.behind ∷ [] in
+    let all : happenings_before place events seen
+    ≡ header ++ Acts heads action_of.EndLocals ∷ Takes s.s.token s.s.behind ∷ (body_happens ++ last) =
+    h.happen place
+    ∙ ap (λ x. header ++ x) (e.happen place
+    ∙ (ap (λ x. Acts (plainly_at x) action_of.EndLocals ∷ happenings_before place e.late h.rest) (s.place place)
+    ∙ ap (λ x. Acts heads action_of.EndLocals ∷ x) (s.happen place
+    ∙ ap (λ x. Takes s.s.token s.s.behind ∷ x) (b.happen place
+    ∙ ap (λ x. body_happens ++ x) (r.happen place
+    ∙ (ap (λ x. Acts (plainly_at x) action_of.EndRoutine ∷ happenings_before place r.late b.rest) (c.place place)
+    ∙ ap (λ x. Acts ends action_of.EndRoutine ∷ x) (c.happen place
+    ∙ ap (λ x. Takes c.s.token c.s.behind ∷ x) (l.happen place ∙ ap (λ x. Takes l.s.token l.s.behind ∷ x) (n.happen place))))))))) in
+    record {
+      tree = tree;
+      same =
+          ap (λ x. h.front ++ s.s ∷ (x ++ c.s ∷ l.s ∷ [])) body.all
+          ∙ (ap (λ x. h.front ++ s.s ∷ (b.front ++ c.s ∷ l.s ∷ x)) (sym n.none)
+          ∙ (ap (λ x. h.front ++ s.s ∷ (b.front ++ c.s ∷ x)) l.same
+          ∙ (ap (λ x. h.front ++ s.s ∷ (b.front ++ x)) c.same
+          ∙ (ap (λ x. h.front ++ s.s ∷ x) b.same ∙ (ap (λ x. h.front ++ x) s.same ∙ h.same)))));
+      written = body.written;
+      does = λ context w ahead.
+          let begins = next_comes w in
+          let named = run limits context header begins in
+          let headed = act limits context s.s.token.place action_of.EndLocals named in
+          let ready = token_done context s.s headed in
+          let named_open = (quiet_run limits context header begins q.are).1 ∙ ahead in
+          let headed_open = inside_act limits context s.s.token.place action_of.EndLocals named refl named_open in
+          let ready_open = took_none context s.s.token headed ∙ headed_open in
+          (texts_do_their_actions limits).act (number directive) seen events (routine_text (atoms_of seen) events text) none_ahead context w
+          ∙ (ap (λ hs. run limits context hs begins) (last_happens place seen events text ∙ all)
+          ∙ (run_then limits context header
+          (Acts heads action_of.EndLocals ∷ Takes s.s.token s.s.behind ∷ (body_happens ++ last)) begins
+          ∙ (run_then limits context body_happens last ready
+          ∙ ap (run limits context last) (tree_runs limits at b.front b.early body context ready ready_open refl))));
+    }

@@ -1,0 +1,434 @@
+-- Statements are trees, and have their effects.
+use Rattle.std.proofs.Common.{◌≡◌, ℕ, suc, ◌+◌, ◌≤◌, ◌<◌, List, [], ◌∷◌, ◌++◌, length, Bool, true, false, None, refl, sym, ◌∙◌, ap, subst}
+use Rattle.std.proofs.Common.{append-nil, arith}
+use Rattle.std.specs.Prelude.{if◌then◌else◌}
+use Rattle.std.proofs.lemmas.Bool.{and_from}
+use Rattle.inf_settings.specs.Bounds.{Limits}
+use Rattle.inf_scanner.specs.declared.tokens.Place.{Place}
+use Rattle.inf_machine.specs.declared.symbols.Symbol.{Symbol}
+use Rattle.inf_machine.specs.Grammar.{Did, Event, IsText, Took}
+use Rattle.inf_syntax.specs.Parts.{ !begin, !close, !else, !end_if, !end_while}
+use Rattle.inf_syntax.specs.Parts.{ !open_if, !open_while, !outer, 'close_parenthesis', 'else'}
+use Rattle.inf_syntax.specs.Parts.{'if', 'open_parenthesis', 'while'}
+use Rattle.inf_syntax.specs.Parts.{else_part, expression, if_rest, statement}
+use Rattle.inf_syntax.specs.Parts.{while_rest}
+use Rattle.inf_syntax.specs.Rows.{row, row_unless}
+use Rattle.inf_syntax.specs.declared.actions.Action.{Action}
+use Rattle.inf_syntax.specs.declared.actions.Action.TheVariants as action_of
+use Rattle.inf_grammar.specs.Language.{grammar}
+use Rattle.inf_constructs.specs.Constructs.{between, opened}
+use Rattle.inf_constructs.specs.declared.constructs.Kind.TheVariants as kind
+use Rattle.inf_unit.specs.Units.{Unit as UnitAtHand, begun, no_unit}
+use Rattle.inf_compilation.specs.Context.{Context}
+use Rattle.inf_compilation.specs.Actions.{Compilation}
+use Rattle.inf_expression_laws.specs.Gathered.{AreSeen}
+use Rattle.inf_statement_laws.specs.Happenings.{Acts, Quiet, Takes, happen_quietly, is_quiet}
+use Rattle.inf_statement_laws.specs.Laid.{ended_as, holding, laid, opened_at, run}
+use Rattle.inf_statement_laws.specs.Nested.{If, IfElse, Nested, Plain, While, happenings}
+use Rattle.inf_statement_laws.specs.Nested.{Then as After}
+use Rattle.inf_statement_laws.specs.Readings.{Seen, plainly_at}
+use Rattle.inf_statement_laws.proofs.Acts.{quiet_run}
+use Rattle.inf_statement_laws.proofs.Laying.{laid_as}
+use Rattle.inf_statement_laws.proofs.Nesting.{statement_is_nested}
+use Rattle.inf_statement_laws.proofs.Rules.{number}
+use Rattle.inf_language.specs.Texts.{atoms_of, happenings_before, tokens_of}
+use Rattle.inf_language.proofs.Derivations.{texts_take_all}
+use Rattle.inf_language.specs.Units.{TakeAll}
+use Rattle.inf_trees.specs.Statements.{statement_done}
+use Rattle.inf_trees.proofs.StatementsRead.{behind, parted}
+use Rattle.inf_trees.proofs.RuleRows.{of_rows}
+use Rattle.inf_trees.proofs.StatementTexts.{Rows, unit_end}
+use Rattle.inf_trees.proofs.UnitsRead.{place_before, seen_parts}
+use Rattle.inf_routine_trees.specs.Bodies.{IsTold, Simple, Told, Tree, TreeWritten, bracketed_done, bracketed_seen}
+use Rattle.inf_routine_trees.specs.Bodies.{opening_of, token_done, tree_laid, tree_seen, word_done}
+use Rattle.inf_routine_trees.specs.Bodies.{If as IfTree, IfElse as ElseTree, While as WhileTree}
+use Rattle.inf_simple_trees.specs.Room.{have_room}
+use Rattle.inf_routine_trees.proofs.Endings.{last_took, none_behind}
+use Rattle.inf_routine_trees.proofs.Pieces.{BracketedText, are_of, bracketed_text}
+use Rattle.inf_simple_trees.proofs.Symbols.{PartsOf, act_first, parts_of}
+use Rattle.inf_routine_trees.proofs.Pieces.{Worded, closed_text, test_happen, test_happens, test_quiet, test_runs}
+use Rattle.inf_simple_trees.proofs.Symbols.{token_first}
+use Rattle.inf_routine_trees.proofs.Pieces.{before_word, word_happens, worded}
+use Rattle.inf_simple_trees.proofs.SimpleRead.{IsRead, is_simple, parted_quiet}
+use Rattle.inf_simple_trees.proofs.SimpleTexts.{Reading}
+use Rattle.inf_simple_trees.proofs.UnitsGo.{AreQuiet}
+
+-- Tokens are a tree, which lays what the happenings of some events lay, nested by their words, before another token at a place.
+pub record IsTree (b : Bool) (limits : Limits) (next : Place) (seen : List Seen) (events : List (Event Action)) : Type 0 where
+  pub tree : Tree
+  pub all : tree_seen tree ≡ seen
+  pub written : TreeWritten tree
+  pub nested : Nested b
+  pub same : happenings nested ≡ happenings_before next events seen
+  pub lays : (context : Context) (w : Compilation) → w.closed ≡ 0 → w.opening ≡ None
+      → laid limits context nested w ≡ tree_laid limits context tree w
+
+-- Behind a tree no statement is closed ahead, and no word waits.
+pub tree_runs : {b : Bool} (limits : Limits) (next : Place) (seen : List Seen) (events : List (Event Action))
+    → (t : IsTree b limits next seen events) → (context : Context) (w : Compilation) → w.closed ≡ 0 → w.opening ≡ None
+    → run limits context (happenings_before next events seen) w ≡ tree_laid limits context t.tree w
+tree_runs limits next seen events t context w ahead none =
+    ap (λ hs. run limits context hs w) (sym t.same) ∙ ((laid_as limits context t.nested w ahead).runs ∙ t.lays context w ahead none)
+
+pub tree_closed : {b : Bool} (limits : Limits) (next : Place) (seen : List Seen) (events : List (Event Action))
+    → (t : IsTree b limits next seen events) → (context : Context) (w : Compilation) → w.closed ≡ 0 → w.opening ≡ None
+    → (tree_laid limits context t.tree w).closed ≡ 0
+tree_closed limits next seen events t context w ahead none =
+    ap (λ (v : Compilation). v.closed) (sym (t.lays context w ahead none)) ∙ (laid_as limits context t.nested w ahead).none_ahead
+
+pub tree_opening : {b : Bool} (limits : Limits) (next : Place) (seen : List Seen) (events : List (Event Action))
+    → (t : IsTree b limits next seen events) → TakeAll events seen → last_took false events ≡ true
+    → (context : Context) (w : Compilation) → w.closed ≡ 0 → w.opening ≡ None → (tree_laid limits context t.tree w).opening ≡ None
+tree_opening limits next seen events t all last context w ahead none =
+    ap (λ (v : Compilation). v.opening) (sym (tree_runs limits next seen events t context w ahead none))
+    ∙ none_behind limits context next false events seen w all last (λ e. cc)
+
+-- Statements of one unit
+
+happen_quiet : (next : Place) (events : List (Event Action)) (seen : List Seen) → AreQuiet events
+    → happen_quietly (happenings_before next events seen) ≡ true
+happen_quiet next [] seen quiet = refl
+happen_quiet next (Did a ∷ events) [] quiet =
+    and_from (is_quiet a) (happen_quietly (happenings_before next events [])) quiet.0 (happen_quiet next events [] quiet.1)
+happen_quiet next (Did a ∷ events) (s ∷ seen) quiet =
+    and_from (is_quiet a) (happen_quietly (happenings_before next events (s ∷ seen))) quiet.0 (happen_quiet next events (s ∷ seen) quiet.1)
+happen_quiet next (Took atom ∷ events) [] quiet = refl
+happen_quiet next (Took atom ∷ events) (s ∷ seen) quiet = happen_quiet next events seen quiet
+
+quiet_joined : (early late : List (Event Action)) → AreQuiet early → AreQuiet late → AreQuiet (early ++ late)
+quiet_joined [] late quiet other = other
+quiet_joined (Did a ∷ early) late quiet other = (quiet.0, quiet_joined early late quiet.1 other)
+quiet_joined (Took atom ∷ early) late quiet other = quiet_joined early late quiet other
+
+room_lays : (b : Bool) (done one_by_one : Compilation) → (b ≡ true → one_by_one ≡ done)
+    → one_by_one ≡ (if b then done else one_by_one)
+room_lays true done one_by_one same = same refl
+room_lays false done one_by_one same = refl
+
+pub simple_tree : {b : Bool} (limits : Limits) (next : Place) (seen : List Seen) (events : List (Event Action)) (front : List (Symbol Action))
+    → Reading front → IsText grammar (!begin ∷ (front ++ unit_end)) (atoms_of seen) events → AreSeen (atoms_of seen) (tokens_of seen)
+    → length seen + 1 < 4294967295 → IsTree b limits next seen events
+simple_tree limits next seen events front reading text are_seen few =
+    let b = behind action_of.Begin (front ++ unit_end) (atoms_of seen) events text in
+    let p = parted (IsRead limits) front seen b.rest b.text (λ tokens early t. reading limits tokens early t) in
+    let simple = λ (u : UnitAtHand). is_simple limits u seen events b.rest b.are p are_seen few in
+    let late : List (Event Action) = Did action_of.EndStatement ∷ Took p.atom ∷ [] in
+    let are : events ≡ Did action_of.Begin ∷ (p.early ++ late) = b.are ∙ ap (λ l. Did action_of.Begin ∷ l) p.are in
+    let quiet : AreQuiet events =
+    subst AreQuiet (sym are) (refl, quiet_joined p.early late (parted_quiet limits seen b.rest p are_seen few) (refl, tt)) in
+    let q : Quiet = record { all = happenings_before next events seen; are = happen_quiet next events seen quiet } in
+    record {
+      tree = Simple (λ u. (simple u).tree) q;
+      all = (simple no_unit).same;
+      written = λ u. (simple u).written;
+      nested = Plain q;
+      same = refl;
+      lays = λ context w ahead none.
+          room_lays (have_room limits (begun w.unit) (simple w.unit).tree.unit) (statement_done limits context (simple w.unit).tree w)
+          (run limits context q.all w) (λ room. (simple w.unit).does context next w none room);
+    }
+
+-- Statements that hold others
+
+-- Texts of statements with fewer tokens are trees.
+abbrev pub Below : Limits → ℕ → Type 0
+Below limits n =
+    (next : Place) (seen : List Seen) (events : List (Event Action)) → IsText grammar (statement ∷ []) (atoms_of seen) events
+    → AreSeen (atoms_of seen) (tokens_of seen) → length seen + 1 < 4294967295 → length seen ≤ n → IsTree false limits next seen events
+
+abbrev pub AreAll : List Seen → Type 0
+AreAll seen = AreSeen (atoms_of seen) (tokens_of seen)
+
+pub moved_seen : {xs ys : List Seen} → xs ≡ ys → AreAll xs → AreAll ys
+moved_seen same are = subst AreAll same are
+
+abbrev pub word_quiet : {limits : Limits} {is_inner : Bool} {symbols : List (Symbol Action)} {seen : List Seen} {events : List (Event Action)}
+    → Worded limits is_inner symbols seen events → Quiet
+word_quiet {is_inner = is_inner} wd = record { all = word_happens is_inner wd.word; are = wd.quiet }
+
+pub word_closed : {limits : Limits} {is_inner : Bool} {symbols : List (Symbol Action)} {seen : List Seen} {events : List (Event Action)}
+    (wd : Worded limits is_inner symbols seen events) (context : Context) (w : Compilation) → w.closed ≡ 0
+    → (word_done limits context is_inner wd.word w).closed ≡ 0
+word_closed {limits} {is_inner} wd context w ahead =
+    ap (λ (v : Compilation). v.closed) (sym (wd.runs context w))
+    ∙ ((quiet_run limits context (word_happens is_inner wd.word) w wd.quiet).1 ∙ ahead)
+
+pub test_closed : {limits : Limits} {end : Action} {symbols : List (Symbol Action)} {seen : List Seen} {events : List (Event Action)}
+    (t : BracketedText limits end symbols seen events) → is_quiet end ≡ true → (context : Context) (w : Compilation) → w.closed ≡ 0
+    → (bracketed_done limits context end t.tree w).closed ≡ 0
+test_closed {limits} t quiet context w ahead =
+    ap (λ (v : Compilation). v.closed) (sym (test_runs t context w))
+    ∙ ((quiet_run limits context (test_happens t) w (test_quiet t quiet)).1 ∙ ahead)
+
+-- a statement and its closing
+pub record BodyText (limits : Limits) (next : Place) (seen : List Seen) (events : List (Event Action)) : Type 0 where
+  pub tree : Tree
+  pub all : tree_seen tree ≡ seen
+  pub written : TreeWritten tree
+  pub nested : Nested false
+  pub happen : happenings_before next events seen ≡ happenings nested ++ Acts (plainly_at next) action_of.Close ∷ []
+  pub lays : (context : Context) (w : Compilation) → w.closed ≡ 0 → w.opening ≡ None
+      → laid limits context nested w ≡ tree_laid limits context tree w
+
+pub body_text : (limits : Limits) (n : ℕ) → Below limits n → (next : Place) (seen : List Seen) (events : List (Event Action))
+    → IsText grammar (statement ∷ !close ∷ []) (atoms_of seen) events → AreAll seen → length seen + 1 < 4294967295 → length seen ≤ n
+    → BodyText limits next seen events
+body_text limits n below next seen events text are_seen few fewer =
+    let p = parts_of (statement ∷ []) (!close ∷ []) seen events text in
+    let c = closed_text p.rest p.late p.of_rest in
+    let parts = seen_parts p.front p.rest (moved_seen (sym p.same) are_seen) in
+    let inner =
+    below (place_before p.rest next) p.front p.early p.of_front parts.0 (omega (arith, few, p.count)) (omega (arith, fewer, p.count)) in
+    record {
+      tree = inner.tree;
+      all = inner.all ∙ (sym (append-nil p.front) ∙ (ap (λ l. p.front ++ l) (sym c.none) ∙ p.same));
+      written = inner.written;
+      nested = inner.nested;
+      happen =
+          p.happen next
+          ∙ (ap (λ l. l ++ happenings_before next p.late p.rest) (sym inner.same) ∙ ap (λ l. happenings inner.nested ++ l) (c.happen next));
+      lays = inner.lays;
+    }
+
+while_row_tree : {b : Bool} (limits : Limits) (n : ℕ) → Below limits n → (is_inner : Bool) (next : Place) (seen : List Seen)
+    (events : List (Event Action)) → (wd : Worded limits is_inner (while_rest ∷ []) seen events)
+    → IsText grammar (!open_while ∷ 'open_parenthesis' ∷ !begin ∷ !outer ∷ expression ∷ !end_while ∷ 'close_parenthesis' ∷ statement ∷ !close ∷ [])
+    (atoms_of wd.rest) wd.late → AreAll seen → length seen + 1 < 4294967295 → length seen ≤ suc n → IsTree b limits next seen events
+while_row_tree {b} limits n below is_inner next seen events wd text are_seen few fewer =
+    let all = moved_seen (sym wd.same) are_seen in
+    let count : suc (length wd.rest) ≡ length seen = ap length wd.same in
+    let o =
+    act_first action_of.OpenWhile
+    ('open_parenthesis' ∷ !begin ∷ !outer ∷ expression ∷ !end_while ∷ 'close_parenthesis' ∷ statement ∷ !close ∷ []) wd.rest wd.late text in
+    let t = bracketed_text limits action_of.EndWhile (statement ∷ !close ∷ []) wd.rest o.late o.text all.1 (omega (arith, few, count)) in
+    let body = body_text limits n below next t.rest t.late t.text t.seen_rest (omega (arith, few, count, t.fewer)) (omega (arith, fewer, count, t.fewer)) in
+    let q : Quiet = record { all = test_happens t; are = test_quiet t refl } in
+    let opens = opening_of t.tree in
+    let closes = plainly_at next in
+    let word = word_happens is_inner wd.word in
+    record {
+      tree = WhileTree is_inner wd.word t.tree body.tree;
+      all = ap (λ l. wd.word ∷ (bracketed_seen t.tree ++ l)) body.all ∙ (ap (λ l. wd.word ∷ l) t.same ∙ wd.same);
+      written = (t.written, body.written);
+      nested = After (Plain (word_quiet wd)) (While opens q body.nested closes);
+      same =
+          sym (wd.happen next
+          ∙ ap (λ l. word ++ l) (o.happen next
+          ∙ (ap (λ x. Acts (plainly_at x) action_of.OpenWhile ∷ happenings_before next o.late wd.rest) (t.place next)
+          ∙ ap (λ l. Acts opens action_of.OpenWhile ∷ l) (test_happen t next ∙ ap (λ l. test_happens t ++ l) body.happen))));
+      lays = λ context w ahead none.
+          let v = word_done limits context is_inner wd.word w in
+          let c = opened limits kind.While v.output in
+          let x = opened_at context opens c v in
+          let y = bracketed_done limits context action_of.EndWhile t.tree x in
+          ap (laid {b = b} limits context (While opens q body.nested closes)) (wd.runs context w)
+          ∙ (ap (λ z. ended_as limits closes c.0 v.constructs (laid limits context body.nested z)) (test_runs t context x)
+          ∙ ap (λ z. ended_as limits closes c.0 v.constructs z)
+          (body.lays context y (test_closed t refl context x (word_closed wd context w ahead)) refl));
+    }
+
+while_rows : Rows while_rest
+    (row (!open_while ∷ 'open_parenthesis' ∷ !begin ∷ !outer ∷ expression ∷ !end_while ∷ 'close_parenthesis' ∷ statement ∷ !close ∷ []) ∷ [])
+unfolding grammar
+while_rows = refl
+
+pub while_tree : {b : Bool} (limits : Limits) (n : ℕ) → Below limits n → (is_inner : Bool) (next : Place) (seen : List Seen)
+    (events : List (Event Action)) → IsText grammar (before_word is_inner ++ 'while' ∷ while_rest ∷ []) (atoms_of seen) events
+    → AreAll seen → length seen + 1 < 4294967295 → length seen ≤ suc n → IsTree b limits next seen events
+while_tree {b} limits n below is_inner next seen events text are_seen few fewer =
+    let wd = worded limits is_inner _ (while_rest ∷ []) seen events text in
+    of_rows (IsTree b limits next seen events) (number while_rest)
+    (row (!open_while ∷ 'open_parenthesis' ∷ !begin ∷ !outer ∷ expression ∷ !end_while ∷ 'close_parenthesis' ∷ statement ∷ !close ∷ []) ∷ [])
+    (atoms_of wd.rest) wd.late while_rows
+    ((λ t. while_row_tree limits n below is_inner next seen events wd t are_seen few fewer), tt) wd.text
+
+-- The rest of an `if` behind its body: its closing, or its `else`
+data ElseText (limits : Limits) (next : Place) (seen : List Seen) (events : List (Event Action)) : Type 0 where
+  Without : seen ≡ [] → happenings_before next events seen ≡ Acts (plainly_at next) action_of.Close ∷ [] → ElseText limits next seen events
+  With : (joins : Seen) (rest : List Seen) (late : List (Event Action)) → joins ∷ rest ≡ seen
+      → happenings_before next events seen
+      ≡ Acts (plainly_at joins.token.place) action_of.Else ∷ Takes joins.token joins.behind ∷ happenings_before next late rest
+      → BodyText limits next rest late → ElseText limits next seen events
+
+else_rows : Rows else_part (row (!else ∷ 'else' ∷ statement ∷ !close ∷ []) ∷ row_unless 115 (!close ∷ []) ∷ [])
+unfolding grammar
+else_rows = refl
+
+else_with : (limits : Limits) (n : ℕ) → Below limits n → (next : Place) (seen : List Seen) (events : List (Event Action))
+    → IsText grammar (!else ∷ 'else' ∷ statement ∷ !close ∷ []) (atoms_of seen) events → AreAll seen → length seen + 1 < 4294967295
+    → length seen ≤ n → ElseText limits next seen events
+else_with limits n below next seen events text are_seen few fewer =
+    let e = act_first action_of.Else ('else' ∷ statement ∷ !close ∷ []) seen events text in
+    let t = token_first (statement ∷ !close ∷ []) seen e.late e.text in
+    let count : suc (length t.rest) ≡ length seen = ap length t.same in
+    let all = moved_seen (sym t.same) are_seen in
+    With t.s t.rest t.late t.same
+    (e.happen next
+    ∙ (ap (λ x. Acts (plainly_at x) action_of.Else ∷ happenings_before next e.late seen) (t.place next)
+    ∙ ap (λ l. Acts (plainly_at t.s.token.place) action_of.Else ∷ l) (t.happen next)))
+    (body_text limits n below next t.rest t.late t.text all.1 (omega (arith, few, count)) (omega (arith, fewer, count)))
+
+else_text : (limits : Limits) (n : ℕ) → Below limits n → (next : Place) (seen : List Seen) (events : List (Event Action))
+    → IsText grammar (else_part ∷ []) (atoms_of seen) events → AreAll seen → length seen + 1 < 4294967295
+    → length seen ≤ n → ElseText limits next seen events
+else_text limits n below next seen events text are_seen few fewer =
+    of_rows (ElseText limits next seen events) (number else_part)
+    (row (!else ∷ 'else' ∷ statement ∷ !close ∷ []) ∷ row_unless 115 (!close ∷ []) ∷ []) (atoms_of seen) events else_rows (
+      (λ t. else_with limits n below next seen events t are_seen few fewer),
+      ((λ t. let c = closed_text seen events t in Without c.none (c.happen next)), tt),
+    )
+    text
+
+abbrev if_front : List (Symbol Action)
+if_front = 'open_parenthesis' ∷ !begin ∷ !outer ∷ expression ∷ !end_if ∷ 'close_parenthesis' ∷ []
+
+-- the parts of an `if` before its end
+record IfText (limits : Limits) (n : ℕ) (is_inner : Bool) (next : Place) (seen : List Seen) (events : List (Event Action)) : Type 0 where
+  wd : Worded limits is_inner (if_rest ∷ []) seen events
+  former : List (Event Action)
+  opened_first : (next : Place) → happenings_before next wd.late wd.rest
+      ≡ Acts (plainly_at (place_before wd.rest next)) action_of.OpenIf ∷ happenings_before next former wd.rest
+  test : BracketedText limits action_of.EndIf (statement ∷ else_part ∷ []) wd.rest former
+  parts : PartsOf (statement ∷ []) (else_part ∷ []) test.rest test.late
+  body : IsTree false limits (place_before parts.rest next) parts.front parts.early
+  seen_rest : AreAll parts.rest
+  few : length parts.rest + 1 < 4294967295
+  fewer : length parts.rest ≤ n
+
+if_text : (limits : Limits) (n : ℕ) → Below limits n → (is_inner : Bool) (next : Place) (seen : List Seen)
+    (events : List (Event Action)) → (wd : Worded limits is_inner (if_rest ∷ []) seen events)
+    → IsText grammar (!open_if ∷ (if_front ++ statement ∷ else_part ∷ [])) (atoms_of wd.rest) wd.late
+    → AreAll seen → length seen + 1 < 4294967295 → length seen ≤ suc n → IfText limits n is_inner next seen events
+if_text limits n below is_inner next seen events wd text are_seen few fewer =
+    let all = moved_seen (sym wd.same) are_seen in
+    let count : suc (length wd.rest) ≡ length seen = ap length wd.same in
+    let o = act_first action_of.OpenIf (if_front ++ statement ∷ else_part ∷ []) wd.rest wd.late text in
+    let t = bracketed_text limits action_of.EndIf (statement ∷ else_part ∷ []) wd.rest o.late o.text all.1 (omega (arith, few, count)) in
+    let p = parts_of (statement ∷ []) (else_part ∷ []) t.rest t.late t.text in
+    let seen_parts_2 = seen_parts p.front p.rest (moved_seen (sym p.same) t.seen_rest) in
+    record {
+      wd = wd;
+      former = o.late;
+      opened_first = o.happen;
+      test = t;
+      parts = p;
+      body =
+          below (place_before p.rest next) p.front p.early p.of_front seen_parts_2.0 (omega (arith, few, count, t.fewer, p.count))
+          (omega (arith, fewer, count, t.fewer, p.count));
+      seen_rest = seen_parts_2.1;
+      few = omega (arith, few, count, t.fewer, p.count);
+      fewer = omega (arith, fewer, count, t.fewer, p.count);
+    }
+
+if_happen : {limits : Limits} {n : ℕ} {is_inner : Bool} {next : Place} {seen : List Seen} {events : List (Event Action)}
+    (i : IfText limits n is_inner next seen events)
+    → happenings_before next events seen
+    ≡ word_happens is_inner i.wd.word
+    ++ Acts (opening_of i.test.tree) action_of.OpenIf
+    ∷ (test_happens i.test ++ (happenings i.body.nested ++ happenings_before next i.parts.late i.parts.rest))
+if_happen {is_inner = is_inner} {next} i =
+    i.wd.happen next
+    ∙ ap (λ l. word_happens is_inner i.wd.word ++ l) (i.opened_first next
+    ∙ (ap (λ x. Acts (plainly_at x) action_of.OpenIf ∷ happenings_before next i.former i.wd.rest) (i.test.place next)
+    ∙ ap (λ l. Acts (opening_of i.test.tree) action_of.OpenIf ∷ l) (test_happen i.test next
+    ∙ ap (λ l. test_happens i.test ++ l) (i.parts.happen next
+    ∙ ap (λ l. l ++ happenings_before next i.parts.late i.parts.rest) (sym i.body.same)))))
+
+if_by : {b : Bool} (limits : Limits) (n : ℕ) (is_inner : Bool) (next : Place) (seen : List Seen) (events : List (Event Action))
+    → (i : IfText limits n is_inner next seen events) → ElseText limits next i.parts.rest i.parts.late → IsTree b limits next seen events
+if_by {b} limits n is_inner next seen events i (Without none happen) =
+    let q : Quiet = record { all = test_happens i.test; are = test_quiet i.test refl } in
+    let opens = opening_of i.test.tree in
+    let closes = plainly_at next in
+    let word = word_happens is_inner i.wd.word in
+    let body : i.parts.front ≡ i.test.rest =
+    sym (append-nil i.parts.front) ∙ (ap (λ l. i.parts.front ++ l) (sym none) ∙ i.parts.same) in
+    record {
+      tree = IfTree is_inner i.wd.word i.test.tree i.body.tree;
+      all =
+          ap (λ l. i.wd.word ∷ (bracketed_seen i.test.tree ++ l)) (i.body.all ∙ body)
+          ∙ (ap (λ l. i.wd.word ∷ l) i.test.same ∙ i.wd.same);
+      written = (i.test.written, i.body.written);
+      nested = After (Plain (word_quiet i.wd)) (If opens q i.body.nested closes);
+      same =
+          sym (if_happen i
+          ∙ ap (λ l. word ++ Acts opens action_of.OpenIf ∷ (test_happens i.test ++ (happenings i.body.nested ++ l))) happen);
+      lays = λ context w ahead none.
+          let v = word_done limits context is_inner i.wd.word w in
+          let c = opened limits kind.If v.output in
+          let x = opened_at context opens c v in
+          let y = bracketed_done limits context action_of.EndIf i.test.tree x in
+          ap (laid {b = b} limits context (If opens q i.body.nested closes)) (i.wd.runs context w)
+          ∙ (ap (λ z. ended_as limits closes c.0 v.constructs (laid limits context i.body.nested z)) (test_runs i.test context x)
+          ∙ ap (λ z. ended_as limits closes c.0 v.constructs z)
+          (i.body.lays context y (test_closed i.test refl context x (word_closed i.wd context w ahead)) refl));
+    }
+if_by {b} limits n is_inner next seen events i (With joins rest late same happen other) =
+    let q : Quiet = record { all = test_happens i.test; are = test_quiet i.test refl } in
+    let word_2 : Quiet = record { all = Takes joins.token joins.behind ∷ []; are = refl } in
+    let opens = opening_of i.test.tree in
+    let at = plainly_at joins.token.place in
+    let closes = plainly_at next in
+    let word = word_happens is_inner i.wd.word in
+    record {
+      tree = ElseTree is_inner i.wd.word i.test.tree i.body.tree joins other.tree;
+      all =
+          ap (λ l. i.wd.word ∷ (bracketed_seen i.test.tree ++ (l ++ joins ∷ tree_seen other.tree))) i.body.all
+          ∙ (ap (λ l. i.wd.word ∷ (bracketed_seen i.test.tree ++ (i.parts.front ++ joins ∷ l))) other.all
+          ∙ (ap (λ l. i.wd.word ∷ (bracketed_seen i.test.tree ++ (i.parts.front ++ l))) same
+          ∙ (ap (λ l. i.wd.word ∷ (bracketed_seen i.test.tree ++ l)) i.parts.same
+          ∙ (ap (λ l. i.wd.word ∷ l) i.test.same ∙ i.wd.same))));
+      written = (i.test.written, (i.body.written, other.written));
+      nested = After (Plain (word_quiet i.wd)) (IfElse opens q i.body.nested at word_2 other.nested closes);
+      same =
+          sym (if_happen i
+          ∙ ap (λ l. word ++ Acts opens action_of.OpenIf ∷ (test_happens i.test ++ (happenings i.body.nested ++ l)))
+          (happen ∙ ap (λ l. Acts at action_of.Else ∷ Takes joins.token joins.behind ∷ l) other.happen));
+      lays = λ context w ahead none.
+          let v = word_done limits context is_inner i.wd.word w in
+          let c = opened limits kind.If v.output in
+          let x = opened_at context opens c v in
+          let y = bracketed_done limits context action_of.EndIf i.test.tree x in
+          let tested = test_closed i.test refl context x (word_closed i.wd context w ahead) in
+          let behind = λ (z : Compilation). let joined = between limits c.0 z.output in
+          ended_as limits closes joined.0 v.constructs
+          (laid limits context other.nested (token_done context joins (holding at joined v.constructs z))) in
+          let former = tree_laid limits context i.body.tree y in
+          let joined = between limits c.0 former.output in
+          let last = token_done context joins (holding at joined v.constructs former) in
+          let last_open =
+          (quiet_run limits context word_2.all (holding at joined v.constructs former) refl).1
+          ∙ tree_closed limits (place_before i.parts.rest next) i.parts.front i.parts.early i.body context y tested refl in
+          ap (laid {b = b} limits context (IfElse opens q i.body.nested at word_2 other.nested closes)) (i.wd.runs context w)
+          ∙ (ap (λ z. behind (laid limits context i.body.nested z)) (test_runs i.test context x)
+          ∙ (ap behind (i.body.lays context y tested refl)
+          ∙ ap (λ z. ended_as limits closes joined.0 v.constructs z) (other.lays context last last_open refl)));
+    }
+
+if_rows : Rows if_rest (row (!open_if ∷ (if_front ++ statement ∷ else_part ∷ [])) ∷ [])
+unfolding grammar
+if_rows = refl
+
+pub if_tree : {b : Bool} (limits : Limits) (n : ℕ) → Below limits n → (is_inner : Bool) (next : Place) (seen : List Seen)
+    (events : List (Event Action)) → IsText grammar (before_word is_inner ++ 'if' ∷ if_rest ∷ []) (atoms_of seen) events
+    → AreAll seen → length seen + 1 < 4294967295 → length seen ≤ suc n → IsTree b limits next seen events
+if_tree {b} limits n below is_inner next seen events text are_seen few fewer =
+    let wd = worded limits is_inner _ (if_rest ∷ []) seen events text in
+    of_rows (IsTree b limits next seen events) (number if_rest) (row (!open_if ∷ (if_front ++ statement ∷ else_part ∷ [])) ∷ [])
+    (atoms_of wd.rest) wd.late if_rows (
+      (λ t. let i = if_text limits n below is_inner next seen events wd t are_seen few fewer in
+          if_by limits n is_inner next seen events i
+          (else_text limits n below next i.parts.rest i.parts.late i.parts.of_rest i.seen_rest i.few i.fewer)),
+      tt,
+    )
+    wd.text
+
+-- A statement whose tokens are not taken apart: nested by its words
+pub told_tree : (limits : Limits) (next : Place) (seen : List Seen) (events : List (Event Action)) → IsTold seen
+    → IsText grammar (statement ∷ []) (atoms_of seen) events → IsTree false limits next seen events
+told_tree limits next seen events told text =
+    let hs = happenings_before next events seen in
+    let n =
+    statement_is_nested hs
+    (record { atoms = atoms_of seen; events = events; is_text = text; are = are_of next events seen (texts_take_all text seen refl) }) in
+    record { tree = Told n.0 seen; all = refl; written = told; nested = n.0; same = n.1; lays = λ context w ahead none. refl }
