@@ -173,7 +173,7 @@ module _ (scale : Scale) (kind : RoutineKind) (limits : CodeLimits) (finished : 
       ∙ sym (take-take 8 finished whole (first_within limits finished refs bytes (Some routine) is))
       ∙ ap (take 8) (front_longer limits finished refs bytes (Some routine) is whole _ longer) ∙ is.front
 
-  whole_stands : whole ≡ written ++ zeros_behind scale closed.len →
+  pub whole_stands : whole ≡ written ++ zeros_behind scale closed.len →
       StandsFor 8 listed.list (source_bytes (length whole) whole) (source_cells (length whole) listed whole)
   whole_stands filled =
       let stands = itself 8 listed.list (drop 8 whole)

@@ -1,16 +1,20 @@
 -- The fault at the end of a routine, by the parts of the code.
-use Rattle.std.specs.Prelude.{nat_lt, Result, Ok, Err, MatchResult}
-use Rattle.std.proofs.Common.{◌≡◌, ◌⊎◌, inl, inr, ℕ, Bool, false, true, cond, List, Option, Some, None, refl, sym, ◌∙◌, ap}
+use Rattle.std.specs.Prelude.{Result, Ok, Err, MatchResult}
+use Rattle.std.proofs.Common.{◌≡◌, ◌⊎◌, ◌+◌, ◌++◌, inl, inr, ℕ, Bool, false, true, cond, List, length, Option, Some, None, refl, sym, ◌∙◌, ap}
 use Rattle.inf_area.specs.Fixups.{Fixups}
 use Rattle.inf_area.specs.declared.cells.Cell.{Cell as CodeCell}
+use Rattle.inf_area.specs.declared.scale.Scale.{Scale}
+use Rattle.inf_area.specs.Cells.{later_count}
 use Rattle.inf_assembler.specs.declared.routines.CloseFault.{CloseFault}
 use Rattle.inf_assembler.specs.declared.routines.CloseFault.TheVariants as close_fault
+use Rattle.inf_assembler.specs.declared.routines.Closed.{Closed}
 use Rattle.inf_assembler.specs.declared.routines.RoutineKind.{RoutineKind}
-use Rattle.inf_assembler.specs.declared.routines.Limit.TheVariants as setting
-use Rattle.inf_assembler.specs.Routines.{State, contents_of, fault_of}
-use Rattle.inf_code.specs.Code.{IsCode, IsSpare, fault_behind, first_fault, references_before, place_behind, source_cells, zeros_fault}
+use Rattle.inf_assembler.specs.Routines.{Closes, State, contents_of, fault_of}
+use Rattle.inf_code.specs.Code.{IsCode, IsSpare, fault_behind, fault_of_full, finished_fault, first_fault, full_finished, padded}
+use Rattle.inf_code.specs.Code.{place_behind, references_before, routine_cells, source_bytes, source_cells, zeros_behind}
 use Rattle.inf_code.specs.declared.code.CodeLimits.{CodeLimits}
-use Rattle.inf_code.proofs.Full.{end_is, lists, first_none, first_some, later_some}
+use Rattle.inf_code.proofs.CodeSteps.{finished_closed, whole_stands}
+use Rattle.inf_code.proofs.Full.{end_is, later_stands_for, lists, first_none, first_some, later_some}
 
 -- the fault at the end of a routine that is lost or not, by the fields of the code
 module _ (limits : CodeLimits) (finished : ℕ) (refs spare : Fixups) (bytes : List ℕ) (is_lost : Bool) (routine : State) (kind : RoutineKind)
@@ -39,16 +43,27 @@ pub told_lost : {T : Type 0} (r : Result T CloseFault) (wrong : Option CloseFaul
 told_lost (Ok x) wrong e = first_none wrong None e refl
 told_lost (Err fault) wrong e = told_first wrong None fault e
 
--- the fault of the zeros is theirs, whether they are too many or not
-pub zeros_told : (first : Option CloseFault) (limit len : ℕ) (fault : CloseFault) (full : Bool) → first ≡ None → nat_lt limit len ≡ full →
-    (fault ≡ close_fault.Memory) ⊎ ((full ≡ true) × (fault ≡ close_fault.Full setting.Code))
-    → (fault ≡ close_fault.Memory) ⊎ (first_fault first (zeros_fault false limit len) ≡ Some fault)
-zeros_told first limit len fault full none is (inl memory) = inl memory
-zeros_told first limit len fault full none is (inr (over, told)) =
-    inr (later_some first (zeros_fault false limit len) fault none
-    (ap (λ b. cond b (Some (close_fault.Full setting.Code)) None) (is ∙ over) ∙ ap Some (sym told)))
+-- Behind a routine without a fault of its own, the setting that would be passed is told, or want of memory.
+pub later_told : (first later now : Option CloseFault) (fault : CloseFault) → first ≡ None → later ≡ now
+    → (fault ≡ close_fault.Memory) ⊎ (now ≡ Some fault) → (fault ≡ close_fault.Memory) ⊎ (first_fault first later ≡ Some fault)
+later_told first later now fault none is (inl memory) = inl memory
+later_told first later now fault none is (inr told) = inr (later_some first later fault none (is ∙ told))
 
-pub zeros_none : (first : Option CloseFault) (limit len : ℕ) → first ≡ None → nat_lt limit len ≡ false →
-    first_fault first (zeros_fault false limit len) ≡ None
-zeros_none first limit len none is =
-    first_none first (zeros_fault false limit len) none (ap (λ b. cond b (Some (close_fault.Full setting.Code)) None) is)
+-- the finished routines have as many references as are listed
+pub listed_are : (scale : Scale) (kind : RoutineKind) (limits : CodeLimits) (finished : ℕ) (refs listed : Fixups) (bytes written : List ℕ)
+    (routine : State) (closed : Closed) (is : IsCode limits finished refs bytes (Some routine))
+    → Closes kind routine.start (contents_of routine bytes) bytes refs closed written listed
+    → later_count (source_cells finished refs bytes ++ padded scale
+    (routine_cells (place_behind (source_cells finished refs bytes)) kind (contents_of routine bytes))) ≡ length listed.list
+listed_are scale kind limits finished refs listed bytes written routine closed is closes =
+    let whole = written ++ zeros_behind scale closed.len in
+    ap later_count (sym (finished_closed scale kind limits finished refs listed bytes written whole routine closed is closes refl))
+    ∙ later_stands_for 8 listed.list (source_bytes (length whole) whole) (source_cells (length whole) listed whole)
+    (whole_stands scale kind limits finished refs listed bytes written whole routine closed is closes refl)
+
+-- the setting that the finished routines would pass, by the bytes of the area and the references that are listed
+pub full_is : (limits : CodeLimits) (cells : List CodeCell) (bytes listed : ℕ) → place_behind cells ≡ bytes → later_count cells ≡ listed
+    → finished_fault false limits cells ≡ fault_of_full (full_finished limits bytes (5 + listed))
+full_is limits cells bytes listed size count =
+    ap (λ n. fault_of_full (full_finished limits n (5 + later_count cells))) size
+    ∙ ap (λ n. fault_of_full (full_finished limits bytes (5 + n))) count

@@ -328,9 +328,20 @@ fault_behind start references contents =
     (twice_behind [] contents.cells))
     (missing (long_places start contents) contents.cells)
 
--- the fault of a routine that passes the limit of bytes with the zeros behind it
-abbrev pub zeros_fault : Bool → ℕ → ℕ → Option CloseFault
-zeros_fault is_lost limit len = if is_lost then None else if nat_lt limit len then Some (close_fault.Full setting.Code) else None
+-- The setting that finished routines would pass, by their bytes with the first one, and by all references that the story then has.
+abbrev pub full_finished : CodeLimits → ℕ → ℕ → Option Limit
+full_finished limits bytes references =
+    if nat_lt limits.code bytes then Some setting.Code else
+    if nat_lt limits.refs references then Some setting.Refs else None
+
+-- the fault of a routine behind which finished routines would pass a setting; a lost one is none of them
+abbrev pub fault_of_full : Option Limit → Option CloseFault
+fault_of_full None = None
+fault_of_full (Some limit) = Some (close_fault.Full limit)
+
+abbrev pub finished_fault : Bool → CodeLimits → List CodeCell → Option CloseFault
+finished_fault is_lost limits finished =
+    if is_lost then None else fault_of_full (full_finished limits (place_behind finished) (5 + later_count finished))
 
 abbrev pub first_fault : Option CloseFault → Option CloseFault → Option CloseFault
 first_fault None later = later
@@ -340,7 +351,7 @@ abbrev pub fault_end : CodeLimits → Scale → RoutineKind → List CodeCell �
 fault_end limits scale kind finished None = None
 fault_end limits scale kind finished (Some o) =
     first_fault (fault_behind (place_behind finished) (references_before o.is_lost finished) o.contents)
-    (zeros_fault o.is_lost limits.code (place_behind (finished ++ padded scale (routine_cells (place_behind finished) kind o.contents))))
+    (finished_fault o.is_lost limits (finished ++ padded scale (routine_cells (place_behind finished) kind o.contents)))
 
 abbrev pub fault_closed : SettingLimits → RoutineKind → Routines → Option CloseFault
 fault_closed limits kind routines = fault_end (code_limits limits) routines.scale kind routines.finished routines.opened
@@ -379,6 +390,8 @@ pub record IsCode (limits : CodeLimits) (finished : ℕ) (refs : Fixups) (bytes 
 abbrev pub IsSpare : Fixups → Type 0
 IsSpare refs = refs ≡ record { list = []; limit = most_references }
 
--- Tells whether code that has begun has room for its beginning; limits are numbers of the program.
-abbrev pub HasRoom : Bool → CodeLimits → Type 0
-HasRoom has_begun limits = (limits.code < 2 ^ 64) × (has_begun ≡ true → 8 ≤ limits.code)
+-- Tells whether code that has begun has room for its beginning, and `listed` references of finished routines are at most as many as
+-- there may be beside those that each story has; limits are numbers of the program.
+abbrev pub HasRoom : Bool → CodeLimits → ℕ → Type 0
+HasRoom has_begun limits listed =
+    (limits.code < 2 ^ 64) × ((has_begun ≡ true → (8 ≤ limits.code) × (5 ≤ limits.refs)) × (listed ≤ limits.refs - 5))

@@ -1,18 +1,18 @@
 //! The code of a story: its finished routines, and the open one.
 ghost use Rattle.std.specs.Prelude.{◌≡◌, ◌≤◌, ◌⊎◌, ◌∷◌, ◌++◌, ◌+◌, [], None, Some, IfOk, MatchResult, OnOk, OnErr, false, if◌then◌else◌};
 ghost use Rattle.std.specs.Prelude.{length, IsErr, IsSome};
-ghost use Rattle.std.specs.Prelude.{nat_lt, take, true};
+ghost use Rattle.std.specs.Prelude.{take, true};
 ghost use Rattle.inf_area.specs.Fixups.{with_fixups};
 ghost use Rattle.inf_area.specs.Cells.{bytes_of, fixups_of};
 ghost use Rattle.inf_opcode.specs.Instructions.{IsProper};
 ghost use Rattle.inf_opcode.specs.PartsOf.{parts_of};
 ghost use Rattle.inf_assembler.specs.declared.routines.Limit.{Limit};
-ghost use Rattle.inf_assembler.specs.declared.routines.Limit.TheVariants as code_setting;
 ghost use Rattle.inf_assembler.specs.declared.routines.CloseFault.TheVariants as close_fault;
 ghost use Rattle.inf_assembler.specs.Routines.{IsOpen, contents_of, refusal};
 ghost use Rattle.inf_code.specs.Code.{IsSpare, are_too_many, begun, bytes_of_code, code_cells, code_count, code_left, code_limits};
 ghost use Rattle.inf_code.specs.Code.{fault_behind};
-ghost use Rattle.inf_code.specs.Code.{fault_closed, reference_count, references_left, references_open, full_begun, full_behind_bytes};
+ghost use Rattle.inf_code.specs.Code.{fault_closed, fault_of_full, reference_count, references_left, references_open, full_begun};
+ghost use Rattle.inf_code.specs.Code.{full_behind_bytes, full_finished};
 ghost use Rattle.inf_code.specs.Code.{full_first, full_label, full_opened, full_with, is_lost_in, labels, labels_left, place_behind};
 ghost use Rattle.inf_code.specs.Code.{routine_bounds, routine_count, unlisted};
 ghost use Rattle.inf_code.specs.Code.{with_closed, with_item, with_label, with_none_open, with_opened, zeros_behind};
@@ -58,8 +58,8 @@ pub struct CodeLimits {
     /// open one with every branch long. The finished ones never have more; the number with the open one is checked where a
     /// unit is finished.
     pub code: usize,
-    /// The most references whose numbers are known later: those of the routines, and four in tables. Their number is
-    /// checked where a unit is finished.
+    /// The most references whose numbers are known later: those of the routines, and four in tables. The finished ones never
+    /// have more; the number with the open one is checked where a unit is finished.
     pub refs: usize,
 }
 
@@ -123,7 +123,7 @@ pub struct Code<B: Bounds> {
 }
 
 impl<B: Bounds> Model for Code<B> {
-    ghost use Rattle.std.specs.Prelude.{◌+◌, ◌≤◌};
+    ghost use Rattle.std.specs.Prelude.{◌+◌, ◌≤◌, length};
     ghost use Rattle.inf_code.specs.Code.{Routines, HasRoom, IsCode, IsSpare, open_in, source_cells};
 
     ghost Value = { Routines };
@@ -138,7 +138,7 @@ impl<B: Bounds> Model for Code<B> {
     } };
 
     ghost invariant = { λ code. IsCode code.limits code.finished code.refs code.area code.routine ×
-        (HasRoom code.has_begun code.limits × (IsSpare code.spare × code.routines + 8 ≤ code.finished)) };
+        (HasRoom code.has_begun code.limits (length code.refs.list) × (IsSpare code.spare × code.routines + 8 ≤ code.finished)) };
 }
 
 impl<B: Bounds> Code<B> {
@@ -213,9 +213,10 @@ impl<B: Bounds> Code<B> {
     }
 
     /// Returns the number of references of the story so far: four in tables, that of the first routine, once code has
-    /// begun, and those of the finished routines.
+    /// begun, and those of the finished routines. There are at most as many as there may be, if that is four at least.
     pub fn references(&self) -> usize
-        ensures { result ≡ reference_count self.now }
+        ensures value { result ≡ reference_count self.now }
+        ensures few { 4 ≤ B.most setting.References → result ≤ B.most setting.References }
     {
         if self.has_begun {
             FIRST_REFERENCES + self.refs.len()
@@ -382,8 +383,8 @@ impl<B: Bounds> Code<B> {
     ///
     /// A refused call leaves the finished routines unchanged, and gives the open one up. It is refused, in this order,
     /// where a label is missing or placed twice, where a branch or jump is too far, where the return at its end or all
-    /// references would pass the numbers of the program, or where the code with the zeros behind it would pass the limit of
-    /// bytes. Want of memory may come in place of each of these.
+    /// references would pass the numbers of the program, where the code with the zeros behind it would pass the limit of
+    /// bytes, or where the story would have more references than it may. Want of memory may come in place of each of these.
     pub fn close(&mut self, kind: RoutineKind) -> Result<(), CloseFault>
         ensures ok { OnOk result (self.new ≡ with_closed kind self.old) }
         ensures err { OnErr result (self.new ≡ with_none_open self.old) }
@@ -402,7 +403,8 @@ impl<B: Bounds> Code<B> {
             Ok(closed) => closed,
             Err(fault) => return Err(fault),
         };
-        if let Err(fault) = fill_up(&mut self.area, closed.len, self.scale, self.limits.code) {
+        let listed = self.refs.len();
+        if let Err(fault) = fill_up(&mut self.area, closed.len, self.scale, self.limits, listed) {
             self.refs.keep(before);
             return Err(fault);
         }
@@ -492,23 +494,33 @@ fn close_lost(
     Ok(())
 }
 
-/// Appends the zeros behind a routine of `len` bytes that fill it up to a packed address.
+/// Appends the zeros behind a routine of `len` bytes that fill it up to a packed address, where finished routines have `listed`
+/// references with those of this one.
 ///
-/// A refused call leaves the area unchanged. It is refused where the area would have more than `limit` bytes, and otherwise
-/// only for want of memory.
-fn fill_up(area: &mut PagedArea, len: usize, scale: Scale, limit: usize) -> Result<(), CloseFault>
+/// A refused call leaves the area unchanged. It is refused where the area would have more bytes than the limit, then where the
+/// story would have more references than it may, and otherwise only for want of memory.
+fn fill_up(
+    area: &mut PagedArea,
+    len: usize,
+    scale: Scale,
+    limits: CodeLimits,
+    listed: usize,
+) -> Result<(), CloseFault>
     ensures ok { OnOk result (area.new ≡ area.old ++ zeros_behind scale len) }
-    ensures room { OnOk result (length area.new ≤ limit) }
+    ensures room { OnOk result (length area.new ≤ limits.code) }
+    ensures few { OnOk result (5 + listed ≤ limits.refs) }
     ensures err { OnErr result (area.new ≡ area.old) }
-    ensures fault { let full = nat_lt limit (length area.old + length (zeros_behind scale len)) in
-        MatchResult result (λ _. full ≡ false) (λ fault. (fault ≡ close_fault.Memory) ⊎
-        ((full ≡ true) × (fault ≡ close_fault.Full code_setting.Code))) }
+    ensures fault { let full = full_finished limits (length area.old + length (zeros_behind scale len)) (5 + listed) in
+        MatchResult result (λ _. full ≡ None) (λ fault. (fault ≡ close_fault.Memory) ⊎ (fault_of_full full ≡ Some fault)) }
 {
     let zeros: &[u8] = &[0, 0, 0, 0, 0, 0, 0];
     let behind = &zeros[..scale.gap(len)];
     let end = area.len();
-    if limit < end || limit - end < behind.len() {
+    if limits.code < end || limits.code - end < behind.len() {
         return Err(CloseFault::Full(Limit::Code));
+    }
+    if limits.refs < FIRST_REFERENCES || limits.refs - FIRST_REFERENCES < listed {
+        return Err(CloseFault::Full(Limit::Refs));
     }
     if area.append(behind).is_err() {
         return Err(CloseFault::Memory);

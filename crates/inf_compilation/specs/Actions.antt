@@ -1,9 +1,8 @@
 -- Work of the actions of the grammar. While a unit is read they gather its parts, and at its end it acts, as a whole.
-use Rattle.std.specs.Prelude.{ℕ, ◌+◌, ◌-◌, ◌==◌, max, List, [], ◌∷◌, length, map, nat_lt, Bool, true, false, ◌&&◌, if◌then◌else◌, Option}
+use Rattle.std.specs.Prelude.{ℕ, ◌+◌, ◌-◌, max, List, [], ◌∷◌, length, map, nat_lt, Bool, true, false, ◌&&◌, if◌then◌else◌, Option}
 use Rattle.std.specs.Prelude.{Some, None, is_some, unwrap_or}
 use Rattle.inf_settings.specs.Bounds.{Limits}
 use Rattle.inf_characters.specs.declared.characters.CharSet.{CharSet}
-use Rattle.inf_scanner.specs.declared.tokens.Mark.{Mark}
 use Rattle.inf_scanner.specs.declared.tokens.Mark.TheVariants as mark
 use Rattle.inf_scanner.specs.declared.tokens.Place.{Place}
 use Rattle.inf_scanner.specs.declared.tokens.TokenKind.{TokenKind}
@@ -12,7 +11,6 @@ use Rattle.inf_assembler.specs.declared.routines.RoutineKind.{RoutineKind}
 use Rattle.inf_assembler.specs.declared.routines.RoutineKind.TheVariants as routine_kind
 use Rattle.inf_assembler.specs.declared.routines.CloseFault.{CloseFault}
 use Rattle.inf_assembler.specs.declared.routines.CloseFault.TheVariants as close_fault
-use Rattle.inf_settings.specs.Settings.{number_of as setting_number}
 use Rattle.inf_settings.specs.declared.setting.Setting.TheVariants as setting
 use Rattle.inf_settings.specs.declared.settings.Settings.{Settings}
 use Rattle.inf_expressions.specs.declared.findings.Finding.{Finding}
@@ -37,13 +35,13 @@ use Rattle.inf_names.specs.declared.symbols.Found.{Found}
 use Rattle.inf_names.specs.declared.symbols.Found.TheVariants as found
 use Rattle.inf_names.specs.declared.meanings.Meaning.{Meaning}
 use Rattle.inf_names.specs.declared.meanings.Meaning.TheVariants as meaning
-use Rattle.inf_report.specs.Messages.{BranchTooFar, ConstantOutOfRange, DeepNesting, Exceeded, LabelMissing, UnusedLocal}
+use Rattle.inf_report.specs.Messages.{BranchTooFar, DeepNesting, Exceeded, LabelMissing, UnusedLocal}
 use Rattle.inf_report.specs.OwnWords.{Words}
 use Rattle.inf_names.specs.Spellings.{Name}
 use Rattle.inf_names.specs.Locals.{Local, Headed}
 use Rattle.inf_compilation.specs.Context.{Context}
 use Rattle.inf_unit.specs.Directives.{Request, Nothing}
-use Rattle.inf_unit.specs.Messages.{FileNames, Diagnostic, Reported, location, nothing_reported, with_error, with_fatal, with_fault}
+use Rattle.inf_unit.specs.Messages.{FileNames, Reported, location, nothing_reported, with_error, with_fatal, with_fault}
 use Rattle.inf_unit.specs.Messages.{warnings_chosen, with_full, with_warning}
 use Rattle.inf_compilation.specs.Context.{Context, longest}
 use Rattle.inf_unit.specs.Names.{no_symbols}

@@ -1,5 +1,5 @@
 -- The units of a routine that have expressions, and the statements that hold others.
-use Rattle.std.specs.Prelude.{ℕ, ◌-◌, nat_lt, max, List, [], ◌∷◌, map, Bool, true, false, if◌then◌else◌, Option, Some, None}
+use Rattle.std.specs.Prelude.{ℕ, ◌-◌, nat_lt, max, List, ◌∷◌, map, Bool, true, false, if◌then◌else◌, Option, Some, None}
 use Rattle.inf_settings.specs.Bounds.{Limits}
 use Rattle.inf_scanner.specs.declared.tokens.Place.{Place}
 use Rattle.inf_expressions.specs.declared.findings.Finding.{Finding}
@@ -18,6 +18,7 @@ use Rattle.inf_constructs.specs.Constructs.{Laying, all_ended, are_own, begun, b
 use Rattle.inf_constructs.specs.Constructs.{entered, is_late, looped_over, next_case, stepped}
 use Rattle.inf_statements.specs.Effects.{Site, misplaced_default, only_if, site_finding, statement_finding, statement_laid, wanted_by}
 use Rattle.inf_constructs.specs.Roots.{tree_in}
+use Rattle.inf_statements.specs.Operands.{leaves_named, stores_named}
 use Rattle.inf_statements.specs.Statements.{alone, statement_in, switched, tested}
 use Rattle.inf_constructs.specs.declared.constructs.Construct.{Construct}
 use Rattle.inf_constructs.specs.declared.constructs.Kind.{Kind}
@@ -86,6 +87,13 @@ own_finding limits context _ w = None
 
 abbrev pub found_in : Limits → Context → Part → Compilation → Option Finding
 found_in limits context p w = least_of_both (finding_at (order_of p w) (wanted_of p) w) (own_finding limits context p w)
+
+-- Locals that the leaves of a unit name, and those in which it stores, are named.
+abbrev pub leaves_noted : Compilation → Compilation
+leaves_noted w = record w { locals = leaves_named w.unit.tokens w.unit.gathering.leaves w.locals }
+
+abbrev pub stores_noted : Compilation → Compilation
+stores_noted w = record w { locals = stores_named w.unit.tokens w.unit.items w.locals }
 
 -- Open statements
 

@@ -19,9 +19,10 @@ use inf_expressions::{
 use inf_lexer::Place;
 use inf_settings::bounds::Bounds;
 use inf_statements::effects::{Site, wanted_by};
-use inf_statements::looking::{all_looked, look_all};
+use inf_statements::looking::all_looked;
+use inf_statements::naming::note_all;
 use inf_statements::operand_lists::OperandList;
-use inf_statements::operands::{name_locals, name_stores, settle_all};
+use inf_statements::operands::{name_stores, settle_all};
 use inf_statements::statements::{Statement, lay_expression, lay_switched, lay_test};
 use inf_unit::items::Item;
 use inf_unit::unit::order;
@@ -91,10 +92,10 @@ fn is_default(items: &[Item]) -> bool
 impl<B: Bounds> Compilation<B> {
     ghost use Rattle.inf_constructs.specs.Constructs.{are_own};
     ghost use Rattle.inf_compilation.specs.Actions.{finding_at, named, operands_of, settled_of, trees_at};
-    ghost use Rattle.inf_compilation.specs.Parts.{actions_named, case_prepared, construct_opened, found_in, order_of};
+    ghost use Rattle.inf_compilation.specs.Parts.{actions_named, case_prepared, construct_opened, found_in, leaves_noted, order_of};
     ghost use Rattle.inf_compilation.specs.Parts.{own_case_prepared};
     ghost use Rattle.inf_compilation.specs.Parts.{own_finding, part_begun, part_carried, part_effect, part_ended, place_of, statement_at};
-    ghost use Rattle.inf_compilation.specs.Parts.{part_finished, part_laid};
+    ghost use Rattle.inf_compilation.specs.Parts.{part_finished, part_laid, stores_noted};
     ghost use Rattle.inf_compilation.specs.Parts.{statement_laid_in};
     ghost use Rattle.inf_compilation.specs.Works.{work};
 
@@ -131,13 +132,15 @@ impl<B: Bounds> Compilation<B> {
         )
     }
 
-    /// Marks the locals as named that the expressions of the unit, and the variables in which it stores, name.
-    fn name(&mut self)
-        ensures { work self.new ≡ named (work self.old) }
+    /// Marks the locals as named in which the unit stores.
+    fn note_stores(&mut self)
+        ensures { work self.new ≡ stores_noted (work self.old) }
     {
-        let tokens = &self.unit.tokens;
-        name_locals(&mut self.locals, tokens, self.unit.gathering.leaves());
-        name_stores(&mut self.locals, tokens, self.unit.items.as_slice());
+        name_stores(
+            &mut self.locals,
+            &self.unit.tokens,
+            self.unit.items.as_slice(),
+        );
     }
 
     /// Uses the names of the expressions of the unit, which begins at `first`, and returns their trees, in the memory of those of `spare`.
@@ -240,24 +243,24 @@ impl<B: Bounds> Compilation<B> {
     }
 
     /// Looks up the names of the expressions of the unit, which is `part`, and returns the least finding about the expressions, and their
-    /// trees, in the memory that was kept, if there is some.
+    /// trees, in the memory that was kept, if there is some. The locals that the expressions name are marked as named.
     fn look(&mut self, part: Part) -> Result<(Option<Finding>, Looked), AllocError>
         ensures finding { let w = work self.old in IfOk result (λ found. found.0 ≡ finding_at (order_of part w) (wanted_of part) w) }
         ensures trees { let w = work self.old in IfOk result (λ found.
             rooted_in found.1.forest ≡ trees_at (order_of part w) (wanted_of part) (operands_of w) w) }
         ensures stays { let w = work self.old in IfOk result (λ found. found.1.stays ≡ true →
             LeavesStay w.locals w.output w.unit.tokens w.unit.gathering.leaves (operands_of w)) }
-        ensures same { work self.new ≡ work self.old }
+        ensures noted { OnOk result (work self.new ≡ leaves_noted (work self.old)) }
     {
-        let stays = look_all(
+        let order = self.order(part);
+        let stays = note_all(
             self.alloc,
-            &self.locals,
+            &mut self.locals,
             &self.output,
             &self.unit.tokens,
             self.unit.gathering.leaves(),
             &mut self.operands,
         )?;
-        let order = self.order(part);
         let spare = self.forest.take();
         let (finding, forest) = judge_whole(
             self.alloc,
@@ -271,8 +274,8 @@ impl<B: Bounds> Compilation<B> {
     }
 
     /// Returns the least finding about the unit, which is `part` and begins at `first`, if there is one, and the trees of its expressions.
-    /// They stay where the unit has no error either.
-    #[tactic(auto, using(crate::proofs::Staying::finished))]
+    /// They stay where the unit has no error either. The locals that the expressions name are marked as named.
+    #[tactic(auto, using(crate::proofs::Staying::finished, crate::proofs::Noting::own_noted, crate::proofs::Noting::trees_noted))]
     fn found_in(
         &mut self,
         context: &Context<'_>,
@@ -283,7 +286,7 @@ impl<B: Bounds> Compilation<B> {
         ensures stays { let w = work self.old in IfOk result (λ found. found.1.stays ≡ true →
             part_laid B.most (handed context.now) first part (rooted_in found.1.forest) (named (part_begun B.most part w))
             ≡ part_finished B.most (handed context.now) first part w) }
-        ensures same { work self.new ≡ work self.old }
+        ensures noted { OnOk result (work self.new ≡ leaves_noted (work self.old)) }
     {
         let (finding, mut looked) = self.look(part)?;
         let own = self.own_finding(context, part, &looked.forest);
@@ -423,6 +426,26 @@ impl<B: Bounds> Compilation<B> {
         }
     }
 
+    /// Looks up the unit, which is `part` and begins at `first`, as `found_in` does, begins it if it is a case, and marks all locals as named
+    /// that the unit names.
+    fn take_up(
+        &mut self,
+        context: &Context<'_>,
+        first: Place,
+        part: Part,
+    ) -> Result<(Option<Finding>, Looked), AllocError>
+        ensures finding { IfOk result (λ found. found.0 ≡ found_in B.most (handed context.now) part (work self.old)) }
+        ensures stays { let w = work self.old in IfOk result (λ found. found.1.stays ≡ true →
+            part_laid B.most (handed context.now) first part (rooted_in found.1.forest) (named (part_begun B.most part w))
+            ≡ part_finished B.most (handed context.now) first part w) }
+        ensures named { OnOk result (work self.new ≡ named (part_begun B.most part (work self.old))) }
+    {
+        let found = self.found_in(context, first, part)?;
+        self.begin_part(part)?;
+        self.note_stores();
+        Ok(found)
+    }
+
     /// Ends `part`, a unit of a routine, before a token at `place`. In a routine that is passed over nothing has an effect.
     pub fn end_part(
         &mut self,
@@ -439,9 +462,7 @@ impl<B: Bounds> Compilation<B> {
         self.unit.prepare()?;
         self.prepare_case(part)?;
         let first = self.part_place(part, place);
-        let (finding, looked) = self.found_in(context, first, part)?;
-        self.begin_part(part)?;
-        self.name();
+        let (finding, looked) = self.take_up(context, first, part)?;
         if looked.stays {
             return self.lay_part(context, first, part, looked.forest);
         }

@@ -1,5 +1,5 @@
 -- The bytes that a story's sink takes of a compiled story.
-use Rattle.std.specs.Prelude.{Result, Ok, Err, IfOk, IfErr, MatchResult, option_map}
+use Rattle.std.specs.Prelude.{Result, Ok, Err, IfOk, IfErr, OnOk, MatchResult, option_map}
 use Rattle.std.proofs.Common.{◌≡◌, ◌==◌, inl, inr, ℕ, Bool, true, false, cond, List, [], ◌∷◌, codes, length, Option, Some, None, refl, ap}
 use Rattle.std.proofs.Common.{subst, sym, ◌∙◌}
 use Rattle.std.proofs.Math.Dec.{eqb-suc-zero}
@@ -16,9 +16,10 @@ use Rattle.inf_session.specs.declared.compiled.Status.{Status}
 use Rattle.inf_session.specs.declared.compiled.Status.TheVariants as status
 use Rattle.inf_session.specs.declared.faults.Fault.{Fault}
 use Rattle.inf_session.specs.declared.faults.Fault.TheVariants as fault
-use Rattle.inf_session.specs.Delivered.{EndsClean, TakesFront}
+use Rattle.inf_session.specs.Delivered.{EndsClean, SucceedsClean, TakesFront, story_in}
 use Rattle.inf_session.specs.Faults.{Caused, IfRead, IfStory, UnlessStory}
-use Rattle.inf_compile.specs.Compiling.{Compiles, DeliversPart, HasCause, OnlyStory, TakesPart, TakesStory, named_by, no_sources, story_in}
+use Rattle.inf_compile.specs.Compiling.{Compiles, DeliversPart, HasCause, OnlyStory, TakesClean, TakesPart, TakesStory, named_by}
+use Rattle.inf_compile.specs.Compiling.{no_sources}
 use Rattle.inf_devices.specs.Sinks.{Takes}
 use Rattle.inf_command.specs.FileNames.{source_name}
 
@@ -80,21 +81,37 @@ opened_whole s o p serial name other old new before after c same named k =
     subst (λ (x : Choices). OpenedPart s x other old new) same
     (subst (λ (n : List ℕ). OpenedPart s o n old new) named (opened_by (s name) s o name old new k.opened))
 
--- where a story came, whole or in part, the messages end with the line that tells of no error
-pub clean_where_delivered : (P : ℕ → Type 0) (r : Result Status Fault) (c : Compiled) (before after story_old story_new : Option (List ℕ)) →
+-- where a story came, whole or in part, it is that of some work of which no error was counted
+pub clean_where_delivered : (serial : List ℕ) (P : ℕ → Type 0) (r : Result Status Fault) (c : Compiled)
+    (before after story_old story_new : Option (List ℕ)) →
     IfOk r (λ s. s ≡ c.status)
+    → OnOk r (TakesStory (story_in c) story_old story_new)
     → IfErr r (λ fault. OnlyStory fault (λ n. P n × TakesPart (story_in c) n story_old story_new)) →
     (c.status ≡ status.Errors → c.story ≡ None)
-    → (c.status ≡ status.Success → EndsClean before after)
-    → MatchResult r (λ s. s ≡ status.Success → EndsClean before after) (λ fault. IfStory fault (λ n. EndsClean before after))
-clean_where_delivered P (Ok s) c before after story_old story_new is told none clean = λ success. clean (sym is ∙ success)
-clean_where_delivered P (Err fault.Memory) c before after story_old story_new is told none clean = tt
-clean_where_delivered P (Err (fault.Read name)) c before after story_old story_new is told none clean = tt
-clean_where_delivered P (Err fault.Messages) c before after story_old story_new is told none clean = tt
-clean_where_delivered P (Err (fault.Story n)) c before after story_old story_new is told none clean = by_status c.status refl
+    → SucceedsClean serial c before after
+    → MatchResult r (λ s. s ≡ status.Success → TakesClean serial (λ bytes. Takes story_old story_new bytes) before after)
+    (λ fault. IfStory fault (λ n. TakesClean serial (λ bytes. TakesPart (Some bytes) n story_old story_new) before after))
+clean_where_delivered serial P (Ok s) c before after story_old story_new is whole told none clean = λ success.
+    with_story (story_in c) whole (clean (sym is ∙ success))
   where
-    by_status : (s : Status) → c.status ≡ s → EndsClean before after
-    by_status status.Success e = clean e
+    with_story : (o : Option (List ℕ)) → TakesStory o story_old story_new → EndsClean serial o before after
+        → TakesClean serial (λ bytes. Takes story_old story_new bytes) before after
+    with_story None taken ends = let never : false ≡ true = ends.clean.has_story in cc
+    with_story (Some bytes) taken ends = record { story = bytes; is_taken = taken; ends = ends }
+clean_where_delivered serial P (Err fault.Memory) c before after story_old story_new is whole told none clean = tt
+clean_where_delivered serial P (Err (fault.Read name)) c before after story_old story_new is whole told none clean = tt
+clean_where_delivered serial P (Err fault.Messages) c before after story_old story_new is whole told none clean = tt
+clean_where_delivered serial P (Err (fault.Story n)) c before after story_old story_new is whole told none clean =
+    by_status c.status refl
+  where
+    with_part : (o : Option (List ℕ)) → TakesPart o n story_old story_new → EndsClean serial o before after
+        → TakesClean serial (λ bytes. TakesPart (Some bytes) n story_old story_new) before after
+    with_part None taken ends = absurd taken
+    with_part (Some bytes) taken ends = record { story = bytes; is_taken = taken; ends = ends }
+
+    by_status : (s : Status) → c.status ≡ s →
+        TakesClean serial (λ bytes. TakesPart (Some bytes) n story_old story_new) before after
+    by_status status.Success e = with_part (story_in c) told.1 (clean e)
     by_status status.Errors e =
         absurd (subst (λ (o : Option (List ℕ)). TakesPart o n story_old story_new) (ap (option_map (λ v. v.items)) (none e)) told.1)
 
@@ -184,8 +201,8 @@ no_success : (r : Status) (P : Type 0) → r ≡ status.Errors → r ≡ status.
 no_success r P is success = let never : status.Errors ≡ status.Success = sym is ∙ success in cc
 
 -- An empty word ends in no success.
-pub none_clean : (r : Result Status Fault) (writing A : Type 0) → IfOk r (λ s. s ≡ status.Errors) →
+pub none_clean : (r : Result Status Fault) (writing A : Type 0) (B : ℕ → Type 0) → IfOk r (λ s. s ≡ status.Errors) →
     IfErr r (λ fault. HasCause fault (λ name. ⊥) writing (λ n. ⊥))
-    → MatchResult r (λ s. s ≡ status.Success → A) (λ fault. IfStory fault (λ n. A))
-none_clean (Ok s) writing A is cause = λ success. no_success s A is success
-none_clean (Err fault) writing A is cause = none_told fault writing (λ n. A) cause
+    → MatchResult r (λ s. s ≡ status.Success → A) (λ fault. IfStory fault B)
+none_clean (Ok s) writing A B is cause = λ success. no_success s A is success
+none_clean (Err fault) writing A B is cause = none_told fault writing B cause

@@ -1,16 +1,16 @@
 -- The bytes that a compilation leaves in its devices.
-use Rattle.std.specs.Prelude.{◌≡◌, ℕ, ◌<◌, ◌==◌, List, length, take, if◌then◌else◌, Option, Some, None, option_map, string_bytes}
+use Rattle.std.specs.Prelude.{◌≡◌, ℕ, ◌<◌, ◌==◌, List, length, take, if◌then◌else◌, Option, Some, None, string_bytes}
 use Rattle.inf_devices.specs.Files.{Sources}
 use Rattle.inf_devices.specs.Sinks.{Takes}
 use Rattle.inf_command.specs.FileNames.{source_name}
 use Rattle.inf_command.specs.Words.{Choice}
 use Rattle.inf_session.specs.Choices.{Choices}
+use Rattle.inf_session.specs.Delivered.{EndsClean}
 use Rattle.inf_session.specs.Ending.{Outcome}
 use Rattle.inf_compile.specs.Chosen.{chosen_for}
 use Rattle.inf_compile.specs.Outcome.{IsOutcome}
 use Rattle.inf_session.specs.declared.faults.Fault.{Fault}
 use Rattle.inf_session.specs.declared.faults.Fault.TheVariants as fault
-use Rattle.inf_session.specs.declared.compiled.Compiled.{Compiled}
 use Rattle.inf_session.specs.declared.compiled.Status.{Status}
 
 -- the choices of a reading, by the words of a command: with them the head of the source that they name, among these sources, decides
@@ -24,10 +24,6 @@ no_sources name = None
 
 abbrev pub named_by : List ℕ → Sources → Sources
 named_by word sources = if length word == 0 then no_sources else sources
-
--- the bytes of a story, if there is one
-abbrev pub story_in : Compiled → Option (List ℕ)
-story_in c = option_map (λ v. v.items) c.story
 
 -- the bytes that a story's sink took: those of the story, or none at all
 abbrev pub TakesStory : Option (List ℕ) → Option (List ℕ) → Option (List ℕ) → Type 0
@@ -53,6 +49,13 @@ HasCause fault.Memory reading writing telling = Unit {0}
 HasCause (fault.Read name) reading writing telling = reading (string_bytes name)
 HasCause fault.Messages reading writing telling = writing
 HasCause (fault.Story n) reading writing telling = telling n
+
+-- A sink took this much of a story of some compiled work, of which no error and no fatal error was counted; the messages that were taken
+-- end with the last ones of this work.
+pub record TakesClean (serial : List ℕ) (took : List ℕ → Type 0) (old new : Option (List ℕ)) : Type 0 where
+  pub story : List ℕ
+  pub is_taken : took story
+  pub ends : EndsClean serial (Some story) old new
 
 -- Status, messages and story are those of the outcome of the main source of a name: both sinks took just these bytes.
 pub record Compiles (sources : Sources) (o : Choices) (serial name : List ℕ) (status : Status)

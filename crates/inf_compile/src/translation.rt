@@ -4,7 +4,7 @@ ghost use Rattle.inf_devices.specs.Files.{Rose};
 ghost use Rattle.inf_sources.specs.Calls.{Honestly, IsUnreadable, Kept, StaysFit, Went};
 ghost use Rattle.inf_sources.specs.Open.{nesting, opened_since};
 ghost use Rattle.inf_session.specs.Choices.{chosen, most_quoted};
-ghost use Rattle.inf_session.specs.Delivered.{Appends, EndsClean};
+ghost use Rattle.inf_session.specs.Delivered.{Appends, SucceedsClean};
 ghost use Rattle.inf_session.specs.Standing.{IsSet, state};
 ghost use Rattle.inf_session.specs.Leading.{GivenUp, OpensAll};
 ghost use Rattle.inf_session.specs.Session.{first_state, run};
@@ -68,7 +68,7 @@ pub fn translate<F: Files, M: Sink>(
     ensures kept { Kept F.Files files.old files.new }
     ensures depth { F.depth files.new ≡ F.depth files.old }
     ensures errors { IfOk result (λ compiled. compiled.status ≡ Status.Errors → compiled.story ≡ None) }
-    ensures clean { IfOk result (λ compiled. compiled.status ≡ Status.Success → EndsClean (M.taken messages.old) (M.taken messages.new)) }
+    ensures clean { IfOk result (λ compiled. SucceedsClean serial.now compiled (M.taken messages.old) (M.taken messages.new)) }
     ensures fault { IfErr result (λ fault. Caused fault (λ name. IsUnread F.Files files.old files.new)
         (Rose (M.failures messages.old) (M.failures messages.new))) }
     ensures quiet { HidesNoFailure result (M.failures messages.old) (M.failures messages.new) }
@@ -124,7 +124,7 @@ fn translate_opened<F: Files, M: Sink>(
     ensures fits { IfOk result.1 (λ compiled. StaysFit F.Files files.old files.new open_files) }
     ensures went { Went F.Files files.old files.new open_files result.0 }
     ensures errors { IfOk result.1 (λ compiled. compiled.status ≡ Status.Errors → compiled.story ≡ None) }
-    ensures clean { IfOk result.1 (λ compiled. compiled.status ≡ Status.Success → EndsClean (M.taken messages.old) (M.taken messages.new)) }
+    ensures clean { IfOk result.1 (λ compiled. SucceedsClean serial.now compiled (M.taken messages.old) (M.taken messages.new)) }
     ensures fault { IfErr result.1 (λ fault. Caused fault (λ name. IsUnreadable F.Files files.old files.new open_files result.0)
         (Rose (M.failures messages.old) (M.failures messages.new))) }
     ensures quiet { HidesNoFailure result.1 (M.failures messages.old) (M.failures messages.new) }
@@ -186,7 +186,7 @@ fn translate_under<F: Files, M: Sink, B: Bounds>(
     ensures fits { IfOk result.1 (λ compiled. StaysFit F.Files files.old files.new open_files) }
     ensures went { Went F.Files files.old files.new open_files result.0 }
     ensures errors { IfOk result.1 (λ compiled. compiled.status ≡ Status.Errors → compiled.story ≡ None) }
-    ensures clean { IfOk result.1 (λ compiled. compiled.status ≡ Status.Success → EndsClean (M.taken messages.old) (M.taken messages.new)) }
+    ensures clean { IfOk result.1 (λ compiled. SucceedsClean serial.now compiled (M.taken messages.old) (M.taken messages.new)) }
     ensures fault { IfErr result.1 (λ fault. Caused fault (λ name. IsUnreadable F.Files files.old files.new open_files result.0)
         (Rose (M.failures messages.old) (M.failures messages.new))) }
     ensures quiet { HidesNoFailure result.1 (M.failures messages.old) (M.failures messages.new) }
@@ -227,7 +227,7 @@ fn read_out<F: Files, M: Sink, B: Bounds>(
     ensures fits { IfOk result.1 (λ compiled. StaysFit F.Files files.old files.new session.entry.open_files) }
     ensures went { Went F.Files files.old files.new session.entry.open_files result.0 }
     ensures errors { IfOk result.1 (λ compiled. compiled.status ≡ Status.Errors → compiled.story ≡ None) }
-    ensures clean { IfOk result.1 (λ compiled. compiled.status ≡ Status.Success → EndsClean (M.taken messages.old) (M.taken messages.new)) }
+    ensures clean { IfOk result.1 (λ compiled. SucceedsClean serial.now compiled (M.taken messages.old) (M.taken messages.new)) }
     ensures fault { IfErr result.1 (λ fault. Caused fault (λ name. IsUnreadable F.Files files.old files.new session.entry.open_files
         result.0)
         (Rose (M.failures messages.old) (M.failures messages.new))) }
@@ -269,7 +269,7 @@ fn supply_out<M: Sink, B: Bounds>(
         (M.taken messages.new)) }
     ensures files { result.0 ≡ session.entry.open_files }
     ensures errors { IfOk result.1 (λ compiled. compiled.status ≡ Status.Errors → compiled.story ≡ None) }
-    ensures clean { IfOk result.1 (λ compiled. compiled.status ≡ Status.Success → EndsClean (M.taken messages.old) (M.taken messages.new)) }
+    ensures clean { IfOk result.1 (λ compiled. SucceedsClean serial.now compiled (M.taken messages.old) (M.taken messages.new)) }
     ensures fault { IfErr result.1 (λ fault. Caused fault (λ name. ⊥) (Rose (M.failures messages.old) (M.failures messages.new))) }
     ensures quiet { HidesNoFailure result.1 (M.failures messages.old) (M.failures messages.new) }
 {

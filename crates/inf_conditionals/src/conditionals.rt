@@ -118,6 +118,15 @@ impl Conditionals {
             && !is_mark(token.kind, Mark::Hash)
     }
 
+    /// Returns whether a first look shows that `token` is kept, and that nothing else comes of it: there is no message to report, either.
+    #[inline(always)]
+    pub fn passes(&self, site: Site, token: &SourceToken<'_>) -> bool
+        ensures kept { (o : Out) → result ≡ true → judged site o (spelled token.now) self.now ≡ kept self.now }
+        ensures silent { result ≡ true → self.now.said ≡ None }
+    {
+        self.keeps(site, token) && self.said.is_none()
+    }
+
     /// Takes the next token of the innermost file, and returns its result.
     #[inline(always)]
     pub fn take<B: Bounds>(

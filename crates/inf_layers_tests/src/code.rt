@@ -354,7 +354,7 @@ fn routines_are_written_out(rt: HostRuntime) -> Result<(), Fail> {
 
 /// Cases by the law that they show, each with the most bytes and references, and its steps. A routine may have three
 /// labels.
-const LIMITED: [(&str, usize, usize, &[Step]); 13] = [
+const LIMITED: [(&str, usize, usize, &[Step]); 15] = [
     // The bytes and references of a lost routine are not counted, its labels are.
     (
         "a lost routine is bounded by its labels",
@@ -506,6 +506,34 @@ const LIMITED: [(&str, usize, usize, &[Step]); 13] = [
             GivesUp,
             Leaves(Some(3), Some(984), Some(1)),
             Len(8),
+        ],
+    ),
+    // A routine is not finished where all references would then be too many, and those that were finished before stay.
+    (
+        "finished routines take no more references than there may be",
+        1_000,
+        6,
+        &[
+            Adds(Whole(1)),
+            Counts(16, 6),
+            Adds(Open(1)),
+            Adds(Call(1)),
+            Leaves(Some(3), Some(978), None),
+            Refuses(Close, Limit::Refs),
+            Counts(16, 6),
+            Leaves(Some(3), Some(984), Some(0)),
+        ],
+    ),
+    (
+        "bytes are looked at before references",
+        16,
+        6,
+        &[
+            Adds(Whole(1)),
+            Adds(Open(1)),
+            Adds(Call(1)),
+            Refuses(Close, Limit::Code),
+            Counts(16, 6),
         ],
     ),
     (

@@ -1,10 +1,10 @@
-ghost use Rattle.std.specs.Prelude.{◌≡◌, IsTrue, IfOk, IfErr, MatchResult, Ok, OnOk, OnErr};
+ghost use Rattle.std.specs.Prelude.{◌≡◌, IsTrue, IfOk, IfErr, MatchResult, Ok, OnOk, OnErr, Some};
 ghost use Rattle.inf_devices.specs.Files.{Rose};
+ghost use Rattle.inf_devices.specs.Sinks.{Takes};
 ghost use Rattle.inf_command.specs.FileNames.{source_name};
-ghost use Rattle.inf_session.specs.Delivered.{EndsClean};
 ghost use Rattle.inf_session.specs.Faults.{HidesNoFailure, IfRead, IfStory, UnlessStory};
 ghost use Rattle.inf_compile.specs.Comes.{Heard, IsUnread, OpenedBy, OpenedPart};
-ghost use Rattle.inf_compile.specs.Compiling.{HasCause, chosen_by, named_by};
+ghost use Rattle.inf_compile.specs.Compiling.{HasCause, TakesClean, TakesPart, chosen_by, named_by};
 ghost use Rattle.inf_program.specs.Compiling.{Begins, Compiles, DeliversPart};
 
 use inf_command::command_line::Options;
@@ -69,12 +69,15 @@ pub fn compile<F: Files, M: Sink, S: Sink>(
         (named_by options.now.source (F.sources files.old)) (chosen_by (F.sources files.old) options.now) name
         (F.openings files.old) (F.openings files.new) (M.taken messages.old) (M.taken messages.new) told)) }
 
-    // With any reader nothing is left open, no story comes with an error, and where a story came, whole or in part, the messages that were
-    // written end with the line that tells of no error.
+    // With any reader nothing is left open, and no story comes with an error. Where a story came, whole or in part, it is that of some
+    // compiled work of which no error was counted, and the messages that were written end with the last ones of this work.
     ensures depth { F.depth files.new ≡ F.depth files.old }
     ensures errors { result ≡ Ok Status.Errors → S.taken story.new ≡ S.taken story.old }
-    ensures clean { MatchResult result (λ status. status ≡ Status.Success → EndsClean (M.taken messages.old) (M.taken messages.new))
-        (λ fault. IfStory fault (λ n. EndsClean (M.taken messages.old) (M.taken messages.new))) }
+    ensures clean { MatchResult result
+        (λ status. status ≡ Status.Success → TakesClean date (λ bytes. Takes (S.taken story.old) (S.taken story.new) bytes)
+        (M.taken messages.old) (M.taken messages.new))
+        (λ fault. IfStory fault (λ n. TakesClean date (λ bytes. TakesPart (Some bytes) n (S.taken story.old) (S.taken story.new))
+        (M.taken messages.old) (M.taken messages.new))) }
 
     // With any reader a fault has its cause.
     ensures fault { IfErr result (λ fault. HasCause fault (λ name. IsUnread F.Files files.old files.new)

@@ -3,6 +3,8 @@ use Rattle.std.proofs.Common.{arith, ◌≡◌, ℕ, List, [], ◌∷◌, ◌++�
 use Rattle.std.specs.Prelude.{is_some, length, nat_lt, ◌+◌, if◌then◌else◌}
 use Rattle.inf_settings.specs.Bounds.{Limits}
 use Rattle.inf_scanner.specs.declared.tokens.Place.{Place}
+use Rattle.inf_area.specs.Cells.{later_count}
+use Rattle.inf_area.specs.declared.cells.Cell.{Cell as CodeCell}
 use Rattle.inf_opcode.specs.declared.instructions.Label.{Label}
 use Rattle.inf_opcode.specs.Cells.{Cell}
 use Rattle.inf_assembler.specs.declared.routines.CloseFault.{CloseFault}
@@ -15,7 +17,8 @@ use Rattle.inf_assembler.specs.Routines.{Contents, body_bytes, body_fault, is_fu
 use Rattle.inf_code.specs.Code.{Opened, Routines, begun_unless, code_limits, fault_behind, fault_closed, fault_end, first_fault, full_begun}
 use Rattle.inf_code.specs.Code.{full_opened}
 use Rattle.inf_code.specs.Code.{limit_fault, padded, place_behind, references_before, routine_cells, unlimited}
-use Rattle.inf_code.specs.Code.{zeros_fault}
+use Rattle.inf_code.specs.Code.{fault_of_full, finished_fault, full_finished}
+use Rattle.inf_code.specs.declared.code.CodeLimits.{CodeLimits}
 use Rattle.inf_names.specs.declared.meanings.Meaning.{Meaning}
 use Rattle.inf_names.specs.declared.symbols.DeclareFault.{DeclareFault}
 use Rattle.inf_names.specs.declared.symbols.DeclareFault.TheVariants as declaring
@@ -65,9 +68,14 @@ limit_label references contents len =
     full_label (is_full contents.is_final unlimited len) setting.Code _
     (full_label _ setting.Refs None refl)
 
-zeros_label : (is_lost : Bool) (limit len : ℕ) → is_of_labels (zeros_fault is_lost limit len) ≡ false
-zeros_label true limit len = refl
-zeros_label false limit len = full_label (nat_lt limit len) setting.Code None refl
+of_full_label : (full : Option Limit) → is_of_labels (fault_of_full full) ≡ false
+of_full_label None = refl
+of_full_label (Some limit) = refl
+
+finished_label : (is_lost : Bool) (limits : CodeLimits) (finished : List CodeCell) →
+    is_of_labels (finished_fault is_lost limits finished) ≡ false
+finished_label true limits finished = refl
+finished_label false limits finished = of_full_label (full_finished limits (place_behind finished) (5 + later_count finished))
 
 body_label : (next : List ℕ → Option CloseFault) → ((body : List ℕ) → is_of_labels (next body) ≡ false) → (body : Option (List ℕ)) →
     is_of_labels (body_fault next body) ≡ false
@@ -95,11 +103,9 @@ closed_label limits how code (Some r) e w =
     let place = place_behind code.finished in
     ap (λ x. is_of_labels (fault_end (code_limits limits) code.scale how code.finished x)) e
     ∙ first_label (fault_behind place (references_before r.is_lost code.finished) r.contents)
-    (zeros_fault r.is_lost (code_limits limits).code
-    (place_behind (code.finished ++ padded code.scale (routine_cells place how r.contents))))
+    (finished_fault r.is_lost (code_limits limits) (code.finished ++ padded code.scale (routine_cells place how r.contents)))
     (whole_label place (references_before r.is_lost code.finished) r.contents (w r refl))
-    (zeros_label r.is_lost (code_limits limits).code
-    (place_behind (code.finished ++ padded code.scale (routine_cells place how r.contents))))
+    (finished_label r.is_lost (code_limits limits) (code.finished ++ padded code.scale (routine_cells place how r.contents)))
 
 -- The end of a routine
 

@@ -1,15 +1,18 @@
 -- The lines that were written of the last ones, and of all.
-use Rattle.std.specs.Prelude.{option_map}
+use Rattle.std.specs.Prelude.{option_map, IsSome}
 use Rattle.std.proofs.Common.{◌≡◌, ℕ, List, [], ◌++◌, take, drop, take-append-drop, append_assoc, arith, Option, Some, None, Result, Ok}
-use Rattle.std.proofs.Common.{Err, IfOk, refl, sym, subst, ◌∙◌}
+use Rattle.std.proofs.Common.{Err, IfOk, refl, sym, ap, subst, ◌∙◌}
 use Rattle.inf_report.specs.Reports.{closing}
 use Rattle.inf_devices.specs.Sinks.{Takes}
 use Rattle.inf_devices.specs.declared.sinks.Sink.{Ghosts as Sink}
-use Rattle.inf_session.specs.Delivered.{Appends, Delivers, EndsClean, TakesFront}
-use Rattle.inf_session.specs.Ending.{Outcome}
+use Rattle.inf_settings.specs.Bounds.{Limits}
+use Rattle.inf_unit.specs.Messages.{FileNames}
+use Rattle.inf_compilation.specs.Actions.{Compilation}
+use Rattle.inf_session.specs.Delivered.{Appends, Delivers, EndsClean, EndsCleanOf, TakesFront, story_in}
+use Rattle.inf_session.specs.Ending.{Outcome, finished}
 use Rattle.inf_session.specs.declared.compiled.Compiled.{Compiled}
 use Rattle.inf_session.specs.declared.compiled.Status.TheVariants as status
-use Rattle.inf_session.proofs.Endings.{IsClean}
+use Rattle.inf_session.proofs.Endings.{success_clean}
 use Rattle.inf_session.proofs.Leadings.{takes_none, takes_then}
 
 -- nothing was written
@@ -33,22 +36,50 @@ appends_then m a b c p q = record {
 }
 
 -- the last lines that were written then are the last of all
-pub ends_behind : {S : Type 0} (m : Sink S) (a b c : S) → Appends m a b → EndsClean (m.taken b) (m.taken c) →
-    EndsClean (m.taken a) (m.taken c)
-ends_behind m a b c p q = record {
-  front = p.lines ++ q.front;
-  warnings = q.warnings;
-  takes = subst (λ (lines : List ℕ). Takes (m.taken a) (m.taken c) lines) (sym (append_assoc p.lines q.front (closing 0 q.warnings)))
-      (takes_then (m.taken a) (m.taken b) (m.taken c) p.lines (q.front ++ closing 0 q.warnings) p.takes q.takes);
+ends_behind_of : {S : Type 0} (m : Sink S) (a b c : S) (limits : Limits) (serial : List ℕ) (files : FileNames) (w : Compilation)
+    (story : Option (List ℕ))
+    → Appends m a b → EndsCleanOf limits serial files w story (m.taken b) (m.taken c)
+    → EndsCleanOf limits serial files w story (m.taken a) (m.taken c)
+ends_behind_of m a b c limits serial files w story p q =
+    let closes = closing 0 q.warnings in
+    record {
+      counts_none = q.counts_none;
+      is_story = q.is_story;
+      has_story = q.has_story;
+      before = p.lines ++ q.before;
+      front = p.lines ++ q.front;
+      warnings = q.warnings;
+      takes = subst (λ (lines : List ℕ). Takes (m.taken a) (m.taken c) lines) (sym (append_assoc p.lines q.front closes))
+          (takes_then (m.taken a) (m.taken b) (m.taken c) p.lines (q.front ++ closes) p.takes q.takes);
+      last = append_assoc p.lines q.front closes ∙ ap (λ (lines : List ℕ). p.lines ++ lines) q.last
+          ∙ sym (append_assoc p.lines q.before (finished limits serial files w).messages);
+    }
+
+pub ends_behind : {S : Type 0} (m : Sink S) (a b c : S) (serial : List ℕ) (story : Option (List ℕ)) → Appends m a b →
+    EndsClean serial story (m.taken b) (m.taken c) → EndsClean serial story (m.taken a) (m.taken c)
+ends_behind m a b c serial story p q = record {
+  limits = q.limits;
+  files = q.files;
+  work = q.work;
+  clean = ends_behind_of m a b c q.limits serial q.files q.work story p q.clean;
 }
 
--- the last line of an ending without an error is the one that tells none
-pub ends_clean : (e : Outcome) (c : Compiled) (old new : Option (List ℕ)) → (e.status ≡ status.Success → IsClean e.messages) →
-    Delivers e c old new
-    → c.status ≡ status.Success → EndsClean old new
-ends_clean e c old new clean d is =
-    let k = clean (sym d.status ∙ is) in
-    record { front = k.front; warnings = k.warnings; takes = subst (λ (lines : List ℕ). Takes old new lines) k.is d.messages }
+-- the ending of a compilation without an error has the story of its work, and its last line is the one that tells none
+pub ends_clean : (limits : Limits) (serial : List ℕ) (files : FileNames) (w : Compilation) (c : Compiled) (old new : Option (List ℕ))
+    → Delivers (finished limits serial files w) c old new → c.status ≡ status.Success
+    → EndsCleanOf limits serial files w (story_in c) old new
+ends_clean limits serial files w c old new d is =
+    let k = success_clean limits serial files w (sym d.status ∙ is) in
+    record {
+      counts_none = k.counts_none;
+      is_story = sym d.story;
+      has_story = subst (λ (o : Option (List ℕ)). IsSome o) (sym (d.story ∙ k.story)) refl;
+      before = [];
+      front = k.closes.front;
+      warnings = k.closes.warnings;
+      takes = subst (λ (lines : List ℕ). Takes old new lines) k.closes.is d.messages;
+      last = sym k.closes.is;
+    }
 
 mapped_none : {T U : Type 0} (f : T → U) (o : Option T) → option_map f o ≡ None → o ≡ None
 mapped_none f None e = refl

@@ -24,8 +24,8 @@ use Rattle.inf_output.specs.Strings.{StringArea}
 use Rattle.inf_report.specs.Messages.{StoryTooLong}
 use Rattle.inf_report.specs.Reports.{closing}
 use Rattle.inf_session.specs.declared.ending.Outcome.{Outcome as CodeOutcome}
-use Rattle.inf_session.specs.Ending.{Outcome, begun, fields_of, finished, first_line, is_clean, laid, linked, named, refused, seen}
-use Rattle.inf_session.specs.Ending.{sizes_of, statistics_by, told_of}
+use Rattle.inf_session.specs.Ending.{Outcome, begun, bytes_of, counted, fields_of, finished, first_line, is_clean, laid, linked, named}
+use Rattle.inf_session.specs.Ending.{refused, seen, sizes_of, statistics_by, told_of}
 use Rattle.inf_session.specs.declared.ending.Telling.{Telling}
 use Rattle.inf_session.specs.Session.{first_place}
 use Rattle.inf_session.specs.declared.compiled.Status.TheVariants as status
@@ -102,10 +102,17 @@ errors_none limits serial files w =
     begun_none (told_of serial b) files b.output (with_all_undeclared files b.output.names.names b.report) (main_of b.output.names)
 
 -- lines that end with the line that tells no error
-pub record IsClean (lines : List ℕ) : Type 0 where
+pub record Closes (lines : List ℕ) : Type 0 where
   pub front : List ℕ
   pub warnings : ℕ
   pub is : lines ≡ front ++ closing 0 warnings
+
+-- an outcome with a story, by a report that counted no error: its lines end with the line that tells none
+pub record IsClean (r : Reported) (e : Outcome) : Type 0 where
+  pub counts_none : is_clean r ≡ true
+  pub closes : Closes e.messages
+  pub bytes : List ℕ
+  pub story : e.story ≡ Some bytes
 
 -- both tests hold where their conjunction does
 both_hold : (over : Bool) (zeros : Bool) → (not over && zeros) ≡ true → (over ≡ false) × (zeros ≡ true)
@@ -113,7 +120,7 @@ both_hold true zeros e = cc
 both_hold false true e = (refl, refl)
 both_hold false false e = cc
 
-closes_clean : (r : Reported) → is_clean r ≡ true → IsClean (with_closing r).lines
+closes_clean : (r : Reported) → is_clean r ≡ true → Closes (with_closing r).lines
 closes_clean r e =
     let both = both_hold r.counts.is_over (r.counts.errors == 0) e in
     record {
@@ -123,8 +130,8 @@ closes_clean r e =
           ∙ ap (λ n. r.lines ++ closing n r.counts.warnings) (eqb-true r.counts.errors 0 both.1);
     }
 
-abbrev EndsSo : Outcome → Type 0
-EndsSo e = e.status ≡ status.Success → IsClean e.messages
+abbrev EndsSo : Reported → Outcome → Type 0
+EndsSo r e = e.status ≡ status.Success → IsClean r e
 
 -- statistics count no error
 statistics_clean : (wanted : Bool) (s : Statistics) (r : Reported) → is_clean r ≡ true → is_clean (statistics_by wanted s r) ≡ true
@@ -132,34 +139,39 @@ statistics_clean true s r clean = clean
 statistics_clean false s r clean = clean
 
 linked_clean : (t : Telling) (files : FileNames) (main : ℕ) (names : List Value) (code : Routines) (strings : StringArea)
-    (tables : AllTables) (r : Reported) → is_clean r ≡ true → (long : Option LinkFault) → EndsSo
+    (tables : AllTables) (r : Reported) → is_clean r ≡ true → (long : Option LinkFault) → EndsSo r
     (linked t files main names code strings tables r long)
 linked_clean t files main names code strings tables r clean None =
     let statistics : Statistics = record { counts = counts_of t.symbols code tables; sizes = sizes_of t main names code strings tables } in
-    λ _. closes_clean (statistics_by t.has_statistics statistics r) (statistics_clean t.has_statistics statistics r clean)
+    λ _. record {
+      counts_none = clean;
+      closes = closes_clean (statistics_by t.has_statistics statistics r) (statistics_clean t.has_statistics statistics r clean);
+      bytes = bytes_of t main names code strings tables;
+      story = refl;
+    }
 linked_clean t files main names code strings tables r clean (Some link_fault.ReadableTooLong) = λ e. cc
 linked_clean t files main names code strings tables r clean (Some link_fault.StoryTooLong) = λ e. cc
 linked_clean t files main names code strings tables r clean (Some link_fault.Memory) = λ e. cc
 
 named_clean : (t : Telling) (files : FileNames) (main : ℕ) (code : Routines) (strings : StringArea) (tables : AllTables) (r : Reported)
     →
-    is_clean r ≡ true → (names : Option (List Value)) → EndsSo (named t files main code strings tables r names)
+    is_clean r ≡ true → (names : Option (List Value)) → EndsSo r (named t files main code strings tables r names)
 named_clean t files main code strings tables r clean None = λ e. cc
 named_clean t files main code strings tables r clean (Some names) = linked_clean t files main names code strings tables r clean
     (too_long (fields_of t code) main code.finished strings.bytes tables)
 
 laid_clean : (t : Telling) (files : FileNames) (main : ℕ) (o : Out) (r : Reported) → is_clean r ≡ true →
-    EndsSo (laid t files main o r)
+    EndsSo r (laid t files main o r)
 laid_clean t files main o r clean = named_clean t files main o.code o.strings o.tables r clean (values_of o.names.names)
 
-begun_clean : (t : Telling) (files : FileNames) (o : Out) (r : Reported) (main : Option ℕ) → EndsSo (begun t files o r main)
+begun_clean : (t : Telling) (files : FileNames) (o : Out) (r : Reported) (main : Option ℕ) → EndsSo r (begun t files o r main)
 begun_clean t files o r None = λ e. cc
 begun_clean t files o r (Some main) =
-    of_both EndsSo (is_clean r) (laid t files main o r) (refused r) (λ clean. laid_clean t files main o r clean) (λ _ e. cc)
+    of_both (EndsSo r) (is_clean r) (laid t files main o r) (refused r) (λ clean. laid_clean t files main o r clean) (λ _ e. cc)
 
 pub success_clean : (limits : Limits) (serial : List ℕ) (files : FileNames) (w : Compilation) →
     (finished limits serial files w).status ≡ status.Success →
-    IsClean (finished limits serial files w).messages
+    IsClean (counted limits files w) (finished limits serial files w)
 success_clean limits serial files w =
     let b = begun_at limits files first_place w in
     begun_clean (told_of serial b) files b.output (with_all_undeclared files b.output.names.names b.report) (main_of b.output.names)

@@ -13,3 +13,4 @@ pub mod Supplying
 pub mod TextTurns
 pub mod Parting
 pub mod Quiet
+pub mod Passing

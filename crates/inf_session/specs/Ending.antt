@@ -115,6 +115,13 @@ finished_with serial files w =
 abbrev pub finished : Limits → List ℕ → FileNames → Compilation → Outcome
 finished limits serial files w = finished_with serial files (begun_at limits files first_place w)
 
+-- The report by which a story comes or not: code has begun, at the latest at the end, and all names are told that were used and never
+-- declared.
+abbrev pub counted : Limits → FileNames → Compilation → Reported
+counted limits files w =
+    let b = begun_at limits files first_place w in
+    with_all_undeclared files b.output.names.names b.report
+
 -- the outcome of a source that is not there
 abbrev pub missing : List ℕ → Outcome
 missing file = refused (with_fatal (record { file = file; line = 1 }) (NoSource file) nothing_reported)

@@ -3,6 +3,7 @@ pub mod Faults
 pub mod Taking
 pub mod Session
 pub mod Veneer
+pub mod Uses
 pub mod Standing
 pub mod Leading
 pub mod Ending

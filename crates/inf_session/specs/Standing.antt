@@ -1,25 +1,19 @@
 -- The state for which the code's session stands, with a reader that keeps to its sources.
-use Rattle.std.specs.Prelude.{◌≡◌, ℕ, ◌≤◌, List, Bool, false, ◌&&◌, ◌||◌, if◌then◌else◌, length, max, min, [], ◌∷◌, Option, is_none}
-use Rattle.inf_code.specs.Code.{code_count, reference_count}
-use Rattle.inf_arrays.specs.Arrays.{all_of, arrays_size}
-use Rattle.inf_verbs.specs.Verbs.{verbs_size}
-use Rattle.inf_tables.specs.World.{bytes_now, object_count}
-use Rattle.inf_tables.specs.LowStrings.{low_size}
-use Rattle.inf_tables.specs.Tables.{references_with}
+use Rattle.std.specs.Prelude.{◌≡◌, ℕ, ◌≤◌, List, Bool, false, ◌&&◌, ◌||◌, if◌then◌else◌, min, ◌∷◌, Option, is_none}
 use Rattle.inf_conditionals.specs.Judging.{is_none_pending, may_part}
 use Rattle.inf_reader.specs.Handing.{is_between}
 use Rattle.inf_devices.specs.Files.{Openings, Sources}
 use Rattle.inf_sources.specs.Open.{nesting}
-use Rattle.inf_settings.specs.Settings.{number_of}
+use Rattle.inf_settings.specs.Settings.{all_settings, number_of}
 use Rattle.inf_settings.specs.declared.setting.Setting.{Setting}
-use Rattle.inf_settings.specs.declared.setting.Setting.TheVariants.{ExpressionNodes, Labels, LowStrings, Objects, PropertyTables}
-use Rattle.inf_settings.specs.declared.setting.Setting.TheVariants.{References}
+use Rattle.inf_settings.specs.declared.setting.Setting.TheVariants.{LowStrings, Objects, PropertyTables, References}
 use Rattle.inf_settings.specs.declared.settings.Settings.{Settings}
 use Rattle.inf_compilation.specs.Works.{work as work_of}
 use Rattle.inf_reader.specs.Reading.{has_ended_at}
 use Rattle.inf_reader.specs.Standing.{reading, standing}
 use Rattle.inf_session.specs.Choices.{chosen, most_quoted}
 use Rattle.inf_session.specs.Session.{State}
+use Rattle.inf_session.specs.Uses.{all_used, is_compared_later}
 use Rattle.inf_session.specs.Veneer.{next_text}
 use Rattle.inf_session.specs.declared.session.Session.{Session}
 use Rattle.inf_session.specs.declared.session.Step.{Step}
@@ -89,19 +83,19 @@ parted s = ended s || (is_between (reading s.progress.reader) && may_part s.cond
 abbrev pub came_to : {B : Type 0} → Bool → Session B → Step
 came_to had_ended s = if is_fatal s then step.Fatal else if had_ended then step.End else step.More
 
--- The amounts so far that the settings bound, in the order of the settings: the bytes of the longest quoted token, the tokens of the
--- longest expression, the names, the most labels of a routine, the words, objects, verbs and actions, the bytes of grammar, properties,
--- arrays, low strings, code and strings, and the references. Tokens, labels and references are at most as many as there may be.
+-- Counts so far of all that the settings bound, none of which is cut.
+abbrev pub used_by : {B : Type 0} → Session B → List ℕ
+used_by s = all_used s.quoted s.conditionals (work_of s.progress.work)
+
+-- A count as it is told: one that is compared with its setting later is at most that.
+abbrev pub told_count : Settings → Setting → ℕ → ℕ
+told_count settings s n = if is_compared_later s then min n (number_of s settings) else n
+
+abbrev pub told_counts : Settings → List Setting → List ℕ → List ℕ
+told_counts settings (s ∷ bounding) (n ∷ counts) = told_count settings s n ∷ told_counts settings bounding counts
+told_counts settings bounding counts = counts
+
+-- Counts so far of all that the settings bound, in the order of the settings. Those of tokens, labels and references are at most as many
+-- as there may be.
 abbrev pub held : {B : Type 0} → Session B → List ℕ
-held s =
-    let settings = (chosen s.setup).settings in
-    let w = s.progress.work in
-    let output = w.output in
-    let tables = output.tables in
-    s.quoted ∷ min (max w.most_tokens s.conditionals.most_tokens) (number_of ExpressionNodes settings) ∷ length output.names.names
-    ∷ min w.most_labels (number_of Labels settings)
-    ∷ length tables.dictionary.list ∷ object_count tables.world ∷ length tables.verbs.list ∷ length tables.actions.routines ∷ verbs_size
-    tables.verbs.list
-    ∷ bytes_now tables.world ∷ arrays_size (all_of tables.arrays) ∷ low_size tables.low_strings
-    ∷ code_count output.code ∷ length output.strings.bytes ∷ min (references_with (reference_count output.code) tables)
-    (number_of References settings) ∷ []
+held s = told_counts (chosen s.setup).settings all_settings (used_by s)

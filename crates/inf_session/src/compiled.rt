@@ -2,7 +2,7 @@
 ghost use Rattle.std.specs.Prelude.{◌≡◌, None, IfOk, IfErr, IsErrOf, OnErr};
 ghost use Rattle.inf_devices.specs.Files.{Rose};
 ghost use Rattle.inf_compilation.specs.Works.{work as work_of};
-ghost use Rattle.inf_session.specs.Delivered.{Appends, Delivers, EndsClean, TakesFront};
+ghost use Rattle.inf_session.specs.Delivered.{Appends, Delivers, EndsCleanOf, TakesFront, story_in};
 ghost use Rattle.inf_session.specs.Ending.{finished, seen};
 ghost use Rattle.inf_session.specs.Faults.{Caused, HidesNoFailure};
 
@@ -43,7 +43,8 @@ pub(crate) fn conclude<M: Sink, B: Bounds>(
     ensures err { OnErr result (TakesFront (finished B.most serial.now names.now.names (work_of work)).messages (M.taken messages.old)
         (M.taken messages.new)) }
     ensures errors { IfOk result (λ compiled. compiled.status ≡ Status.Errors → compiled.story ≡ None) }
-    ensures clean { IfOk result (λ compiled. compiled.status ≡ Status.Success → EndsClean (M.taken messages.old) (M.taken messages.new)) }
+    ensures clean { IfOk result (λ compiled. compiled.status ≡ Status.Success →
+        EndsCleanOf B.most serial.now names.now.names (work_of work) (story_in compiled) (M.taken messages.old) (M.taken messages.new)) }
     ensures fault { IfErr result (λ fault. Caused fault (λ name. ⊥) (Rose (M.failures messages.old) (M.failures messages.new))) }
     ensures memory { IsErrOf result Fault.Memory → messages.new ≡ messages.old }
     ensures wrote { Appends M.Sink messages.old messages.new

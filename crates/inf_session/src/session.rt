@@ -9,7 +9,7 @@ ghost use Rattle.inf_sources.specs.Calls.{Honestly, IsUnreadable, StaysFit, Went
 ghost use Rattle.inf_sources.specs.Open.{nesting, opened_since};
 ghost use Rattle.inf_session.specs.Choices.{chosen, most_quoted};
 ghost use Rattle.inf_session.specs.Faults.{Caused, HidesNoFailure, IfRead};
-ghost use Rattle.inf_session.specs.Delivered.{Appends, Delivers, EndsClean, TakesFront};
+ghost use Rattle.inf_session.specs.Delivered.{Appends, Delivers, EndsCleanOf, TakesFront, story_in};
 ghost use Rattle.inf_session.specs.Ending.{finished};
 ghost use Rattle.inf_settings.specs.Bounds.{AreSet};
 ghost use Rattle.inf_settings.specs.Settings.{all_settings};
@@ -20,6 +20,7 @@ ghost use Rattle.inf_conditionals.specs.Open.{no_conditions};
 ghost use Rattle.inf_session.specs.Session.{begun_with, followed, carried_out, included, left, part, rested};
 ghost use Rattle.inf_session.specs.Session.{run, stepped, turn};
 ghost use Rattle.inf_session.specs.Standing.{AreWithin, IsBounded, IsSet, came_to, ended, held, is_fatal, parted, resting, state};
+ghost use Rattle.inf_session.specs.Standing.{used_by};
 ghost use Rattle.inf_session.specs.Weights.{GoesOn, room, weight};
 
 use crate::compiled::{Compiled, Status, conclude};
@@ -237,8 +238,9 @@ impl<'a, B: Bounds> Session<'a, B> {
             (work_of self.entry.progress.work)).messages
             (M.taken messages.old) (M.taken messages.new)) }
         ensures errors { IfOk result.1 (λ compiled. compiled.status ≡ Status.Errors → compiled.story ≡ None) }
-        ensures clean { IfOk result.1 (λ compiled. compiled.status ≡ Status.Success → EndsClean (M.taken messages.old)
-            (M.taken messages.new)) }
+        ensures clean { IfOk result.1 (λ compiled. compiled.status ≡ Status.Success → EndsCleanOf B.most serial.now
+            self.entry.open_files.nest.names (work_of self.entry.progress.work) (story_in compiled)
+            (M.taken messages.old) (M.taken messages.new)) }
         ensures fault { IfErr result.1 (λ fault. Caused fault (λ name. ⊥) (Rose (M.failures messages.old) (M.failures messages.new))) }
         ensures memory { IsErrOf result.1 Fault.Memory → messages.new ≡ messages.old }
         ensures wrote { Appends M.Sink messages.old messages.new
@@ -284,8 +286,19 @@ impl<'a, B: Bounds> Session<'a, B> {
     /// Returns, for each setting in their order, the amount so far that it bounds: the bytes of the longest quoted token, the
     /// tokens of the longest expression, the names, the most labels of a routine, the words, objects, verbs and actions, the bytes
     /// of grammar, properties, arrays, low strings, code and strings, and the references. Tokens, labels and references are at most
-    /// as many as there may be. No amount is above its setting unless a fatal message came.
+    /// as many as there may be; no other amount is cut, and none where all are within their settings. No amount is above its
+    /// setting unless a fatal message came.
     pub fn held(&self) -> [usize; 15]
+        ensures counts { result ≡ held self.now }
+        ensures uncut { AreWithin (used_by self.now) all_settings (chosen self.now.setup).settings → result ≡ used_by self.now }
+        ensures within { let settings = (chosen self.now.setup).settings in
+            AreSet B.most settings → IsBounded self.now → is_fatal self.now ≡ false → AreWithin result all_settings settings }
+    {
+        self.told_counts()
+    }
+
+    /// Returns the counts that `held` tells.
+    fn told_counts(&self) -> [usize; 15]
         ensures counts { result ≡ held self.now }
         ensures within { let settings = (chosen self.now.setup).settings in
             AreSet B.most settings → IsBounded self.now → is_fatal self.now ≡ false → AreWithin result all_settings settings }

@@ -1,8 +1,9 @@
 //! The taking of a token that was read.
-ghost use Rattle.std.specs.Prelude.{◌≡◌, IfOk, true};
+ghost use Rattle.std.specs.Prelude.{◌≡◌, IfOk, is_some, true};
 ghost use Rattle.inf_compilation.specs.Context.{handed};
 ghost use Rattle.inf_compilation.specs.Works.{work as work_of};
-ghost use Rattle.inf_reader.specs.Handing.{is_between};
+ghost use Rattle.inf_conditionals.specs.declared.filtered.Filtered.{Filtered as Judged};
+ghost use Rattle.inf_reader.specs.Handing.{is_between, site_of};
 ghost use Rattle.inf_reader.specs.Standing.{standing};
 ghost use Rattle.inf_session.specs.Taking.{quoted_behind, quoted_bytes, token_at, token_taken};
 ghost use Rattle.inf_unit.specs.Atoms.{is_short};
@@ -11,7 +12,7 @@ ghost use Rattle.inf_unit.specs.Spelled.{spelled};
 use inf_compilation::compilation::Compilation;
 use inf_compilation::context::Context;
 use inf_conditionals::conditionals::Conditionals;
-use inf_conditionals::filtered::{Filtered, Site};
+use inf_conditionals::filtered::Site;
 use inf_lexer::Token;
 use inf_reader::progress::Progress;
 use inf_scanner::{BadToken, TokenKind};
@@ -22,6 +23,7 @@ use std::alloc::AllocError;
 /// Takes the token `token`, which was read with the bytes `bytes`. The conditionals say whether it is handed on and what there is
 /// to tell of a condition, and the reader takes the tokens that are handed on. Returns the number of bytes of the longest quoted
 /// token then, before which it was `quoted`.
+#[tactic(auto, using(crate::proofs::Passing::passes_on))]
 pub(crate) fn take<B: Bounds>(
     context: &Context<'_>,
     token: Token,
@@ -38,22 +40,44 @@ pub(crate) fn take<B: Bounds>(
 {
     let site = progress.site(context.settings);
     let spelled = token_at(site.is_between, token, bytes, &progress.work);
-    let judged = conditionals.take(site, &progress.work.output, &spelled)?;
+    if !conditionals.passes(site, &spelled) {
+        return take_other(context, site, &spelled, quoted, conditionals, progress);
+    }
+    progress.take(context, &spelled)?;
+    Ok(quoted_behind(site, true, &spelled, quoted))
+}
+
+/// Takes `token`, as `take` does. It stands apart, since of most tokens it is known that they are kept and nothing else comes of them.
+#[inline(never)]
+fn take_other<B: Bounds>(
+    context: &Context<'_>,
+    site: Site,
+    token: &SourceToken<'_>,
+    quoted: usize,
+    conditionals: &mut Conditionals,
+    progress: &mut Progress<B>,
+) -> Result<usize, AllocError>
+    requires { site ≡ site_of context.now.settings.now (standing progress.old).reading }
+    ensures { let before = standing progress.old in
+        IfOk result (λ longest. record { conditions = conditionals.new; stand = standing progress.new; quoted = longest }
+        ≡ token_taken B.most (handed context.now) (spelled token.now) conditionals.old before quoted) }
+{
+    let judged = conditionals.take(site, &progress.work.output, token)?;
     conditionals.tell(
         context.files,
         &mut progress.work.report,
         &mut progress.work.output,
     )?;
-    progress.take_judged(context, &spelled, judged)?;
-    Ok(quoted_behind(site, judged, &spelled, quoted))
+    progress.take_judged(context, token, judged)?;
+    Ok(quoted_behind(site, judged.token.is_some(), token, quoted))
 }
 
-/// Returns the number of bytes of the longest quoted token behind `token`, before which it was `quoted`. Tokens that are not handed on, and
-/// those that are passed over behind a bad one, do not count.
-fn quoted_behind(site: Site, judged: Filtered, token: &SourceToken<'_>, quoted: usize) -> usize
-    ensures { result ≡ quoted_behind site judged (spelled token.now) quoted }
+/// Returns the number of bytes of the longest quoted token behind `token`, which is handed on if `is_handed`, and before which it was
+/// `quoted`. Tokens that are not handed on, and those that are passed over behind a bad one, do not count.
+fn quoted_behind(site: Site, is_handed: bool, token: &SourceToken<'_>, quoted: usize) -> usize
+    ensures { (judged : Judged) → is_handed ≡ is_some judged.token → result ≡ quoted_behind site judged (spelled token.now) quoted }
 {
-    if site.is_quiet || judged.token.is_none() {
+    if site.is_quiet || !is_handed {
         return quoted;
     }
     let bytes = quoted_bytes(token);

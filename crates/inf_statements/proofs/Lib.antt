@@ -1,3 +1,4 @@
 pub mod Firsts
 pub mod Fitting
+pub mod Noting
 pub mod Staying

@@ -106,10 +106,10 @@ named_number n name key (l ∷ locals) =
     (λ _. ap (λ (r : Option ℕ). cond (str_eq_ignore_ascii_case l.name name) (Some n) r) (named_number (n + 1) name key locals))
 
 -- Some locals have the numbers of others.
-record Alike (locals others : List Local) : Type 0 where
-  number : (name : List ℕ) → number_of name locals ≡ number_of name others
+pub record Alike (locals others : List Local) : Type 0 where
+  pub number : (name : List ℕ) → number_of name locals ≡ number_of name others
 
-alike_leaf : (tokens : List SourceToken) (l : Leaf) (locals : List Local) → Alike (leaf_named tokens l locals) locals
+pub alike_leaf : (tokens : List SourceToken) (l : Leaf) (locals : List Local) → Alike (leaf_named tokens l locals) locals
 alike_leaf tokens (leaf.Name at) locals = record { number = λ name. named_number 1 name (bytes_at tokens at) locals }
 alike_leaf tokens (leaf.Alone at) locals = record { number = λ name. named_number 1 name (bytes_at tokens at) locals }
 alike_leaf tokens (leaf.Number number) locals = record { number = λ name. refl }
@@ -119,14 +119,14 @@ alike_leaf tokens (leaf.Text at) locals = record { number = λ name. refl }
 alike_leaf tokens (leaf.Action at) locals = record { number = λ name. refl }
 alike_leaf tokens (leaf.System at) locals = record { number = λ name. refl }
 
-alike_leaves : (tokens : List SourceToken) (leaves : List Leaf) (locals : List Local) → Alike (leaves_named tokens leaves locals) locals
+pub alike_leaves : (tokens : List SourceToken) (leaves : List Leaf) (locals : List Local) → Alike (leaves_named tokens leaves locals) locals
 alike_leaves tokens [] locals = record { number = λ name. refl }
 alike_leaves tokens (l ∷ leaves) locals = record {
   number =
       λ name. (alike_leaves tokens leaves (leaf_named tokens l locals)).number name ∙ (alike_leaf tokens l locals).number name;
 }
 
-alike_store : (tokens : List SourceToken) (i : Item) (locals : List Local) → Alike (store_named tokens i locals) locals
+pub alike_store : (tokens : List SourceToken) (i : Item) (locals : List Local) → Alike (store_named tokens i locals) locals
 alike_store tokens (item.Store at) locals = record { number = λ name. named_number 1 name (bytes_at tokens at) locals }
 alike_store tokens (item.Text at) locals = record { number = λ name. refl }
 alike_store tokens item.Value locals = record { number = λ name. refl }
@@ -137,7 +137,7 @@ alike_store tokens item.Default locals = record { number = λ name. refl }
 alike_store tokens (item.Branch at holds) locals = record { number = λ name. refl }
 alike_store tokens (item.Jump at) locals = record { number = λ name. refl }
 
-alike_stores : (tokens : List SourceToken) (items : List Item) (locals : List Local) → Alike (stores_named tokens items locals) locals
+pub alike_stores : (tokens : List SourceToken) (items : List Item) (locals : List Local) → Alike (stores_named tokens items locals) locals
 alike_stores tokens [] locals = record { number = λ name. refl }
 alike_stores tokens (i ∷ items) locals = record {
   number =

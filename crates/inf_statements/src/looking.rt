@@ -5,8 +5,8 @@ ghost use Rattle.inf_names.specs.LocalList.{listed};
 ghost use Rattle.inf_names.specs.Symbols.{Table, no_names};
 ghost use Rattle.inf_scanner.specs.declared.tokens.Place.{Place as SourcePlace};
 ghost use Rattle.inf_statements.specs.OperandLists.{operands_in};
-ghost use Rattle.inf_statements.specs.Operands.{all_looked, looked, looked_leaf};
-ghost use Rattle.inf_statements.specs.Uses.{LeafStays, LeavesStay, is_plain};
+ghost use Rattle.inf_statements.specs.Operands.{all_looked, looked, looked_from, looked_leaf};
+ghost use Rattle.inf_statements.specs.Uses.{LeafStays, is_plain};
 
 use crate::operand_lists::OperandList;
 use crate::operands::{looked, looked_leaf};
@@ -43,7 +43,7 @@ fn name_stays(tokens: &UnitTokens, at: usize, operand: Operand) -> bool
 /// Returns whether the use of the name of `leaf`, a leaf of a unit with `tokens`, is known to change nothing and to give `operand`, as
 /// looking it up does.
 #[tactic(auto, using(crate::proofs::Staying::number_stays, crate::proofs::Staying::char_stays, crate::proofs::Staying::system_stays))]
-fn stays(tokens: &UnitTokens, leaf: Leaf, operand: Operand) -> bool
+pub(crate) fn stays(tokens: &UnitTokens, leaf: Leaf, operand: Operand) -> bool
     ensures { result ≡ true → LeafStays tokens.now leaf operand }
 {
     match leaf {
@@ -72,9 +72,30 @@ fn looked_plainly<B: Bounds>(
     }
 }
 
-/// Looks up the operands of `leaves`, as `look_all` does, each new action behind those before it.
+/// Adds the operands of `leaves`, the leaves of a unit with `tokens`, whose routine has `locals`, to `operands`. Their names are only looked
+/// up in `out`, each new action behind those before it.
 #[inline(never)]
-fn look_ahead<B: Bounds>(
+pub(crate) fn look_ahead<B: Bounds>(
+    alloc: Global,
+    locals: &Locals,
+    out: &Output<B>,
+    tokens: &UnitTokens,
+    leaves: &[Leaf],
+    operands: &mut Vec<Operand>,
+) -> Result<(), AllocError>
+    ensures { OnOk result (operands.new.items
+        ≡ looked_from (listed locals.now) out.now tokens.now leaves.now (no_names false) operands.old.items) }
+{
+    let mut ahead = Symbols::<Place, Unbounded>::new(alloc, u32::MAX, false, out.names.hashing());
+    for leaf in leaves {
+        operands.push(looked_leaf(locals, out, tokens, *leaf, &mut ahead)?)?;
+    }
+    Ok(())
+}
+
+/// Puts the operands of `leaves`, the leaves of a unit with `tokens`, whose routine has `locals`, into `operands`, in place of what is
+/// there. Their names are only looked up in `out`.
+fn look_all<B: Bounds>(
     alloc: Global,
     locals: &Locals,
     out: &Output<B>,
@@ -84,42 +105,15 @@ fn look_ahead<B: Bounds>(
 ) -> Result<(), AllocError>
     ensures { OnOk result (operands.new.items ≡ all_looked (listed locals.now) out.now tokens.now leaves.now) }
 {
-    let mut ahead = Symbols::<Place, Unbounded>::new(alloc, u32::MAX, false, out.names.hashing());
     operands.clear();
-    for leaf in leaves {
-        operands.push(looked_leaf(locals, out, tokens, *leaf, &mut ahead)?)?;
-    }
-    Ok(())
-}
-
-/// Puts the operands of `leaves`, the leaves of a unit with `tokens`, whose routine has `locals`, into `operands`, in place of what is
-/// there. Their names are only looked up in `out`. Returns whether the use of the names is known to change nothing and to give the same
-/// operands.
-///
-/// Fails where no memory is left.
-pub fn look_all<B: Bounds>(
-    alloc: Global,
-    locals: &Locals,
-    out: &Output<B>,
-    tokens: &UnitTokens,
-    leaves: &[Leaf],
-    operands: &mut Vec<Operand>,
-) -> Result<bool, AllocError>
-    ensures looked { OnOk result (operands.new.items ≡ all_looked (listed locals.now) out.now tokens.now leaves.now) }
-    ensures stay { IfOk result (λ stay. stay ≡ true →
-        LeavesStay (listed locals.now) out.now tokens.now leaves.now operands.new.items) }
-{
-    operands.clear();
-    let mut stay = true;
     for leaf in leaves {
         let Some(operand) = looked_plainly(locals, out, tokens, *leaf) else {
-            look_ahead(alloc, locals, out, tokens, leaves, operands)?;
-            return Ok(false);
+            operands.clear();
+            return look_ahead(alloc, locals, out, tokens, leaves, operands);
         };
         operands.push(operand)?;
-        stay = stay & stays(tokens, *leaf, operand);
     }
-    Ok(stay)
+    Ok(())
 }
 
 /// Returns the operand of `leaf`, the only leaf of a unit with `tokens`, where its name is only looked up.

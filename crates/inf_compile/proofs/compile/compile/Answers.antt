@@ -55,7 +55,7 @@ returns-then-names_nothing-clause-heard g c =
 
 pub returns-then-names_nothing-clause-clean : goal.returns-then-names_nothing-clause-clean
 returns-then-names_nothing-clause-clean g c =
-    none_clean c.refuse.result _ _ (IfOk-weaker c.refuse.result _ (λ r. r ≡ status.Errors) (λ r k. k.0) c.refuse.ensures.ok)
+    none_clean c.refuse.result _ _ _ (IfOk-weaker c.refuse.result _ (λ r. r ≡ status.Errors) (λ r k. k.0) c.refuse.ensures.ok)
     c.refuse.ensures.fault
 
 pub returns-then-names_nothing-clause-fault : goal.returns-then-names_nothing-clause-fault

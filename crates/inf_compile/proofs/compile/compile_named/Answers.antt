@@ -35,9 +35,9 @@ returns-clause-opened g c = λ honest.
 
 pub returns-clause-clean : goal.returns-clause-clean
 returns-clause-clean g c =
-    clean_where_delivered _ c.deliver.result c.in_ok-compiled.compiled (g.M.Sink.taken c.args.messages.now)
+    clean_where_delivered c.args.date _ c.deliver.result c.in_ok-compiled.compiled (g.M.Sink.taken c.args.messages.now)
     (g.M.Sink.taken c.translate.new.messages) (g.S.Sink.taken c.args.story.now) (g.S.Sink.taken c.deliver.new.story)
-    c.deliver.ensures.status c.deliver.ensures.story c.in_ok-compiled.ensures.errors c.in_ok-compiled.ensures.clean
+    c.deliver.ensures.status c.deliver.ensures.ok c.deliver.ensures.story c.in_ok-compiled.ensures.errors c.in_ok-compiled.ensures.clean
 
 pub returns-in_err-name-clause-quiet : goal.returns-in_err-name-clause-quiet
 returns-in_err-name-clause-quiet g c = hides_none c.from_residual.result (g.M.Sink.failures c.args.messages.now)

@@ -1,10 +1,9 @@
-use Rattle.std.proofs.Common.{◌≡◌, [], IfOk, OnErr, refl, ap, subst, sym}
+use Rattle.std.proofs.Common.{[], IfOk, OnErr, refl, ap, subst, sym}
 use Rattle.inf_opcode.proofs.Growing.{on_err}
 use Rattle.inf_sources.specs.Open.{Open, opened_since}
 use Rattle.inf_sources.proofs.Calls.{went_as}
 use Rattle.inf_session.specs.Choices.{Choices, chosen}
-use Rattle.inf_session.specs.Delivered.{EndsClean}
-use Rattle.inf_session.specs.declared.compiled.Status.TheVariants as status
+use Rattle.inf_session.specs.Delivered.{SucceedsClean, story_in}
 use Rattle.inf_compile.specs.Comes.{BreaksOff, Concludes, Ends, Stops}
 use Rattle.inf_session.specs.Standing.{state}
 use Rattle.inf_compile.proofs.Concluding.{breaks_off_at, concludes, ends_at, if_ok_always, if_read_none, on_err_leads, stops_ending}
@@ -102,9 +101,10 @@ returns-in-Ok-clause-clean g c =
     let old = c.args.messages.now in
     let mid = c.read.new.messages in
     let new = c.supply_out.new.messages in
-    if_ok_more c.supply_out.result.1 (λ x. x.status ≡ status.Success → EndsClean (m.taken mid) (m.taken new))
-    (λ x. x.status ≡ status.Success → EndsClean (m.taken old) (m.taken new))
-    (λ x p is. ends_behind m old mid new c.read.ensures.wrote.0 (p is)) c.supply_out.ensures.clean
+    let serial = c.args.serial.now in
+    if_ok_more c.supply_out.result.1 (λ x. SucceedsClean serial x (m.taken mid) (m.taken new))
+    (λ x. SucceedsClean serial x (m.taken old) (m.taken new))
+    (λ x p is. ends_behind m old mid new serial (story_in x) c.read.ensures.wrote.0 (p is)) c.supply_out.ensures.clean
 
 pub returns-in-Ok-clause-quiet : goal.returns-in-Ok-clause-quiet
 returns-in-Ok-clause-quiet g c =

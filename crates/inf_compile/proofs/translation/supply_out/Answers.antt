@@ -1,7 +1,7 @@
 use Rattle.std.proofs.Common.{◌≡◌}
 use Rattle.inf_compilation.specs.Works.{work as work_of}
 use Rattle.inf_session.specs.Choices.{chosen}
-use Rattle.inf_session.specs.Delivered.{Delivers, EndsClean, TakesFront}
+use Rattle.inf_session.specs.Delivered.{Delivers, EndsCleanOf, SucceedsClean, TakesFront, story_in}
 use Rattle.inf_session.specs.Ending.{finished}
 use Rattle.inf_session.specs.declared.compiled.Status.TheVariants as status
 use Rattle.inf_session.proofs.Delivering.{ends_behind, if_ok_more}
@@ -45,9 +45,14 @@ returns-in-Ok-clause-clean g c =
     let old = c.args.messages.now in
     let mid = c.supply_all.new.messages in
     let new = c.finish.new.messages in
-    if_ok_more c.finish.result.1 (λ x. x.status ≡ status.Success → EndsClean (m.taken mid) (m.taken new))
-    (λ x. x.status ≡ status.Success → EndsClean (m.taken old) (m.taken new))
-    (λ x p is. ends_behind m old mid new c.supply_all.ensures.wrote.0 (p is)) c.finish.ensures.clean
+    let now = c.supply_all.new.session in
+    let serial = c.args.serial.now in
+    if_ok_more c.finish.result.1 (λ x. x.status ≡ status.Success → EndsCleanOf g.B.Bounds.most serial now.open_files.nest.names
+    (work_of now.progress.work) (story_in x) (m.taken mid) (m.taken new))
+    (λ x. SucceedsClean serial x (m.taken old) (m.taken new))
+    (λ x p is. ends_behind m old mid new serial (story_in x) c.supply_all.ensures.wrote.0
+    (record { limits = g.B.Bounds.most; files = now.open_files.nest.names; work = work_of now.progress.work; clean = p is }))
+    c.finish.ensures.clean
 
 pub returns-in-Ok-clause-quiet : goal.returns-in-Ok-clause-quiet
 returns-in-Ok-clause-quiet g c =

@@ -1,13 +1,13 @@
 use Rattle.std.proofs.Common.{◌≡◌, IfErr, IfOk, IsErrOf, None, Result, Ok, Err, subst}
 use Rattle.inf_opcode.proofs.Growing.{on_err}
 use Rattle.inf_compilation.specs.Works.{work as work_of}
-use Rattle.inf_session.specs.Delivered.{Delivers, EndsClean}
+use Rattle.inf_session.specs.Delivered.{Delivers, EndsCleanOf, story_in}
 use Rattle.inf_session.specs.Ending.{Outcome, finished}
 use Rattle.inf_session.specs.declared.compiled.Status.TheVariants as status
 use Rattle.inf_session.specs.declared.faults.Fault.{Fault}
 use Rattle.inf_session.specs.declared.faults.Fault.TheVariants as fault
 use Rattle.inf_session.proofs.Delivering.{appends_none, ends_clean, has_none, if_ok_more, takes_no_front}
-use Rattle.inf_session.proofs.Endings.{errors_none, success_clean}
+use Rattle.inf_session.proofs.Endings.{errors_none}
 use Rattle.inf_session.proofs.Quiet.{hides_none}
 use Rattle.inf_session.proofs.compiled.conclude.Goals as goal
 
@@ -29,8 +29,9 @@ returns-clause-clean g c =
     let names = c.args.names.now.names in
     let serial = c.args.serial.now in
     let e = finished g.B.Bounds.most serial names (work_of c.args.work) in
-    if_ok_more c.written.result (λ x. Delivers e x old new) (λ x. x.status ≡ status.Success → EndsClean old new)
-    (λ x d. ends_clean e x old new (success_clean g.B.Bounds.most serial names (work_of c.args.work)) d)
+    if_ok_more c.written.result (λ x. Delivers e x old new)
+    (λ x. x.status ≡ status.Success → EndsCleanOf g.B.Bounds.most serial names (work_of c.args.work) (story_in x) old new)
+    (λ x d. ends_clean g.B.Bounds.most serial names (work_of c.args.work) x old new d)
     (subst (λ (t : Outcome). IfOk c.written.result (λ x. Delivers t x old new)) c.in_ok-ending.ensures c.written.ensures.ok)
 
 pub returns-clause-errors : goal.returns-clause-errors

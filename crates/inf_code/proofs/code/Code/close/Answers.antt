@@ -1,6 +1,6 @@
 -- The closed routine and its padding follow the finished routines; a lost routine adds nothing.
-use Rattle.std.specs.Prelude.{nat_lt, MatchResult, Bool}
-use Rattle.std.proofs.Common.{◌≡◌, ◌≤◌, ◌+◌, ◌⊎◌, false, true, refl, arith, List, ◌++◌, length, Option, Some, None, sym, ◌∙◌, ap, subst}
+use Rattle.std.specs.Prelude.{MatchResult, Bool}
+use Rattle.std.proofs.Common.{◌≡◌, ◌≤◌, ◌+◌, ◌-◌, ◌⊎◌, false, true, refl, arith, List, ◌++◌, length, Option, Some, None, sym, ◌∙◌, ap, subst}
 use Rattle.inf_assembler.specs.declared.routines.CloseFault.{CloseFault}
 use Rattle.inf_assembler.specs.declared.routines.CloseFault.TheVariants as close_fault
 use Rattle.inf_assembler.specs.Routines.{State, contents_of}
@@ -8,9 +8,10 @@ use Rattle.inf_area.specs.declared.cells.Cell.{Cell as CodeCell}
 use Rattle.inf_code.specs.declared.code.CodeLimits.{CodeLimits}
 use Rattle.inf_code.specs.Code.{Routines, IsCode, open_in, closed_cells, closed_count, place_behind, source_cells, with_closed}
 use Rattle.inf_code.specs.Code.{fault_closed}
-use Rattle.inf_code.specs.Code.{fault_behind, fault_end}
+use Rattle.inf_code.specs.Code.{fault_behind, fault_end, fault_of_full}
 use Rattle.inf_code.proofs.CodeSteps.{closed_size, code_after, counted_closed, finished_closed, size_finished}
-use Rattle.inf_code.proofs.Ends.{is_first, told_first, told_lost, zeros_none, zeros_told}
+use Rattle.inf_code.proofs.Ends.{full_is, is_first, later_told, listed_are, told_first, told_lost}
+use Rattle.inf_code.proofs.Full.{first_none}
 use Rattle.inf_code.proofs.code.Code.close.Goals as goal
 
 pub returns-then-self-clause-fault : goal.returns-then-self-clause-fault
@@ -86,9 +87,10 @@ invariant_of-self-2 g c =
     subst (IsCode inside.limits (length whole) listed whole) (sym c.take.ensures.after) after in
     let count = counted_closed inside.scale c.args.kind inside.limits inside.finished inside.refs listed inside.area c.close.new.area whole
     routine c.in-Ok.closed is c.in-Ok.ensures.ok inside.routines c.in_default-fill_up.ensures.ok c.self.invariant.1.1.1 in
+    let within : length listed.list ≤ inside.limits.refs - 5 = omega (arith, c.in_default-fill_up.ensures.few, c.len-listed.ensures.value) in
     let len = sym c.len-self-inside.ensures.value in (
       subst (λ n. IsCode inside.limits n listed whole c.take.new.self) len none,
-      (c.self.invariant.1.0, (c.self.invariant.1.1.0, subst (λ n. inside.routines + 1 + 8 ≤ n) len count)),
+      ((c.self.invariant.1.0.0, (c.self.invariant.1.0.1.0, within)), (c.self.invariant.1.1.0, subst (λ n. inside.routines + 1 + 8 ≤ n) len count)),
     )
 
 pub returns-clause-ok : goal.returns-clause-ok
@@ -151,7 +153,9 @@ returns-in-Err-fill_up-clause-fault g c =
     let written = c.close.new.area in
     let size_is = closed_size inside.scale kind inside.limits inside.finished inside.refs c.close.new.refs inside.area written routine
     c.in-Ok.closed is c.in-Ok.ensures.ok in
-    let same = ap (nat_lt inside.limits.code) size_is in
+    let count = listed_are inside.scale kind inside.limits inside.finished inside.refs c.close.new.refs inside.area written routine
+    c.in-Ok.closed is c.in-Ok.ensures.ok ∙ sym c.len-listed.ensures.value in
+    let same = full_is inside.limits _ _ _ size_is count in
     let first = is_first inside.limits inside.finished inside.refs inside.spare inside.area false routine kind is c.self.invariant.1.1.0
     inside.refs refl in
     let Tells : Option CloseFault → Type 0 =
@@ -159,7 +163,7 @@ returns-in-Err-fill_up-clause-fault g c =
     subst Tells (ap (λ r. Closed inside.limits (With false r)) (sym some)
     ∙ ap (λ b. Closed inside.limits (With b inside.routine)) (sym kept)
     ∙ ap (λ l. Closed l (With inside.is_lost inside.routine)) inside.is_most ∙ ap (fault_closed g.B.Bounds.most kind) c.self.view_is)
-    (zeros_told _ inside.limits.code _ c.in-Err-fill_up.fault _ (sym first ∙ c.in-Ok.ensures.fault) same c.in-Err-fill_up.ensures.fault)
+    (later_told _ _ _ c.in-Err-fill_up.fault (sym first ∙ c.in-Ok.ensures.fault) same c.in-Err-fill_up.ensures.fault)
 
 pub returns-clause-fault : goal.returns-clause-fault
 returns-clause-fault g c =
@@ -184,10 +188,12 @@ returns-clause-fault g c =
     let written = c.close.new.area in
     let size_is = closed_size inside.scale kind inside.limits inside.finished inside.refs c.close.new.refs inside.area written routine
     c.in-Ok.closed is c.in-Ok.ensures.ok in
-    let over = ap (nat_lt inside.limits.code) size_is ∙ c.in_default-fill_up.ensures.fault in
+    let count = listed_are inside.scale kind inside.limits inside.finished inside.refs c.close.new.refs inside.area written routine
+    c.in-Ok.closed is c.in-Ok.ensures.ok ∙ sym c.len-listed.ensures.value in
+    let over = full_is inside.limits _ _ _ size_is count ∙ ap fault_of_full c.in_default-fill_up.ensures.fault in
     let first = is_first inside.limits inside.finished inside.refs inside.spare inside.area false routine kind is c.self.invariant.1.1.0
     inside.refs refl in
     subst (λ wrong. wrong ≡ None) (ap (λ r. Closed inside.limits (With false r)) (sym some)
     ∙ ap (λ b. Closed inside.limits (With b inside.routine)) (sym kept)
     ∙ ap (λ l. Closed l (With inside.is_lost inside.routine)) inside.is_most ∙ ap (fault_closed g.B.Bounds.most kind) c.self.view_is)
-    (zeros_none _ inside.limits.code _ (sym first ∙ c.in-Ok.ensures.fault) over)
+    (first_none _ _ (sym first ∙ c.in-Ok.ensures.fault) over)

@@ -1,0 +1,49 @@
+-- A token of which a first look shows that it is kept, with nothing else to come of it, is a step of the reader alone.
+use Rattle.std.proofs.Common.{◌≡◌, ℕ, Option, None, sym, ap, ◌∙◌}
+use Rattle.inf_settings.specs.Bounds.{Limits}
+use Rattle.inf_unit.specs.Tokens.{SourceToken}
+use Rattle.inf_compilation.specs.Context.{Context}
+use Rattle.inf_conditionals.specs.Judging.{Behind, judged, kept}
+use Rattle.inf_conditionals.specs.Open.{Conditions, silent}
+use Rattle.inf_conditionals.specs.Said.{Said}
+use Rattle.inf_conditionals.specs.declared.filtered.Site.{Site}
+use Rattle.inf_reader.specs.Handing.{judged_taken, said_told, site_of}
+use Rattle.inf_reader.specs.Reading.{ReaderState, step}
+use Rattle.inf_session.specs.Taking.{Taken, quoted_behind, token_taken}
+
+-- the state behind a token whose result among conditionals is known
+abbrev behind : Limits → Context → Site → SourceToken → ReaderState → ℕ → Behind → Taken
+behind limits context site t s quoted b = record {
+  conditions = silent b.now;
+  stand = judged_taken limits context t b.judged (said_told limits b.now.said context s);
+  quoted = quoted_behind site b.judged t quoted;
+}
+
+-- the state behind a token that is kept, where this is the message about a condition
+abbrev told : Limits → Context → Site → SourceToken → Conditions → ReaderState → ℕ → Option Said → Taken
+told limits context site t c s quoted said = record {
+  conditions = silent c;
+  stand = judged_taken limits context t (kept c).judged (said_told limits said context s);
+  quoted = quoted_behind site (kept c).judged t quoted;
+}
+
+-- the state where the reader alone takes the token, and this message stays
+abbrev stepped : Limits → Context → Site → SourceToken → Conditions → ReaderState → ℕ → Option Said → Taken
+stepped limits context site t c s quoted said = record {
+  conditions = record c { said = said };
+  stand = step limits context t s.reading s.work;
+  quoted = quoted_behind site (kept c).judged t quoted;
+}
+
+pub passes_on : (limits : Limits) (context : Context) (t : SourceToken) (c : Conditions) (s : ReaderState) (quoted : ℕ)
+    → judged (site_of context.settings s.reading) s.work.output t c ≡ kept c → c.said ≡ None
+    → token_taken limits context t c s quoted
+    ≡ record {
+      conditions = c;
+      stand = step limits context t s.reading s.work;
+      quoted = quoted_behind (site_of context.settings s.reading) (kept c).judged t quoted;
+    }
+passes_on limits context t c s quoted is none =
+    let site : Site = site_of context.settings s.reading in
+    ap (behind limits context site t s quoted) is ∙ ap (told limits context site t c s quoted) none
+    ∙ ap (stepped limits context site t c s quoted) (sym none)
