@@ -1,5 +1,5 @@
 -- The units of a routine that have expressions, and the statements that hold others.
-use Rattle.std.specs.Prelude.{ℕ, ◌-◌, nat_lt, max, List, ◌∷◌, map, Bool, true, false, if◌then◌else◌, Option, Some, None}
+use Rattle.std.specs.Prelude.{◌≡◌, ℕ, ◌-◌, nat_lt, max, List, ◌∷◌, map, Bool, true, false, if◌then◌else◌, Option, Some, None}
 use Rattle.inf_settings.specs.Bounds.{Limits}
 use Rattle.inf_scanner.specs.declared.tokens.Place.{Place}
 use Rattle.inf_expressions.specs.declared.findings.Finding.{Finding}
@@ -10,7 +10,8 @@ use Rattle.inf_expressions.specs.Rooted.{Rooted}
 use Rattle.inf_gathering.specs.Gatherings.{with_actions}
 use Rattle.inf_output.specs.Output.{apart, ◌▸◌}
 use Rattle.inf_compilation.specs.Context.{Context}
-use Rattle.inf_unit.specs.Units.{first_place, last_place, order, own_place, prepared as unit_prepared}
+use Rattle.inf_opcode.specs.declared.opcodes.Opcode.{Opcode}
+use Rattle.inf_unit.specs.Units.{first_place, last_place, line_opcode, order, own_place, prepared as unit_prepared}
 use Rattle.inf_unit.specs.declared.items.Item.{Item}
 use Rattle.inf_unit.specs.declared.items.Item.TheVariants as item
 use Rattle.inf_constructs.specs.Cases.{case_code}
@@ -56,6 +57,14 @@ order_of _ w = order w.unit.begun
 abbrev pub place_of : Part → Place → Compilation → Place
 place_of part.Case place w = first_place w.unit.tokens place
 place_of _ place w = own_place w.unit place
+
+-- Tells whether a unit is an assembly line, and whether an opcode is that of the unit, if it is such a line.
+abbrev pub is_line : Part → Bool
+is_line (part.Statement statement.Assembly) = true
+is_line _ = false
+
+abbrev pub KnowsOpcode : Part → Option Opcode → Compilation → Type 0
+KnowsOpcode p opcode w = is_line p ≡ true → opcode ≡ line_opcode w.unit
 
 -- Site of the statement at hand, beside its trees, and the statement itself.
 abbrev pub site_of : Context → Compilation → Site

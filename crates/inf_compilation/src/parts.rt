@@ -5,8 +5,8 @@ ghost use Rattle.inf_expressions.specs.Forests.{trees_in as rooted_in};
 ghost use Rattle.inf_statements.specs.OperandLists.{operands_in};
 ghost use Rattle.inf_statements.specs.Sites.{site};
 ghost use Rattle.inf_statements.specs.Uses.{LeavesStay};
-ghost use Rattle.inf_unit.specs.Units.{order};
-ghost use Rattle.inf_compilation.specs.Parts.{has_last, is_case, is_default, line_finding_of, site_of, wanted_of};
+ghost use Rattle.inf_unit.specs.Units.{line_opcode, order};
+ghost use Rattle.inf_compilation.specs.Parts.{has_last, is_case, is_default, is_line, line_finding_of, site_of, wanted_of};
 
 use crate::compilation::Compilation;
 use crate::context::Context;
@@ -17,6 +17,7 @@ use inf_expressions::{
     Finding, Forest, Operand, UnitError, Wanted, judge, judge_whole, least_of_both,
 };
 use inf_lexer::Place;
+use inf_opcode::Opcode;
 use inf_settings::bounds::Bounds;
 use inf_statements::effects::{Site, wanted_by};
 use inf_statements::looking::all_looked;
@@ -73,6 +74,13 @@ impl Part {
     {
         matches!(self, Part::Case)
     }
+
+    /// Returns whether the unit is an assembly line.
+    fn is_line(self) -> bool
+        ensures { result ≡ is_line self }
+    {
+        matches!(self, Part::Statement(Statement::Assembly))
+    }
 }
 
 /// The trees of a unit, whose names are only looked up, and whether these are known to stay: the use of the names changes nothing.
@@ -93,10 +101,9 @@ impl<B: Bounds> Compilation<B> {
     ghost use Rattle.inf_constructs.specs.Constructs.{are_own};
     ghost use Rattle.inf_compilation.specs.Actions.{finding_at, named, operands_of, settled_of, trees_at};
     ghost use Rattle.inf_compilation.specs.Parts.{actions_named, case_prepared, construct_opened, found_in, leaves_noted, order_of};
-    ghost use Rattle.inf_compilation.specs.Parts.{own_case_prepared};
+    ghost use Rattle.inf_compilation.specs.Parts.{KnowsOpcode, own_case_prepared, part_prepared};
     ghost use Rattle.inf_compilation.specs.Parts.{own_finding, part_begun, part_carried, part_effect, part_ended, place_of, statement_at};
-    ghost use Rattle.inf_compilation.specs.Parts.{part_finished, part_laid, stores_noted};
-    ghost use Rattle.inf_compilation.specs.Parts.{statement_laid_in};
+    ghost use Rattle.inf_compilation.specs.Parts.{part_finished, part_laid, statement_laid_in, stores_noted};
     ghost use Rattle.inf_compilation.specs.Works.{work};
 
     /// Returns the operands of the leaves of the unit's expressions, whose names are only looked up.
@@ -215,24 +222,37 @@ impl<B: Bounds> Compilation<B> {
     }
 
     /// Returns the finding about an assembly line beside its expressions, whose trees, where names are only looked up, are in `forest`.
-    fn line_finding(&self, context: &Context<'_>, forest: &Forest) -> Option<Finding>
-        requires { let w = work self.now in rooted_in forest.now ≡ trees_at (order w.unit.begun) Wanted.Operand (operands_of w) w }
+    fn line_finding(
+        &self,
+        context: &Context<'_>,
+        opcode: Option<Opcode>,
+        forest: &Forest,
+    ) -> Option<Finding>
+        requires trees { let w = work self.now in rooted_in forest.now ≡ trees_at (order w.unit.begun) Wanted.Operand (operands_of w) w }
+        requires opcode { opcode ≡ line_opcode (work self.now).unit }
         ensures { result ≡ line_finding_of B.most (handed context.now) (work self.now) }
     {
         let found = self
             .site(context)
-            .line_finding(&self.output.names, &forest.nodes, &forest.roots);
+            .line_finding(&self.output.names, opcode, &forest.nodes, &forest.roots);
         least_of_both(self.unit.passed, found)
     }
 
     /// Returns the finding about the unit, which is `part`, beside its expressions, whose trees, where names are only looked up, are in
     /// `forest`.
-    fn own_finding(&self, context: &Context<'_>, part: Part, forest: &Forest) -> Option<Finding>
-        requires { let w = work self.now in rooted_in forest.now ≡ trees_at (order_of part w) (wanted_of part) (operands_of w) w }
+    fn own_finding(
+        &self,
+        context: &Context<'_>,
+        part: Part,
+        opcode: Option<Opcode>,
+        forest: &Forest,
+    ) -> Option<Finding>
+        requires trees { let w = work self.now in rooted_in forest.now ≡ trees_at (order_of part w) (wanted_of part) (operands_of w) w }
+        requires opcode { KnowsOpcode part opcode (work self.now) }
         ensures { result ≡ own_finding B.most (handed context.now) part (work self.now) }
     {
         match part {
-            Part::Statement(Statement::Assembly) => self.line_finding(context, forest),
+            Part::Statement(Statement::Assembly) => self.line_finding(context, opcode, forest),
             Part::Statement(statement) => self.site(context).finding(statement, &self.labels),
             Part::Case if self.constructs.is_late() => Some(Finding {
                 order: 0,
@@ -281,7 +301,9 @@ impl<B: Bounds> Compilation<B> {
         context: &Context<'_>,
         first: Place,
         part: Part,
+        opcode: Option<Opcode>,
     ) -> Result<(Option<Finding>, Looked), AllocError>
+        requires { KnowsOpcode part opcode (work self.old) }
         ensures finding { IfOk result (λ found. found.0 ≡ found_in B.most (handed context.now) part (work self.old)) }
         ensures stays { let w = work self.old in IfOk result (λ found. found.1.stays ≡ true →
             part_laid B.most (handed context.now) first part (rooted_in found.1.forest) (named (part_begun B.most part w))
@@ -289,7 +311,7 @@ impl<B: Bounds> Compilation<B> {
         ensures noted { OnOk result (work self.new ≡ leaves_noted (work self.old)) }
     {
         let (finding, mut looked) = self.look(part)?;
-        let own = self.own_finding(context, part, &looked.forest);
+        let own = self.own_finding(context, part, opcode, &looked.forest);
         let least = least_of_both(finding, own);
         looked.stays = looked.stays & !part.is_case() & least.is_none();
         Ok((least, looked))
@@ -313,8 +335,10 @@ impl<B: Bounds> Compilation<B> {
         &mut self,
         context: &Context<'_>,
         statement: Statement,
+        opcode: Option<Opcode>,
         forest: &Forest,
     ) -> Result<(), AllocError>
+        requires { KnowsOpcode (Part.Statement statement) opcode (work self.old) }
         ensures { OnOk result (work self.new ≡ statement_laid_in B.most (handed context.now) statement (rooted_in forest.now)
             (work self.old)) }
     {
@@ -329,6 +353,7 @@ impl<B: Bounds> Compilation<B> {
         };
         site.lay(
             statement,
+            opcode,
             forest,
             &mut self.labels,
             &mut self.tasks,
@@ -342,13 +367,15 @@ impl<B: Bounds> Compilation<B> {
         &mut self,
         context: &Context<'_>,
         part: Part,
+        opcode: Option<Opcode>,
         forest: &Forest,
     ) -> Result<(), AllocError>
+        requires { KnowsOpcode part opcode (work self.old) }
         ensures { OnOk result (work self.new ≡ part_effect B.most (handed context.now) part (rooted_in forest.now) (work self.old)) }
     {
         let (tasks, out) = (&mut self.tasks, &mut self.output);
         match part {
-            Part::Statement(statement) => self.lay_statement(context, statement, forest),
+            Part::Statement(statement) => self.lay_statement(context, statement, opcode, forest),
             Part::Condition => lay_test(self.constructs.condition_label(), forest, tasks, out),
             Part::Start => lay_expression(forest, tasks, out),
             Part::Step => {
@@ -368,12 +395,14 @@ impl<B: Bounds> Compilation<B> {
         context: &Context<'_>,
         first: Place,
         part: Part,
+        opcode: Option<Opcode>,
         forest: Forest,
     ) -> Result<(), AllocError>
+        requires { KnowsOpcode part opcode (work self.old) }
         ensures { OnOk result (work self.new ≡ part_laid B.most (handed context.now) first part (rooted_in forest) (work self.old)) }
     {
         self.output.first = first;
-        self.take_effect(context, part, &forest)?;
+        self.take_effect(context, part, opcode, &forest)?;
         self.forest = Some(forest);
         self.end_clean(context, first, part.has_last())
     }
@@ -385,14 +414,16 @@ impl<B: Bounds> Compilation<B> {
         context: &Context<'_>,
         first: Place,
         part: Part,
+        opcode: Option<Opcode>,
         finding: Option<Finding>,
         spare: Forest,
     ) -> Result<(), AllocError>
+        requires { KnowsOpcode part opcode (work self.old) }
         ensures { OnOk result (work self.new ≡ part_carried B.most (handed context.now) first part finding (work self.old)) }
     {
         if finding.is_none() {
             let forest = self.settle(context, first, part, spare)?;
-            return self.lay_part(context, first, part, forest);
+            return self.lay_part(context, first, part, opcode, forest);
         }
         self.forest = Some(spare);
         self.end_unit(context, first, part.has_last(), &Findings::alone(finding))
@@ -433,20 +464,35 @@ impl<B: Bounds> Compilation<B> {
         context: &Context<'_>,
         first: Place,
         part: Part,
+        opcode: Option<Opcode>,
     ) -> Result<(Option<Finding>, Looked), AllocError>
+        requires { KnowsOpcode part opcode (work self.old) }
         ensures finding { IfOk result (λ found. found.0 ≡ found_in B.most (handed context.now) part (work self.old)) }
         ensures stays { let w = work self.old in IfOk result (λ found. found.1.stays ≡ true →
             part_laid B.most (handed context.now) first part (rooted_in found.1.forest) (named (part_begun B.most part w))
             ≡ part_finished B.most (handed context.now) first part w) }
         ensures named { OnOk result (work self.new ≡ named (part_begun B.most part (work self.old))) }
     {
-        let found = self.found_in(context, first, part)?;
+        let found = self.found_in(context, first, part, opcode)?;
         self.begin_part(part)?;
         self.note_stores();
         Ok(found)
     }
 
+    /// Prepares the unit, which is `part`, and returns the opcode of an assembly line.
+    fn prepare(&mut self, part: Part) -> Result<Option<Opcode>, AllocError>
+        ensures prepared { OnOk result (work self.new ≡ part_prepared (work self.old)) }
+        ensures opcode { IfOk result (λ opcode. KnowsOpcode part opcode (work self.new)) }
+    {
+        if part.is_line() {
+            return self.unit.prepare_line();
+        }
+        self.unit.prepare()?;
+        Ok(None)
+    }
+
     /// Ends `part`, a unit of a routine, before a token at `place`. In a routine that is passed over nothing has an effect.
+    #[tactic(auto, using(crate::proofs::Lines::known_prepared, crate::proofs::Lines::known_begun))]
     pub fn end_part(
         &mut self,
         context: &Context<'_>,
@@ -459,14 +505,14 @@ impl<B: Bounds> Compilation<B> {
             self.pass(part.has_last());
             return Ok(());
         }
-        self.unit.prepare()?;
+        let opcode = self.prepare(part)?;
         self.prepare_case(part)?;
         let first = self.part_place(part, place);
-        let (finding, looked) = self.take_up(context, first, part)?;
+        let (finding, looked) = self.take_up(context, first, part, opcode)?;
         if looked.stays {
-            return self.lay_part(context, first, part, looked.forest);
+            return self.lay_part(context, first, part, opcode, looked.forest);
         }
-        self.carry_out_part(context, first, part, finding, looked.forest)
+        self.carry_out_part(context, first, part, opcode, finding, looked.forest)
     }
 
     /// Ends a statement, before a token at `place`.

@@ -1,9 +1,11 @@
 -- Failures to write messages are not told as anything else.
-use Rattle.std.proofs.Common.{◌≡◌, ℕ, List, refl, ◌∙◌, subst, Result, Ok, Err, IfErr, IsErr}
+use Rattle.std.proofs.Common.{◌≡◌, ℕ, Option, refl, ◌∙◌, subst, Result, Ok, Err, IfErr, IsErr}
 use Rattle.std.specs.Prelude.{IsErrAnd}
-use Rattle.inf_session.specs.Faults.{HidesNoFailure, UnlessMessages}
+use Rattle.inf_session.specs.Faults.{HaltHidesNone, HidesNoFailure, UnlessMessages, fault_of}
 use Rattle.inf_session.specs.declared.faults.Fault.{Fault}
 use Rattle.inf_session.specs.declared.faults.Fault.TheVariants as fault
+use Rattle.inf_session.specs.declared.faults.Halt.{Halt}
+use Rattle.inf_session.specs.declared.faults.Halt.TheVariants as halt
 
 unless_any : (f : Fault) (A : Type 0) → A → UnlessMessages f A
 unless_any fault.Memory A holds = holds
@@ -11,7 +13,7 @@ unless_any (fault.Read name) A holds = holds
 unless_any fault.Messages A holds = tt
 unless_any (fault.Story n) A holds = holds
 
-unless_more : (f : Fault) (A B : Type 0) → (A → B) → UnlessMessages f A → UnlessMessages f B
+pub unless_more : (f : Fault) (A B : Type 0) → (A → B) → UnlessMessages f A → UnlessMessages f B
 unless_more fault.Memory A B h holds = h holds
 unless_more (fault.Read name) A B h holds = h holds
 unless_more fault.Messages A B h holds = tt
@@ -48,3 +50,16 @@ hides_then r first before now same hides = let P : ℕ → Type 0 = λ n. HidesN
 -- a call that writes nothing, behind others that counted no failure
 pub hides_always : {T : Type 0} (r : Result T Fault) (first now : ℕ) → now ≡ first → HidesNoFailure r first now
 hides_always r first now same = hides_then r first now now same (hides_none r now)
+
+-- nothing was written in a turn
+pub halt_hides_none : {T : Type 0} (r : Result T Halt) (lost : Option Fault) (n : ℕ) → HaltHidesNone r lost n n
+halt_hides_none (Ok x) lost n = (refl, tt)
+halt_hides_none (Err h) lost n = (tt, unless_any (fault_of h lost) (n ≡ n) refl)
+
+-- the messages of a turn could not be written
+pub halt_hides_told : {T : Type 0} (r : Result T Halt) (lost : Option Fault) (before now : ℕ) → IsErrAnd r (λ h. h ≡ halt.Messages)
+    → HaltHidesNone r lost before now
+halt_hides_told (Ok x) lost before now told = absurd told
+halt_hides_told (Err halt.Memory) lost before now told = cc
+halt_hides_told (Err halt.Read) lost before now told = cc
+halt_hides_told (Err halt.Messages) lost before now told = (tt, tt)

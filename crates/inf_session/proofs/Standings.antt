@@ -14,11 +14,12 @@ use Rattle.inf_conditionals.specs.Open.{Conditions}
 use Rattle.inf_unit.specs.Messages.{Reported, flushed}
 use Rattle.inf_reader.specs.declared.recovery.Recovery.TheVariants as mode
 use Rattle.inf_session.specs.Choices.{Choices}
-use Rattle.inf_session.specs.Faults.{Caused, IfRead}
+use Rattle.inf_session.specs.Faults.{Caused, IfRead, fault_of}
 use Rattle.inf_session.specs.Leading.{CutsShort, Writes}
 use Rattle.inf_session.specs.Session.{State, file_closed, followed, left, left_by, stepped, told_out, turn}
 use Rattle.inf_session.specs.Standing.{state}
 use Rattle.inf_session.specs.declared.faults.Fault.{Fault}
+use Rattle.inf_session.specs.declared.faults.Halt.{Halt}
 use Rattle.inf_session.specs.declared.session.Session.{Session}
 use Rattle.inf_session.specs.declared.faults.Fault.TheVariants as fault
 
@@ -128,21 +129,32 @@ pub if_read_more : {T : Type 0} (r : Result T Fault) (P Q : List ℕ → Type 0)
 if_read_more (Ok x) P Q h p = tt
 if_read_more (Err f) P Q h p = read_more f P Q h p
 
-pub if_read_both : {T : Type 0} (r : Result T Fault) (A : Type 0) (P Q : List ℕ → Type 0) → ((name : List ℕ) → A → P name → Q name) →
-    IfErr r (λ f. IfRead f (λ name. A))
-    → IfErr r (λ f. IfRead f P) → IfErr r (λ f. IfRead f Q)
-if_read_both (Ok x) A P Q h a p = tt
-if_read_both (Err fault.Memory) A P Q h a p = tt
-if_read_both (Err (fault.Read name)) A P Q h a p = h _ a p
-if_read_both (Err fault.Messages) A P Q h a p = tt
-if_read_both (Err (fault.Story n)) A P Q h a p = tt
-
 -- a fault of reading that has its cause
 pub read_caused : (f : Fault) (P Q : List ℕ → Type 0) (A : Type 0) → ((name : List ℕ) → P name → Q name) → Caused f P A → IfRead f Q
 read_caused fault.Memory P Q A h p = tt
 read_caused (fault.Read name) P Q A h p = h _ p
 read_caused fault.Messages P Q A h p = tt
 read_caused (fault.Story n) P Q A h p = tt
+
+-- the fault that is told for a turn that was given up
+
+pub if_halt_caused : {T : Type 0} (r : Result T Halt) (lost : Option Fault) (P Q : List ℕ → Type 0) (A B : Type 0)
+    → ((name : List ℕ) → P name → Q name) → (A → B)
+    → IfErr r (λ h. Caused (fault_of h lost) P A) → IfErr r (λ h. Caused (fault_of h lost) Q B)
+if_halt_caused (Ok x) lost P Q A B h k p = tt
+if_halt_caused (Err halt) lost P Q A B h k p = caused_more (fault_of halt lost) P Q A B h k p
+
+pub if_halt_read : {T : Type 0} (r : Result T Halt) (lost : Option Fault) (P Q : List ℕ → Type 0)
+    → ((name : List ℕ) → P name → Q name) → IfErr r (λ h. IfRead (fault_of h lost) P) → IfErr r (λ h. IfRead (fault_of h lost) Q)
+if_halt_read (Ok x) lost P Q h p = tt
+if_halt_read (Err halt) lost P Q h p = read_more (fault_of halt lost) P Q h p
+
+pub read_both : (f : Fault) (A : Type 0) (P Q : List ℕ → Type 0) → ((name : List ℕ) → A → P name → Q name)
+    → IfRead f (λ name. A) → IfRead f P → IfRead f Q
+read_both fault.Memory A P Q h a p = tt
+read_both (fault.Read name) A P Q h a p = h _ a p
+read_both fault.Messages A P Q h a p = tt
+read_both (fault.Story n) A P Q h a p = tt
 
 -- A turn, with its messages
 

@@ -1,6 +1,6 @@
 //! Why a compilation was given up.
 ghost use Rattle.std.specs.Prelude.{◌≡◌};
-ghost use Rattle.inf_session.specs.Faults.{Caused};
+ghost use Rattle.inf_session.specs.Faults.{Caused, fault_of};
 
 use inf_report::report::ReportFault;
 use std::alloc::{AllocError, Global};
@@ -41,6 +41,60 @@ impl From<ReportFault> for Fault {
     fn from(_error: ReportFault) -> Fault {
         Fault::Messages
     }
+}
+
+/// Why a turn of the reading was given up. Each turn answers this in place of a `Fault`, which is many times as large.
+#[derive(Clone, Copy, Debug, PartialEq, Eq)]
+pub(crate) enum Halt {
+    /// No memory was left.
+    Memory,
+    /// A source could not be read. The fault with its name was put aside.
+    Read,
+    /// The messages could not be written.
+    Messages,
+}
+
+impl From<AllocError> for Halt {
+    ghost use Rattle.inf_session.specs.declared.faults.Halt.TheVariants.{Memory};
+
+    ghost from_gives = { λ _ halt. halt ≡ Memory };
+
+    fn from(_error: AllocError) -> Halt {
+        Halt::Memory
+    }
+}
+
+impl From<ReportFault> for Halt {
+    ghost use Rattle.inf_session.specs.declared.faults.Halt.TheVariants.{Messages};
+
+    ghost from_gives = { λ _ halt. halt ≡ Messages };
+
+    fn from(_error: ReportFault) -> Halt {
+        Halt::Messages
+    }
+}
+
+/// Returns the fault that is told for `halt`. That of a source that could not be read was put aside in `lost`.
+#[cold]
+#[inline(never)]
+pub(crate) fn fault_of(halt: Halt, lost: Option<Fault>) -> Fault
+    ensures { result ≡ fault_of halt lost }
+{
+    match halt {
+        Halt::Memory => Fault::Memory,
+        Halt::Read => lost.unwrap_or(Fault::Memory),
+        Halt::Messages => Fault::Messages,
+    }
+}
+
+/// Puts the fault that the source with the name `name` could not be read aside in `lost`, and returns why the turn is given up.
+#[cold]
+#[inline(never)]
+pub(crate) fn lose(alloc: Global, name: &str, lost: &mut Option<Fault>) -> Halt
+    ensures { Caused (fault_of result lost.new) (λ told. told ≡ name.now) ⊥ }
+{
+    *lost = Some(unread(alloc, name));
+    Halt::Read
 }
 
 /// Makes the fault that the source with the name `name` could not be read.

@@ -8,7 +8,7 @@ ghost use Rattle.inf_lexer.specs.Names.{can_name};
 ghost use Rattle.inf_sources.specs.Calls.{Honestly, IsUnreadable, StaysFit, Went};
 ghost use Rattle.inf_sources.specs.Open.{nesting, opened_since};
 ghost use Rattle.inf_session.specs.Choices.{chosen, most_quoted};
-ghost use Rattle.inf_session.specs.Faults.{Caused, HidesNoFailure, IfRead};
+ghost use Rattle.inf_session.specs.Faults.{Caused, HaltHidesNone, HidesNoFailure, IfRead, fault_of};
 ghost use Rattle.inf_session.specs.Delivered.{Appends, Delivers, EndsCleanOf, TakesFront, story_in};
 ghost use Rattle.inf_session.specs.Ending.{finished};
 ghost use Rattle.inf_settings.specs.Bounds.{AreSet};
@@ -24,7 +24,7 @@ ghost use Rattle.inf_session.specs.Standing.{used_by};
 ghost use Rattle.inf_session.specs.Weights.{GoesOn, room, weight};
 
 use crate::compiled::{Compiled, Status, conclude};
-use crate::faults::{Fault, unread};
+use crate::faults::{Fault, Halt, fault_of, lose};
 use crate::setup::Setup;
 use crate::tokens::take;
 use inf_compilation::context::Context;
@@ -213,9 +213,14 @@ impl<'a, B: Bounds> Session<'a, B> {
         if self.has_ended() {
             return Ok(self.came_to(true));
         }
-        self.turn(files, messages)?;
+        let mut lost = None;
+        if let Err(halt) = self.turn(files, messages, &mut lost) {
+            return Err(fault_of(halt, lost));
+        }
         while !self.has_parted() {
-            self.turn(files, messages)?;
+            if let Err(halt) = self.turn(files, messages, &mut lost) {
+                return Err(fault_of(halt, lost));
+            }
         }
         Ok(self.came_to(false))
     }
@@ -329,7 +334,12 @@ impl<'a, B: Bounds> Session<'a, B> {
     }
 
     /// Makes one turn: takes a token, does as it asks, and writes the messages.
-    fn turn<F: Files, M: Sink>(&mut self, files: &mut F, messages: &mut M) -> Result<(), Fault>
+    fn turn<F: Files, M: Sink>(
+        &mut self,
+        files: &mut F,
+        messages: &mut M,
+        lost: &mut Option<Fault>,
+    ) -> Result<(), Halt>
         requires is_open { length self.old.open_files.outer < F.depth files.old }
         requires goes { self.old.open_files.lexer.has_failed ≡ false }
         requires set { IsSet self.old }
@@ -351,27 +361,27 @@ impl<'a, B: Bounds> Session<'a, B> {
         ensures setup { self.new.setup ≡ self.old.setup }
         ensures set { IsSet self.new }
         ensures longest { let most = most_quoted (chosen self.old.setup) in self.old.quoted ≤ most → OnOk result (self.new.quoted ≤ most) }
-        ensures fault { IfErr result (λ fault. Caused fault (λ name. IsUnreadable F.Files files.old files.new self.old.open_files
-            self.new.open_files)
+        ensures fault { IfErr result (λ halt. Caused (fault_of halt lost.new)
+            (λ name. IsUnreadable F.Files files.old files.new self.old.open_files self.new.open_files)
             (Rose (M.failures messages.old) (M.failures messages.new))) }
-        ensures unread { IfErr result (λ fault. IfRead fault (λ name. M.taken messages.new ≡ M.taken messages.old)) }
+        ensures unread { IfErr result (λ halt. IfRead (fault_of halt lost.new) (λ name. M.taken messages.new ≡ M.taken messages.old)) }
         ensures stops { Honestly F.Files files.old self.old.open_files (λ start.
-            IfErr result (λ fault. IfRead fault (λ name. (told : List ℕ) → StopsFor B.most (Rose (F.faults files.old) (F.faults files.new))
-            (F.sources files.old) (chosen self.old.setup)
+            IfErr result (λ halt. IfRead (fault_of halt lost.new) (λ name. (told : List ℕ) →
+            StopsFor B.most (Rose (F.faults files.old) (F.faults files.new)) (F.sources files.old) (chosen self.old.setup)
             (state (F.sources files.old) start (F.openings files.old) self.old told) start (F.openings files.new) self.new.open_files
             name))) }
         ensures fits { OnOk result (StaysFit F.Files files.old files.new self.old.open_files) }
         ensures wrote { Appends M.Sink messages.old messages.new
-            × HidesNoFailure result (M.failures messages.old) (M.failures messages.new) }
+            × HaltHidesNone result lost.new (M.failures messages.old) (M.failures messages.new) }
     {
-        self.take_token(files)?;
-        self.follow(files)?;
+        self.take_token(files, lost)?;
+        self.follow(files, lost)?;
         self.progress.work.report.flush(messages)?;
         Ok(())
     }
 
     /// Takes the next token of the innermost file.
-    fn take_token<F: Files>(&mut self, files: &mut F) -> Result<(), Fault>
+    fn take_token<F: Files>(&mut self, files: &mut F, lost: &mut Option<Fault>) -> Result<(), Halt>
         requires is_open { length self.old.open_files.outer < F.depth files.old }
         requires goes { self.old.open_files.lexer.has_failed ≡ false }
         ensures stepped { Honestly F.Files files.old self.old.open_files (λ start.
@@ -388,18 +398,18 @@ impl<'a, B: Bounds> Session<'a, B> {
         ensures few { OnOk result (self.new.open_files.lexer.window.given ≤ 16777216) }
         ensures longest { let most = self.old.open_files.nest.limit in self.old.quoted ≤ most → OnOk result (self.new.quoted ≤ most) }
         ensures stops { Honestly F.Files files.old self.old.open_files (λ start.
-            IfErr result (λ fault. IfRead fault (λ name. (told : List ℕ) → StopsInToken (Rose (F.faults files.old) (F.faults files.new))
-            (F.sources files.old)
+            IfErr result (λ halt. IfRead (fault_of halt lost.new) (λ name. (told : List ℕ) →
+            StopsInToken (Rose (F.faults files.old) (F.faults files.new)) (F.sources files.old)
             (state (F.sources files.old) start (F.openings files.old) self.old told) start (F.openings files.new) self.new.open_files
             name))) }
-        ensures fault { IfErr result (λ fault. Caused fault (λ name. IsUnreadable F.Files files.old files.new self.old.open_files
-            self.new.open_files) ⊥) }
+        ensures fault { IfErr result (λ halt. Caused (fault_of halt lost.new)
+            (λ name. IsUnreadable F.Files files.old files.new self.old.open_files self.new.open_files) ⊥) }
         ensures fits { OnOk result (StaysFit F.Files files.old files.new self.old.open_files) }
     {
         let token = match self.open_files.next(files) {
             Ok(token) => token,
-            Err(LexFault::Memory) => return Err(Fault::Memory),
-            Err(LexFault::Read) => return Err(unread(self.alloc, self.open_files.innermost())),
+            Err(LexFault::Memory) => return Err(Halt::Memory),
+            Err(LexFault::Read) => return Err(lose(self.alloc, self.open_files.innermost(), lost)),
         };
         let context = Context {
             files: self.open_files.names(),
@@ -419,7 +429,7 @@ impl<'a, B: Bounds> Session<'a, B> {
 
     /// Goes on behind a token: does as a directive asks, or leaves a file that has ended, and tells the conditionals that had to
     /// end here.
-    fn follow<F: Files>(&mut self, files: &mut F) -> Result<(), Fault>
+    fn follow<F: Files>(&mut self, files: &mut F, lost: &mut Option<Fault>) -> Result<(), Halt>
         requires is_open { length self.old.open_files.outer < F.depth files.old }
         requires goes { self.old.open_files.lexer.has_failed ≡ false }
         requires set { IsSet self.old }
@@ -437,22 +447,22 @@ impl<'a, B: Bounds> Session<'a, B> {
         ensures setup { self.new.setup ≡ self.old.setup }
         ensures set { IsSet self.new }
         ensures quoted { OnOk result (self.new.quoted ≡ self.old.quoted) }
-        ensures fault { IfErr result (λ fault. Caused fault (λ name. IsUnreadable F.Files files.old files.new self.old.open_files
-            self.new.open_files) ⊥) }
+        ensures fault { IfErr result (λ halt. Caused (fault_of halt lost.new)
+            (λ name. IsUnreadable F.Files files.old files.new self.old.open_files self.new.open_files) ⊥) }
         ensures stops { Honestly F.Files files.old self.old.open_files (λ start.
-            IfErr result (λ fault. IfRead fault (λ name. (told : List ℕ) → StopsAtInclusion (Rose (F.faults files.old) (F.faults files.new))
-            (F.sources files.old) (chosen self.old.setup)
+            IfErr result (λ halt. IfRead (fault_of halt lost.new) (λ name. (told : List ℕ) →
+            StopsAtInclusion (Rose (F.faults files.old) (F.faults files.new)) (F.sources files.old) (chosen self.old.setup)
             (state (F.sources files.old) start (F.openings files.old) self.old told) (opened_since start (F.openings files.new)) name))) }
         ensures fits { OnOk result (StaysFit F.Files files.old files.new self.old.open_files) }
     {
-        self.carry_out(files)?;
+        self.carry_out(files, lost)?;
         self.rest()?;
         Ok(())
     }
 
     /// Does as a directive asks of the reading that ended with the last token. At the end of an included file reading goes on in
     /// the file that includes it.
-    fn carry_out<F: Files>(&mut self, files: &mut F) -> Result<(), Fault>
+    fn carry_out<F: Files>(&mut self, files: &mut F, lost: &mut Option<Fault>) -> Result<(), Halt>
         requires is_open { length self.old.open_files.outer < F.depth files.old }
         requires goes { self.old.open_files.lexer.has_failed ≡ false }
         requires set { IsSet self.old }
@@ -470,11 +480,11 @@ impl<'a, B: Bounds> Session<'a, B> {
         ensures setup { self.new.setup ≡ self.old.setup }
         ensures set { IsSet self.new }
         ensures quoted { OnOk result (self.new.quoted ≡ self.old.quoted) }
-        ensures fault { IfErr result (λ fault. Caused fault (λ name. IsUnreadable F.Files files.old files.new self.old.open_files
-            self.new.open_files) ⊥) }
+        ensures fault { IfErr result (λ halt. Caused (fault_of halt lost.new)
+            (λ name. IsUnreadable F.Files files.old files.new self.old.open_files self.new.open_files) ⊥) }
         ensures stops { Honestly F.Files files.old self.old.open_files (λ start.
-            IfErr result (λ fault. IfRead fault (λ name. (told : List ℕ) → StopsAtInclusion (Rose (F.faults files.old) (F.faults files.new))
-            (F.sources files.old) (chosen self.old.setup)
+            IfErr result (λ halt. IfRead (fault_of halt lost.new) (λ name. (told : List ℕ) →
+            StopsAtInclusion (Rose (F.faults files.old) (F.faults files.new)) (F.sources files.old) (chosen self.old.setup)
             (state (F.sources files.old) start (F.openings files.old) self.old told) (opened_since start (F.openings files.new)) name))) }
         ensures fits { OnOk result (StaysFit F.Files files.old files.new self.old.open_files) }
     {
@@ -488,7 +498,7 @@ impl<'a, B: Bounds> Session<'a, B> {
             return Ok(());
         }
         match self.progress.work.take_asked() {
-            Request::Include { text, unit } => self.include(files, text.as_slice(), unit),
+            Request::Include { text, unit } => self.include(files, text.as_slice(), unit, lost),
             Request::End => {
                 self.is_over = true;
                 Ok(())
@@ -523,7 +533,13 @@ impl<'a, B: Bounds> Session<'a, B> {
 
     /// Enters the file that the text of an inclusion names, or tells, at the place of its unit, the reason why no file is entered.
     #[inline(never)]
-    fn include<F: Files>(&mut self, files: &mut F, text: &[u8], unit: Place) -> Result<(), Fault>
+    fn include<F: Files>(
+        &mut self,
+        files: &mut F,
+        text: &[u8],
+        unit: Place,
+        lost: &mut Option<Fault>,
+    ) -> Result<(), Halt>
         requires goes { self.old.open_files.lexer.has_failed ≡ false }
         requires set { IsSet self.old }
         ensures included { Honestly F.Files files.old self.old.open_files (λ start.
@@ -539,11 +555,11 @@ impl<'a, B: Bounds> Session<'a, B> {
         ensures setup { self.new.setup ≡ self.old.setup }
         ensures set { IsSet self.new }
         ensures quoted { OnOk result (self.new.quoted ≡ self.old.quoted) }
-        ensures fault { IfErr result (λ fault. Caused fault (λ name. IsUnreadable F.Files files.old files.new self.old.open_files
-            self.new.open_files) ⊥) }
-        ensures stops { Honestly F.Files files.old self.old.open_files (λ start. IfErr result (λ fault. IfRead fault (λ name.
-            (name ≡ text.now) × NotTried (Rose (F.faults files.old) (F.faults files.new)) (F.sources files.old)
-            (chosen self.old.setup).directories text.now
+        ensures fault { IfErr result (λ halt. Caused (fault_of halt lost.new)
+            (λ name. IsUnreadable F.Files files.old files.new self.old.open_files self.new.open_files) ⊥) }
+        ensures stops { Honestly F.Files files.old self.old.open_files (λ start.
+            IfErr result (λ halt. IfRead (fault_of halt lost.new) (λ name. (name ≡ text.now)
+            × NotTried (Rose (F.faults files.old) (F.faults files.new)) (F.sources files.old) (chosen self.old.setup).directories text.now
             (nesting (F.sources files.old) start (F.openings files.old) self.old.open_files)
             (opened_since start (F.openings files.new))))) }
         ensures fits { OnOk result (StaysFit F.Files files.old files.new self.old.open_files) }
@@ -559,8 +575,8 @@ impl<'a, B: Bounds> Session<'a, B> {
             Ok(Included::Entered) => return Ok(()),
             Ok(Included::NotThere) => Message::NoInclude(text),
             Ok(Included::TooDeep) => Message::TooManyFiles,
-            Err(IncludeFault::Memory) => return Err(Fault::Memory),
-            Err(IncludeFault::Device) => return Err(unread(self.alloc, shown(text))),
+            Err(IncludeFault::Memory) => return Err(Halt::Memory),
+            Err(IncludeFault::Device) => return Err(lose(self.alloc, shown(text), lost)),
         };
         self.conditionals.give_among(conditionals);
         let at = location(self.open_files.names(), unit);
@@ -571,7 +587,7 @@ impl<'a, B: Bounds> Session<'a, B> {
     /// Leaves a file at its end: tells the conditionals that are open in it. An included file is closed, and reading goes on in the
     /// one that includes it.
     #[inline(never)]
-    fn leave<F: Files>(&mut self, files: &mut F) -> Result<(), Fault>
+    fn leave<F: Files>(&mut self, files: &mut F) -> Result<(), Halt>
         requires is_open { length self.old.open_files.outer < F.depth files.old }
         requires set { IsSet self.old }
         requires at_end { is_mode_ended self.old.progress.reader.mode ≡ true }
@@ -582,7 +598,7 @@ impl<'a, B: Bounds> Session<'a, B> {
             opened_since start (F.openings files.new) ≡ opened_since start (F.openings files.old)) }
         ensures went { Went F.Files files.old files.new self.old.open_files self.new.open_files }
         ensures goes_on { OnOk result ((ended self.new ≡ true) ⊎ GoesOn true self.old.open_files self.new.open_files) }
-        ensures fault { IfErr result (λ fault. Caused fault (λ name. ⊥) ⊥) }
+        ensures memory { IfErr result (λ halt. halt ≡ Halt.Memory) }
         ensures goes { self.old.open_files.lexer.has_failed ≡ false → self.new.open_files.lexer.has_failed ≡ false }
         ensures setup { self.new.setup ≡ self.old.setup }
         ensures set { IsSet self.new }

@@ -10,6 +10,8 @@ ghost use Rattle.inf_statements.specs.Assembly.{same, some_printed, store_findin
 ghost use Rattle.inf_statements.specs.Assembly.{with_end, wrong_opcode};
 ghost use Rattle.inf_constructs.specs.Roots.{trees_from};
 ghost use Rattle.inf_statements.specs.Statements.{PrintsText};
+ghost use Rattle.inf_unit.specs.Opcodes.{opcode_of};
+ghost use Rattle.inf_unit.specs.Units.{bytes_at, next_place};
 
 use crate::operands::{is_stack, looked_name};
 use crate::printing::print_text;
@@ -25,7 +27,6 @@ use inf_settings::bounds::Bounds;
 use inf_templates::simple_of;
 use inf_text::CharSet;
 use inf_unit::items::Item;
-use inf_unit::opcodes::opcode_of;
 use inf_unit::unit::{next_place, order};
 use inf_unit::unit_tokens::UnitTokens;
 use std::alloc::{AllocError, Global};
@@ -238,22 +239,24 @@ impl Line<'_> {
         }
     }
 
-    /// Returns the finding about the line's opcode, about its operands, whose trees are in `nodes` and begin at `roots`, or about the
-    /// variable in which it stores. The line begins at place `begun` of its tokens.
+    /// Returns the finding about the line's opcode, which is `opcode`, about its operands, whose trees are in `nodes` and begin at `roots`, or
+    /// about the variable in which it stores. The line begins at place `begun` of its tokens.
     pub(crate) fn finding<B: Bounds>(
         &self,
         names: &Symbols<Place, B>,
         begun: usize,
+        opcode: Option<Opcode>,
         nodes: &Nodes,
         roots: &[Root],
     ) -> Option<Finding>
+        requires { opcode ≡ opcode_of (bytes_at self.now.tokens.now (next_place begun)) }
         ensures { let line = self.now in
             result ≡ line_finding B.most (listed line.locals.now) names.now line.tokens.now begun line.ends
             (trees_from nodes.now roots.now) }
     {
         let behind = next_place(begun);
         let stores = self.store_finding(names);
-        let is_fit = match opcode_of(self.tokens.bytes_at(behind)) {
+        let is_fit = match opcode {
             Some(opcode) => fits::<B>(opcode, nodes, roots, self.ends),
             None => false,
         };

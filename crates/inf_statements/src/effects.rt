@@ -2,6 +2,7 @@
 ghost use Rattle.std.specs.Prelude.{◌≡◌, ◌≤◌, ◌+◌, IfOk, OnOk, length, map};
 ghost use Rattle.inf_expressions.specs.Forests.{trees_in};
 ghost use Rattle.inf_expressions.specs.Findings.{wrong_kind};
+ghost use Rattle.inf_unit.specs.Opcodes.{opcode_of};
 ghost use Rattle.inf_unit.specs.Units.{next_place, order};
 ghost use Rattle.inf_statements.specs.Assembly.{ends_of};
 ghost use Rattle.inf_constructs.specs.Labels.{is_given};
@@ -29,7 +30,6 @@ use inf_settings::bounds::Bounds;
 use inf_templates::Tasks;
 use inf_text::{CharSet, Text};
 use inf_unit::items::Item;
-use inf_unit::opcodes::opcode_of;
 use inf_unit::texts::text_of;
 use inf_unit::unit::{next_place, order};
 use inf_unit::unit_tokens::UnitTokens;
@@ -145,17 +145,19 @@ impl Site<'_> {
         }
     }
 
-    /// Returns the finding about an assembly line beside its operands, whose trees are in `nodes` and begin at `roots`. Names are only
-    /// looked up in `names`.
+    /// Returns the finding about an assembly line, which has `opcode`, beside its operands, whose trees are in `nodes` and begin at `roots`.
+    /// Names are only looked up in `names`.
     pub fn line_finding<B: Bounds>(
         &self,
         names: &Symbols<Place, B>,
+        opcode: Option<Opcode>,
         nodes: &Nodes,
         roots: &[Root],
     ) -> Option<Finding>
+        requires { opcode ≡ opcode_of (name_behind (site self.now)) }
         ensures { result ≡ site_finding B.most (site self.now) names.now (trees_from nodes.now roots.now) }
     {
-        self.line().finding(names, self.begun, nodes, roots)
+        self.line().finding(names, self.begun, opcode, nodes, roots)
     }
 
     /// Returns the settings of printing at this site, where the statement returns if `returns`.
@@ -263,33 +265,33 @@ impl Site<'_> {
         out.mark(label)
     }
 
-    /// Lays the code of `statement`, which has no error and the trees of `forest`, in `out`. Labels that it names or places go to `labels`.
+    /// Lays the code of `statement`, which has no error and the trees of `forest`, in `out`; an assembly line has `opcode`. Labels that the
+    /// statement names or places go to `labels`.
     #[tactic(auto, unfolding(crate::specs::Effects::statement_laid))]
     pub fn lay<B: Bounds>(
         &self,
         statement: Statement,
+        opcode: Option<Opcode>,
         forest: &Forest,
         labels: &mut Labels,
         tasks: &mut Tasks,
         out: &mut Output<B>,
     ) -> Result<(), AllocError>
+        requires { statement ≡ Statement.Assembly → opcode ≡ opcode_of (name_behind (site self.now)) }
         ensures { OnOk result ((labels.new, out.new)
             ≡ statement_laid B.most (site self.now) statement (map tree_in (trees_in forest.now)) labels.old out.old) }
     {
         match statement {
             Statement::Jump => self.lay_jump(labels, out),
             Statement::Place => self.lay_place(labels, out),
-            Statement::Assembly => {
-                let opcode = opcode_of(self.name());
-                lay_line(
-                    self.line(),
-                    opcode,
-                    &forest.nodes,
-                    &forest.roots,
-                    labels,
-                    out,
-                )
-            }
+            Statement::Assembly => lay_line(
+                self.line(),
+                opcode,
+                &forest.nodes,
+                &forest.roots,
+                labels,
+                out,
+            ),
             _ => self.lay_code(statement, forest, tasks, out),
         }
     }

@@ -435,6 +435,10 @@ acted a u = played (role_of a) u
 
 -- Whole units
 
+-- Opcode of an assembly line, by the name behind its first token.
+abbrev pub line_opcode : Unit → Option Opcode
+line_opcode u = opcode_of (bytes_at u.tokens (next_place u.begun))
+
 -- Place of the name of the label to which an assembly line jumps, by its opcode and its operands; the name is then no expression.
 abbrev pub jump_label : List Leaf → Option ℕ
 jump_label ((leaf.Alone at) ∷ []) = Some at
@@ -445,7 +449,7 @@ jump_by None leaves = None
 jump_by (Some op) leaves = if (row_of op).jumps then jump_label leaves else None
 
 abbrev pub jump_of : Unit → Option ℕ
-jump_of u = if is_assembly u then jump_by (opcode_of (bytes_at u.tokens (next_place u.begun))) u.gathering.leaves else None
+jump_of u = if is_assembly u then jump_by (line_opcode u) u.gathering.leaves else None
 
 abbrev pub prepared_by : Option ℕ → Unit → Unit
 prepared_by None u = u

@@ -9,7 +9,7 @@ pub mod kinds;
 pub mod long_lines;
 pub mod messages;
 pub mod names;
-pub mod opcodes;
+mod opcodes;
 pub mod roles;
 pub mod steps;
 pub mod texts;

@@ -6,7 +6,7 @@ use inf_opcode::Opcode;
 
 /// Returns the opcode whose name is `name`, in any case. There is none for a name with a byte over 127, which no name of a source has.
 #[tactic(auto, unfolding(crate::specs::Opcodes::opcode_of))]
-pub fn opcode_of(name: &[u8]) -> Option<Opcode>
+pub(crate) fn opcode_of(name: &[u8]) -> Option<Opcode>
     ensures { result ≡ opcode_of name.now }
 {
     if !name.is_ascii() {

@@ -1,10 +1,10 @@
 //! The unit at hand: its tokens, and the parts that the actions of the grammar gather of them.
-ghost use Rattle.std.specs.Prelude.{◌≡◌, ◌≤◌, ◌++◌, ◌∷◌, [], None, OnOk, Some, length};
+ghost use Rattle.std.specs.Prelude.{◌≡◌, ◌≤◌, ◌++◌, ◌∷◌, [], None, IfOk, OnOk, Some, length};
 ghost use Rattle.inf_unit.specs.AtHand.{unit};
 ghost use Rattle.inf_unit.specs.Spelled.{spelled};
 ghost use Rattle.inf_unit.specs.Units.{acted, begun, crowd_begun, depth_behind, first_place, forgotten, headed_more, is_again, is_alone};
-ghost use Rattle.inf_unit.specs.Units.{is_assembly, value_sifted};
-ghost use Rattle.inf_unit.specs.Units.{is_full, is_sign, jump_label, jump_of, last_leaf, last_passed, leaf_of, long_at, marked_from};
+ghost use Rattle.inf_unit.specs.Units.{is_assembly, marked_from, value_sifted};
+ghost use Rattle.inf_unit.specs.Units.{is_full, is_sign, jump_label, jump_of, last_leaf, last_passed, leaf_of, line_opcode, long_at};
 ghost use Rattle.inf_unit.specs.Units.{next_place, no_unit, noted, opcode_text, operands_passed, order, outer_tokens, over, own_place};
 ghost use Rattle.inf_unit.specs.Units.{prepared, printed, ruled, semicolon_taken, sifted, stepped, taken, text_passed, told_leaf, with_item};
 
@@ -22,7 +22,7 @@ use inf_gathering::gathering::{Gathering, Leaf};
 use inf_names::hashing::NameHashing;
 use inf_names::locals::Headed;
 use inf_names::spellings::Name;
-use inf_opcode::MOST_OPERANDS;
+use inf_opcode::{MOST_OPERANDS, Opcode};
 use inf_scanner::{Mark, Place, TokenKind};
 use inf_syntax::Action;
 use std::alloc::{AllocError, Global};
@@ -466,14 +466,23 @@ impl Unit {
         }
     }
 
-    /// Returns the place of the name of the label to which the unit jumps, where it is the assembly line of a jump with one name.
-    fn jump_of(&self) -> Option<usize>
+    /// Returns the opcode that an assembly line has, by the name behind its first token, if that is the name of one.
+    fn opcode(&self) -> Option<Opcode>
+        ensures { result ≡ line_opcode (unit self.now) }
+    {
+        opcode_of(self.tokens.bytes_at(next_place(self.begun)))
+    }
+
+    /// Returns the place of the name of the label to which the unit jumps, where it is the assembly line of a jump with one name. The
+    /// opcode of a line is `opcode`.
+    fn jump_of(&self, opcode: Option<Opcode>) -> Option<usize>
+        requires { opcode ≡ line_opcode (unit self.now) }
         ensures { result ≡ jump_of (unit self.now) }
     {
         if !self.is_assembly() {
             return None;
         }
-        let opcode = opcode_of(self.tokens.bytes_at(next_place(self.begun)))?;
+        let opcode = opcode?;
         if opcode.row().jumps {
             jump_label(self.gathering.leaves())
         } else {
@@ -481,15 +490,29 @@ impl Unit {
         }
     }
 
+    /// Prepares a whole unit: the name of the label to which an assembly line jumps is no expression. Returns the opcode of a line.
+    pub fn prepare_line(&mut self) -> Result<Option<Opcode>, AllocError>
+        ensures prepared { OnOk result (unit self.new ≡ prepared (unit self.old)) }
+        ensures opcode { IfOk result (λ opcode. opcode ≡ line_opcode (unit self.new)) }
+    {
+        let opcode = self.opcode();
+        let Some(label) = self.jump_of(opcode) else {
+            return Ok(opcode);
+        };
+        self.gathering.clear();
+        self.item(Item::Jump(label))?;
+        Ok(opcode)
+    }
+
     /// Prepares a whole unit: the name of the label to which an assembly line jumps is no expression.
     pub fn prepare(&mut self) -> Result<(), AllocError>
         ensures { OnOk result (unit self.new ≡ prepared (unit self.old)) }
     {
-        let Some(label) = self.jump_of() else {
+        if !self.is_assembly() {
             return Ok(());
-        };
-        self.gathering.clear();
-        self.item(Item::Jump(label))
+        }
+        self.prepare_line()?;
+        Ok(())
     }
 
     /// Gathers the expression at hand by `step`, whose leaf or operator is the last token.

@@ -9,8 +9,8 @@ use Rattle.inf_compilation.proofs.Noting.{own_noted, trees_noted}
 use Rattle.inf_compilation.proofs.compilation.Compilation.found_in.Goals as goal
 
 -- src/parts.rt:292:13
-pub own_finding-own-requires : goal.own_finding-own-requires
-own_finding-own-requires g c =
+pub own_finding-own-requires-clause-trees : goal.own_finding-own-requires-clause-trees
+own_finding-own-requires-clause-trees g c =
     subst (λ w. rooted_in c.in_ok-finding.looked.forest ≡ trees_at (order_of c.args.part w) (wanted_of c.args.part) (operands_of w) w)
     (sym c.in_ok-finding.ensures.noted)
     (trees_noted c.args.part (work c.args.self.now) (rooted_in c.in_ok-finding.looked.forest) c.in_ok-finding.ensures.trees)

@@ -14,7 +14,7 @@ use Rattle.inf_session.specs.Standing.{state}
 use Rattle.inf_session.specs.Weights.{Turns}
 use Rattle.inf_session.proofs.Opening.{carried_out_within, heeds, not_ended, turns}
 use Rattle.inf_session.proofs.Turning.{turned_went}
-use Rattle.inf_session.proofs.Standings.{if_read_more}
+use Rattle.inf_session.proofs.Standings.{if_halt_read}
 use Rattle.inf_session.proofs.session.Session.carry_out.Goals.{in-Ended, in_default}
 use Rattle.inf_session.proofs.session.Session.carry_out.Goals as goal
 
@@ -82,7 +82,7 @@ returns-in-Include-clause-stops g c = λ honest start nested.
           c.args.self.now.progress.reader.mode w.in_default.not-Ended
     ] in
     let asks = sym c.in-Include.ensures.asked ∙ ap (λ (t : List ℕ). Include t unit) (sym c.as_slice.ensures.value) in
-    if_read_more c.include.result (λ name. (name ≡ text) × NotTried failed s o.directories text here opened)
+    if_halt_read c.include.result c.include.new.lost (λ name. (name ≡ text) × NotTried failed s o.directories text here opened)
     (λ name. (told : List ℕ) → StopsAtInclusion failed s o (was told) opened name)
     (λ name h told. record {
       unit = unit;

@@ -5,6 +5,7 @@ use Rattle.inf_session.specs.Choices.{chosen}
 use Rattle.inf_session.proofs.Opening.{in_vain}
 use Rattle.inf_devices.specs.Files.{Rose}
 use Rattle.inf_sources.specs.Calls.{IsUnreadable}
+use Rattle.inf_session.specs.Faults.{fault_of}
 use Rattle.inf_session.specs.Leading.{NotTried}
 use Rattle.inf_session.proofs.Standings.{caused_more, read_caused}
 use Rattle.inf_session.proofs.session.Session.include.Goals as goal
@@ -19,8 +20,8 @@ returns-in-Err-Device-clause-fault g c =
       | inl rose ↦ inl rose
       | inr many ↦ inr (inr many.0)
     ] in
-    caused_more c.unread.result (λ told. told ≡ c.shown.result.now) (λ name. unreadable) ⊥ ⊥ (λ name told. cause) (λ never. never)
-    c.unread.ensures
+    caused_more (fault_of c.lose.result c.lose.new.lost) (λ told. told ≡ c.shown.result.now) (λ name. unreadable) ⊥ ⊥
+    (λ name told. cause) (λ never. never) c.lose.ensures
 
 pub returns-in-Err-Device-clause-stops : goal.returns-in-Err-Device-clause-stops
 returns-in-Err-Device-clause-stops g c = λ honest start nested.
@@ -37,8 +38,8 @@ returns-in-Err-Device-clause-stops g c = λ honest start nested.
       | inl rose ↦ inl rose
       | inr many ↦ inr (many.1 honest start nested)
     ] in
-    read_caused c.unread.result (λ told. told ≡ c.shown.result.now) (λ name. (name ≡ text) × NotTried failed s directories text was opened)
-    ⊥
+    read_caused (fault_of c.lose.result c.lose.new.lost) (λ told. told ≡ c.shown.result.now)
+    (λ name. (name ≡ text) × NotTried failed s directories text was opened) ⊥
     (λ name is. (
       is ∙ c.shown.ensures (c.in-Err-Device.ensures.named device),
       record {
@@ -46,7 +47,7 @@ returns-in-Err-Device-clause-stops g c = λ honest start nested.
         openings_are = subst (λ f. OpenedInVain f (inclusion s directories text was) was opened) c.in-Err-Device.field-0-is
             (c.in-Err-Device.ensures.in_vain honest start nested);
       },
-    )) c.unread.ensures
+    )) c.lose.ensures
 
 pub returns-in-Err-Device-clause-opened : goal.returns-in-Err-Device-clause-opened
 returns-in-Err-Device-clause-opened g c = λ honest start nested.

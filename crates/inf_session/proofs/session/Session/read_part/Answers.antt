@@ -1,5 +1,4 @@
-use Rattle.std.proofs.Common.{rules, ◌≡◌, ℕ, ◌≤◌, List, suc, zero, [], false, true, IfErr, IsTrue, ap, refl, sym, subst, ◌∙◌}
-use Rattle.inf_opcode.proofs.Growing.{on_err}
+use Rattle.std.proofs.Common.{◌≡◌, ℕ, ◌≤◌, List, suc, zero, [], false, true, IsTrue, ap, refl, sym, subst, ◌∙◌}
 use Rattle.inf_devices.specs.Files.{Rose, Sources}
 use Rattle.inf_lexer.proofs.Candidates.{rose_earlier}
 use Rattle.inf_sources.specs.Open.{opened_since}
@@ -13,12 +12,13 @@ use Rattle.inf_session.specs.Standing.{came_to, ended, parted, state}
 use Rattle.inf_session.proofs.Delivering.{appends_then}
 use Rattle.inf_session.proofs.Leadings.{cuts_then, given_up, opened_then, part_first, part_none, part_then, still_going, stops_more}
 use Rattle.inf_session.proofs.Leadings.{writes_none, writes_then}
+use Rattle.inf_session.specs.declared.faults.Fault.{Fault}
 use Rattle.inf_session.specs.declared.setup.Setup.{Setup}
 use Rattle.inf_session.proofs.Bounds.{bounded_still}
-use Rattle.inf_session.proofs.Standings.{if_caused_more, if_read_both}
+use Rattle.inf_session.proofs.Standings.{caused_more, read_both}
 use Rattle.inf_session.proofs.Weighing.{ends_or_falls, falls_then}
 use Rattle.inf_session.specs.Weights.{weight}
-use Rattle.inf_session.proofs.Quiet.{hides_behind}
+use Rattle.inf_session.proofs.Quiet.{unless_more}
 use Rattle.inf_session.proofs.session.Session.read_part.Goals as goal
 
 pub loop-self-init : goal.loop-self-init
@@ -26,7 +26,7 @@ loop-self-init g c =
     let files = g.F.Files in
     let s = files.sources c.args.files.now in
     let o = chosen c.args.self.now.setup in
-    let took = c.in_ok-turn.ensures in
+    let took = c.in_default.ensures in
     let going : ended c.args.self.now ≡ false = sym c.has_ended.ensures ∙ c.if-has_ended.false in
     record {
       led = λ honest start nested.
@@ -58,7 +58,7 @@ pub loop-self-preserved : goal.loop-self-preserved
 loop-self-preserved g c =
     let files = g.F.Files in
     let inv = c.loop-self.invariant in
-    let took = c.in_ok-turn-2.ensures in
+    let took = c.in_default-turn.ensures in
     let s = files.sources c.args.files.now in
     let t = files.sources c.loop-self.files in
     let o = chosen c.args.self.now.setup in
@@ -114,8 +114,8 @@ loop-self-preserved g c =
       quiet = took.wrote.1.0 ∙ inv.quiet;
     }
 
-pub returns-in_err-turn-2-clause-cut : goal.returns-in_err-turn-2-clause-cut
-returns-in_err-turn-2-clause-cut g c = λ honest start nested.
+pub returns-in-Err-turn-clause-cut : goal.returns-in-Err-turn-clause-cut
+returns-in-Err-turn-clause-cut g c = λ honest start nested.
     let files = g.F.Files in
     let inv = c.loop-self.invariant in
     let s = files.sources c.args.files.now in
@@ -133,8 +133,7 @@ returns-in_err-turn-2-clause-cut g c = λ honest start nested.
     (subst (λ (x : Sources). CutsShort (turn g.B.Bounds.most x p) (state x start here c.loop-self.self)
     (g.M.Sink.taken c.loop-self.messages)
     (g.M.Sink.taken c.turn-in-loop-self.new.messages)) inv.went.sources
-    (c.in_err-turn-2.ensures.cut still start (inv.went.nested honest start nested))) in
-    on_err c.from_residual-in_err-turn-2.result (
+    (c.in-Err-turn.ensures.cut still start (inv.went.nested honest start nested))) in (
       suc (suc so_far.0),
       cuts_then g.B.Bounds.most s o (suc so_far.0) (state s start first c.args.self.now) (state s start here c.loop-self.self)
           (g.M.Sink.taken c.args.messages.now) (g.M.Sink.taken c.loop-self.messages) (g.M.Sink.taken c.turn-in-loop-self.new.messages)
@@ -150,19 +149,18 @@ returns-then-has_ended-clause-part g c = λ honest start nested.
     let old = g.M.Sink.taken c.args.messages.now in
     (zero, (part_none g.B.Bounds.most s o was old, writes_none g.B.Bounds.most s o was old))
 
-pub returns-in_err-turn-clause-cut : goal.returns-in_err-turn-clause-cut
-returns-in_err-turn-clause-cut g c = λ honest start nested.
+pub returns-in-Err-clause-cut : goal.returns-in-Err-clause-cut
+returns-in-Err-clause-cut g c = λ honest start nested.
     let files = g.F.Files in
     let s = files.sources c.args.files.now in
     let o = chosen c.args.self.now.setup in
     let was = state s start (files.openings c.args.files.now) c.args.self.now in
     let old = g.M.Sink.taken c.args.messages.now in
-    let going : ended c.args.self.now ≡ false = sym c.has_ended.ensures ∙ c.if-has_ended.false in
-    on_err c.from_residual.result (
+    let going : ended c.args.self.now ≡ false = sym c.has_ended.ensures ∙ c.if-has_ended.false in (
       suc zero,
       cuts_then g.B.Bounds.most s o zero was was old old (g.M.Sink.taken c.turn.new.messages) (λ told. going)
           (writes_none g.B.Bounds.most s o was old)
-          (c.in_err-turn.ensures.cut honest start nested),
+          (c.in-Err.ensures.cut honest start nested),
     )
 
 pub loop-self-smaller : goal.loop-self-smaller
@@ -173,15 +171,15 @@ loop-self-smaller g c =
     ends_or_falls (ended c.turn-in-loop-self.new.self) (ended c.loop-self.self) (weight c.loop-self.self.open_files)
     (weight c.turn-in-loop-self.new.self.open_files)
     (still_going (state s (files.openings c.args.files.now) (files.openings c.loop-self.files) c.loop-self.self []) open_still)
-    c.in_ok-turn-2.ensures.falls
+    c.in_default-turn.ensures.falls
 
 pub returns-clause-part : goal.returns-clause-part
 returns-clause-part g c = λ honest start nested.
     let so_far = c.loop-self.invariant.led honest start nested in
     (suc so_far.0, so_far.1)
 
-pub returns-in_err-turn-clause-unread : goal.returns-in_err-turn-clause-unread
-returns-in_err-turn-clause-unread g c = λ honest start nested.
+pub returns-in-Err-clause-unread : goal.returns-in-Err-clause-unread
+returns-in-Err-clause-unread g c = λ honest start nested.
     let files = g.F.Files in
     let s = files.sources c.args.files.now in
     let o = chosen c.args.self.now.setup in
@@ -193,16 +191,16 @@ returns-in_err-turn-clause-unread g c = λ honest start nested.
     let failed = Rose (files.faults c.args.files.now) (files.faults c.turn.new.files) in
     let going : ended c.args.self.now ≡ false = sym c.has_ended.ensures ∙ c.if-has_ended.false in
     let StopsSo = λ (name : List ℕ). (told : List ℕ) → StopsFor g.B.Bounds.most failed s o (was told) start now after name in
-    let stopped : IfErr c.turn.result (λ fault. IfRead fault StopsSo) = c.turn.ensures.stops honest start nested in
-    let same : IfErr c.from_residual.result (λ fault. IfRead fault (λ name. new ≡ old)) = search rules in
-    let stops : IfErr c.from_residual.result (λ fault. IfRead fault StopsSo) = search rules in
-    if_read_both c.from_residual.result (new ≡ old) StopsSo (λ name. GivenUp g.B.Bounds.most failed s o was old new start now after name)
+    let is = sym c.fault_of.ensures in
+    let same = subst (λ (f : Fault). IfRead f (λ name. new ≡ old)) is c.in-Err.ensures.unread in
+    let stops = subst (λ (f : Fault). IfRead f StopsSo) is (c.in-Err.ensures.stops honest start nested) in
+    read_both c.fault_of.result (new ≡ old) StopsSo (λ name. GivenUp g.B.Bounds.most failed s o was old new start now after name)
     (λ name e h. given_up g.B.Bounds.most failed s o zero was was old old new start now after name (writes_none g.B.Bounds.most s o was old)
     (λ told. refl) e
     (λ told. going) h) same stops
 
-pub returns-in_err-turn-2-clause-unread : goal.returns-in_err-turn-2-clause-unread
-returns-in_err-turn-2-clause-unread g c = λ honest start nested.
+pub returns-in-Err-turn-clause-unread : goal.returns-in-Err-turn-clause-unread
+returns-in-Err-turn-clause-unread g c = λ honest start nested.
     let files = g.F.Files in
     let inv = c.loop-self.invariant in
     let s = files.sources c.args.files.now in
@@ -224,11 +222,11 @@ returns-in_err-turn-2-clause-unread g c = λ honest start nested.
     let still = subst (λ b. IsTrue b) (sym inv.went.honesty) honest in
     let StopsSo = λ (name : List ℕ). (told : List ℕ) → StopsFor g.B.Bounds.most later t p (state t start here c.loop-self.self told) start
     now after name in
-    let stopped : IfErr c.turn-in-loop-self.result (λ fault. IfRead fault StopsSo) =
-    c.turn-in-loop-self.ensures.stops still start (inv.went.nested honest start nested) in
-    let same : IfErr c.from_residual-in_err-turn-2.result (λ fault. IfRead fault (λ name. new ≡ between)) = search rules in
-    let stops : IfErr c.from_residual-in_err-turn-2.result (λ fault. IfRead fault StopsSo) = search rules in
-    if_read_both c.from_residual-in_err-turn-2.result (new ≡ between) StopsSo
+    let is = sym c.fault_of-in-Err-turn.ensures in
+    let same = subst (λ (f : Fault). IfRead f (λ name. new ≡ between)) is c.in-Err-turn.ensures.unread in
+    let stops = subst (λ (f : Fault). IfRead f StopsSo) is
+    (c.in-Err-turn.ensures.stops still start (inv.went.nested honest start nested)) in
+    read_both c.fault_of-in-Err-turn.result (new ≡ between) StopsSo
     (λ name. GivenUp g.B.Bounds.most failed s o was old new start now after name)
     (λ name e h. given_up g.B.Bounds.most failed s o (suc so_far.0) was mid old between new start now after name so_far.1.1 (λ told. refl) e
     (λ told. still_going (mid told) open_still)
@@ -240,8 +238,8 @@ returns-in_err-turn-2-clause-unread g c = λ honest start nested.
     inv.went.sources
     (h told))))) same stops
 
-pub returns-in_err-turn-2-clause-fault : goal.returns-in_err-turn-2-clause-fault
-returns-in_err-turn-2-clause-fault g c =
+pub returns-in-Err-turn-clause-fault : goal.returns-in-Err-turn-clause-fault
+returns-in-Err-turn-clause-fault g c =
     let f = g.F.Files in
     let m = g.M.Sink in
     let a = c.args.files.now in
@@ -253,29 +251,27 @@ returns-in_err-turn-2-clause-fault g c =
     let inv = c.loop-self.invariant in
     let later = Rose (m.failures c.loop-self.messages) (m.failures c.turn-in-loop-self.new.messages) in
     let rose = Rose (m.failures c.args.messages.now) (m.failures c.turn-in-loop-self.new.messages) in
-    let told : IfErr c.turn-in-loop-self.result (λ fault. Caused fault (λ name. IsUnreadable f b d y z) later) =
-    c.turn-in-loop-self.ensures.fault in
-    let caused : IfErr c.from_residual-in_err-turn-2.result (λ fault. Caused fault (λ name. IsUnreadable f b d y z) later) = search rules in
-    if_caused_more c.from_residual-in_err-turn-2.result (λ name. IsUnreadable f b d y z) (λ name. IsUnreadable f a d x z) later rose
+    let caused = subst (λ (e : Fault). Caused e (λ name. IsUnreadable f b d y z) later) (sym c.fault_of-in-Err-turn.ensures)
+    c.in-Err-turn.ensures.fault in
+    caused_more c.fault_of-in-Err-turn.result (λ name. IsUnreadable f b d y z) (λ name. IsUnreadable f a d x z) later rose
     (λ name why. unreadable_then f a b d x y z inv.went why)
     (λ r. rose_earlier (m.failures c.args.messages.now) (m.failures c.loop-self.messages) (m.failures c.turn-in-loop-self.new.messages)
     inv.wrote.failures r) caused
 
-pub returns-in_err-turn-clause-opened : goal.returns-in_err-turn-clause-opened
-returns-in_err-turn-clause-opened g c = λ honest start nested.
+pub returns-in-Err-clause-opened : goal.returns-in-Err-clause-opened
+returns-in-Err-clause-opened g c = λ honest start nested.
     let files = g.F.Files in
     let s = files.sources c.args.files.now in
     let o = chosen c.args.self.now.setup in
     let was = state s start (files.openings c.args.files.now) c.args.self.now in
     let old = g.M.Sink.taken c.args.messages.now in
     let going : ended c.args.self.now ≡ false = sym c.has_ended.ensures ∙ c.if-has_ended.false in
-    on_err c.from_residual.result
-    (opened_then g.B.Bounds.most s o zero was was old old (opened_since start (files.openings c.turn.new.files)) (λ told. going)
+    opened_then g.B.Bounds.most s o zero was was old old (opened_since start (files.openings c.turn.new.files)) (λ told. going)
     (writes_none g.B.Bounds.most s o was old)
-    (c.in_err-turn.ensures.opened honest start nested))
+    (c.in-Err.ensures.opened honest start nested)
 
-pub returns-in_err-turn-2-clause-opened : goal.returns-in_err-turn-2-clause-opened
-returns-in_err-turn-2-clause-opened g c = λ honest start nested.
+pub returns-in-Err-turn-clause-opened : goal.returns-in-Err-turn-clause-opened
+returns-in-Err-turn-clause-opened g c = λ honest start nested.
     let files = g.F.Files in
     let inv = c.loop-self.invariant in
     let s = files.sources c.args.files.now in
@@ -290,11 +286,10 @@ returns-in_err-turn-2-clause-opened g c = λ honest start nested.
     let within : OpensWithin (turn g.B.Bounds.most s o) mid opened =
     subst (λ (x : Choices). OpensWithin (turn g.B.Bounds.most s x) mid opened) (ap chosen inv.setup)
     (subst (λ (x : Sources). OpensWithin (turn g.B.Bounds.most x p) (state x start here c.loop-self.self) opened) inv.went.sources
-    (c.in_err-turn-2.ensures.opened still start (inv.went.nested honest start nested))) in
-    on_err c.from_residual-in_err-turn-2.result
-    (opened_then g.B.Bounds.most s o (suc so_far.0) (state s start (files.openings c.args.files.now) c.args.self.now) mid
+    (c.in-Err-turn.ensures.opened still start (inv.went.nested honest start nested))) in
+    opened_then g.B.Bounds.most s o (suc so_far.0) (state s start (files.openings c.args.files.now) c.args.self.now) mid
     (g.M.Sink.taken c.args.messages.now) (g.M.Sink.taken c.loop-self.messages) opened
-    (λ told. still_going (mid told) open_still) so_far.1.1 within)
+    (λ told. still_going (mid told) open_still) so_far.1.1 within
 
 pub returns-clause-bounded : goal.returns-clause-bounded
 returns-clause-bounded g c = λ bounded.
@@ -312,25 +307,26 @@ returns-then-has_ended-clause-came g c =
     let over : ended c.args.self.now ≡ true = sym c.has_ended.ensures ∙ c.if-has_ended.true in
     c.came_to.ensures ∙ ap (λ b. came_to b c.args.self.now) (sym over)
 
-pub returns-in_err-turn-clause-wrote : goal.returns-in_err-turn-clause-wrote
-returns-in_err-turn-clause-wrote g c =
+pub returns-in-Err-clause-wrote : goal.returns-in-Err-clause-wrote
+returns-in-Err-clause-wrote g c =
     let first = g.M.Sink.failures c.args.messages.now in
     let now = g.M.Sink.failures c.turn.new.messages in
-    let told : IfErr c.turn.result (λ fault. UnlessMessages fault (now ≡ first)) = c.turn.ensures.wrote.1.1 in
-    let passed : IfErr c.from_residual.result (λ fault. UnlessMessages fault (now ≡ first)) = search rules in
-    (c.turn.ensures.wrote.0, hides_behind c.from_residual.result first first now c.from_residual.ensures.0 refl passed)
+    let passed = subst (λ (f : Fault). UnlessMessages f (now ≡ first)) (sym c.fault_of.ensures) c.in-Err.ensures.wrote.1.1 in
+    (c.turn.ensures.wrote.0, (tt, passed))
 
-pub returns-in_err-turn-2-clause-wrote : goal.returns-in_err-turn-2-clause-wrote
-returns-in_err-turn-2-clause-wrote g c =
+pub returns-in-Err-turn-clause-wrote : goal.returns-in-Err-turn-clause-wrote
+returns-in-Err-turn-clause-wrote g c =
     let first = g.M.Sink.failures c.args.messages.now in
     let before = g.M.Sink.failures c.loop-self.messages in
     let now = g.M.Sink.failures c.turn-in-loop-self.new.messages in
-    let told : IfErr c.turn-in-loop-self.result (λ fault. UnlessMessages fault (now ≡ before)) = c.turn-in-loop-self.ensures.wrote.1.1 in
-    let passed : IfErr c.from_residual-in_err-turn-2.result (λ fault. UnlessMessages fault (now ≡ before)) = search rules in (
+    let passed = subst (λ (f : Fault). UnlessMessages f (now ≡ before)) (sym c.fault_of-in-Err-turn.ensures)
+    c.in-Err-turn.ensures.wrote.1.1 in (
       appends_then g.M.Sink c.args.messages.now c.loop-self.messages c.turn-in-loop-self.new.messages c.loop-self.invariant.wrote
           c.turn-in-loop-self.ensures.wrote.0,
-      hides_behind c.from_residual-in_err-turn-2.result first before now c.from_residual-in_err-turn-2.ensures.0
-          c.loop-self.invariant.quiet passed,
+      (
+        tt,
+        unless_more c.fault_of-in-Err-turn.result (now ≡ before) (now ≡ first) (λ later. later ∙ c.loop-self.invariant.quiet) passed,
+      ),
     )
 
 pub returns-clause-wrote : goal.returns-clause-wrote

@@ -14,6 +14,7 @@ use Rattle.inf_reader.specs.Handing.{is_between}
 use Rattle.inf_reader.specs.Reading.{is_mode_ended}
 use Rattle.inf_reader.specs.Standing.{standing}
 use Rattle.inf_session.specs.Choices.{chosen}
+use Rattle.inf_session.specs.Faults.{fault_of}
 use Rattle.inf_session.specs.Leading.{StopsInToken}
 use Rattle.inf_session.specs.Session.{State, context_of}
 use Rattle.inf_session.specs.Standing.{state}
@@ -50,7 +51,7 @@ returns-in-Err-Read-clause-stops g c = λ honest start nested.
     let next = c.in-Err-Read.ensures in
     let read = ap (λ f. Err f) c.in-Err-Read.field-0-is in
     let same = c.next.ensures.same in
-    read_caused c.unread.result (λ told. told ≡ c.innermost.result.now)
+    read_caused (fault_of c.lose.result c.lose.new.lost) (λ told. told ≡ c.innermost.result.now)
     (λ name. (told : List ℕ) → StopsInToken failed s (was told) start now after name) ⊥
     (λ name is told. record {
       cause = next.cause.0 read;
@@ -64,7 +65,7 @@ returns-in-Err-Read-clause-stops g c = λ honest start nested.
           ∙ sym (files_are s start old before nested);
       name_is = is ∙ c.innermost.ensures.file ∙ ap (λ (n : Nest). unwrap_or (slice_get n.names after.lexer.file) []) same.0
           ∙ ap (λ (k : ℕ). unwrap_or (slice_get before.nest.names k) []) same.1.1;
-    }) c.unread.ensures
+    }) c.lose.ensures
 
 pub returns-clause-longest : goal.returns-clause-longest
 returns-clause-longest g c = λ few_before.

@@ -8,16 +8,16 @@ use Rattle.inf_sources.proofs.Calls.{fit_then, unreadable_then, went_then}
 use Rattle.inf_unit.specs.Messages.{Reported}
 use Rattle.inf_reader.specs.Reading.{is_mode_ended}
 use Rattle.inf_session.specs.Choices.{Choices, chosen, most_quoted}
-use Rattle.inf_session.specs.Faults.{Caused, IfRead}
+use Rattle.inf_session.specs.Faults.{Caused, IfRead, fault_of}
 use Rattle.inf_session.specs.Leading.{OpensWithin, StopsFor, StopsAtInclusion, StopsInToken}
 use Rattle.inf_session.specs.Session.{State, followed, stepped}
 use Rattle.inf_session.proofs.Opening.{turned_within}
 use Rattle.inf_session.specs.Standing.{state}
 use Rattle.inf_session.proofs.Delivering.{appends_none}
 use Rattle.inf_session.proofs.Leadings.{cut_at_once, stops_at_more}
-use Rattle.inf_session.proofs.Standings.{as_before, if_caused_more, if_read_more, turn_cut, turn_writes}
+use Rattle.inf_session.proofs.Standings.{as_before, if_halt_caused, if_halt_read, turn_cut, turn_writes}
 use Rattle.inf_session.proofs.Weighing.{falls}
-use Rattle.inf_session.proofs.Quiet.{hides_none, hides_told}
+use Rattle.inf_session.proofs.Quiet.{halt_hides_none, halt_hides_told}
 use Rattle.inf_session.proofs.session.Session.turn.Goals as goal
 
 pub returns-in_err-take_token-clause-cut : goal.returns-in_err-take_token-clause-cut
@@ -138,10 +138,11 @@ returns-in_err-take_token-clause-stops g c = λ honest start nested.
     let failed = Rose (files.faults c.args.files.now) (files.faults c.take_token.new.files) in
     let was = state s start old c.args.self.now in
     let InToken = λ (name : List ℕ). (told : List ℕ) → StopsInToken failed s (was told) start now after name in
-    let stops : IfErr c.take_token.result (λ fault. IfRead fault InToken) = c.take_token.ensures.stops honest start nested in
-    let token : IfErr c.from_residual.result (λ fault. IfRead fault InToken) = search rules in
-    if_read_more c.from_residual.result InToken (λ name. (told : List ℕ) → StopsFor g.B.Bounds.most failed s o (was told) start now after
-    name)
+    let lost = c.take_token.new.lost in
+    let stops : IfErr c.take_token.result (λ halt. IfRead (fault_of halt lost) InToken) = c.take_token.ensures.stops honest start nested in
+    let token : IfErr c.from_residual.result (λ halt. IfRead (fault_of halt lost) InToken) = search rules in
+    if_halt_read c.from_residual.result lost InToken
+    (λ name. (told : List ℕ) → StopsFor g.B.Bounds.most failed s o (was told) start now after name)
     (λ name h told. inl (h told)) token
 
 pub returns-in_err-follow-clause-stops : goal.returns-in_err-follow-clause-stops
@@ -163,10 +164,11 @@ returns-in_err-follow-clause-stops g c = λ honest start nested.
     let went = c.in_ok-take_token.ensures.went in
     let first = c.in_ok-take_token.ensures.stepped honest start nested in
     let AtInclusion = λ (name : List ℕ). (told : List ℕ) → StopsAtInclusion later t p (state t start here mid told) opened name in
-    let stops : IfErr c.follow.result (λ fault. IfRead fault AtInclusion) =
+    let lost = c.follow.new.lost in
+    let stops : IfErr c.follow.result (λ halt. IfRead (fault_of halt lost) AtInclusion) =
     c.follow.ensures.stops (subst (λ b. IsTrue b) (sym went.honesty) honest) start (went.nested honest start nested) in
-    let asked : IfErr c.from_residual-in_err-follow.result (λ fault. IfRead fault AtInclusion) = search rules in
-    if_read_more c.from_residual-in_err-follow.result AtInclusion
+    let asked : IfErr c.from_residual-in_err-follow.result (λ halt. IfRead (fault_of halt lost) AtInclusion) = search rules in
+    if_halt_read c.from_residual-in_err-follow.result lost AtInclusion
     (λ name. (told : List ℕ) → StopsFor g.B.Bounds.most failed s o (was told) start now after name)
     (λ name h told. inr (stops_at_more later failed s o (stepped g.B.Bounds.most o (was told)) opened name
     (λ rose. rose_earlier (files.faults c.args.files.now) (files.faults c.take_token.new.files) (files.faults c.follow.new.files)
@@ -218,25 +220,29 @@ returns-in_err-follow-clause-fault g c =
     let y = c.take_token.new.self.open_files in
     let z = c.follow.new.self.open_files in
     let rose = Rose (g.M.Sink.failures c.args.messages.now) (g.M.Sink.failures c.args.messages.now) in
-    let later : IfErr c.follow.result (λ fault. Caused fault (λ name. IsUnreadable f b d y z) ⊥) = c.follow.ensures.fault in
-    let caused : IfErr c.from_residual-in_err-follow.result (λ fault. Caused fault (λ name. IsUnreadable f b d y z) ⊥) = search rules in
-    if_caused_more c.from_residual-in_err-follow.result (λ name. IsUnreadable f b d y z) (λ name. IsUnreadable f a d x z) ⊥ rose
+    let lost = c.follow.new.lost in
+    let later : IfErr c.follow.result (λ halt. Caused (fault_of halt lost) (λ name. IsUnreadable f b d y z) ⊥) = c.follow.ensures.fault in
+    let caused : IfErr c.from_residual-in_err-follow.result (λ halt. Caused (fault_of halt lost) (λ name. IsUnreadable f b d y z) ⊥) =
+    search rules in
+    if_halt_caused c.from_residual-in_err-follow.result lost (λ name. IsUnreadable f b d y z) (λ name. IsUnreadable f a d x z) ⊥ rose
     (λ name why. unreadable_then f a b d x y z c.take_token.ensures.went why) (λ never. absurd never) caused
 
 pub returns-in_err-take_token-clause-wrote : goal.returns-in_err-take_token-clause-wrote
 returns-in_err-take_token-clause-wrote g c =
-    (appends_none g.M.Sink c.args.messages.now, hides_none c.from_residual.result (g.M.Sink.failures c.args.messages.now))
+    let none = halt_hides_none c.from_residual.result c.take_token.new.lost (g.M.Sink.failures c.args.messages.now) in
+    (appends_none g.M.Sink c.args.messages.now, none)
 
 pub returns-in_err-follow-clause-wrote : goal.returns-in_err-follow-clause-wrote
 returns-in_err-follow-clause-wrote g c =
-    (appends_none g.M.Sink c.args.messages.now, hides_none c.from_residual-in_err-follow.result (g.M.Sink.failures c.args.messages.now))
+    let none = halt_hides_none c.from_residual-in_err-follow.result c.follow.new.lost (g.M.Sink.failures c.args.messages.now) in
+    (appends_none g.M.Sink c.args.messages.now, none)
 
 pub returns-in_err-flush-clause-wrote : goal.returns-in_err-flush-clause-wrote
 returns-in_err-flush-clause-wrote g c =
     let w = c.in_err-flush.ensures.writes in (
       record { lines = w.0.front; takes = w.0.takes; failures = w.1 },
-      hides_told c.from_residual-in_err-flush.result (g.M.Sink.failures c.args.messages.now) (g.M.Sink.failures c.flush.new.to)
-          c.from_residual-in_err-flush.ensures.1,
+      halt_hides_told c.from_residual-in_err-flush.result c.follow.new.lost (g.M.Sink.failures c.args.messages.now)
+          (g.M.Sink.failures c.flush.new.to) c.from_residual-in_err-flush.ensures.1,
     )
 
 pub returns-clause-wrote : goal.returns-clause-wrote
