@@ -1,1 +1,2 @@
 pub mod KindSteps
+mod Placing

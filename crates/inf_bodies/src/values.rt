@@ -18,7 +18,7 @@ use inf_area::{AreaName, Target, Value};
 use inf_compilation::compilation::Compilation;
 use inf_compilation::context::Context;
 use inf_compilation::findings::{Findings, header_findings};
-use inf_declarations::values::{has_variables, looked_value, text_at, value};
+use inf_declarations::values::{has_variables, looked_value, text_at, value, value_in};
 use inf_expressions::{Finding, Wanted, least_of_both};
 use inf_gathering::gathering::Leaf;
 use inf_lexer::Place;
@@ -269,6 +269,26 @@ fn place_with<B: Bounds>(
     }
 }
 
+/// Puts the value of the unit's expression, which has several leaves, into a property, and returns the finding about it.
+#[tactic(auto, using(crate::proofs::Placing::expression_stays, crate::proofs::Placing::expression_found))]
+fn place_several<B: Bounds>(
+    compilation: &mut Compilation<B>,
+    context: &Context<'_>,
+    name: Option<usize>,
+) -> Result<Option<Finding>, AllocError>
+    ensures value { OnOk result (work compilation.new ≡ expression_placed B.most (handed context.now) name (work compilation.old)) }
+    ensures finding { IfOk result (λ f. f ≡ expression_finding B.most (handed context.now) name (work compilation.old)) }
+{
+    let looked = compilation.look_constant()?;
+    let value = value_in(&looked.forest);
+    let judged = looked.finding;
+    compilation.keep_forest(looked.forest);
+    if looked.stays && judged.is_none() {
+        return placed(compilation, name, value, None);
+    }
+    place_with(compilation, context, name, judged, value)
+}
+
 /// Puts the value of the unit's expression into a property, and returns the finding about it.
 fn place_expression<B: Bounds>(
     compilation: &mut Compilation<B>,
@@ -278,6 +298,9 @@ fn place_expression<B: Bounds>(
     ensures value { OnOk result (work compilation.new ≡ expression_placed B.most (handed context.now) name (work compilation.old)) }
     ensures finding { IfOk result (λ f. f ≡ expression_finding B.most (handed context.now) name (work compilation.old)) }
 {
+    if compilation.unit.gathering.symbols().len() != 1 {
+        return place_several(compilation, context, name);
+    }
     let operands = compilation.operands()?;
     let judged = compilation.finding(0, Wanted::Constant, operands.as_slice())?;
     let looked = looked_value(compilation, operands.as_slice())?;

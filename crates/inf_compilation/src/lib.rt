@@ -2,6 +2,7 @@
 #![tactic(auto)]
 
 pub mod compilation;
+pub mod constants;
 pub mod context;
 pub mod crowds;
 pub mod findings;

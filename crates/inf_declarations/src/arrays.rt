@@ -1,6 +1,6 @@
 //! The directive `Array`: its header, and its entries one by one.
-ghost use Rattle.inf_compilation.specs.Context.{handed};
-ghost use Rattle.std.specs.Prelude.{IfOk, OnOk, false, map, ◌≡◌};
+ghost use Rattle.inf_compilation.specs.Context.{Context as Standing, handed};
+ghost use Rattle.std.specs.Prelude.{IfOk, IfSome, OnOk, false, length, map, ◌==◌, ◌≡◌};
 ghost use Rattle.inf_arrays.specs.Adding.{added as adding_of};
 ghost use Rattle.inf_arrays.specs.Arrays.{Characters, added_fault};
 ghost use Rattle.inf_names.specs.Spellings.{as_name};
@@ -15,7 +15,7 @@ ghost use Rattle.inf_compilation.specs.Actions.{operands_of};
 ghost use Rattle.inf_compilation.specs.Works.{work};
 
 use crate::declarations::{Declared, declare, end_declared, plainly_known};
-use crate::values::{has_variables, looked_value, text_at, value};
+use crate::values::{has_variables, looked_value, text_at, value, value_in};
 use inf_area::Value;
 use inf_compilation::compilation::{Compilation, Listing};
 use inf_compilation::context::Context;
@@ -434,6 +434,81 @@ fn entry_with<B: Bounds>(
     compilation.end_alone(context, first, false, found)
 }
 
+/// Looks up the names of an entry of several leaves, and returns the finding about it, and its value, if the use of the names is known to
+/// change nothing; `is_alone` is whether it is alone.
+#[tactic(auto, using(crate::proofs::Staying::several_found, crate::proofs::Staying::entry_stays))]
+fn look_several<B: Bounds>(
+    compilation: &mut Compilation<B>,
+    is_alone: bool,
+) -> Result<(Option<Finding>, Option<Value>), AllocError>
+    requires { (length (work compilation.now).unit.gathering.symbols == 1) ≡ false }
+    ensures finding { (context : Standing) → IfOk result
+        (λ looked. looked.0 ≡ entry_finding B.most context is_alone (work compilation.old)) }
+    ensures value { (context : Standing) → let w = work compilation.old in IfOk result (λ looked. IfSome looked.1
+        (λ v. added B.most (adding is_alone v) w ≡ entry_added B.most context is_alone w)) }
+    ensures unchanged { OnOk result (work compilation.new ≡ work compilation.old) }
+{
+    let looked = compilation.look_constant()?;
+    let value = value_in(&looked.forest);
+    let own = added_finding(compilation, adding(is_alone, value));
+    let finding = least_of_both(looked.finding, own);
+    let known = if looked.stays { Some(value) } else { None };
+    compilation.keep_forest(looked.forest);
+    Ok((finding, known))
+}
+
+/// Adds an entry with which nothing is wrong, and which has the value `known`, if that is known; `is_alone` is whether it is alone.
+fn add_known<B: Bounds>(
+    compilation: &mut Compilation<B>,
+    context: &Context<'_>,
+    is_alone: bool,
+    known: Option<Value>,
+) -> Result<(), AllocError>
+    requires { let w = work compilation.now in
+        IfSome known (λ v. added B.most (adding is_alone v) w ≡ entry_added B.most (handed context.now) is_alone w) }
+    ensures { OnOk result (work compilation.new ≡ entry_added B.most (handed context.now) is_alone (work compilation.old)) }
+{
+    match known {
+        Some(value) => add(compilation, adding(is_alone, value)),
+        None => add_entry(compilation, context, is_alone),
+    }
+}
+
+/// Ends the entry that begins at `first`, with the finding `found` about it: it is added where there is none, with the value `known`, if
+/// that is known.
+fn end_several<B: Bounds>(
+    compilation: &mut Compilation<B>,
+    context: &Context<'_>,
+    first: Place,
+    is_alone: bool,
+    found: Option<Finding>,
+    known: Option<Value>,
+) -> Result<(), AllocError>
+    requires { let w = work compilation.now in
+        IfSome known (λ v. added B.most (adding is_alone v) w ≡ entry_added B.most (handed context.now) is_alone w) }
+    ensures { OnOk result (work compilation.new ≡ entry_with B.most (handed context.now) first is_alone found (work compilation.old)) }
+{
+    if found.is_none() {
+        add_known(compilation, context, is_alone, known)?;
+    }
+    compilation.end_alone(context, first, false, found)
+}
+
+/// Judges the entry that begins at `first`, an expression of several leaves, and ends it; `is_alone` is whether it is alone.
+fn judge_several<B: Bounds>(
+    compilation: &mut Compilation<B>,
+    context: &Context<'_>,
+    first: Place,
+    is_alone: bool,
+) -> Result<(), AllocError>
+    requires { (length (work compilation.now).unit.gathering.symbols == 1) ≡ false }
+    ensures { OnOk result (work compilation.new ≡ entry_judged B.most (handed context.now) first is_alone (work compilation.old)) }
+{
+    compilation.listing.has_entries = true;
+    let (found, known) = look_several(compilation, is_alone)?;
+    end_several(compilation, context, first, is_alone, found, known)
+}
+
 /// Judges the entry that begins at `first`, and ends it; `is_alone` is whether it is alone.
 fn judge_entry<B: Bounds>(
     compilation: &mut Compilation<B>,
@@ -443,6 +518,9 @@ fn judge_entry<B: Bounds>(
 ) -> Result<(), AllocError>
     ensures { OnOk result (work compilation.new ≡ entry_judged B.most (handed context.now) first is_alone (work compilation.old)) }
 {
+    if compilation.unit.gathering.symbols().len() != 1 {
+        return judge_several(compilation, context, first, is_alone);
+    }
     let found = entry_finding(compilation, context, is_alone)?;
     compilation.listing.has_entries = true;
     entry_with(compilation, context, first, is_alone, found)

@@ -18,13 +18,13 @@ ghost use Rattle.inf_declarations.specs.Defaults.{default};
 ghost use Rattle.inf_compilation.specs.Meant.{again_as, found_as};
 ghost use Rattle.inf_compilation.specs.Works.{work};
 
-use crate::values::{add_leaf, constant_trees};
+use crate::values::add_leaf;
 use inf_area::Value;
 use inf_assembler::RoutineKind;
 use inf_compilation::compilation::Compilation;
 use inf_compilation::context::Context;
 use inf_compilation::findings::{Again, Findings, again_by, again_finding};
-use inf_expressions::{Finding, Forest, Wanted, constant as constant_in, least_of_both};
+use inf_expressions::{Finding, Forest, constant as constant_in, least_of_both};
 use inf_gathering::gathering::Leaf;
 use inf_lexer::Place;
 use inf_names::meanings::Meaning;
@@ -169,10 +169,10 @@ pub fn constant<B: Bounds>(
         compilation.pass(true);
         return Ok(());
     };
-    let operands = compilation.operands()?;
-    let found = compilation.finding(0, Wanted::Constant, operands.as_slice())?;
-    let forest = constant_trees(compilation, operands.as_slice())?;
-    let meaning = constant_of(compilation, &forest);
+    let looked = compilation.look_constant()?;
+    let meaning = constant_of(compilation, &looked.forest);
+    let found = looked.finding;
+    compilation.keep_forest(looked.forest);
     declare_constant(compilation, context, first, name, meaning, found)
 }
 

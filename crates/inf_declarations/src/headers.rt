@@ -8,12 +8,12 @@ ghost use Rattle.inf_compilation.specs.Works.{work};
 ghost use Rattle.inf_declarations.specs.Headers.{is_digit, known_number, release, release_ended, release_finding, release_told};
 ghost use Rattle.inf_declarations.specs.Headers.{release_with, serial, serial_by, serial_in};
 
-use crate::values::{add_leaf, constant_trees};
+use crate::values::add_leaf;
 use inf_area::Value;
 use inf_compilation::compilation::Compilation;
 use inf_compilation::context::Context;
 use inf_compilation::findings::Findings;
-use inf_expressions::{Finding, Forest, Wanted, constant as constant_in};
+use inf_expressions::{Finding, Forest, constant as constant_in};
 use inf_lexer::Place;
 use inf_settings::bounds::Bounds;
 use std::alloc::AllocError;
@@ -101,10 +101,10 @@ pub fn release<B: Bounds>(
 ) -> Result<(), AllocError>
     ensures { OnOk result (work compilation.new ≡ release B.most (handed context.now) first (work compilation.old)) }
 {
-    let operands = compilation.operands()?;
-    let found = compilation.finding(0, Wanted::Constant, operands.as_slice())?;
-    let forest = constant_trees(compilation, operands.as_slice())?;
-    let number = known_number(&forest);
+    let looked = compilation.look_constant()?;
+    let number = known_number(&looked.forest);
+    let found = looked.finding;
+    compilation.keep_forest(looked.forest);
     release_with(compilation, context, first, number, found)
 }
 

@@ -23,7 +23,7 @@ use inf_unit::texts::text_of;
 use std::alloc::AllocError;
 
 /// Returns the trees of the unit's expression, which has to be a constant, where its leaves stand for `operands`.
-pub(crate) fn constant_trees<B: Bounds>(
+fn constant_trees<B: Bounds>(
     compilation: &Compilation<B>,
     operands: &[Operand],
 ) -> Result<Forest, AllocError>

@@ -6,7 +6,7 @@ ghost use Rattle.inf_names.specs.Symbols.{Table, no_names};
 ghost use Rattle.inf_scanner.specs.declared.tokens.Place.{Place as SourcePlace};
 ghost use Rattle.inf_statements.specs.OperandLists.{operands_in};
 ghost use Rattle.inf_statements.specs.Operands.{all_looked, looked, looked_from, looked_leaf};
-ghost use Rattle.inf_statements.specs.Uses.{LeafStays, is_plain};
+ghost use Rattle.inf_statements.specs.Uses.{LeafStays, LeavesStay, is_plain};
 
 use crate::operand_lists::OperandList;
 use crate::operands::{looked, looked_leaf};
@@ -94,26 +94,35 @@ pub(crate) fn look_ahead<B: Bounds>(
 }
 
 /// Puts the operands of `leaves`, the leaves of a unit with `tokens`, whose routine has `locals`, into `operands`, in place of what is
-/// there. Their names are only looked up in `out`.
-fn look_all<B: Bounds>(
+/// there. Their names are only looked up in `out`. Returns whether the use of the names is known to change nothing and to give the same
+/// operands.
+///
+/// Fails where no memory is left.
+pub fn look_all<B: Bounds>(
     alloc: Global,
     locals: &Locals,
     out: &Output<B>,
     tokens: &UnitTokens,
     leaves: &[Leaf],
     operands: &mut Vec<Operand>,
-) -> Result<(), AllocError>
-    ensures { OnOk result (operands.new.items ≡ all_looked (listed locals.now) out.now tokens.now leaves.now) }
+) -> Result<bool, AllocError>
+    ensures looked { OnOk result (operands.new.items ≡ all_looked (listed locals.now) out.now tokens.now leaves.now) }
+    ensures stay { IfOk result (λ stay. stay ≡ true →
+        LeavesStay (listed locals.now) out.now tokens.now leaves.now operands.new.items) }
 {
     operands.clear();
-    for leaf in leaves {
+    let mut stay = true;
+    let mut left = leaves;
+    while let Some((leaf, others)) = left.split_first() {
         let Some(operand) = looked_plainly(locals, out, tokens, *leaf) else {
-            operands.clear();
-            return look_ahead(alloc, locals, out, tokens, leaves, operands);
+            look_ahead(alloc, locals, out, tokens, left, operands)?;
+            return Ok(false);
         };
         operands.push(operand)?;
+        stay = stay & stays(tokens, *leaf, operand);
+        left = others;
     }
-    Ok(())
+    Ok(stay)
 }
 
 /// Returns the operand of `leaf`, the only leaf of a unit with `tokens`, where its name is only looked up.

@@ -1,3 +1,4 @@
 pub mod KeptOnes
 pub mod Cases
 pub mod NameSteps
+pub mod OpcodeNames

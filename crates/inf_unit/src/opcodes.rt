@@ -4,14 +4,11 @@ ghost use Rattle.inf_unit.specs.Opcodes.{opcode_of, takes_text};
 
 use inf_opcode::Opcode;
 
-/// Returns the opcode whose name is `name`, in any case. There is none for a name with a byte over 127, which no name of a source has.
+/// Returns the opcode whose name is `name`, in any case. There is none for a name with a byte over 127, as no opcode has such a name.
 #[tactic(auto, unfolding(crate::specs::Opcodes::opcode_of))]
 pub(crate) fn opcode_of(name: &[u8]) -> Option<Opcode>
     ensures { result ≡ opcode_of name.now }
 {
-    if !name.is_ascii() {
-        return None;
-    }
     match str::from_utf8(name) {
         Ok(name) => Opcode::by_name(name),
         Err(_) => None,

@@ -1,19 +1,20 @@
-use Rattle.std.proofs.Common.{◌≡◌, nat_lt, None, true, sym, ap, ◌∙◌}
+use Rattle.std.proofs.Common.{◌≡◌, None, false, sym, ap, ◌∙◌, cond, nat_lt}
 use Rattle.std.specs.List.{list_all}
-use Rattle.std.proofs.lemmas.Bool.{cond-true}
+use Rattle.std.proofs.lemmas.Bool.{false_from_ne_true}
 use Rattle.std.proofs.lemmas.Str.{IsUtf8-from_ascii}
 use Rattle.inf_opcode.specs.Names.{opcode_named}
-use Rattle.inf_lexer.proofs.FileNames.{all_ascii}
 use Rattle.inf_unit.specs.Opcodes.{opcode_of}
+use Rattle.inf_unit.proofs.OpcodeNames.{any_name, is_ascii}
 use Rattle.inf_unit.proofs.opcodes.opcode_of.Goals as goal
 
 pub returns-in-Ok : goal.returns-in-Ok
 unfolding opcode_of
-returns-in-Ok c =
-    let name = c.args.name.now in
-    let fit : list_all (λ b. nat_lt b 128) name ≡ true = all_ascii name c.if-not-is_ascii.ensures.cases in
-    c.by_name.ensures ∙ ap opcode_named c.in-Ok.ensures.cases.0
-    ∙ sym (cond-true (list_all (λ b. nat_lt b 128) name) (opcode_named name) None fit)
+returns-in-Ok c = c.by_name.ensures ∙ ap opcode_named c.in-Ok.ensures.cases.0 ∙ any_name c.args.name.now
 
 pub returns-in-Err : goal.returns-in-Err
-returns-in-Err c = absurd (c.in-Err.ensures.cases.0 (IsUtf8-from_ascii c.args.name.now c.if-not-is_ascii.ensures.cases))
+unfolding opcode_of
+returns-in-Err c =
+    let name = c.args.name.now in
+    let over : list_all (λ b. nat_lt b 128) name ≡ false =
+    false_from_ne_true (list_all (λ b. nat_lt b 128) name) (λ e. c.in-Err.ensures.cases.0 (IsUtf8-from_ascii name (is_ascii name e))) in
+    sym (ap (λ t. cond t (opcode_named name) None) over)

@@ -1,0 +1,55 @@
+-- Values whose names are only looked up are those of their names in use, where the use changes nothing.
+use Rattle.std.proofs.Common.{◌≡◌, ◌==◌, ℕ, length, map, Bool, true, false, cond, Option, None, refl, sym, ap, ◌∙◌}
+use Rattle.inf_settings.specs.Bounds.{Limits}
+use Rattle.inf_area.specs.declared.targets.Value.{Value}
+use Rattle.inf_constructs.specs.Roots.{tree_in}
+use Rattle.inf_expressions.specs.Findings.{least_of_both}
+use Rattle.inf_expressions.specs.declared.units.Wanted.TheVariants as wanted
+use Rattle.inf_output.specs.Output.{Out}
+use Rattle.inf_statements.specs.Operands.{Settled}
+use Rattle.inf_statements.specs.Uses.{LeavesStay}
+use Rattle.inf_compilation.specs.Actions.{Compilation, finding_at, operands_of, settled_of, trees_at}
+use Rattle.inf_compilation.specs.Context.{Context}
+use Rattle.inf_declarations.specs.Arrays.{added, added_finding, adding, bare_leaf, bare_text, entry_added, entry_added_by}
+use Rattle.inf_declarations.specs.Arrays.{entry_finding, looked_value, own_finding, value_added}
+use Rattle.inf_declarations.specs.Declarations.{value_in, value_of}
+
+-- the value of the unit's expression, and the output when its names were used
+pub value_stays : (limits : Limits) (context : Context) (w : Compilation)
+    → LeavesStay w.locals w.output w.unit.tokens w.unit.gathering.leaves (operands_of w) → value_of limits context w ≡ looked_value w
+value_stays limits context w stay =
+    ap (λ (s : Settled). value_in (map tree_in (trees_at 0 wanted.Constant s.operands w))) (stay limits context.set)
+
+pub output_stays : (limits : Limits) (context : Context) (w : Compilation)
+    → LeavesStay w.locals w.output w.unit.tokens w.unit.gathering.leaves (operands_of w) → (settled_of limits context w).out ≡ w.output
+output_stays limits context w stay = ap (λ (s : Settled). s.out) (stay limits context.set)
+
+-- An entry of several leaves is no text by itself.
+no_text : (alone : Bool) (w : Compilation) → (length w.unit.gathering.symbols == 1) ≡ false → bare_text alone w ≡ None
+no_text true w several = ap (λ (b : Bool). cond b (bare_leaf w.unit.gathering.leaves) None) several
+no_text false w several = refl
+
+pub several_found : (limits : Limits) (context : Context) (alone : Bool) (w : Compilation)
+    → (length w.unit.gathering.symbols == 1) ≡ false
+    → least_of_both (finding_at 0 wanted.Constant w) (added_finding limits (adding alone (looked_value w)) w)
+    ≡ entry_finding limits context alone w
+several_found limits context alone w several =
+    sym (ap (λ (text : Option ℕ). least_of_both (finding_at 0 wanted.Constant w) (own_finding limits context text alone w))
+    (no_text alone w several))
+
+added_stays : (limits : Limits) (context : Context) (alone : Bool) (w : Compilation)
+    → LeavesStay w.locals w.output w.unit.tokens w.unit.gathering.leaves (operands_of w)
+    → value_added limits context alone w ≡ added limits (adding alone (looked_value w)) w
+added_stays limits context alone w stay =
+    ap (λ (v : Value). added limits (adding alone v) (record w { output = (settled_of limits context w).out }))
+    (value_stays limits context w stay)
+    ∙ ap (λ (o : Out). added limits (adding alone (looked_value w)) (record w { output = o })) (output_stays limits context w stay)
+
+pub entry_stays : (limits : Limits) (context : Context) (alone : Bool) (w : Compilation) (v : Value)
+    → (length w.unit.gathering.symbols == 1) ≡ false → v ≡ looked_value w
+    → LeavesStay w.locals w.output w.unit.tokens w.unit.gathering.leaves (operands_of w)
+    → added limits (adding alone v) w ≡ entry_added limits context alone w
+entry_stays limits context alone w v several e stay =
+    ap (λ (x : Value). added limits (adding alone x) w) e
+    ∙ sym (added_stays limits context alone w stay)
+    ∙ sym (ap (λ (text : Option ℕ). entry_added_by limits context text alone w) (no_text alone w several))
