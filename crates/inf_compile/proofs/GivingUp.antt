@@ -2,13 +2,15 @@
 use Rattle.std.proofs.Common.{◌≡◌, ◌⊎◌, ℕ, ◌+◌, ◌-◌, ◌<◌, ◌≤◌, List, [], ◌∷◌, length, map, min, reverse, get_or, drop, Option, arith}
 use Rattle.std.proofs.Common.{Result, IfErr, inl, inr, sym, ap, subst, ◌∙◌}
 use Rattle.inf_settings.specs.Bounds.{limits_of, Limits}
-use Rattle.inf_devices.specs.Files.{Opening, Openings, Sources, last_count, opened}
+use Rattle.inf_devices.specs.Files.{Counts, Opening, Openings, Sources, counts_opened, last_count, most_source_bytes, opened}
 use Rattle.inf_devices.specs.declared.files.Files.{Ghosts as Files}
 use Rattle.inf_characters.specs.declared.characters.CharSet.{CharSet}
 use Rattle.inf_devices.specs.Sinks.{Takes}
+use Rattle.inf_lexer.specs.Entering.{AreOpened}
 use Rattle.inf_lexer.specs.Readers.{Reader, at_front}
+use Rattle.inf_lexer.proofs.Opened.{many_opened, opened_stay}
 use Rattle.inf_lexer.specs.Unread.{innermost, innermost_place, unread as unread_now, unread_of}
-use Rattle.inf_sources.specs.Calls.{IsUnreadable, Kept, Went, given_all, given_to}
+use Rattle.inf_sources.specs.Calls.{AreCounted, IsUnreadable, Kept, Went, given_each}
 use Rattle.inf_sources.specs.Cursors.{Unfinished}
 use Rattle.inf_sources.specs.Heading.{head_front}
 use Rattle.inf_sources.specs.Inclusions.{Nesting, innermost_name}
@@ -27,24 +29,42 @@ use Rattle.inf_compile.specs.Comes.{AreAt, GivenUpFrom, Heard, IsUnread, OpenedS
 use Rattle.inf_compile.proofs.Heading.{heard_in_head}
 use Rattle.inf_compile.proofs.Concluding.{at_all}
 
--- no bytes are given of a file at its front
-pub none_given : (set : CharSet) (limit : ℕ) (f : Open) → (f.lexer ≡ at_front set limit 0) × (f.outer ≡ []) → given_all f ≡ 0
-none_given set limit f front =
-    omega (arith, ap (λ (r : Reader). r.window.given) front.0, ap (λ (fs : List OpenFile). given_to (lexers_of fs)) front.1)
+-- a reader that opened a main source, of which nothing was read yet, counts what was given of it
+pub counted_at_front : (set : CharSet) (limit : ℕ) (main : Open) (old new : Counts) → new ≡ counts_opened old
+    → (main.lexer ≡ at_front set limit 0) × (main.outer ≡ []) → AreCounted old.too_long (given_each main) new.each new.too_long
+counted_at_front set limit main old new opened front =
+    let given : given_each main ≡ 0 ∷ [] =
+    ap (λ (r : Reader). r.window.given ∷ map (λ (q : Reader). q.window.given) (lexers_of (reverse main.outer))) front.0
+    ∙ ap (λ (fs : List OpenFile). 0 ∷ map (λ (q : Reader). q.window.given) (lexers_of (reverse fs))) front.1 in
+    subst (λ (c : Counts). AreCounted old.too_long (given_each main) c.each c.too_long) (sym opened)
+    (subst (λ (gs : List ℕ). AreCounted old.too_long gs (0 ∷ old.each) old.too_long) (sym given)
+    ((omega arith, λ over. omega (arith, over)), omega arith))
+
+-- where the innermost lexer was given too many bytes, the reader counts an opening more that is too long
+long_given : (base : ℕ) (now : Open) (c : Counts) → AreCounted base (given_each now) c.each c.too_long
+    → most_source_bytes < now.lexer.window.given → min (base + 1) last_count ≤ c.too_long
+long_given base now c counted over = by_each c.each counted
+  where
+    by_each : (each : List ℕ) → AreCounted base (given_each now) each c.too_long → min (base + 1) last_count ≤ c.too_long
+    by_each [] h = absurd h
+    by_each (n ∷ outer) h = h.0.1 (omega (arith, h.0.0, over))
 
 -- A file was not read, between the moment when the main source was entered and that when all were closed.
 pub unread_by : {S : Type 0} (f : Files S) (first entered read last : S) (main now : Open) → Kept f first entered →
-    f.given entered ≡ f.given first
-    → min (f.opened first + length main.nest.names) last_count ≤ f.opened entered → given_all main ≡ 0 → Went f entered read main now
-    → Kept f read last → (f.faults last ≡ f.faults read) × (f.given last ≡ f.given read) → IsUnreadable f entered read main now → IsUnread f
-    first last
-unread_by f first entered read last main now kept given opened front went closed same (inl (inl less)) =
+    AreCounted (f.counts first).too_long (given_each main) (f.counts entered).each (f.counts entered).too_long
+    → AreOpened main.nest.names (f.opened entered) → Went f entered read main now
+    → Kept f read last → (f.faults last ≡ f.faults read) × ((f.counts last).too_long ≡ (f.counts read).too_long)
+    → IsUnreadable f entered read main now → IsUnread f first last
+unread_by f first entered read last main now kept counted opened went closed same (inl (inl less)) =
     inl (inl (omega (arith, less, kept.faults, same.0)))
-unread_by f first entered read last main now kept given opened front went closed same (inl (inr far)) = inl (inr (same.0 ∙ far))
-unread_by f first entered read last main now kept given opened front went closed same (inr (inl long)) =
-    inr (inl (omega (arith, long, went.given, front, given, same.1)))
-unread_by f first entered read last main now kept given opened front went closed same (inr (inr many)) =
-    inr (inr (omega (arith, many.names, many.opened, opened, closed.opened)))
+unread_by f first entered read last main now kept counted opened went closed same (inl (inr far)) = inl (inr (same.0 ∙ far))
+unread_by f first entered read last main now kept counted opened went closed same (inr (inl long)) =
+    let base = (f.counts first).too_long in
+    inr (inl (omega (arith, long_given base now (f.counts read) (went.counted base counted) long, same.1)))
+unread_by f first entered read last main now kept counted opened went closed same (inr (inr many)) =
+    let names = now.nest.names in
+    let are = opened_stay names (f.opened read) (f.opened last) closed.opened (went.opened.opened opened) in
+    inr (inr (many_opened many.name names (f.opened last) are many.is_too_many (closed.opened many.name many.is_opened)))
 
 -- Reading was given up in a token.
 stops_reading_of : (failed : Type 0) (s : Sources) (t : State) (old now new : Openings) (f : Open) (told : List ℕ) → new.all ≡ now.all →

@@ -3,7 +3,7 @@ use Rattle.std.proofs.Common.{◌≡◌, ◌⊎◌, inl, inr, ◌+◌, ◌-◌, 
 use Rattle.std.proofs.Common.{drop, get_or, reverse, Bool, true, false, cond, Option, IsTrue, unwrap_or, refl, sym, ap, subst, ◌∙◌, arith}
 use Rattle.std.specs.Prelude.{slice_get}
 use Rattle.std.proofs.lemmas.List.{length-map}
-use Rattle.inf_devices.specs.Files.{Opening, Openings, Rose, Sources, last_count, opened}
+use Rattle.inf_devices.specs.Files.{Opening, Openings, Rose, Sources, opened}
 use Rattle.inf_devices.specs.declared.files.Files.{Ghosts as Files}
 use Rattle.inf_lexer.specs.Names.{Nest}
 use Rattle.inf_letters.specs.declared.letters.Letters.{Letters}
@@ -21,7 +21,8 @@ use Rattle.inf_sources.specs.Cursors.{Cursor}
 use Rattle.inf_sources.specs.Heading.{HeadAt, ReadsHead, StopsInHead, UnfinishedAt, UnfinishedHead, behind_head, behind_word, behind_words}
 use Rattle.inf_sources.specs.Heading.{head_at, head_front, head_in, past_head, read_head}
 use Rattle.inf_sources.specs.Inclusions.{Nesting, innermost_name}
-use Rattle.inf_sources.specs.Calls.{Honestly, IsUnreadable, Went, given_all}
+use Rattle.inf_lexer.specs.Entering.{OpensOn}
+use Rattle.inf_sources.specs.Calls.{AreCounted, Honestly, IsUnreadable, Went, given_each}
 use Rattle.inf_sources.specs.Open.{AllGiven, AreNested, AreTracked, IsCounted, IsNested, Open, files_of, lexers, lexers_of, nesting}
 use Rattle.inf_sources.specs.Open.{opened_since}
 use Rattle.inf_sources.specs.declared.open_file.OpenFile.{OpenFile}
@@ -205,15 +206,16 @@ unread_there f old new before after (inr long) = inr (inl long)
 
 -- a call that is followed by the choice of how files are read keeps the same
 pub went_chosen : {S : Type 0} (f : Files S) (a b : S) (x y z : Open) (set : CharSet) (limit : ℕ) → z ≡ files_chosen set limit y
-    → given_all z ≡ given_all y → ((start now : Openings) → IsNested start now y → IsNested start now z)
+    → given_each z ≡ given_each y → ((start now : Openings) → IsNested start now y → IsNested start now z)
     → ((s : Sources) (n : ℕ) (now : Openings) → AllGiven s n now y → AllGiven s n now z) → Went f a b x y → Went f a b x z
 went_chosen f a b x y z set limit is given nested all went = record {
   sources = went.sources;
   honesty = went.honesty;
   faults = went.faults;
   depth = went.depth ∙ ap (λ (o : Open). f.depth a + length o.outer) (sym is);
-  given = subst (λ (n : ℕ). min (f.given a + (n - given_all x)) last_count ≤ f.given b) (sym given) went.given;
-  opened = subst (λ (o : Open). min (f.opened a + (length o.nest.names - length x.nest.names)) last_count ≤ f.opened b) (sym is)
+  counted = λ base was. subst (λ (gs : List ℕ). AreCounted base gs (f.counts b).each (f.counts b).too_long) (sym given)
+      (went.counted base was);
+  opened = subst (λ (o : Open). OpensOn x.nest.names o.nest.names (f.opened a) (f.opened b)) (sym is)
       went.opened;
   nested = λ honest start here. nested start (f.openings b) (went.nested honest start here);
   stays_given = λ honest start here g. all (f.sources a) (length start.all) (f.openings b) (went.stays_given honest start here g);

@@ -2,7 +2,7 @@
 use Rattle.std.specs.Prelude.{◌≡◌, ℕ, ◌+◌, ◌-◌, ◌<◌, ◌≤◌, ◌⊎◌, List, [], ◌∷◌, get_or, slice_get, unwrap_or, length, map, drop, false}
 use Rattle.std.specs.Prelude.{Option, Some, None, min, option_map, ◌++◌}
 use Rattle.inf_settings.specs.Bounds.{limits_of, Limits}
-use Rattle.inf_devices.specs.Files.{Opening, Openings, Rose, Sources, last_count, opened}
+use Rattle.inf_devices.specs.Files.{Opening, Openings, Rose, Sources, last_count, most_source_bytes, opened}
 use Rattle.inf_devices.specs.declared.files.Files.{Ghosts as Files}
 use Rattle.inf_devices.specs.Sinks.{Takes}
 use Rattle.inf_lexer.specs.declared.head.HeadPlace.TheVariants.{Line}
@@ -136,14 +136,6 @@ pub record Stops (limits : Limits) (sources : Sources) (o : Choices) (serial : L
     pub takes : Takes before after front
     pub begins : (final : State) → IsRead limits sources o s final → IsFront front (ending_of limits o serial final).messages
 
--- the most bytes that a source may have
-abbrev pub most_source_bytes : ℕ
-most_source_bytes = 16777216
-
--- Between two moments a reader gave more bytes than a source may have, or its count is at the last value.
-abbrev pub GaveTooMuch : ℕ → ℕ → Type 0
-GaveTooMuch before now = min (before + (most_source_bytes + 1)) last_count ≤ now
-
 -- Reading was given up in a token of the innermost file: the bytes given of its opening, which was not read out, do not end the token; of
 -- a source that has too many bytes, those that it may have do not. The openings are those of the reading up to there.
 pub record StopsReading (failed : Type 0) (sources : Sources) (s : State) (old new : Openings) (told : List ℕ) : Type 0 where
@@ -219,8 +211,10 @@ abbrev pub GivenUpFrom : Limits → Type 0 → Sources → Choices → Nesting �
 GivenUpFrom limits failed sources o was begun old new start now files name =
     GivenUpInHead failed sources was old new start now files name ⊎ GivenUp limits failed sources o begun old new start now files name
 
--- A file could not be opened or read, with any reader, between two moments: the device failed; or the reader gave more bytes than a
--- source may have; or more sources were opened than can be numbered. Each of the three counts rose by as many, or is at its last value.
+-- A file could not be opened or read, with any reader, between two moments: the device failed, or the reader gave more bytes of one opening
+-- than a source may have, and the count of these rose or is at its last value; or more names were opened so far than can be numbered.
 abbrev pub IsUnread : {S : Type 0} → Files S → S → S → Type 0
 IsUnread f old new =
-    Rose (f.faults old) (f.faults new) ⊎ (GaveTooMuch (f.given old) (f.given new) ⊎ (min (f.opened old + 65536) last_count ≤ f.opened new))
+    Rose (f.faults old) (f.faults new)
+    ⊎ ((min ((f.counts old).too_long + 1) last_count ≤ (f.counts new).too_long)
+    ⊎ (65536 ≤ length (f.opened new)))

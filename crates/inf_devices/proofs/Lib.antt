@@ -1,2 +1,3 @@
+pub mod NamesOpened
 pub mod OpeningLemmas
 pub mod TakenBytes

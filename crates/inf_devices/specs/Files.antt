@@ -1,6 +1,8 @@
 -- The statements of a reader of files: the sources that there are, the openings, and the outcome of each.
 use Rattle.std.specs.Prelude.{◌≡◌, ℕ, ◌<◌, ◌⊎◌, List, [], ◌∷◌, ◌++◌, length, take, Bool, true, false, Option, Some, None, Result, Ok, Err}
-use Rattle.std.specs.Prelude.{IsSome, slice_get, slice_set}
+use Rattle.std.specs.Prelude.{IsSome, slice_get, slice_set, ◌+◌, ◌&&◌, drop, if◌then◌else◌, min, nat_lt, not}
+use Rattle.std.specs.List.{list_any}
+use Rattle.std.specs.Str.{bytes_eq}
 use Rattle.inf_devices.specs.declared.files.OpenFault.{OpenFault}
 use Rattle.inf_devices.specs.declared.files.OpenFault.TheVariants as fault
 use Rattle.inf_devices.specs.declared.files.ReadFault.{ReadFault}
@@ -27,10 +29,57 @@ last_count = 18446744073709551615
 abbrev pub Rose : ℕ → ℕ → Type 0
 Rose before now = (before < now) ⊎ (now ≡ last_count)
 
+-- the most bytes that a source may have
+abbrev pub most_source_bytes : ℕ
+most_source_bytes = 16777216
+
+-- The numbers of bytes that were given of each source that is open, the innermost first, and the number of openings so far of which more
+-- bytes were given than a source may have. Each number has 64 bits, and stays at its last value.
+pub record Counts : Type 0 where
+  pub each : List ℕ
+  pub too_long : ℕ
+
+abbrev pub nothing_given : Counts
+nothing_given = record { each = []; too_long = 0 }
+
+-- the counts where one more source is open, the innermost, and where the innermost is closed
+abbrev pub counts_opened : Counts → Counts
+counts_opened c = record { each = 0 ∷ c.each; too_long = c.too_long }
+
+abbrev pub counts_closed : Counts → Counts
+counts_closed c = record { each = drop 1 c.each; too_long = c.too_long }
+
+-- whether a source has more bytes than it may have, where `count` were given of it
+abbrev pub is_too_long : ℕ → Bool
+is_too_long count = nat_lt most_source_bytes count
+
+-- the counts of the open sources, where `n` bytes more were given of the innermost, if one is open
+abbrev pub each_given : ℕ → List ℕ → List ℕ
+each_given n [] = []
+each_given n (count ∷ outer) = min (count + n) last_count ∷ outer
+
+-- the number of openings that are too long, where `n` bytes more were given of the innermost: one more where it becomes so
+abbrev pub too_long_given : ℕ → List ℕ → ℕ → ℕ
+too_long_given n [] too_long = too_long
+too_long_given n (count ∷ outer) too_long =
+    if is_too_long (min (count + n) last_count) && not (is_too_long count) then min (too_long + 1) last_count else too_long
+
+abbrev pub counts_given : ℕ → Counts → Counts
+counts_given n c = record { each = each_given n c.each; too_long = too_long_given n c.each c.too_long }
+
 -- whether an attempt to open a source says that the device failed
 abbrev pub tells_failure : Result Unit OpenFault → Bool
 tells_failure (Err fault.Device) = true
 tells_failure _ = false
+
+-- names with one more, behind the others where it is not among them
+abbrev pub with_name : List ℕ → List (List ℕ) → List (List ℕ)
+with_name name names = if list_any (bytes_eq name) names then names else names ++ name ∷ []
+
+-- the different names of some openings, in the order of their first ones, behind other names
+abbrev pub names_from : List (List ℕ) → List Opening → List (List ℕ)
+names_from names [] = names
+names_from names (o ∷ openings) = names_from (with_name o.name names) openings
 
 -- The openings in their order, and the places there of the sources that are open, the innermost last.
 pub record Openings : Type 0 where

@@ -1,4 +1,5 @@
 pub mod Files
+pub mod Given
 pub mod MemoryFiles
 pub mod Sinks
 pub mod MemorySink

@@ -7,7 +7,7 @@ use Rattle.std.specs.BTreeMap.{BTreeMap}
 use Rattle.std.specs.String.{string_bytes}
 use Rattle.std.specs.declared.alloc.Global.{Global}
 use Rattle.inf_devices.specs.declared.memory_files.Opened.{Opened}
-use Rattle.inf_devices.specs.Files.{Sources, Opening, Openings}
+use Rattle.inf_devices.specs.Files.{Counts, Opening, Openings, Sources}
 
 -- a map from names to bytes, as the list of its entries in the names' order
 abbrev pub kept_in : BTreeMap (String Global) (Vec ℕ Global) → List (List ℕ × List ℕ)
@@ -44,9 +44,8 @@ pub record AreOpenings (sources : Sources) (opened : List Opened) (places : List
   pub each : All (IsOpening sources) opened
   pub open_ones : All (λ place. place < length opened) places
 
--- the state of files in memory: their sources, which stay, the openings so far, and the number of bytes that were given
--- in all
+-- the state of files in memory: their sources, which stay, the openings so far, and how many bytes were given of those that are open
 pub record MemoryState : Type 0 where
   pub kept : List (List ℕ × List ℕ)
   pub openings : Openings
-  pub given : ℕ
+  pub counts : Counts

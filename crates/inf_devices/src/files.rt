@@ -1,6 +1,7 @@
 ghost use Rattle.std.specs.Prelude.{◌≡◌, ℕ, ◌+◌, ◌<◌, ◌≤◌, Bool, false, IsTrue, IsErr, IsOk, IfOk, IsErrOf, OnErr};
-ghost use Rattle.std.specs.Prelude.{is_ok, length, min, if◌then◌else◌};
-ghost use Rattle.inf_devices.specs.Files.{last_count, Sources, Openings, Opens, Reads, Closes, Rose, tells_failure};
+ghost use Rattle.std.specs.Prelude.{is_ok, length, List, if◌then◌else◌};
+ghost use Rattle.inf_devices.specs.Files.{Sources, Openings, Opens, Reads, Closes, Rose, tells_failure, with_name};
+ghost use Rattle.inf_devices.specs.Files.{Counts, counts_closed, counts_given, counts_opened};
 ghost use Rattle.inf_devices.specs.declared.files.OpenFault.TheVariants.{Memory};
 
 use std::alloc::{AllocError, AllocFailed};
@@ -48,9 +49,8 @@ pub trait Files {
     /// The number of the device's failures: 64 bits, and it stays at the last value.
     ghost faults: { Self → ℕ };
 
-    /// The number of bytes that the device has given in all: 64 bits, and it stays at the last
-    /// value.
-    ghost given: { Self → ℕ };
+    /// The number of bytes that the device gave of each open source, and the number of openings so far that are too long.
+    ghost counts: { Self → Counts };
 
     /// Tells whether the statements on sources and openings hold.
     ghost is_honest: { Self → Bool };
@@ -64,18 +64,18 @@ pub trait Files {
     /// The number of open sources.
     ghost depth: { Self → ℕ };
 
-    /// The number of openings that succeeded: 64 bits, and it stays at the last value.
-    ghost opened: { Self → ℕ };
+    /// The different names under which sources were opened so far, in the order of their first openings.
+    ghost opened: { Self → List (List ℕ) };
 
     /// Opens the source with this name, which is then the innermost.
     fn open(&mut self, name: &str) -> Result<(), OpenFault>
         ensures opens { IsTrue (is_honest self.old) →
             Opens (sources self.old) name.now (openings self.old) (openings self.new) result }
         ensures depth { depth self.new ≡ (if is_ok result then depth self.old + 1 else depth self.old) }
-        ensures opened { opened self.new ≡ (if is_ok result then min (opened self.old + 1) last_count else opened self.old) }
+        ensures opened { opened self.new ≡ (if is_ok result then with_name name.now (opened self.old) else opened self.old) }
         ensures cause { IsErrOf result OpenFault.Device → Rose (faults self.old) (faults self.new) }
         ensures faults { (faults self.old ≤ faults self.new) × (tells_failure result ≡ false → faults self.new ≡ faults self.old) }
-        ensures given { given self.new ≡ given self.old }
+        ensures counts { counts self.new ≡ (if is_ok result then counts_opened (counts self.old) else counts self.old) }
         ensures sources { sources self.new ≡ sources self.old }
         ensures honesty { is_honest self.new ≡ is_honest self.old };
 
@@ -87,8 +87,8 @@ pub trait Files {
         ensures reads { IsTrue (is_honest self.old) →
             Reads (sources self.old) (openings self.old) (openings self.new) to.new result }
         ensures count { IfOk result (λ n. n ≤ length to.new) }
-        ensures given { IfOk result (λ n. given self.new ≡ min (given self.old + n) last_count) }
-        ensures same { OnErr result (given self.new ≡ given self.old) }
+        ensures counts { IfOk result (λ n. counts self.new ≡ counts_given n (counts self.old)) }
+        ensures same { OnErr result (counts self.new ≡ counts self.old) }
         ensures depth { depth self.new ≡ depth self.old }
         ensures opened { opened self.new ≡ opened self.old }
         ensures cause { IsErr result → Rose (faults self.old) (faults self.new) }
@@ -103,7 +103,7 @@ pub trait Files {
         ensures depth { depth self.new + 1 ≡ depth self.old }
         ensures opened { opened self.new ≡ opened self.old }
         ensures faults { faults self.new ≡ faults self.old }
-        ensures given { given self.new ≡ given self.old }
+        ensures counts { counts self.new ≡ counts_closed (counts self.old) }
         ensures sources { sources self.new ≡ sources self.old }
         ensures honesty { is_honest self.new ≡ is_honest self.old };
 }

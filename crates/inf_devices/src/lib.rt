@@ -7,4 +7,5 @@ pub mod files;
 pub mod given_bytes;
 pub mod memory_files;
 pub mod memory_sink;
+pub mod opened_names;
 pub mod sinks;

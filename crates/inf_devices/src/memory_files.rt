@@ -1,5 +1,6 @@
 ghost use Rattle.std.specs.Prelude.{◌≡◌, ◌+◌, ◌^◌, ◌<◌, ◌++◌, ◌∷◌, min, length, take, drop, unwrap_or, [], false, OnErr, OnOk};
 ghost use Rattle.std.specs.String.{string_bytes};
+ghost use Rattle.inf_devices.specs.Files.{counts_opened};
 ghost use Rattle.inf_devices.specs.MemoryFiles.{sources_of, kept_in, IsOpening};
 
 use crate::files::{Files, OpenFault, ReadFault};
@@ -60,7 +61,7 @@ impl Model for MemoryFiles {
     ghost view = { λ f. record {
       kept = kept_in f.sources;
       openings = openings_of (sources_of (kept_in f.sources)) f.opened.items f.open_places.items;
-      given = f.given;
+      counts = f.given;
     } };
 
     ghost invariant = { λ f. AreOpenings (sources_of (kept_in f.sources)) f.opened.items f.open_places.items };
@@ -70,6 +71,7 @@ impl MemoryFiles {
     ghost use Rattle.std.specs.Prelude.{ℕ, ◌≡◌, List, []};
     ghost use Rattle.std.specs.Option.{option_map};
     ghost use Rattle.std.specs.BTreeMap.{get_by_text};
+    ghost use Rattle.inf_devices.specs.Files.{nothing_given};
     ghost use Rattle.inf_devices.specs.MemoryFiles.{sources_of};
 
     /// Makes files of these sources, by their names, of which none was opened yet.
@@ -77,14 +79,14 @@ impl MemoryFiles {
         ensures sources { (name : List ℕ) →
             sources_of result.kept name ≡ option_map (λ v. v.items) (get_by_text sources name) }
         ensures openings { result.openings ≡ record { all = []; open_places = [] } }
-        ensures given { result.given ≡ 0 }
+        ensures counts { result.counts ≡ nothing_given }
     {
         MemoryFiles {
             alloc,
             sources,
             opened: Vec::new(alloc),
             open_places: Vec::new(alloc),
-            given: GivenBytes::none(),
+            given: GivenBytes::none(alloc),
         }
     }
 }
@@ -94,14 +96,19 @@ impl MemoryFiles {
 fn add_opened(
     opened: &mut Vec<Opened>,
     open_places: &mut Vec<usize>,
+    given: &mut GivenBytes,
     name: String,
 ) -> Result<(), AllocError>
     ensures opened { OnOk result (opened.new.items
         ≡ opened.old.items ++ record { name = name; given = 0; is_read_out = false } ∷ []) }
     ensures open_places { OnOk result (open_places.new.items ≡ open_places.old.items ++ length opened.old.items ∷ []) }
-    ensures err { OnErr result ((opened.new.items ≡ opened.old.items) × (open_places.new.items ≡ open_places.old.items)) }
+    ensures given { OnOk result (given.new ≡ counts_opened given.old) }
+    ensures err { OnErr result ((opened.new.items ≡ opened.old.items) × ((open_places.new.items ≡ open_places.old.items)
+        × (given.new ≡ given.old))) }
 {
     open_places.reserve(1)?;
+    opened.reserve(1)?;
+    given.open()?;
     let place = opened.len();
     opened.push(Opened {
         name,
@@ -123,13 +130,13 @@ fn copy_front(to: &mut [u8], from: &[u8]) -> usize
 }
 
 impl Files for MemoryFiles {
-    ghost use Rattle.std.specs.Prelude.{length, min, true};
-    ghost use Rattle.inf_devices.specs.Files.{last_count};
+    ghost use Rattle.std.specs.Prelude.{[], length, true};
+    ghost use Rattle.inf_devices.specs.Files.{names_from};
     ghost use Rattle.inf_devices.specs.MemoryFiles.{sources_of};
 
     ghost faults = { λ _. 0 };
 
-    ghost given = { λ f. f.given };
+    ghost counts = { λ f. f.counts };
 
     ghost is_honest = { λ _. true };
 
@@ -139,14 +146,19 @@ impl Files for MemoryFiles {
 
     ghost depth = { λ f. length f.openings.open_places };
 
-    ghost opened = { λ f. min (length f.openings.all) last_count };
+    ghost opened = { λ f. names_from [] f.openings.all };
 
     fn open(&mut self, name: &str) -> Result<(), OpenFault> {
         if !self.sources.contains_key(name) {
             return Err(OpenFault::Absent);
         }
         let name = String::from_str(self.alloc, name)?;
-        add_opened(&mut self.opened, &mut self.open_places, name)?;
+        add_opened(
+            &mut self.opened,
+            &mut self.open_places,
+            &mut self.given,
+            name,
+        )?;
         Ok(())
     }
 
@@ -161,5 +173,6 @@ impl Files for MemoryFiles {
 
     fn close(&mut self) {
         let _ = self.open_places.pop();
+        self.given.close();
     }
 }

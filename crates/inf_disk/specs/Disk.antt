@@ -16,7 +16,7 @@ fault_of_kind kind.OutOfMemory = fault.Memory
 fault_of_kind _ = fault.Device
 
 -- An opening that succeeds adds a file behind the open ones. Any other leaves them as they were, and has its fault by
--- the system's reason, which is kept; but for want of memory it may fail before the system is asked, and then the reason
+-- the system's reason, which is kept; but for want of memory it may fail with no reason of the system, and then the reason
 -- that was kept before stays.
 abbrev pub OpensFile : {F : Type 0} → List F → List F → Option ErrorKind → Option ErrorKind → Result Unit OpenFault → Type 0
 OpensFile {F} old new before reason (Ok _) = (reason ≡ None) × (file : F) × (new ≡ old ++ file ∷ [])

@@ -4,12 +4,14 @@ ghost use Rattle.std.specs.Prelude.{is_ok, length, min, if◌then◌else◌};
 ghost use Rattle.std.specs.Fs.{new_options, with_write, with_create, with_truncate};
 ghost use Rattle.std.specs.Io.KnownBytes.{ReadConsumes, WriteAppends};
 ghost use Rattle.std.specs.IoError.{error_kind, raw_os_error};
-ghost use Rattle.inf_devices.specs.Files.{Rose, last_count, tells_failure};
+ghost use Rattle.inf_devices.specs.Files.{Rose, counts_closed, counts_given, counts_opened, last_count, nothing_given, tells_failure};
+ghost use Rattle.inf_devices.specs.Files.{with_name};
 ghost use Rattle.inf_disk.specs.Disk.{fault_of_kind, OpensFile, ReadsLast, WritesMade};
 
 use inf_devices::failures::Failures;
 use inf_devices::files::{Files, OpenFault, ReadFault};
 use inf_devices::given_bytes::GivenBytes;
+use inf_devices::opened_names::OpenedNames;
 use inf_devices::sinks::{Sink, SinkFault};
 use std::alloc::Global;
 use std::cell::Cell;
@@ -182,8 +184,8 @@ pub struct DiskFiles<'r, R: rt::Files> {
     /// The failures so far.
     pub trouble: Trouble,
     given: GivenBytes,
-    /// The number of files that were opened so far, each as often as it was.
-    pub opened: u64,
+    /// The different names under which files were opened so far.
+    pub names: OpenedNames,
 }
 
 impl<'r, R: rt::Files> DiskFiles<'r, R> {
@@ -194,16 +196,16 @@ impl<'r, R: rt::Files> DiskFiles<'r, R> {
         ensures faults { result.trouble.failures ≡ 0 }
         ensures reason { result.trouble.reason ≡ None }
         ensures number { result.trouble.number ≡ None }
-        ensures given { result.given ≡ 0 }
-        ensures opened { result.opened ≡ 0 }
+        ensures given { result.given ≡ nothing_given }
+        ensures opened { result.names ≡ [] }
     {
         DiskFiles {
             system,
             story,
             open_files: Vec::new(alloc),
             trouble: Trouble::none(),
-            given: GivenBytes::none(),
-            opened: 0,
+            given: GivenBytes::none(alloc),
+            names: OpenedNames::none(alloc),
         }
     }
 }
@@ -259,7 +261,7 @@ impl<R: rt::Files> Files for DiskFiles<'_, R> {
 
     ghost faults = { λ f. f.trouble.failures };
 
-    ghost given = { λ f. f.given };
+    ghost counts = { λ f. f.given };
 
     ghost is_honest = { λ _. false };
 
@@ -269,30 +271,37 @@ impl<R: rt::Files> Files for DiskFiles<'_, R> {
 
     ghost depth = { λ f. length f.open_files.items };
 
-    ghost opened = { λ f. f.opened };
+    ghost opened = { λ f. f.names };
 
     fn open(&mut self, name: &str) -> Result<(), OpenFault>
         ensures opens { OpensFile self.old.open_files.items self.new.open_files.items self.old.trouble.reason
             self.new.trouble.reason result }
         ensures depth { length self.new.open_files.items ≡ (if is_ok result
             then length self.old.open_files.items + 1 else length self.old.open_files.items) }
-        ensures opened { self.new.opened ≡ (if is_ok result then min (self.old.opened + 1) last_count else self.old.opened) }
+        ensures opened { self.new.names ≡ (if is_ok result then with_name name.now self.old.names else self.old.names) }
         ensures cause { IsErrOf result OpenFault.Device →
             Rose self.old.trouble.failures self.new.trouble.failures }
         ensures faults { (self.old.trouble.failures ≤ self.new.trouble.failures)
             × (tells_failure result ≡ false → self.new.trouble.failures ≡ self.old.trouble.failures) }
-        ensures given { self.new.given ≡ self.old.given }
+        ensures counts { self.new.given ≡ (if is_ok result then counts_opened self.old.given else self.old.given) }
     {
         self.open_files.reserve(1)?;
+        self.given.open()?;
         match fs::open(self.system, name) {
             Ok(file) => {
+                if self.names.add(name).is_err() {
+                    self.given.close();
+                    return Err(OpenFault::Memory);
+                }
                 self.trouble.reason = None;
                 self.story.look_at(self.system, &file);
                 self.open_files.push_reserved(file);
-                self.opened = self.opened.saturating_add(1);
                 Ok(())
             }
-            Err(error) => Err(self.trouble.refused(&error)),
+            Err(error) => {
+                self.given.close();
+                Err(self.trouble.refused(&error))
+            }
         }
     }
 
@@ -301,9 +310,9 @@ impl<R: rt::Files> Files for DiskFiles<'_, R> {
         ensures bytes { ReadsLast (R.File.remaining) self.old.open_files.items
             self.new.open_files.items result to.new }
         ensures count { IfOk result (λ n. n ≤ length to.new) }
-        ensures given { IfOk result (λ n. self.new.given ≡ min (self.old.given + n) last_count) }
+        ensures counts { IfOk result (λ n. self.new.given ≡ counts_given n self.old.given) }
         ensures depth { length self.new.open_files.items ≡ length self.old.open_files.items }
-        ensures opened { self.new.opened ≡ self.old.opened }
+        ensures opened { self.new.names ≡ self.old.names }
         ensures same { OnErr result (self.new.given ≡ self.old.given) }
         ensures cause { IsErr result → Rose self.old.trouble.failures self.new.trouble.failures }
         ensures reason { IsErr result → IsSome self.new.trouble.reason }
@@ -323,12 +332,13 @@ impl<R: rt::Files> Files for DiskFiles<'_, R> {
         ensures files { (file : _) ×
             (self.old.open_files.items ≡ self.new.open_files.items ++ file ∷ []) }
         ensures depth { length self.new.open_files.items + 1 ≡ length self.old.open_files.items }
-        ensures opened { self.new.opened ≡ self.old.opened }
+        ensures opened { self.new.names ≡ self.old.names }
         ensures faults { self.new.trouble.failures ≡ self.old.trouble.failures }
         ensures reason { self.new.trouble.reason ≡ self.old.trouble.reason }
-        ensures given { self.new.given ≡ self.old.given }
+        ensures counts { self.new.given ≡ counts_closed self.old.given }
     {
         let _ = self.open_files.pop();
+        self.given.close();
     }
 }
 

@@ -1,9 +1,11 @@
 pub mod Giving
+pub mod Counting
 pub mod Hearing
 pub mod Unfinished
 pub mod Taken
 pub mod Scanned
 pub mod NameLists
+pub mod Opened
 pub mod FileNames
 pub mod Candidates
 pub mod AnswerLaws

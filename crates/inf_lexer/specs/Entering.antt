@@ -1,8 +1,9 @@
 -- The sources that are open behind the entering of a file, with a reader that keeps to its sources.
-use Rattle.std.specs.Prelude.{◌≡◌, ℕ, ◌+◌, min, ◌<◌, ◌≤◌, ◌⊎◌, List, [], ◌∷◌, ◌++◌, length, nat_le, Option, Some, None, is_some, slice_get}
+use Rattle.std.specs.Prelude.{◌≡◌, ℕ, ◌<◌, ◌≤◌, ◌⊎◌, List, [], ◌∷◌, ◌++◌, length, nat_le, Option, Some, None, is_some, slice_get}
 use Rattle.std.specs.Prelude.{Result, Ok, Err, Bool, true, false, IsTrue, if◌then◌else◌}
-use Rattle.std.specs.List.{list_any}
-use Rattle.inf_devices.specs.Files.{Sources, Openings, last_count, opened}
+use Rattle.std.specs.List.{IsDistinct, list_any}
+use Rattle.std.specs.Str.{bytes_eq}
+use Rattle.inf_devices.specs.Files.{Sources, Openings, opened}
 use Rattle.inf_lexer.specs.Names.{Nest, entered, number_of}
 use Rattle.inf_lexer.specs.Readers.{Reader, at_front}
 use Rattle.inf_lexer.specs.declared.enter_faults.EnterFault.{EnterFault}
@@ -47,12 +48,28 @@ pub record ClosedAgain (sources : Sources) (known names : List (List ℕ)) (befo
   pub is_too_many : 65535 ≤ number_of name known
   pub is_closed : after ≡ with_closed name before
 
--- One of these names comes behind 65,535 others. A source was opened, as the reader counts, and was closed at once; with an honest
+-- each name that was among those opened is still among them
+abbrev pub StaysOpened : List (List ℕ) → List (List ℕ) → Type 0
+StaysOpened before now = (name : List ℕ) → list_any (bytes_eq name) before ≡ true → list_any (bytes_eq name) now ≡ true
+
+-- Names that differ from one another, each among those opened.
+pub record AreOpened (names opened : List (List ℕ)) : Type 0 where
+  pub differ : IsDistinct bytes_eq names
+  pub among : StaysOpened names opened
+
+-- A call forgets no name that was opened, and where the known names before it were opened, so are those behind it.
+pub record OpensOn (before after opened_before opened_now : List (List ℕ)) : Type 0 where
+  pub stays : StaysOpened opened_before opened_now
+  pub opened : AreOpened before opened_before → AreOpened after opened_now
+
+-- One of these names comes behind 65,535 others, and is among those that the reader opened. Its source was closed at once; with an honest
 -- reader it is the first of the names that is there.
 pub record WasTooMany (sources : Sources) (is_honest : Bool) (known names : List (List ℕ)) (before after : Openings)
-    (count_before count_now : ℕ) : Type 0 where
+    (opened_now : List (List ℕ)) : Type 0 where
   pub is_named : has_one_too_many known names ≡ true
-  pub counted : min (count_before + 1) last_count ≤ count_now
+  pub name : List ℕ
+  pub is_too_many : 65535 ≤ number_of name known
+  pub is_opened : list_any (bytes_eq name) opened_now ≡ true
   pub is_closed : IsTrue is_honest → ClosedAgain sources known names before after
 
 -- the openings of an honest reader where no source of these names was entered

@@ -1,9 +1,10 @@
 -- The names of files, and those that the text of an inclusion means (Designer's Manual, fourth edition, sections 38 and 39).
 use Rattle.std.specs.Prelude.{ℕ, ◌-◌, List, [], ◌∷◌, ◌++◌, length, take, map, Bool, false, not, ◌&&◌, ◌||◌, ◌==◌, nat_lt, codes}
 use Rattle.std.specs.Prelude.{if◌then◌else◌, Option, Some, None, unwrap_or, slice_get}
-use Rattle.std.specs.List.{list_all, list_any, position_or_len}
+use Rattle.std.specs.List.{list_all, position_or_len}
 use Rattle.std.specs.Str.{bytes_eq}
 use Rattle.inf_characters.specs.declared.characters.CharSet.{CharSet}
+pub use Rattle.inf_devices.specs.Files.{with_name}
 
 -- Nested files: the character set, the number of bytes that a quoted token may have, the names that were opened, each
 -- at its number, and the numbers of the open files, the innermost last.
@@ -16,9 +17,6 @@ pub record Nest : Type 0 where
 -- the number of a name: how many came before it
 abbrev pub number_of : List ℕ → List (List ℕ) → ℕ
 number_of name names = position_or_len (bytes_eq name) names
-
-abbrev pub with_name : List ℕ → List (List ℕ) → List (List ℕ)
-with_name name names = if list_any (bytes_eq name) names then names else names ++ name ∷ []
 
 -- the files with one more entered
 abbrev pub entered : List ℕ → Nest → Nest

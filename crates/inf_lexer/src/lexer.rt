@@ -1,7 +1,8 @@
 //! The tokens of an open source, one after another.
-ghost use Rattle.std.specs.Prelude.{◌≡◌, ◌+◌, ◌-◌, ◌<◌, ◌≤◌, ◌⊎◌, [], false, true, length, min, is_err, IsTrue, IsErrOf, IfOk, OnOk, Err};
+ghost use Rattle.std.specs.Prelude.{◌≡◌, ◌+◌, ◌-◌, ◌<◌, ◌≤◌, ◌⊎◌, [], false, true, length, is_err, IsTrue, IsErrOf, IfOk, OnOk, Err};
 ghost use Rattle.std.specs.Prelude.{IsErr, IfErr, OnErr};
-ghost use Rattle.inf_devices.specs.Files.{Rose, last_count};
+ghost use Rattle.inf_devices.specs.Files.{Rose};
+ghost use Rattle.inf_lexer.specs.Counted.{CountsOn};
 ghost use Rattle.inf_lexer.specs.Heads.{HeadFound, HeadRead, goes_on_at, head_found, is_behind, next_head_word};
 ghost use Rattle.inf_lexer.specs.Unread.{Along, Ends, Heard, StillGives, to_come, unread};
 ghost use Rattle.inf_scanner.specs.Scanning.{Found, begun, find, is_quoted, sight};
@@ -53,7 +54,7 @@ fn scan<F: Files>(
     ensures memory { IsErrOf result LexFault.Memory → IsTrue (F.is_honest files.old) →
         is_quoted (find set limit State.Gap (begun seen.old.lines) (to_come (F.sources files.old) (F.openings files.old) window.old)).ending
         ≡ true }
-    ensures given { min (F.given files.old + (window.new.given - window.old.given)) last_count ≤ F.given files.new }
+    ensures counts { CountsOn (F.counts files.old) (F.counts files.new) window.old.given window.new.given }
     ensures depth { F.depth files.new ≡ F.depth files.old }
     ensures opened { F.opened files.new ≡ F.opened files.old }
     ensures faults { (F.faults files.old ≤ F.faults files.new) × OnOk result (F.faults files.new ≡ F.faults files.old)
@@ -112,7 +113,7 @@ fn scan_head<F: Files>(
         (to_come (F.sources files.old) (F.openings files.old) window.old)
         (window.new.given - 16777216) (unread (F.sources files.old) (F.openings files.new)) }
     ensures on { IsErr result → window.new.is_over ≡ false }
-    ensures given { min (F.given files.old + (window.new.given - window.old.given)) last_count ≤ F.given files.new }
+    ensures counts { CountsOn (F.counts files.old) (F.counts files.new) window.old.given window.new.given }
     ensures depth { F.depth files.new ≡ F.depth files.old }
     ensures opened { F.opened files.new ≡ F.opened files.old }
     ensures faults { F.faults files.old ≤ F.faults files.new }
@@ -222,8 +223,7 @@ impl Lexer {
         ensures window { length self.new.window.left ≤ 4096 }
         ensures gave { IsTrue (F.is_honest files.old) → Along (F.sources files.old)
             (F.openings files.old) (F.openings files.new) self.old.window.given self.new.window.given }
-        ensures given { min (F.given files.old + (self.new.window.given - self.old.window.given)) last_count
-            ≤ F.given files.new }
+        ensures counts { CountsOn (F.counts files.old) (F.counts files.new) self.old.window.given self.new.window.given }
         ensures few { OnOk result (self.new.window.given ≤ 16777216) }
 
         // A refusal has its cause, and each answer behind it is `Read`.
@@ -308,8 +308,7 @@ impl Lexer {
         ensures window { length self.new.window.left ≤ 4096 }
         ensures gave { IsTrue (F.is_honest files.old) → Along (F.sources files.old)
             (F.openings files.old) (F.openings files.new) self.old.window.given self.new.window.given }
-        ensures given { min (F.given files.old + (self.new.window.given - self.old.window.given)) last_count
-            ≤ F.given files.new }
+        ensures counts { CountsOn (F.counts files.old) (F.counts files.new) self.old.window.given self.new.window.given }
         ensures few { OnOk result (self.new.window.given ≤ 16777216) }
 
         // A refusal has its cause, leaves the place, and each answer behind it is `Read`. The bytes that were given end neither the

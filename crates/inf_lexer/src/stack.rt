@@ -1,11 +1,11 @@
 //! The files that are open, one inside the other.
-ghost use Rattle.std.specs.Prelude.{◌≡◌, ◌+◌, ◌<◌, ◌≤◌, ◌⊎◌, ◌∷◌, [], true, false, length, map, min, if◌then◌else◌, slice_get, nat_le};
+ghost use Rattle.std.specs.Prelude.{◌≡◌, ◌+◌, ◌<◌, ◌≤◌, ◌⊎◌, ◌∷◌, [], true, false, length, map, if◌then◌else◌, slice_get, nat_le};
 ghost use Rattle.std.specs.Prelude.{is_ok, IsTrue, IsErrOf, IfOk, OnErr, Err};
 ghost use Rattle.std.specs.Option.{option_copied};
 ghost use Rattle.std.specs.String.{string_bytes};
-ghost use Rattle.inf_devices.specs.Files.{Rose, Closes, last_count};
+ghost use Rattle.inf_devices.specs.Files.{Rose, Closes, counts_closed, counts_opened};
 ghost use Rattle.inf_lexer.specs.Names.{can_name, candidates, innermost_name, left, name_in, number_of};
-ghost use Rattle.inf_lexer.specs.Entering.{Enters, Leaves, WasTooMany, is_absent, is_of_opening, tells_failure};
+ghost use Rattle.inf_lexer.specs.Entering.{Enters, Leaves, OpensOn, WasTooMany, is_absent, is_of_opening, tells_failure};
 
 use crate::enter_faults::EnterFault;
 use crate::include_names::{fit_name, name_beside, name_in, without_sign};
@@ -90,6 +90,7 @@ impl Stack {
     /// open, and then nothing is opened; `Absent` and `Device` of the reader, `Device` also where 65,535
     /// other names were entered before; `Memory` where there is no room, which is asked for before the
     /// source is opened.
+    #[tactic(auto, using(crate::proofs::Opened::opens_same))]
     pub fn enter_main<F: Files>(&mut self, files: &mut F, name: &str) -> Result<Lexer, EnterFault>
         ensures ok { IfOk result (λ lexer. Enters (F.sources files.old) (F.is_honest files.old) (name.now ∷ [])
             (F.openings files.old) (F.openings files.new) self.old self.new lexer) }
@@ -103,12 +104,12 @@ impl Stack {
         ensures full { IsErrOf result EnterFault.TooDeep → 16 ≤ length self.old.open_files }
         ensures cause { IsErrOf result EnterFault.Device → Rose (F.faults files.old) (F.faults files.new)
             ⊎ WasTooMany (F.sources files.old) (F.is_honest files.old) self.old.names (name.now ∷ [])
-            (F.openings files.old) (F.openings files.new) (F.opened files.old) (F.opened files.new) }
-        ensures opened { min (F.opened files.old + (if is_ok result then 1 else 0)) last_count ≤ F.opened files.new }
+            (F.openings files.old) (F.openings files.new) (F.opened files.new) }
+        ensures opened { OpensOn self.old.names self.new.names (F.opened files.old) (F.opened files.new) }
         ensures depth { F.depth files.new ≡ (if is_ok result then F.depth files.old + 1 else F.depth files.old) }
         ensures faults { (F.faults files.old ≤ F.faults files.new)
             × (tells_failure result ≡ false → F.faults files.new ≡ F.faults files.old) }
-        ensures given { F.given files.new ≡ F.given files.old }
+        ensures counts { F.counts files.new ≡ (if is_ok result then counts_opened (F.counts files.old) else F.counts files.old) }
         ensures sources { F.sources files.new ≡ F.sources files.old }
         ensures honesty { F.is_honest files.new ≡ F.is_honest files.old }
     {
@@ -132,6 +133,7 @@ impl Stack {
     /// `TooDeep` where 16 files are open, and then nothing is opened; `Absent` and `Device` of the reader, `Device` also
     /// where 65,535 other names were entered before; `Memory` where there is no room, which is asked for before
     /// each attempt to open a source.
+    #[tactic(auto, using(crate::proofs::Opened::opens_same))]
     pub fn enter<F: Files>(
         &mut self,
         files: &mut F,
@@ -153,12 +155,12 @@ impl Stack {
         ensures cause { IsErrOf result EnterFault.Device → Rose (F.faults files.old) (F.faults files.new)
             ⊎ WasTooMany (F.sources files.old) (F.is_honest files.old) self.old.names
             (candidates (map (λ d. d.now) directories.now) (innermost_name self.old) text.now)
-            (F.openings files.old) (F.openings files.new) (F.opened files.old) (F.opened files.new) }
-        ensures opened { min (F.opened files.old + (if is_ok result then 1 else 0)) last_count ≤ F.opened files.new }
+            (F.openings files.old) (F.openings files.new) (F.opened files.new) }
+        ensures opened { OpensOn self.old.names self.new.names (F.opened files.old) (F.opened files.new) }
         ensures depth { F.depth files.new ≡ (if is_ok result then F.depth files.old + 1 else F.depth files.old) }
         ensures faults { (F.faults files.old ≤ F.faults files.new)
             × (tells_failure result ≡ false → F.faults files.new ≡ F.faults files.old) }
-        ensures given { F.given files.new ≡ F.given files.old }
+        ensures counts { F.counts files.new ≡ (if is_ok result then counts_opened (F.counts files.old) else F.counts files.old) }
         ensures sources { F.sources files.new ≡ F.sources files.old }
         ensures honesty { F.is_honest files.new ≡ F.is_honest files.old }
     {
@@ -188,6 +190,7 @@ impl Stack {
     }
 
     /// Opens the file in the first of `directories` that has it. The faults are those of `enter` from `Absent` on.
+    #[tactic(auto, using(crate::proofs::Opened::opens_then))]
     fn open_first<F: Files>(
         &mut self,
         files: &mut F,
@@ -203,13 +206,13 @@ impl Stack {
             (map (λ d. name_in d.now file.now) directories.now) (F.openings files.old) (F.openings files.new) result }
         ensures cause { IsErrOf result EnterFault.Device → Rose (F.faults files.old) (F.faults files.new)
             ⊎ WasTooMany (F.sources files.old) (F.is_honest files.old) self.old.names (map (λ d. name_in d.now file.now) directories.now)
-            (F.openings files.old) (F.openings files.new) (F.opened files.old) (F.opened files.new) }
-        ensures opened { min (F.opened files.old + (if is_ok result then 1 else 0)) last_count ≤ F.opened files.new }
+            (F.openings files.old) (F.openings files.new) (F.opened files.new) }
+        ensures opened { OpensOn self.old.names self.new.names (F.opened files.old) (F.opened files.new) }
         ensures named { is_of_opening result ≡ true }
         ensures depth { F.depth files.new ≡ (if is_ok result then F.depth files.old + 1 else F.depth files.old) }
         ensures faults { (F.faults files.old ≤ F.faults files.new)
             × (tells_failure result ≡ false → F.faults files.new ≡ F.faults files.old) }
-        ensures given { F.given files.new ≡ F.given files.old }
+        ensures counts { F.counts files.new ≡ (if is_ok result then counts_opened (F.counts files.old) else F.counts files.old) }
         ensures sources { F.sources files.new ≡ F.sources files.old }
         ensures honesty { F.is_honest files.new ≡ F.is_honest files.old }
     {
@@ -224,6 +227,7 @@ impl Stack {
     }
 
     /// Opens the file with the name `name`. The faults are those of `enter` from `Absent` on.
+    #[tactic(auto, using(crate::proofs::Opened::opens_same))]
     fn open_named<F: Files>(&mut self, files: &mut F, name: String) -> Result<Lexer, EnterFault>
         requires { length self.old.open_files < 16 }
         ensures ok { IfOk result (λ lexer. Enters (F.sources files.old) (F.is_honest files.old) (string_bytes name ∷ [])
@@ -233,13 +237,13 @@ impl Stack {
             (string_bytes name ∷ []) (F.openings files.old) (F.openings files.new) result }
         ensures cause { IsErrOf result EnterFault.Device → Rose (F.faults files.old) (F.faults files.new)
             ⊎ WasTooMany (F.sources files.old) (F.is_honest files.old) self.old.names (string_bytes name ∷ [])
-            (F.openings files.old) (F.openings files.new) (F.opened files.old) (F.opened files.new) }
-        ensures opened { min (F.opened files.old + (if is_ok result then 1 else 0)) last_count ≤ F.opened files.new }
+            (F.openings files.old) (F.openings files.new) (F.opened files.new) }
+        ensures opened { OpensOn self.old.names self.new.names (F.opened files.old) (F.opened files.new) }
         ensures named { is_of_opening result ≡ true }
         ensures depth { F.depth files.new ≡ (if is_ok result then F.depth files.old + 1 else F.depth files.old) }
         ensures faults { (F.faults files.old ≤ F.faults files.new)
             × (tells_failure result ≡ false → F.faults files.new ≡ F.faults files.old) }
-        ensures given { F.given files.new ≡ F.given files.old }
+        ensures counts { F.counts files.new ≡ (if is_ok result then counts_opened (F.counts files.old) else F.counts files.old) }
         ensures sources { F.sources files.new ≡ F.sources files.old }
         ensures honesty { F.is_honest files.new ≡ F.is_honest files.old }
     {
@@ -300,7 +304,7 @@ impl Stack {
         ensures depth { F.depth files.new + 1 ≡ F.depth files.old }
         ensures opened { F.opened files.new ≡ F.opened files.old }
         ensures faults { F.faults files.new ≡ F.faults files.old }
-        ensures given { F.given files.new ≡ F.given files.old }
+        ensures counts { F.counts files.new ≡ counts_closed (F.counts files.old) }
         ensures sources { F.sources files.new ≡ F.sources files.old }
         ensures honesty { F.is_honest files.new ≡ F.is_honest files.old }
     {

@@ -1,7 +1,8 @@
 //! A source seen through a window.
-ghost use Rattle.std.specs.Prelude.{◌≡◌, ◌+◌, ◌-◌, ◌<◌, ◌≤◌, ◌^◌, ◌⊎◌, ◌∷◌, [], drop, length, min, false, true, IsTrue, IsErr, IfOk};
+ghost use Rattle.std.specs.Prelude.{◌≡◌, ◌+◌, ◌-◌, ◌<◌, ◌≤◌, ◌^◌, ◌⊎◌, ◌∷◌, [], drop, length, false, true, IsTrue, IsErr, IfOk};
 ghost use Rattle.std.specs.Prelude.{IfErr, IsOk, OnErr, OnOk};
-ghost use Rattle.inf_devices.specs.Files.{Reads, Rose, last_count};
+ghost use Rattle.inf_devices.specs.Files.{Reads, Rose, counts_given};
+ghost use Rattle.inf_lexer.specs.Counted.{CountsOn};
 ghost use Rattle.inf_lexer.specs.Unread.{Ends, ReadsOn, StillGives};
 
 use crate::faults::LexFault;
@@ -75,8 +76,7 @@ impl Window {
         ensures on { IsErr result → self.new.is_over ≡ false }
         ensures cause { IsErr result →
             Rose (F.faults files.old) (F.faults files.new) ⊎ (16777216 < self.new.given) }
-        ensures given { min (F.given files.old + (self.new.given - self.old.given)) last_count
-            ≤ F.given files.new }
+        ensures counts { CountsOn (F.counts files.old) (F.counts files.new) self.old.given self.new.given }
         ensures depth { F.depth files.new ≡ F.depth files.old }
         ensures opened { F.opened files.new ≡ F.opened files.old }
         ensures faults { (F.faults files.old ≤ F.faults files.new) × OnOk result (F.faults files.new ≡ F.faults files.old) }
@@ -119,8 +119,7 @@ impl Window {
         ensures on { IsErr result → self.new.is_over ≡ false }
         ensures cause { IsErr result →
             Rose (F.faults files.old) (F.faults files.new) ⊎ (16777216 < self.new.given) }
-        ensures given { min (F.given files.old + (self.new.given - self.old.given)) last_count
-            ≤ F.given files.new }
+        ensures counts { CountsOn (F.counts files.old) (F.counts files.new) self.old.given self.new.given }
         ensures depth { F.depth files.new ≡ F.depth files.old }
         ensures opened { F.opened files.new ≡ F.opened files.old }
         ensures faults { (F.faults files.old ≤ F.faults files.new) × OnOk result (F.faults files.new ≡ F.faults files.old) }
@@ -163,8 +162,8 @@ fn read_front<F: Files>(bytes: &mut [u8], room: usize, files: &mut F) -> Result<
         Reads (F.sources files.old) (F.openings files.old) (F.openings files.new) bytes.new result }
     ensures count { IfOk result (λ n. n ≤ room) }
     ensures fits { IfOk result (λ n. n ≤ length bytes.new) }
-    ensures given { IfOk result (λ n. F.given files.new ≡ min (F.given files.old + n) last_count) }
-    ensures same { OnErr result (F.given files.new ≡ F.given files.old) }
+    ensures counts { IfOk result (λ n. F.counts files.new ≡ counts_given n (F.counts files.old)) }
+    ensures same { OnErr result (F.counts files.new ≡ F.counts files.old) }
     ensures depth { F.depth files.new ≡ F.depth files.old }
     ensures opened { F.opened files.new ≡ F.opened files.old }
     ensures cause { IsErr result → Rose (F.faults files.old) (F.faults files.new) }

@@ -1,10 +1,12 @@
 //! A reader of files that gives few bytes, pauses, fails or does not end.
 ghost use Rattle.std.specs.Prelude.{◌≡◌, ◌<◌, ◌≤◌, None, [], false, length, IfOk};
+ghost use Rattle.inf_devices.specs.Files.{names_from};
 
 use inf_devices::failures::Failures;
 use inf_devices::files::{Files, OpenFault, ReadFault};
 use inf_devices::given_bytes::GivenBytes;
 use inf_devices::memory_files::MemoryFiles;
+use std::alloc::Global;
 
 /// The pace at which a reader gives its bytes.
 #[derive(Clone, Copy)]
@@ -37,14 +39,14 @@ pub(crate) struct Metered {
 
 impl Metered {
     /// Makes a reader of files of which none was opened yet.
-    pub(crate) fn new(whole: MemoryFiles, pace: Pace) -> Metered
+    pub(crate) fn new(alloc: Global, whole: MemoryFiles, pace: Pace) -> Metered
         requires { whole.openings.open_places ≡ [] }
     {
         Metered {
             whole,
             pace,
             failures: Failures::none(),
-            counted: GivenBytes::none(),
+            counted: GivenBytes::none(alloc),
             depth: 0,
             opened: 0,
             reads: 0,
@@ -58,7 +60,8 @@ impl Metered {
         ensures count { IfOk result (λ n. n ≤ length to.new) }
         ensures depth { self.new.depth ≡ self.old.depth }
         ensures same { (self.new.failures ≡ self.old.failures) ×
-            ((self.new.counted ≡ self.old.counted) × (self.new.opened ≡ self.old.opened)) }
+            ((self.new.counted ≡ self.old.counted) ×
+            (names_from [] self.new.whole.openings.all ≡ names_from [] self.old.whole.openings.all)) }
     {
         if to.is_empty() {
             return Ok(0);
@@ -75,7 +78,7 @@ impl Metered {
 impl Files for Metered {
     ghost faults = { λ f. f.failures };
 
-    ghost given = { λ f. f.counted };
+    ghost counts = { λ f. f.counted };
 
     ghost is_honest = { λ _. false };
 
@@ -85,13 +88,18 @@ impl Files for Metered {
 
     ghost depth = { λ f. f.depth };
 
-    ghost opened = { λ f. f.opened };
+    ghost opened = { λ f. names_from [] f.whole.openings.all };
 
     fn open(&mut self, name: &str) -> Result<(), OpenFault> {
         if self.depth == usize::MAX {
             return Err(OpenFault::Memory);
         }
-        match self.whole.open(name) {
+        self.counted.open()?;
+        let opened = self.whole.open(name);
+        if opened.is_err() {
+            self.counted.close();
+        }
+        match opened {
             Ok(()) => {
                 self.depth += 1;
                 self.opened = self.opened.saturating_add(1);
@@ -125,6 +133,7 @@ impl Files for Metered {
 
     fn close(&mut self) {
         self.whole.close();
+        self.counted.close();
         self.depth -= 1;
     }
 }

@@ -63,7 +63,7 @@ impl Session {
         Session {
             alloc,
             folder: BTreeMap::new(alloc),
-            files: Metered::new(empty, AT_ONCE),
+            files: Metered::new(alloc, empty, AT_ONCE),
             stack: Stack::new(alloc, CharSet::Ascii, 0),
             lexers: Vec::new(alloc),
         }
@@ -151,7 +151,7 @@ impl Session {
     /// Begins anew with the sources of the folder.
     fn begin(&mut self, set: &str, limit: &str, pace: Pace) -> Result<(), AllocError> {
         let whole = MemoryFiles::new(self.alloc, self.folder.clone()?);
-        self.files = Metered::new(whole, pace);
+        self.files = Metered::new(self.alloc, whole, pace);
         self.restart(set, limit.parse().unwrap_or(0));
         Ok(())
     }

@@ -1,9 +1,10 @@
 -- The open files behind a turn to another character set.
-use Rattle.std.proofs.Common.{◌≡◌, ◌+◌, ◌-◌, ◌≤◌, ℕ, suc, List, [], ◌∷◌, length, map, min, refl, sym, ap, subst, ◌∙◌, arith}
+use Rattle.std.proofs.Common.{◌≡◌, ◌+◌, ℕ, suc, List, [], ◌∷◌, length, map, refl, sym, ap, subst, ◌∙◌, arith}
 use Rattle.inf_characters.specs.declared.characters.CharSet.{CharSet}
-use Rattle.inf_devices.specs.Files.{Openings, Sources, last_count}
+use Rattle.inf_devices.specs.Files.{Openings, Sources}
 use Rattle.inf_devices.specs.declared.files.Files.{Ghosts as Files}
-use Rattle.inf_sources.specs.Calls.{Went, given_all}
+use Rattle.inf_lexer.specs.Entering.{OpensOn}
+use Rattle.inf_sources.specs.Calls.{AreCounted, Went, given_each}
 use Rattle.inf_sources.specs.Choosing.{file_with, open_with}
 use Rattle.inf_sources.specs.Open.{AllGiven, IsNested, Open}
 use Rattle.inf_sources.specs.declared.open_file.OpenFile.{OpenFile}
@@ -18,14 +19,14 @@ as_many set (f ∷ files) = ap suc (as_many set files)
 pub turned_went : {S : Type 0} (f : Files S) (s : S) (set : CharSet) (before after : Open) → after ≡ open_with set before
     → ((start now : Openings) → IsNested start now before → IsNested start now after)
     → ((sources : Sources) (n : ℕ) (now : Openings) → AllGiven sources n now before → AllGiven sources n now after)
-    → given_all after ≡ given_all before → Went f s s before after
+    → given_each after ≡ given_each before → Went f s s before after
 turned_went f s set before after turned nested stays given = record {
   sources = refl;
   honesty = refl;
   faults = omega arith;
   depth = ap (λ n. f.depth s + n) (sym (ap (λ (o : Open). length o.outer) turned ∙ as_many set before.outer));
-  given = subst (λ n. min (f.given s + (n - given_all before)) last_count ≤ f.given s) (sym given) (went_none f s before).given;
-  opened = subst (λ (o : Open). min (f.opened s + (length o.nest.names - length before.nest.names)) last_count ≤ f.opened s) (sym turned)
+  counted = λ base was. subst (λ (gs : List ℕ). AreCounted base gs (f.counts s).each (f.counts s).too_long) (sym given) was;
+  opened = subst (λ (o : Open). OpensOn before.nest.names o.nest.names (f.opened s) (f.opened s)) (sym turned)
       (went_none f s before).opened;
   nested = λ honest start are. nested start (f.openings s) are;
   stays_given = λ honest start are all. stays (f.sources s) (length start.all) (f.openings s) all;

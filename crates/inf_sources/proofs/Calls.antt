@@ -1,18 +1,90 @@
 -- Facts that calls keep: one behind the other, and each kind of them.
 use Rattle.std.proofs.Common.{◌≡◌, ◌+◌, ◌-◌, ◌≤◌, inl, inr, ℕ, true, suc, List, [], ◌∷◌, ◌++◌, length, min, IsTrue, refl, sym, ap}
-use Rattle.std.proofs.Common.{subst, ◌∙◌, arith, length-append}
-use Rattle.inf_devices.specs.Files.{Closes, Sources, last_count}
+use Rattle.std.proofs.Common.{subst, ◌∙◌, arith, length-append, drop, map, reverse}
+use Rattle.std.proofs.lemmas.List.{reverse-append}
+use Rattle.std.specs.List.{list_any}
+use Rattle.std.specs.Str.{bytes_eq}
+use Rattle.inf_devices.specs.Files.{Closes, Counts, Sources, counts_closed, counts_opened, last_count}
 use Rattle.inf_devices.specs.declared.files.Files.{Ghosts as Files}
-use Rattle.inf_lexer.specs.Entering.{has_one_too_many}
-use Rattle.inf_lexer.specs.Names.{Nest}
+use Rattle.inf_lexer.specs.Counted.{CountsOn, IsCountedBy}
+use Rattle.inf_lexer.specs.Entering.{OpensOn}
+use Rattle.inf_lexer.specs.Names.{Nest, number_of}
 use Rattle.inf_lexer.specs.Readers.{Reader}
 use Rattle.inf_lexer.specs.Unread.{Along, Ends, StillGives}
-use Rattle.inf_sources.specs.Calls.{AskedTooMany, Honestly, IsUnreadable, StaysFit, StaysGiven, Went, given_to}
+use Rattle.inf_lexer.proofs.Opened.{opens_none, opens_then}
+use Rattle.inf_sources.specs.Calls.{AreCounted, AskedTooMany, Honestly, IsUnreadable, StaysFit, StaysGiven, Went, given_each}
 use Rattle.inf_sources.specs.Open.{AllGiven, IsNested, Open, lexers_of}
 use Rattle.inf_sources.specs.declared.open_file.OpenFile.{OpenFile}
-use Rattle.inf_sources.proofs.Counting.{many_names}
 use Rattle.inf_sources.proofs.Fronts.{left_given, read_fit, read_given}
 use Rattle.inf_sources.proofs.Nestings.{left_nested, nested_on}
+
+-- what was counted is counted where more openings are too long
+counted_more : (base : ℕ) (gs counts : List ℕ) (too_long more : ℕ) → min too_long last_count ≤ more → AreCounted base gs counts too_long
+    → AreCounted base gs counts more
+counted_more base [] counts too_long more up was = omega (arith, was, up)
+counted_more base (g ∷ gs) [] too_long more up was = absurd was
+counted_more base (g ∷ gs) (n ∷ counts) too_long more up was =
+    ((was.0.0, λ over. let long = was.0.1 over in omega (arith, long, up)), counted_more base gs counts too_long more up was.1)
+
+-- as many openings are too long as before
+counted_least : (base : ℕ) (gs counts : List ℕ) (too_long : ℕ) → AreCounted base gs counts too_long → min base last_count ≤ too_long
+counted_least base [] counts too_long was = was
+counted_least base (g ∷ gs) [] too_long was = absurd was
+counted_least base (g ∷ gs) (n ∷ counts) too_long was = counted_least base gs counts too_long was.1
+
+-- more was read of the innermost file
+counted_read : (base : ℕ) (old new : Counts) (before after : ℕ) (gs : List ℕ) → CountsOn old new before after
+    → AreCounted base (before ∷ gs) old.each old.too_long → AreCounted base (after ∷ gs) new.each new.too_long
+counted_read base old new before after gs on was = by_each old.each refl was
+  where
+    by_each : (each : List ℕ) → old.each ≡ each → AreCounted base (before ∷ gs) each old.too_long
+        → AreCounted base (after ∷ gs) new.each new.too_long
+    by_each [] e h = absurd h
+    by_each (n ∷ outer) e h =
+        let now : IsCountedBy new outer base after = on.stays outer base (record {
+          count = n;
+          is = e;
+          within = h.0.0;
+          least = counted_least base gs outer old.too_long h.1;
+          too_long = h.0.1;
+        }) in
+        subst (λ (each : List ℕ). AreCounted base (after ∷ gs) each new.too_long) (sym now.is)
+        ((now.within, now.too_long), counted_more base gs outer old.too_long new.too_long on.too_long h.1)
+
+-- a file was entered, and nothing was read of it
+counted_in : (base : ℕ) (old new : Counts) (gs hs : List ℕ) → new ≡ counts_opened old → hs ≡ 0 ∷ gs
+    → AreCounted base gs old.each old.too_long → AreCounted base hs new.each new.too_long
+counted_in base old new gs hs counts given was =
+    subst (λ (c : Counts). AreCounted base hs c.each c.too_long) (sym counts)
+    (subst (λ (xs : List ℕ). AreCounted base xs (0 ∷ old.each) old.too_long) (sym given) ((omega arith, λ over. omega (arith, over)), was))
+
+-- the innermost file was left
+counted_out : (base : ℕ) (old new : Counts) (gs hs : List ℕ) (g : ℕ) → new ≡ counts_closed old → gs ≡ g ∷ hs
+    → AreCounted base gs old.each old.too_long → AreCounted base hs new.each new.too_long
+counted_out base old new gs hs g counts given was =
+    subst (λ (c : Counts). AreCounted base hs c.each c.too_long) (sym counts)
+    (by_each old.each (subst (λ (xs : List ℕ). AreCounted base xs old.each old.too_long) given was))
+  where
+    by_each : (each : List ℕ) → AreCounted base (g ∷ hs) each old.too_long → AreCounted base hs (drop 1 each) old.too_long
+    by_each [] h = absurd h
+    by_each (n ∷ outer) h = h.1
+
+-- the numbers of bytes that the lexers were given, where a file was entered or left
+given_entered : (before after : Open) (waits : OpenFile) → waits.lexer ≡ before.lexer → after.outer ≡ before.outer ++ waits ∷ []
+    → after.lexer.window.given ≡ 0 → given_each after ≡ 0 ∷ given_each before
+given_entered before after waits same outer front =
+    ap (λ (n : ℕ). n ∷ map (λ (r : Reader). r.window.given) (lexers_of (reverse after.outer))) front
+    ∙ ap (λ (fs : List OpenFile). 0 ∷ map (λ (r : Reader). r.window.given) (lexers_of fs))
+    (ap (λ (fs : List OpenFile). reverse fs) outer ∙ reverse-append before.outer (waits ∷ []))
+    ∙ ap (λ (r : Reader). 0 ∷ r.window.given ∷ map (λ (q : Reader). q.window.given) (lexers_of (reverse before.outer))) same
+
+given_left : (before after : Open) (back : OpenFile) → after.lexer ≡ back.lexer → before.outer ≡ after.outer ++ back ∷ []
+    → given_each before ≡ before.lexer.window.given ∷ given_each after
+given_left before after back same outer =
+    ap (λ (fs : List OpenFile). before.lexer.window.given ∷ map (λ (r : Reader). r.window.given) (lexers_of fs))
+    (ap (λ (fs : List OpenFile). reverse fs) outer ∙ reverse-append after.outer (back ∷ []))
+    ∙ ap (λ (r : Reader). before.lexer.window.given ∷ r.window.given ∷ map (λ (q : Reader). q.window.given)
+    (lexers_of (reverse after.outer))) (sym same)
 
 -- no call keeps them
 pub went_none : {S : Type 0} (f : Files S) (old : S) (files : Open) → Went f old old files files
@@ -21,8 +93,8 @@ went_none f old files = record {
   honesty = refl;
   faults = omega arith;
   depth = refl;
-  given = omega arith;
-  opened = omega arith;
+  counted = λ base was. was;
+  opened = opens_none files.nest.names (f.opened old);
   nested = λ honest start nested. nested;
   stays_given = λ honest start nested given. given;
 }
@@ -46,8 +118,8 @@ went_then f a b c x y z p q =
       honesty = q.honesty ∙ p.honesty;
       faults = omega (arith, p.faults, q.faults);
       depth = omega (arith, p.depth, q.depth);
-      given = omega (arith, p.given, q.given);
-      opened = omega (arith, p.opened, q.opened);
+      counted = λ base was. q.counted base (p.counted base was);
+      opened = opens_then x.nest.names y.nest.names z.nest.names (f.opened a) (f.opened b) (f.opened c) p.opened q.opened;
       nested = λ honest start nested. q.nested (still honest) start (p.nested honest start nested);
       stays_given = given_then f a b c x y z p.sources p.honesty p.nested p.stays_given q.stays_given;
     }
@@ -68,20 +140,20 @@ pub unreadable_then : {S : Type 0} (f : Files S) (a b c : S) (x y z : Open) → 
 unreadable_then f a b c x y z w (inl (inl less)) = inl (inl (omega (arith, w.faults, less)))
 unreadable_then f a b c x y z w (inl (inr last)) = inl (inr last)
 unreadable_then f a b c x y z w (inr (inl long)) = inr (inl long)
-unreadable_then f a b c x y z w (inr (inr many)) = inr (inr (record { names = many.names; opened = omega (arith, w.opened, many.opened) }))
+unreadable_then f a b c x y z w (inr (inr many)) = inr (inr many)
 
 -- A token was read of the innermost file.
 pub went_read : {S : Type 0} (f : Files S) (old new : S) (nest : Nest) (before after : Reader) (outer : List OpenFile) →
     f.sources new ≡ f.sources old
     → f.is_honest new ≡ f.is_honest old → f.faults old ≤ f.faults new → f.depth new ≡ f.depth old
-    → min (f.given old + (after.window.given - before.window.given)) last_count ≤ f.given new → f.opened new ≡ f.opened old
+    → CountsOn (f.counts old) (f.counts new) before.window.given after.window.given → f.opened new ≡ f.opened old
     → (IsTrue (f.is_honest old) → Along (f.sources old) (f.openings old) (f.openings new) before.window.given after.window.given) →
     after.file ≡ before.file
     → length after.window.left ≤ 4096 → (IsTrue (f.is_honest old) → Ends (f.sources old) (f.openings old) before.window → Ends
     (f.sources old) (f.openings new) after.window)
     → (IsTrue (f.is_honest old) → StillGives (f.openings old) before.window → StillGives (f.openings new) after.window)
     → Went f old new (record { nest = nest; lexer = before; outer = outer }) (record { nest = nest; lexer = after; outer = outer })
-went_read f old new nest before after outer sources honesty faults depth given opened along file window ends still =
+went_read f old new nest before after outer sources honesty faults depth counts opened along file window ends still =
     let was : Open = record { nest = nest; lexer = before; outer = outer } in
     let now : Open = record { nest = nest; lexer = after; outer = outer } in
     record {
@@ -89,8 +161,10 @@ went_read f old new nest before after outer sources honesty faults depth given o
       honesty = honesty;
       faults = faults;
       depth = omega (arith, depth);
-      given = omega (arith, given);
-      opened = omega (arith, opened);
+      counted = λ base was. counted_read base (f.counts old) (f.counts new) before.window.given after.window.given
+          (map (λ (r : Reader). r.window.given) (lexers_of (reverse outer))) counts was;
+      opened = subst (λ (names : List (List ℕ)). OpensOn nest.names nest.names (f.opened old) names) (sym opened)
+          (opens_none nest.names (f.opened old));
       nested = λ honest start n. let gave = (along honest).gave in nested_on start (f.openings old) (f.openings new) was now n gave.places
           gave.count refl;
       stays_given = λ honest start n g. read_given (f.sources old) start (f.openings old) (f.openings new) was now n refl refl file
@@ -109,34 +183,23 @@ fit_read f old new nest before after outer along file few window ends still = λ
     (record { nest = nest; lexer = after; outer = outer }) n refl file
     (along honest) few window (ends honest) (still honest) given fit
 
-given_more : (xs : List OpenFile) (f : OpenFile) (r : Reader) → f.lexer ≡ r →
-    given_to (lexers_of (xs ++ f ∷ [])) ≡ given_to (lexers_of xs) + r.window.given
-given_more [] f r e = let same = ap (λ (q : Reader). q.window.given) e in omega (arith, same)
-given_more (x ∷ xs) f r e = let rest = given_more xs f r e in omega (arith, rest)
-
 -- A file was entered.
 pub went_in : {S : Type 0} (f : Files S) (old new : S) (before after : Open) → f.sources new ≡ f.sources old →
     f.is_honest new ≡ f.is_honest old
-    → f.faults old ≤ f.faults new → f.depth new ≡ f.depth old + 1 → f.given new ≡ f.given old → min (f.opened old + 1) last_count ≤ f.opened
-    new
+    → f.faults old ≤ f.faults new → f.depth new ≡ f.depth old + 1 → f.counts new ≡ counts_opened (f.counts old)
+    → OpensOn before.nest.names after.nest.names (f.opened old) (f.opened new)
     → (waits : OpenFile) → waits.lexer ≡ before.lexer → after.outer ≡ before.outer ++ waits ∷ []
-    → after.lexer.window.given ≡ 0 → length after.nest.names ≤ suc
-    (length before.nest.names)
+    → after.lexer.window.given ≡ 0
     → Honestly f old before (λ start. IsNested start (f.openings new) after) → StaysGiven f old new before after → Went f old new before
     after
-went_in f old new before after sources honesty faults depth given opened waits same outer front names nested stays = record {
+went_in f old new before after sources honesty faults depth counts opened waits same outer front nested stays = record {
   sources = sources;
   honesty = honesty;
   faults = faults;
   depth = omega (arith, depth, ap length outer, length-append before.outer (waits ∷ []));
-  given = omega (
-    arith,
-    given,
-    front,
-    ap (λ (fs : List OpenFile). given_to (lexers_of fs)) outer,
-    given_more before.outer waits before.lexer same,
-  );
-  opened = omega (arith, opened, names);
+  counted = λ base was. counted_in base (f.counts old) (f.counts new) (given_each before) (given_each after) counts
+      (given_entered before after waits same outer front) was;
+  opened = opened;
   nested = nested;
   stays_given = stays;
 }
@@ -144,18 +207,18 @@ went_in f old new before after sources honesty faults depth given opened waits s
 -- No file was entered.
 pub went_by : {S : Type 0} (f : Files S) (old new : S) (before after : Open) → f.sources new ≡ f.sources old →
     f.is_honest new ≡ f.is_honest old
-    → f.faults old ≤ f.faults new → f.depth new ≡ f.depth old → f.given new ≡ f.given old → min (f.opened old + 0) last_count ≤ f.opened new
-    → after ≡ before
+    → f.faults old ≤ f.faults new → f.depth new ≡ f.depth old → f.counts new ≡ f.counts old
+    → OpensOn before.nest.names after.nest.names (f.opened old) (f.opened new) → after ≡ before
     → Honestly f old before (λ start. IsNested start (f.openings new) before) → StaysGiven f old new before before → Went f old new before
     after
-went_by f old new before after sources honesty faults depth given opened same nested stays =
+went_by f old new before after sources honesty faults depth counts opened same nested stays =
     subst (λ (o : Open). Went f old new before o) (sym same) (record {
       sources = sources;
       honesty = honesty;
       faults = faults;
       depth = omega (arith, depth);
-      given = omega (arith, given);
-      opened = omega (arith, opened);
+      counted = λ base was. subst (λ (c : Counts). AreCounted base (given_each before) c.each c.too_long) (sym counts) was;
+      opened = subst (λ (o : Open). OpensOn before.nest.names o.nest.names (f.opened old) (f.opened new)) same opened;
       nested = nested;
       stays_given = stays;
     })
@@ -163,22 +226,21 @@ went_by f old new before after sources honesty faults depth given opened same ne
 -- A file was left.
 pub went_out : {S : Type 0} (f : Files S) (old new : S) (before after : Open) → f.sources new ≡ f.sources old →
     f.is_honest new ≡ f.is_honest old
-    → f.faults new ≡ f.faults old → f.depth new + 1 ≡ f.depth old → f.given new ≡ f.given old → f.opened new ≡ f.opened old
+    → f.faults new ≡ f.faults old → f.depth new + 1 ≡ f.depth old → f.counts new ≡ counts_closed (f.counts old) → f.opened new ≡ f.opened
+    old
     → (back : OpenFile) → after.lexer ≡ back.lexer → before.outer ≡ after.outer ++ back ∷ []
     → after.nest.names ≡ before.nest.names
     → (IsTrue (f.is_honest old) → Closes (f.openings old) (f.openings new)) → Went f old new before after
-went_out f old new before after sources honesty faults depth given opened back same outer names closes = record {
+went_out f old new before after sources honesty faults depth counts opened back same outer names closes = record {
   sources = sources;
   honesty = honesty;
   faults = omega (arith, faults);
   depth = omega (arith, depth, ap length outer, length-append after.outer (back ∷ []));
-  given = omega (
-    arith,
-    given,
-    ap (λ (fs : List OpenFile). given_to (lexers_of fs)) outer,
-    given_more after.outer back after.lexer (sym same),
-  );
-  opened = omega (arith, opened, ap length names);
+  counted = λ base was. counted_out base (f.counts old) (f.counts new) (given_each before) (given_each after) before.lexer.window.given counts
+      (given_left before after back same outer) was;
+  opened = subst (λ (ns : List (List ℕ)). OpensOn before.nest.names ns (f.opened old) (f.opened new)) (sym names)
+      (subst (λ (ns : List (List ℕ)). OpensOn before.nest.names before.nest.names (f.opened old) ns) (sym opened)
+      (opens_none before.nest.names (f.opened old)));
   nested = λ honest start n. left_nested start (f.openings old) (f.openings new) before after back n (closes honest) outer same;
   stays_given =
       λ honest start n g.
@@ -186,9 +248,10 @@ went_out f old new before after sources honesty faults depth given opened back s
 }
 
 -- one name more than can be numbered was opened and closed
-pub asked_too_many : {S : Type 0} (f : Files S) (old new : S) (before after : Open) (names : List (List ℕ)) → after.nest ≡ before.nest
-    → has_one_too_many before.nest.names names ≡ true → min (f.opened old + 1) last_count ≤ f.opened new → AskedTooMany f old new before
-    after
-asked_too_many f old new before after names same many counted =
-    let known : length after.nest.names ≡ length before.nest.names = ap (λ (n : Nest). length n.names) same in
-    record { names = omega (arith, many_names before.nest.names names many, known); opened = omega (arith, counted, known) }
+pub asked_too_many : {S : Type 0} (f : Files S) (new : S) (after : Open) (known : Nest) (name : List ℕ) → after.nest ≡ known
+    → 65535 ≤ number_of name known.names → list_any (bytes_eq name) (f.opened new) ≡ true → AskedTooMany f new after
+asked_too_many f new after known name same many is = record {
+  name = name;
+  is_too_many = subst (λ (n : Nest). 65535 ≤ number_of name n.names) (sym same) many;
+  is_opened = is;
+}

@@ -5,7 +5,7 @@ use Rattle.std.proofs.lemmas.Grind.{reverse_onto}
 use Rattle.inf_characters.specs.declared.characters.CharSet.{CharSet}
 use Rattle.inf_devices.specs.Files.{Opening, Openings, Sources}
 use Rattle.inf_lexer.specs.Readers.{Reader}
-use Rattle.inf_sources.specs.Calls.{given_all, given_to}
+use Rattle.inf_sources.specs.Calls.{given_each}
 use Rattle.inf_sources.specs.Choosing.{chosen, file_with, nesting_with, open_with, reader_with, waiting_with}
 use Rattle.inf_sources.specs.Inclusions.{Waiting}
 use Rattle.inf_sources.specs.Open.{AllGiven, AllWait, AreNested, AreTracked, IsNested, Open, files_of, lexers, lexers_of, nesting}
@@ -55,14 +55,15 @@ pub all_wait_with : (was set : CharSet) (limit : ℕ) (files : List OpenFile) �
 all_wait_with was set limit files all =
     subst (AllWait set limit) (sym (readers_with set files)) (wait_with was set limit (lexers_of files) all)
 
-given_with : (set : CharSet) (readers : List Reader) → given_to (map (reader_with set) readers) ≡ given_to readers
+given_with : (set : CharSet) (readers : List Reader)
+    → map (λ (r : Reader). r.window.given) (map (reader_with set) readers) ≡ map (λ (r : Reader). r.window.given) readers
 given_with set [] = refl
-given_with set (r ∷ readers) = ap (λ n. r.window.given + n) (given_with set readers)
+given_with set (r ∷ readers) = ap (λ (xs : List ℕ). r.window.given ∷ xs) (given_with set readers)
 
 -- Lexers that read by another set were given as many bytes.
-pub given_all_with : (set : CharSet) (o : Open) → given_all (open_with set o) ≡ given_all o
-given_all_with set o =
-    ap (λ n. n + o.lexer.window.given) (ap given_to (readers_with set o.outer) ∙ given_with set (lexers_of o.outer))
+pub given_each_with : (set : CharSet) (o : Open) → given_each (open_with set o) ≡ given_each o
+given_each_with set o =
+    ap (λ (readers : List Reader). map (λ (r : Reader). r.window.given) readers) (lexers_with set o) ∙ given_with set (lexers o)
 
 -- The rest of each file
 

@@ -1,14 +1,14 @@
 //! The files that are open, each with its lexer.
-ghost use Rattle.std.specs.Prelude.{◌≡◌, ◌≢◌, ◌+◌, ◌-◌, min, ◌≤◌, ◌<◌, ◌⊎◌, ◌++◌, [], ◌∷◌, false, true, if◌then◌else◌, is_ok, IfErr};
+ghost use Rattle.std.specs.Prelude.{◌≡◌, ◌≢◌, ◌+◌, ◌-◌, ◌≤◌, ◌<◌, ◌⊎◌, ◌++◌, [], ◌∷◌, false, true, if◌then◌else◌, is_ok, IfErr};
 ghost use Rattle.std.specs.Prelude.{IfNone, IfOk, IfSome, OnOk, OnErr, IsErrOf, IsOk, IsTrue, None, Some, length, map, reverse, slice_get};
 ghost use Rattle.std.specs.Prelude.{ℕ, IsErr, is_err, unwrap_or};
-ghost use Rattle.inf_devices.specs.Files.{Openings, Rose, Sources, last_count};
-ghost use Rattle.inf_lexer.specs.Entering.{tells_failure};
+ghost use Rattle.inf_devices.specs.Files.{Openings, Rose, Sources, counts_opened};
+ghost use Rattle.inf_lexer.specs.Entering.{AreOpened, tells_failure};
 ghost use Rattle.inf_lexer.specs.Heads.{goes_on_at, is_behind};
 ghost use Rattle.inf_lexer.specs.Names.{can_name, innermost_name};
 ghost use Rattle.inf_lexer.specs.Readers.{Took, TookWord, at_front};
 ghost use Rattle.inf_lexer.specs.Unread.{IsAtEnd, to_come, unread};
-ghost use Rattle.inf_sources.specs.Calls.{AskedTooMany, Honestly, Kept, StaysFit, Went, given_all};
+ghost use Rattle.inf_sources.specs.Calls.{AskedTooMany, Honestly, Kept, StaysFit, Went, given_each, has_entered};
 ghost use Rattle.inf_sources.specs.Choosing.{chosen, file_with, nesting_chosen, nesting_with, open_with};
 ghost use Rattle.inf_sources.specs.Cursors.{Unfinished};
 ghost use Rattle.inf_sources.specs.Heading.{ReadsHead, UnfinishedHead};
@@ -77,6 +77,7 @@ impl OpenFiles {
     ///
     /// The errors: `BadName` for an empty name; `Absent` and `Device` of the reader; `Memory` where there is no room,
     /// which is asked for before the source is opened.
+    #[tactic(auto, using(inf_lexer::proofs::Opened::stays_on))]
     pub fn enter_main<F: Files>(
         alloc: Global,
         set: CharSet,
@@ -91,7 +92,7 @@ impl OpenFiles {
             ≡ main_opened set limit (F.sources files.old) name.now) }
         ensures nested { IsTrue (F.is_honest files.old) →
             IfOk result (λ o. IsNested (F.openings files.old) (F.openings files.new) o) }
-        ensures opened { IfOk result (λ o. min (F.opened files.old + length o.nest.names) last_count ≤ F.opened files.new) }
+        ensures opened { IfOk result (λ o. AreOpened o.nest.names (F.opened files.new)) }
         ensures given_all { IsTrue (F.is_honest files.old) →
             IfOk result (λ o. AllGiven (F.sources files.old) (length (F.openings files.old).all) (F.openings files.new) o) }
         ensures fits { IsTrue (F.is_honest files.old) →
@@ -104,7 +105,7 @@ impl OpenFiles {
         ensures cause { (IsErrOf result EnterFault.Device → Rose (F.faults files.old) (F.faults files.new))
             × (tells_failure result ≡ false → F.faults files.new ≡ F.faults files.old) }
         ensures depth { F.depth files.new ≡ (if is_ok result then F.depth files.old + 1 else F.depth files.old) }
-        ensures given { F.given files.new ≡ F.given files.old }
+        ensures counts { F.counts files.new ≡ (if is_ok result then counts_opened (F.counts files.old) else F.counts files.old) }
         ensures kept { Kept F.Files files.old files.new }
     {
         let mut names = Stack::new(alloc, set, limit);
@@ -155,7 +156,7 @@ impl OpenFiles {
         ensures nested { (start now : Openings) → IsNested start now self.old → IsNested start now self.new }
         ensures given_all { (sources : Sources) (n : ℕ) (now : Openings) →
             AllGiven sources n now self.old → AllGiven sources n now self.new }
-        ensures given { given_all self.new ≡ given_all self.old }
+        ensures given { given_each self.new ≡ given_each self.old }
     {
         self.names.set_characters(set);
         self.lexer.set_characters(set);
@@ -172,7 +173,7 @@ impl OpenFiles {
         ensures nested { (start now : Openings) → IsNested start now self.old → IsNested start now self.new }
         ensures given_all { (sources : Sources) (n : ℕ) (now : Openings) →
             AllGiven sources n now self.old → AllGiven sources n now self.new }
-        ensures given { given_all self.new ≡ given_all self.old }
+        ensures given { given_each self.new ≡ given_each self.old }
     {
         self.names.choose(set, limit);
         self.lexer.choose(set, limit);
@@ -306,13 +307,13 @@ impl OpenFiles {
         ensures goes { OnOk result (self.new.lexer.has_failed ≡ false) }
         ensures settings { (self.new.nest.set ≡ self.old.nest.set) × (self.new.nest.limit ≡ self.old.nest.limit) }
         ensures cause { (IsErrOf result IncludeFault.Device → Rose (F.faults files.old) (F.faults files.new)
-            ⊎ (AskedTooMany F.Files files.old files.new self.old self.new × Honestly F.Files files.old self.old (λ start.
+            ⊎ (AskedTooMany F.Files files.new self.new × Honestly F.Files files.old self.old (λ start.
             let was = nesting (F.sources files.old) start (F.openings files.old) self.old in
             OpensTooMany (inclusion (F.sources files.old) (map (λ d. d.now) directories.now) text.now was) was
             (opened_since start (F.openings files.new)))))
             × (IsErrOf result IncludeFault.Memory → F.faults files.new ≡ F.faults files.old) }
         ensures named { IsErrOf result IncludeFault.Device → can_name text.now ≡ true }
-        ensures given { F.given files.new ≡ F.given files.old }
+        ensures counts { F.counts files.new ≡ (if has_entered result then counts_opened (F.counts files.old) else F.counts files.old) }
     {
         self.outer.reserve(1)?;
         match self.names.enter(files, directories, text) {
@@ -344,7 +345,8 @@ impl OpenFiles {
             ≡ closed (nesting (F.sources files.old) start (F.openings files.old) self.old)) }
         ensures went { Went F.Files files.old files.new self.old self.new }
         ensures fits { StaysFit F.Files files.old files.new self.old }
-        ensures untouched { (F.faults files.new ≡ F.faults files.old) × (F.given files.new ≡ F.given files.old) }
+        ensures untouched { (F.faults files.new ≡ F.faults files.old)
+            × (((F.counts files.new).too_long ≡ (F.counts files.old).too_long) × (F.opened files.new ≡ F.opened files.old)) }
         ensures all { IsTrue (F.is_honest files.old) → (F.openings files.new).all ≡ (F.openings files.old).all }
         ensures settings { (self.new.nest.set ≡ self.old.nest.set) × (self.new.nest.limit ≡ self.old.nest.limit) }
     {
@@ -359,11 +361,13 @@ impl OpenFiles {
     }
 
     /// Closes all files that are open.
+    #[tactic(auto, using(inf_lexer::proofs::Opened::stays_as))]
     pub fn close<F: Files>(mut self, files: &mut F)
         requires is_open { length self.outer < F.depth files.old }
         ensures closed { Honestly F.Files files.old self (λ start. F.openings files.new ≡ closed_to start (F.openings files.old)) }
         ensures kept { Kept F.Files files.old files.new }
-        ensures untouched { (F.faults files.new ≡ F.faults files.old) × (F.given files.new ≡ F.given files.old) }
+        ensures untouched { (F.faults files.new ≡ F.faults files.old)
+            × ((F.counts files.new).too_long ≡ (F.counts files.old).too_long) }
         ensures all { IsTrue (F.is_honest files.old) → (F.openings files.new).all ≡ (F.openings files.old).all }
         ensures depth { F.depth files.new + length self.outer + 1 ≡ F.depth files.old }
     {

@@ -12,11 +12,11 @@ use jiff::tz::Offset;
 use limits::{Limited, Limits};
 use reason::Reason;
 use std::alloc::AllocError;
+use std::env;
 use std::io::{self, ErrorKind};
 use std::process::ExitCode;
 use std::random::RandomSource;
 use std::rt::{Clock, Env, Files};
-use std::{env, fs};
 
 /// Why a run could not go on.
 #[derive(Clone, Copy)]
@@ -173,15 +173,7 @@ fn compile_files<R: Clock + Files + Print + Eprint + AllocGlobal>(
 const MOST_BYTES: u64 = 16_777_216;
 
 /// The greatest number of names that the files of a run may have.
-const MOST_NAMES: u64 = 65_535;
-
-/// Returns whether the system knows no file of this name that is too long.
-fn is_short<R: Files>(rt: &R, name: &str) -> bool {
-    match fs::metadata(rt, name) {
-        Ok(metadata) => metadata.len() <= MOST_BYTES,
-        Err(_) => true,
-    }
-}
+const MOST_NAMES: usize = 65_535;
 
 /// Says on standard error why a source was not read. Where the system gave no reason, its name is one too many, or it is too long. Returns
 /// the failure of the run, whose reason is shown then.
@@ -199,7 +191,7 @@ fn tell_source<R: Files + Eprint>(
             let reason = Reason::of_trouble(false, &files.trouble);
             rt.eprintln(format_args!("{name}: {reason}"))
         }
-        None if files.opened >= MOST_NAMES && is_short(rt, name) => {
+        None if files.names.len() > MOST_NAMES => {
             rt.eprintln(format_args!("{name}: over {MOST_NAMES} files by name"))
         }
         None => rt.eprintln(format_args!("{name}: over {MOST_BYTES} bytes")),

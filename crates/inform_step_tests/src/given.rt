@@ -1,8 +1,8 @@
 //! The number of bytes of each source that were given behind each step of a session.
 ghost use Rattle.inf_settings.specs.Bounds.{AreSet};
-ghost use Rattle.std.specs.Prelude.{◌≡◌, ◌<◌, IfOk, None, OnOk, [], false, length, min};
+ghost use Rattle.std.specs.Prelude.{◌≡◌, ◌<◌, IfOk, None, OnOk, [], false, length};
 ghost use Rattle.inf_session.specs.Standing.{IsSet};
-ghost use Rattle.inf_devices.specs.Files.{last_count};
+ghost use Rattle.inf_devices.specs.Files.{names_from};
 
 use inf_compile::NameHashing;
 use inf_devices::failures::Failures;
@@ -51,7 +51,7 @@ impl Counted {
 impl Files for Counted {
     ghost faults = { λ f. f.failures };
 
-    ghost given = { λ f. f.files.given };
+    ghost counts = { λ f. f.files.counts };
 
     ghost is_honest = { λ _. false };
 
@@ -61,7 +61,7 @@ impl Files for Counted {
 
     ghost depth = { λ f. length f.files.openings.open_places };
 
-    ghost opened = { λ f. min (length f.files.openings.all) last_count };
+    ghost opened = { λ f. names_from [] f.files.openings.all };
 
     fn open(&mut self, name: &str) -> Result<(), OpenFault> {
         let opened = self.files.open(name);

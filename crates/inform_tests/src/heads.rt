@@ -20,7 +20,7 @@ const BEFORE_THE_MESSAGE: usize = 57;
 
 /// Compiles the source where a read gives at most `most` bytes, and asserts its messages.
 fn read_in_parts(rt: &impl Abort, alloc: Global, most: usize) -> Result<(), Fail> {
-    let mut files = Slow::new(HEADED, most);
+    let mut files = Slow::new(alloc, HEADED, most);
     read(rt, alloc, &mut files, LINES)?;
     assert_holds(rt, &most, !files.is_open);
     Ok(())
@@ -37,7 +37,7 @@ fn what_a_head_says_does_not_depend_on_the_bytes_of_a_read(rt: HostRuntime) -> R
 /// Asserts that the source is reported as not read where the read behind `reads` others fails, that nothing was written,
 /// and that the source was closed.
 fn fail_behind(rt: &impl Abort, alloc: Global, reads: usize) -> Result<(), Fail> {
-    let mut files = Slow::failing(HEADED, reads);
+    let mut files = Slow::failing(alloc, HEADED, reads);
     fail_to_read(rt, alloc, &mut files, "t.inf", "")?;
     assert_holds(rt, &reads, !files.is_open);
     Ok(())

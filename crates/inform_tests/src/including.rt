@@ -72,7 +72,7 @@ fn sixteen_files_may_be_open(rt: HostRuntime) -> Result<(), Fail> {
 #[test]
 fn messages_are_written_as_they_are_found(rt: HostRuntime) -> Result<(), Fail> {
     let source = b"Message \"a\"; Message \"b\"; Mess".as_slice();
-    let mut files = Slow::failing(source, source.len());
+    let mut files = Slow::failing(rt.alloc(), source, source.len());
     fail_to_read(&rt, rt.alloc(), &mut files, "t.inf", "a\nb\n")?;
     assert!(rt; !files.is_open);
     Ok(())

@@ -37,7 +37,7 @@ const BAD_LINES: &str =
 
 /// Compiles the greeting where a read gives at most `most` bytes, and asserts that all its bytes are read.
 fn greet_in_parts(rt: &impl Abort, alloc: Global, most: usize) -> Result<(), Fail> {
-    let mut files = Slow::new(GREETING, most);
+    let mut files = Slow::new(alloc, GREETING, most);
     greet_from(rt, alloc, &mut files)?;
     assert_holds(rt, &most, files.count == GREETING.len());
     Ok(())
@@ -47,7 +47,12 @@ fn greet_in_parts(rt: &impl Abort, alloc: Global, most: usize) -> Result<(), Fai
 fn what_is_read_does_not_depend_on_the_bytes_of_a_read(rt: HostRuntime) -> Result<(), Fail> {
     for most in READS {
         greet_in_parts(&rt, rt.alloc(), most)?;
-        read_from(&rt, rt.alloc(), &mut Slow::new(BAD, most), BAD_LINES)?;
+        read_from(
+            &rt,
+            rt.alloc(),
+            &mut Slow::new(rt.alloc(), BAD, most),
+            BAD_LINES,
+        )?;
     }
     Ok(())
 }
@@ -78,7 +83,7 @@ fn read_little(
     lines: &str,
     most: usize,
 ) -> Result<(), Fail> {
-    let mut files = Slow::new(source, most);
+    let mut files = Slow::new(alloc, source, most);
     read_from(rt, alloc, &mut files, lines)?;
     // The last number ends behind 298 bytes, as the byte behind it shows.
     let is_little = files.count > 298 && files.count <= 298 + most.min(4096);
@@ -109,7 +114,7 @@ fn long_routine(alloc: Global) -> Result<Vec<u8>, Fail> {
 #[test]
 fn little_is_read_behind_the_limit_of_code(rt: HostRuntime) -> Result<(), Fail> {
     let source = long_routine(rt.alloc())?;
-    let mut files = Slow::new(source.as_slice(), usize::MAX);
+    let mut files = Slow::new(rt.alloc(), source.as_slice(), usize::MAX);
     let full = "t.inf(1): Fatal error: MAX_CODE is exceeded\n";
     read_by_words(
         &rt,
@@ -124,7 +129,7 @@ fn little_is_read_behind_the_limit_of_code(rt: HostRuntime) -> Result<(), Fail> 
 
 #[test]
 fn nothing_is_read_behind_the_end(rt: HostRuntime) -> Result<(), Fail> {
-    let mut files = Slow::resumed(GREETING, b",");
+    let mut files = Slow::resumed(rt.alloc(), GREETING, b",");
     greet_from(&rt, rt.alloc(), &mut files)
 }
 
@@ -137,7 +142,7 @@ fn assert_unread(rt: &impl Abort, alloc: Global, files: &mut Slow<'_>) -> Result
 
 /// Asserts that the greeting is reported as not read where the read behind `reads` others fails.
 fn fail_behind(rt: &impl Abort, alloc: Global, reads: usize) -> Result<(), Fail> {
-    assert_unread(rt, alloc, &mut Slow::failing(GREETING, reads))
+    assert_unread(rt, alloc, &mut Slow::failing(alloc, GREETING, reads))
 }
 
 /// Asserts that the greeting is reported as not read whichever of its reads fails.
@@ -151,10 +156,10 @@ fn fail_at_each(rt: &impl Abort, alloc: Global) -> Result<(), Fail> {
 /// Checks each read of a source: each byte has a read of its own, and the end one more.
 #[test]
 fn a_failed_read_is_not_the_end_of_a_source(rt: HostRuntime) -> Result<(), Fail> {
-    assert_unread(&rt, rt.alloc(), &mut Slow::shut())?;
-    assert_unread(&rt, rt.alloc(), &mut Slow::failing(b"", 0))?;
+    assert_unread(&rt, rt.alloc(), &mut Slow::shut(rt.alloc()))?;
+    assert_unread(&rt, rt.alloc(), &mut Slow::failing(rt.alloc(), b"", 0))?;
     fail_at_each(&rt, rt.alloc())?;
-    let mut files = Slow::failing(GREETING, GREETING.len() + 1);
+    let mut files = Slow::failing(rt.alloc(), GREETING, GREETING.len() + 1);
     read_from(&rt, rt.alloc(), &mut files, NO_ERRORS)
 }
 

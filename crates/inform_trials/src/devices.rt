@@ -1,12 +1,12 @@
 //! Devices for tests: a sink that takes little, and a reader that gives little.
-ghost use Rattle.std.specs.Prelude.{None, [], false, length, min, if◌then◌else◌};
-ghost use Rattle.inf_devices.specs.Files.{last_count};
+ghost use Rattle.std.specs.Prelude.{◌≡◌, ◌+◌, None, [], ◌∷◌, false, length, min, if◌then◌else◌};
+ghost use Rattle.inf_devices.specs.Files.{is_too_long, last_count, names_from, too_long_given};
 
 use inf_devices::failures::Failures;
 use inf_devices::files::{Files, OpenFault, ReadFault};
-use inf_devices::given_bytes::GivenBytes;
 use inf_devices::memory_files::MemoryFiles;
 use inf_devices::memory_sink::MemorySink;
+use inf_devices::opened_names::OpenedNames;
 use inf_devices::sinks::{Sink, SinkFault};
 use std::alloc::Global;
 use std::collections::BTreeMap;
@@ -49,6 +49,28 @@ impl Sink for Narrow {
     }
 }
 
+/// The most bytes that a source may have.
+const MOST_SOURCE_BYTES: u64 = 16_777_216;
+
+/// Returns whether a source of which `count` bytes were given has more than it may have.
+fn is_too_long(count: u64) -> bool
+    ensures { result ≡ is_too_long count }
+{
+    count > MOST_SOURCE_BYTES
+}
+
+/// Counts `count` bytes more of a source of which `given` were given, and among those that are too long where it becomes one.
+fn give(given: &mut u64, too_long: &mut u64, count: usize)
+    ensures given { given.new ≡ min (given.old + count) last_count }
+    ensures too_long { too_long.new ≡ too_long_given count (given.old ∷ []) too_long.old }
+{
+    let before = *given;
+    *given = before.saturating_add(count as u64);
+    if is_too_long(*given) && !is_too_long(before) {
+        *too_long = too_long.saturating_add(1);
+    }
+}
+
 /// A reader that gives the bytes `rest` of any source that is opened, at most `most` a read, then the end, and behind
 /// the end the bytes `behind`. It fails in place of the first read past `reads` of them, and opens nothing unless it
 /// `opens`.
@@ -62,13 +84,14 @@ pub struct Slow<'a> {
     pub is_open: bool,
     pub count: usize,
     failures: Failures,
-    given: GivenBytes,
-    opened: u64,
+    given: u64,
+    too_long: u64,
+    opened: OpenedNames,
 }
 
 impl<'a> Slow<'a> {
     /// Makes a reader that never fails.
-    pub fn new(rest: &'a [u8], most: usize) -> Slow<'a> {
+    pub fn new(alloc: Global, rest: &'a [u8], most: usize) -> Slow<'a> {
         Slow {
             rest,
             behind: b"",
@@ -78,40 +101,38 @@ impl<'a> Slow<'a> {
             is_open: false,
             count: 0,
             failures: Failures::none(),
-            given: GivenBytes::none(),
-            opened: 0,
+            given: 0,
+            too_long: 0,
+            opened: OpenedNames::none(alloc),
         }
     }
 
     /// Makes a reader that has more bytes behind the end.
-    pub fn resumed(rest: &'a [u8], behind: &'a [u8]) -> Slow<'a> {
-        Slow {
-            behind,
-            ..Slow::new(rest, usize::MAX)
-        }
+    pub fn resumed(alloc: Global, rest: &'a [u8], behind: &'a [u8]) -> Slow<'a> {
+        let mut files = Slow::new(alloc, rest, usize::MAX);
+        files.behind = behind;
+        files
     }
 
     /// Makes a reader of one byte a read, which fails behind `reads` reads.
-    pub fn failing(rest: &'a [u8], reads: usize) -> Slow<'a> {
-        Slow {
-            reads,
-            ..Slow::new(rest, 1)
-        }
+    pub fn failing(alloc: Global, rest: &'a [u8], reads: usize) -> Slow<'a> {
+        let mut files = Slow::new(alloc, rest, 1);
+        files.reads = reads;
+        files
     }
 
     /// Makes a reader that opens nothing.
-    pub fn shut() -> Slow<'a> {
-        Slow {
-            opens: false,
-            ..Slow::new(b"", 1)
-        }
+    pub fn shut(alloc: Global) -> Slow<'a> {
+        let mut files = Slow::new(alloc, b"", 1);
+        files.opens = false;
+        files
     }
 }
 
 impl Files for Slow<'_> {
     ghost faults = { λ f. f.failures };
 
-    ghost given = { λ f. f.given };
+    ghost counts = { λ f. record { each = if f.is_open then f.given ∷ [] else []; too_long = f.too_long } };
 
     ghost is_honest = { λ _. false };
 
@@ -123,13 +144,14 @@ impl Files for Slow<'_> {
 
     ghost opened = { λ f. f.opened };
 
-    fn open(&mut self, _name: &str) -> Result<(), OpenFault> {
+    fn open(&mut self, name: &str) -> Result<(), OpenFault> {
         if self.is_open || !self.opens {
             self.failures.add();
             return Err(OpenFault::Device);
         }
+        self.opened.add(name)?;
         self.is_open = true;
-        self.opened = self.opened.saturating_add(1);
+        self.given = 0;
         Ok(())
     }
 
@@ -140,7 +162,7 @@ impl Files for Slow<'_> {
         }
         self.reads -= 1;
         let count = self.rest.len().min(self.most).min(to.len());
-        self.given.add(count);
+        give(&mut self.given, &mut self.too_long, count);
         self.count = self.count.saturating_add(count);
         if count == 0 {
             self.rest = self.behind;
@@ -179,7 +201,7 @@ impl<'a> Locked<'a> {
 impl Files for Locked<'_> {
     ghost faults = { λ f. f.failures };
 
-    ghost given = { λ f. f.files.given };
+    ghost counts = { λ f. f.files.counts };
 
     ghost is_honest = { λ _. false };
 
@@ -189,7 +211,7 @@ impl Files for Locked<'_> {
 
     ghost depth = { λ f. length f.files.openings.open_places };
 
-    ghost opened = { λ f. min (length f.files.openings.all) last_count };
+    ghost opened = { λ f. names_from [] f.files.openings.all };
 
     fn open(&mut self, name: &str) -> Result<(), OpenFault> {
         if name == self.locked {
@@ -240,7 +262,7 @@ impl Fused {
 impl Files for Fused {
     ghost faults = { λ f. f.failures };
 
-    ghost given = { λ f. f.files.given };
+    ghost counts = { λ f. f.files.counts };
 
     ghost is_honest = { λ _. false };
 
@@ -250,7 +272,7 @@ impl Files for Fused {
 
     ghost depth = { λ f. length f.files.openings.open_places };
 
-    ghost opened = { λ f. min (length f.files.openings.all) last_count };
+    ghost opened = { λ f. names_from [] f.files.openings.all };
 
     fn open(&mut self, name: &str) -> Result<(), OpenFault> {
         if self.calls == 0 {

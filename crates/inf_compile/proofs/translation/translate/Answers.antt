@@ -17,7 +17,7 @@ use Rattle.inf_settings.specs.Bounds.{limits_of}
 use Rattle.inf_compile.specs.Chosen.{begun_at, chosen_at, chosen_for}
 use Rattle.inf_compile.specs.Comes.{Begins, Comes, Concludes, GivenUpFrom, Heard, IsUnread, Stops}
 use Rattle.inf_compile.proofs.Concluding.{begins_missing, begins_none, begins_of, comes_of, if_ok_both, on_err_leads}
-use Rattle.inf_compile.proofs.GivingUp.{given_up_from_between, heard_from, heard_none, none_given, opened_some, unread_by}
+use Rattle.inf_compile.proofs.GivingUp.{counted_at_front, given_up_from_between, heard_from, heard_none, opened_some, unread_by}
 use Rattle.inf_session.specs.declared.faults.Fault.{Fault}
 use Rattle.inf_session.proofs.Quiet.{hides_none}
 use Rattle.inf_compile.proofs.translation.translate.Goals as goal
@@ -98,8 +98,9 @@ returns-clause-fault g c =
     let rose = Rose (g.M.Sink.failures c.args.messages.now) (g.M.Sink.failures c.translate_opened-open_files.new.messages) in
     if_caused_more c.translate_opened-open_files.result.1 (λ name. IsUnreadable files entered read main f)
     (λ name. IsUnread files first last) rose rose
-    (λ name why. unread_by files first entered read last main f c.enter_main.ensures.kept c.enter_main.ensures.given c.in-Ok.ensures.opened
-    (none_given _ _ main c.in-Ok.ensures.front) c.translate_opened-open_files.ensures.went c.close.ensures.kept c.close.ensures.untouched
+    (λ name why. unread_by files first entered read last main f c.enter_main.ensures.kept
+    (counted_at_front _ _ main (files.counts first) (files.counts entered) c.in-Ok.ensures.counts c.in-Ok.ensures.front)
+    c.in-Ok.ensures.opened c.translate_opened-open_files.ensures.went c.close.ensures.kept c.close.ensures.untouched
     why)
     (λ r. r) c.translate_opened-open_files.ensures.fault
 

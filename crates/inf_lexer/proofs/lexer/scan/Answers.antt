@@ -1,5 +1,6 @@
 use Rattle.std.proofs.Common.{◌++◌, Bool, IsTrue, subst, ℕ, List, drop, length, refl, sym, ap, ◌∙◌, arith, length-drop}
 use Rattle.inf_lexer.specs.Unread.{behind_view}
+use Rattle.inf_lexer.proofs.Counting.{counts_then, counts_then_as}
 use Rattle.inf_lexer.proofs.Hearing.{ends_on, ends_taken, heard_on, heard_source, heard_taken, still_taken}
 use Rattle.inf_lexer.proofs.Unfinished.{stays_unfinished}
 use Rattle.inf_lexer.proofs.Scanned.{find_end, none_left, some_left}
@@ -64,7 +65,9 @@ windows-preserved g c =
       );
       few = omega (arith, c.pass.ensures.given, filled.few);
       more = omega (arith, c.pass.ensures.given, inv.more, filled.more);
-      given = omega (arith, c.pass.ensures.given, inv.more, filled.more, inv.given, filled.given);
+      counts = counts_then_as (files.counts c.args.files.now) (files.counts c.windows.files) (files.counts c.refill.new.files)
+          c.args.window.now.given c.windows.window.given c.refill.new.self.given c.pass.new.self.given inv.counts filled.counts
+          c.pass.ensures.given;
       depth = filled.depth ∙ inv.depth;
       opened = filled.opened ∙ inv.opened;
       faults = filled.faults.1 ∙ inv.faults;
@@ -202,3 +205,35 @@ returns-in_err-refill-clause-unfinished g c = λ read honest.
     c.args.limit c.args.seen.now.lines
     c.windows.state (sight c.windows.seen) inv.heard inv.honesty inv.sources filled.reads inv.opens (filled.refused refl) inv.few
     (filled.unread refl) honest
+
+pub returns-in_err-refill-clause-counts : goal.returns-in_err-refill-clause-counts
+returns-in_err-refill-clause-counts g c =
+    let files = g.F.Files in
+    counts_then (files.counts c.args.files.now) (files.counts c.windows.files) (files.counts c.refill.new.files)
+    c.args.window.now.given c.windows.window.given c.refill.new.self.given c.windows.invariant.counts c.in_err-refill.ensures.counts
+
+pub returns-then-is_empty-clause-counts : goal.returns-then-is_empty-clause-counts
+returns-then-is_empty-clause-counts g c =
+    let files = g.F.Files in
+    counts_then (files.counts c.args.files.now) (files.counts c.windows.files) (files.counts c.refill.new.files)
+    c.args.window.now.given c.windows.window.given c.refill.new.self.given c.windows.invariant.counts c.in_ok-refill.ensures.counts
+
+pub returns-in_err-taken-clause-counts : goal.returns-in_err-taken-clause-counts
+returns-in_err-taken-clause-counts g c =
+    let files = g.F.Files in
+    counts_then (files.counts c.args.files.now) (files.counts c.windows.files) (files.counts c.refill.new.files)
+    c.args.window.now.given c.windows.window.given c.refill.new.self.given c.windows.invariant.counts c.in_ok-refill.ensures.counts
+
+pub returns-in-Last-clause-counts : goal.returns-in-Last-clause-counts
+returns-in-Last-clause-counts g c =
+    let files = g.F.Files in
+    counts_then_as (files.counts c.args.files.now) (files.counts c.windows.files) (files.counts c.refill.new.files)
+    c.args.window.now.given c.windows.window.given c.refill.new.self.given c.pass.new.self.given c.windows.invariant.counts
+    c.in_ok-refill.ensures.counts c.pass.ensures.given
+
+pub returns-in-Behind-clause-counts : goal.returns-in-Behind-clause-counts
+returns-in-Behind-clause-counts g c =
+    let files = g.F.Files in
+    counts_then_as (files.counts c.args.files.now) (files.counts c.windows.files) (files.counts c.refill.new.files)
+    c.args.window.now.given c.windows.window.given c.refill.new.self.given c.pass.new.self.given c.windows.invariant.counts
+    c.in_ok-refill.ensures.counts c.pass.ensures.given

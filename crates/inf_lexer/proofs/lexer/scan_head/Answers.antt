@@ -2,6 +2,7 @@ use Rattle.std.proofs.Common.{◌++◌, Bool, IsTrue, subst, ℕ, List, drop, le
 use Rattle.inf_lexer.specs.Heads.{HeadFound, head_after, head_found, is_behind, is_head_on, turn_place}
 use Rattle.inf_lexer.specs.declared.head.HeadTurn.{HeadTurn}
 use Rattle.inf_lexer.proofs.Heading.{head_end, head_stays_open}
+use Rattle.inf_lexer.proofs.Counting.{counts_then, counts_then_as}
 use Rattle.inf_lexer.proofs.Hearing.{ends_on, ends_taken, heard_on, heard_taken, still_taken}
 use Rattle.inf_lexer.proofs.Scanned.{none_left, some_left}
 use Rattle.inf_lexer.proofs.lexer.scan_head.Goals as goal
@@ -61,7 +62,9 @@ windows-preserved g c =
       );
       few = omega (arith, c.pass.ensures.given, filled.few);
       more = omega (arith, c.pass.ensures.given, inv.more, filled.more);
-      given = omega (arith, c.pass.ensures.given, inv.more, filled.more, inv.given, filled.given);
+      counts = counts_then_as (files.counts c.args.files.now) (files.counts c.windows.files) (files.counts c.refill.new.files)
+          c.args.window.now.given c.windows.window.given c.refill.new.self.given c.pass.new.self.given inv.counts filled.counts
+          c.pass.ensures.given;
       depth = filled.depth ∙ inv.depth;
       opened = filled.opened ∙ inv.opened;
       faults = omega (arith, filled.faults.0, inv.faults);
@@ -158,3 +161,22 @@ returns-in_err-refill-clause-unfinished g c = λ refused not honest.
     (files.openings c.windows.files) (files.openings c.refill.new.files) c.args.window.now c.windows.window c.refill.new.self c.args.from
     c.windows.place c.args.word.now.items c.windows.word.items c.args.lines.now c.windows.lines
     inv.heard inv.honesty inv.sources filled.reads (inv.before not) (filled.refused refl) inv.few (filled.unread refl) honest
+
+pub returns-in_err-refill-clause-counts : goal.returns-in_err-refill-clause-counts
+returns-in_err-refill-clause-counts g c =
+    let files = g.F.Files in
+    counts_then (files.counts c.args.files.now) (files.counts c.windows.files) (files.counts c.refill.new.files)
+    c.args.window.now.given c.windows.window.given c.refill.new.self.given c.windows.invariant.counts c.in_err-refill.ensures.counts
+
+pub returns-then-is_empty-clause-counts : goal.returns-then-is_empty-clause-counts
+returns-then-is_empty-clause-counts g c =
+    let files = g.F.Files in
+    counts_then (files.counts c.args.files.now) (files.counts c.windows.files) (files.counts c.refill.new.files)
+    c.args.window.now.given c.windows.window.given c.refill.new.self.given c.windows.invariant.counts c.in_ok-refill.ensures.counts
+
+pub returns-in-Stopped-clause-counts : goal.returns-in-Stopped-clause-counts
+returns-in-Stopped-clause-counts g c =
+    let files = g.F.Files in
+    counts_then_as (files.counts c.args.files.now) (files.counts c.windows.files) (files.counts c.refill.new.files)
+    c.args.window.now.given c.windows.window.given c.refill.new.self.given c.pass.new.self.given c.windows.invariant.counts
+    c.in_ok-refill.ensures.counts c.pass.ensures.given

@@ -1,5 +1,5 @@
-use Rattle.std.proofs.Common.{◌≡◌, ◌+◌, ◌-◌, ◌≤◌, false, length, min, IsTrue}
-use Rattle.inf_devices.specs.Files.{last_count}
+use Rattle.std.proofs.Common.{◌≡◌, ◌+◌, ◌-◌, ◌≤◌, false, length, IsTrue}
+use Rattle.inf_lexer.specs.Counted.{CountsOn}
 use Rattle.inf_lexer.specs.Heads.{HeadFound, head_found, is_behind}
 use Rattle.inf_lexer.specs.Unread.{Ends, Heard, StillGives}
 use Rattle.inf_lexer.proofs.lexer.scan_head.Given as goal
@@ -21,7 +21,7 @@ invariant-windows g l =
       window : length l.window.left ≤ 4096;
       few : l.window.given ≤ 16777216;
       more : l.fn.window.given ≤ l.window.given;
-      given : min (files.given l.fn.files + (l.window.given - l.fn.window.given)) last_count ≤ files.given l.files;
+      counts : CountsOn (files.counts l.fn.files) (files.counts l.files) l.fn.window.given l.window.given;
       depth : files.depth l.files ≡ files.depth l.fn.files;
       opened : files.opened l.files ≡ files.opened l.fn.files;
       faults : files.faults l.fn.files ≤ files.faults l.files;

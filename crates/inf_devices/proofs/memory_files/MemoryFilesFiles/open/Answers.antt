@@ -1,6 +1,9 @@
-use Rattle.std.proofs.Common.{sym, ◌∙◌, ap, arith, refl}
+use Rattle.std.proofs.Common.{[], map, sym, ◌∙◌, ap, arith, refl}
 use Rattle.std.specs.Option.{is_some}
-use Rattle.inf_devices.specs.MemoryFiles.{sources_of, kept_in, MemoryState}
+use Rattle.std.specs.String.{string_bytes}
+use Rattle.inf_devices.specs.Files.{Openings, names_from, opened}
+use Rattle.inf_devices.specs.MemoryFiles.{sources_of, kept_in, opening_of, MemoryState}
+use Rattle.inf_devices.proofs.NamesOpened.{names_behind}
 use Rattle.inf_devices.proofs.OpeningLemmas.{source_absent, source_present, AreOpenings-opened, openings_of-opened}
 use Rattle.inf_devices.proofs.memory_files.MemoryFilesFiles.open.Goals as goal
 
@@ -27,3 +30,11 @@ returns-clause-opens c honest =
           (openings_of-opened (sources_of (kept_in c.self.inside.sources)) c.self.inside.opened.items c.self.inside.open_places.items _ refl
           refl),
     )
+
+pub returns-clause-opened : goal.returns-clause-opened
+returns-clause-opened c =
+    let s = sources_of (kept_in c.self.inside.sources) in
+    let items = c.self.inside.opened.items in
+    rw (← c.self.view_is, c.in_ok-add_opened.ensures.opened, ← c.in_ok-name.ensures.ok)
+    (ap (λ (o : Openings). names_from [] o.all) (openings_of-opened s items c.self.inside.open_places.items _ refl refl)
+    ∙ names_behind [] (map (opening_of s) items) (opened (string_bytes c.in_ok-name.name)))

@@ -1,7 +1,8 @@
-use Rattle.std.proofs.Common.{◌≡◌, ◌<◌, ◌-◌, min, length, take, get_or, sym, ◌∙◌, ap, subst, arith}
+use Rattle.std.proofs.Common.{◌≡◌, ◌<◌, ◌-◌, [], min, length, take, get_or, sym, ◌∙◌, ap, subst, arith}
 use Rattle.std.proofs.lemmas.List.{get_or_default}
 use Rattle.inf_devices.specs.MemoryFiles.{sources_of, kept_in, IsOpening, MemoryState}
 use Rattle.inf_devices.proofs.OpeningLemmas.{left_of, AreOpenings-given, IsOpening-given, gives_innermost, place_within, is_opening}
+use Rattle.inf_devices.proofs.NamesOpened.{names_given}
 use Rattle.inf_devices.proofs.memory_files.MemoryFilesFiles.read.Goals as goal
 
 is_some_open : (c : goal.After-add) → 0 < length c.self.inside.open_places.items
@@ -49,3 +50,9 @@ returns-clause-reads c honest =
     (is_some_open c) (is_last c) (is_within c) c.index_mut-opened.ensures.value (is_of_source c)
     (omega (arith, count_left c)) (λ none. omega (arith, count_left c, c.requires.room, none))
     (c.copy_front-count.ensures.copied ∙ ap (take c.copy_front-count.result) c.rest_of.ensures.rest))
+
+pub returns-clause-opened : goal.returns-clause-opened
+returns-clause-opened c =
+    rw (← c.self.view_is, c.give.ensures)
+    (names_given (sources_of (kept_in c.self.inside.sources)) c.self.inside.opened.items c.index-place.result.now
+    c.index_mut-opened.result.now c.copy_front-count.result [] (is_within c) c.index_mut-opened.ensures.value)

@@ -12,7 +12,7 @@ open-tells g c = record {
   opened = c.ensures.opened;
   cause = c.ensures.cause;
   faults = c.ensures.faults;
-  given = c.ensures.given;
+  counts = c.ensures.counts;
   sources = refl;
   honesty = refl;
 }
@@ -21,7 +21,7 @@ pub read-tells : goal.read-tells
 read-tells g c = record {
   reads = not_honest;
   count = c.ensures.count;
-  given = c.ensures.given;
+  counts = c.ensures.counts;
   same = c.ensures.same;
   depth = c.ensures.depth;
   opened = c.ensures.opened;
@@ -37,7 +37,7 @@ close-tells g c = record {
   depth = c.ensures.depth;
   opened = c.ensures.opened;
   faults = c.ensures.faults;
-  given = c.ensures.given;
+  counts = c.ensures.counts;
   sources = refl;
   honesty = refl;
 }

@@ -40,6 +40,5 @@ returns-clause-cause g c = λ device.
     (fit_is _ _ _ c.in-Some.ensures ∙ c.without_sign-is_beside.ensures.name) (sym c.if-is_empty.ensures) in
     subst (λ (names : List (List ℕ)). Rose (files.faults c.args.files.now) (files.faults c.open_first.new.files) ⊎ WasTooMany
     (files.sources c.args.files.now) (files.is_honest c.args.files.now) c.args.self.now.names names
-    (files.openings c.args.files.now) (files.openings c.open_first.new.files) (files.opened c.args.files.now)
-    (files.opened c.open_first.new.files)) same
+    (files.openings c.args.files.now) (files.openings c.open_first.new.files) (files.opened c.open_first.new.files)) same
     (c.open_first.ensures.cause device)

@@ -1,10 +1,11 @@
-use Rattle.std.proofs.Common.{◌⊎◌, inl, inr, List, ℕ, [], ◌∷◌, Bool, Bor, Some, IsTrue, arith, map, sym, ap, subst, ◌∙◌}
+use Rattle.std.proofs.Common.{◌⊎◌, ◌≤◌, inl, inr, List, ℕ, [], ◌∷◌, Bool, Bor, Some, IsTrue, arith, map, sym, ap, subst, ◌∙◌}
 use Rattle.std.specs.String.{string_bytes}
 use Rattle.inf_devices.specs.Files.{Sources, Rose}
 use Rattle.inf_lexer.specs.Entering.{ClosedAgain, Enters, WasTooMany, has_one_too_many}
-use Rattle.inf_lexer.specs.Names.{Nest, name_in}
+use Rattle.inf_lexer.specs.Names.{Nest, name_in, number_of}
 use Rattle.inf_lexer.specs.Readers.{Reader}
 use Rattle.inf_lexer.proofs.Candidates.{at_place, closed_in, enters_in, of_each, rose_earlier, too_many_in}
+use Rattle.inf_lexer.proofs.Opened.{opens_then}
 use Rattle.inf_lexer.proofs.stack.Stack.open_first.Goals as goal
 
 pub returns-then-not-is_absent-clause-ok : goal.returns-then-not-is_absent-clause-ok
@@ -48,12 +49,14 @@ returns-then-not-is_absent-clause-cause g c = λ device.
     let after = files.openings c.open_named-answer.new.files in
     elim told as (λ _. Rose faults new ⊎ WasTooMany (files.sources start) (files.is_honest start) c.args.self.now.names names
     (files.openings start) after
-    (files.opened start) (files.opened c.open_named-answer.new.files)) [
+    (files.opened c.open_named-answer.new.files)) [
       | inl rose ↦ inl (rose_earlier faults (files.faults c.loop-directory.files) new (omega (arith, inv.faults)) rose)
       | inr many ↦ inr (record {
         is_named = too_many_in c.args.self.now.names names c.loop-directory.directory-index name here
             (ap (λ (n : Nest). has_one_too_many n.names (name ∷ [])) (sym inv.same) ∙ many.is_named);
-        counted = omega (arith, many.counted, inv.opened);
+        name = many.name;
+        is_too_many = subst (λ (n : Nest). 65535 ≤ number_of many.name n.names) inv.same many.is_too_many;
+        is_opened = many.is_opened;
         is_closed =
             λ honest. closed_in (files.sources start) c.args.self.now.names f c.args.directories.now c.loop-directory.directory-index _ name
             (files.openings start) (files.openings c.loop-directory.files) after c.loop-directory-test.true c.in_ok-name.ensures
@@ -65,3 +68,11 @@ returns-then-not-is_absent-clause-cause g c = λ device.
             (many.is_closed (subst (λ (b : Bool). IsTrue b) (sym inv.honesty) honest))));
       })
     ]
+
+pub returns-then-not-is_absent-clause-opened : goal.returns-then-not-is_absent-clause-opened
+returns-then-not-is_absent-clause-opened g c =
+    let files = g.F.Files in
+    let loop = c.loop-directory in
+    let named = c.open_named-answer in
+    opens_then c.args.self.now.names loop.self.names named.new.self.names (files.opened c.args.files.now) (files.opened loop.files)
+    (files.opened named.new.files) loop.invariant.opened named.ensures.opened

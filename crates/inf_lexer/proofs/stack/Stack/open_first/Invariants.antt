@@ -1,6 +1,5 @@
-use Rattle.std.proofs.Common.{◌≡◌, ◌≤◌, map, min, drop, IsTrue}
-use Rattle.inf_devices.specs.Files.{last_count}
-use Rattle.inf_lexer.specs.Entering.{first_there}
+use Rattle.std.proofs.Common.{◌≡◌, map, drop, IsTrue}
+use Rattle.inf_lexer.specs.Entering.{OpensOn, first_there}
 use Rattle.inf_lexer.specs.Names.{name_in}
 use Rattle.inf_lexer.proofs.stack.Stack.open_first.Given as goal
 
@@ -15,9 +14,9 @@ invariant-loop-directory g l =
           → first_there (files.sources l.fn.files) (map (λ d. name_in d.now l.file) (drop l.directory-index l.directories))
           ≡ first_there (files.sources l.fn.files) (map (λ d. name_in d.now l.file) l.directories);
       depth : files.depth l.files ≡ files.depth l.fn.files;
-      opened : min (files.opened l.fn.files) last_count ≤ files.opened l.files;
+      opened : OpensOn l.fn.self.names l.self.names (files.opened l.fn.files) (files.opened l.files);
       faults : files.faults l.files ≡ files.faults l.fn.files;
-      given : files.given l.files ≡ files.given l.fn.files;
+      counts : files.counts l.files ≡ files.counts l.fn.files;
       sources : files.sources l.files ≡ files.sources l.fn.files;
       honesty : files.is_honest l.files ≡ files.is_honest l.fn.files;
     }

@@ -1,12 +1,15 @@
 use Rattle.std.proofs.Common.{◌≡◌, inr, Bool, IsTrue, List, ℕ, ◌++◌, [], ◌∷◌, map, refl, sym, ap, subst, ◌∙◌, arith}
 use Rattle.std.specs.Prelude.{IsSome}
+use Rattle.std.specs.List.{list_any}
+use Rattle.std.specs.Str.{bytes_eq}
 use Rattle.std.specs.String.{string_bytes, string_eq}
 use Rattle.indexmap.specs.IndexSet.{insert_key}
 use Rattle.inf_lexer.specs.Entering.{IsEntered, with_opened}
 use Rattle.inf_lexer.specs.Names.{Nest, number_of, with_name}
 use Rattle.inf_lexer.specs.Readers.{at_front}
 use Rattle.inf_lexer.proofs.Candidates.{closes_opened, there_alone, too_many_alone}
-use Rattle.inf_lexer.proofs.NameLists.{added_to, of_ok}
+use Rattle.inf_devices.proofs.NamesOpened.{added_to, of_ok}
+use Rattle.inf_lexer.proofs.Opened.{in_with, opens_one_is, opens_with_is}
 use Rattle.inf_lexer.proofs.stack.Stack.open_named.Goals as goal
 
 pub returns-clause-ok : goal.returns-clause-ok
@@ -75,7 +78,11 @@ returns-then-number-ge-MOST_NAMES-clause-cause g c = λ device.
     c.number_of-number.ensures ∙ ap (λ (n : List ℕ). number_of n known) c.as_str.ensures.value in
     inr (record {
       is_named = too_many_alone known name (omega (arith, number, c.if-number-ge-MOST_NAMES.true));
-      counted = omega (arith, c.in-Ok.ensures.opened, c.close.ensures.opened);
+      name = name;
+      is_too_many = omega (arith, number, c.if-number-ge-MOST_NAMES.true);
+      is_opened = ap (λ (names : List (List ℕ)). list_any (bytes_eq name) names)
+          (c.close.ensures.opened ∙ c.in-Ok.ensures.opened ∙ ap (λ (n : List ℕ). with_name n (files.opened c.args.files.now)) c.as_str-2.ensures.value)
+          ∙ in_with name (files.opened c.args.files.now);
       is_closed = λ honest. record {
         name = name;
         is_first =
@@ -86,3 +93,25 @@ returns-then-number-ge-MOST_NAMES-clause-cause g c = λ device.
             (c.close.ensures.closes (subst (λ (b : Bool). IsTrue b) (sym c.open.ensures.honesty) honest));
       };
     })
+
+pub returns-clause-opened : goal.returns-clause-opened
+returns-clause-opened g c =
+    let files = g.F.Files in
+    let name = string_bytes c.args.name in
+    let inside = c.self.inside.names.keys in
+    let keys = of_ok c.insert.result _ (c.insert.ensures.succeeds (omega (arith, c.in_ok-reserve.ensures.ok))) c.insert.ensures.keys in
+    opens_with_is name c.args.self.now.names (map string_bytes c.insert.new.self.keys) (files.opened c.args.files.now)
+    (files.opened c.open.new.self)
+    (ap (λ ks. map string_bytes ks) (keys ∙ ap (λ ks. insert_key string_eq ks c.args.name) c.in_ok-reserve.ensures.keys)
+    ∙ added_to inside c.args.name ∙ ap (λ (n : Nest). with_name name n.names) c.self.view_is)
+    (c.in-Ok.ensures.opened ∙ ap (λ (n : List ℕ). with_name n (files.opened c.args.files.now)) c.as_str-2.ensures.value)
+
+pub returns-then-number-ge-MOST_NAMES-clause-opened : goal.returns-then-number-ge-MOST_NAMES-clause-opened
+returns-then-number-ge-MOST_NAMES-clause-opened g c =
+    let files = g.F.Files in
+    let name = string_bytes c.args.name in
+    opens_one_is name c.args.self.now.names (map string_bytes c.reserve.new.self.keys) (files.opened c.args.files.now)
+    (files.opened c.close.new.self)
+    (ap (λ ks. map string_bytes ks) c.in_ok-reserve.ensures.keys ∙ ap (λ (n : Nest). n.names) c.self.view_is)
+    (c.close.ensures.opened ∙ c.in-Ok.ensures.opened
+    ∙ ap (λ (n : List ℕ). with_name n (files.opened c.args.files.now)) c.as_str-2.ensures.value)

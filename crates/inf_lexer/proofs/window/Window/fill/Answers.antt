@@ -1,5 +1,6 @@
 use Rattle.std.proofs.Common.{◌≡◌, [], take, refl, sym, ap, ◌∙◌, arith, add-zero, length-take}
 use Rattle.inf_lexer.specs.Unread.{View}
+use Rattle.inf_lexer.proofs.Counting.{counts_more, counts_same}
 use Rattle.inf_lexer.proofs.Giving.{gave_same, gave_of, reads_first, still_open, written_window}
 use Rattle.inf_lexer.proofs.window.Window.fill.Goals as goal
 
@@ -29,3 +30,23 @@ returns-clause-reads g c =
 pub returns-clause-still : goal.returns-clause-still
 returns-clause-still g c honest still more =
     still_open _ _ _ c.in-Ok.count c.read_front.new.bytes (c.in-Ok.ensures.reads honest) c.in-Ok.ensures.fits more (still c.requires.going)
+
+pub returns-in_default-clause-counts : goal.returns-in_default-clause-counts
+returns-in_default-clause-counts g c =
+    let files = g.F.Files in
+    counts_same (files.counts c.args.files.now) (files.counts c.read_front.new.files) _ _ c.in_default.ensures.same
+    (ap (λ (v : View). v.given) c.self.view_is)
+
+pub returns-then-self-gt-MOST_SOURCE_BYTES-clause-counts : goal.returns-then-self-gt-MOST_SOURCE_BYTES-clause-counts
+returns-then-self-gt-MOST_SOURCE_BYTES-clause-counts g c =
+    let files = g.F.Files in
+    let given : c.self.inside.given ≡ c.args.self.now.given = ap (λ (v : View). v.given) c.self.view_is in
+    counts_more (files.counts c.args.files.now) (files.counts c.read_front.new.files) _ _ c.in-Ok.count c.in-Ok.ensures.counts
+    (omega (arith, given, c.in-Ok.ensures.fits)) (omega (arith, given, c.in-Ok.ensures.fits, c.requires.given))
+
+pub returns-clause-counts : goal.returns-clause-counts
+returns-clause-counts g c =
+    let files = g.F.Files in
+    let given : c.self.inside.given ≡ c.args.self.now.given = ap (λ (v : View). v.given) c.self.view_is in
+    counts_more (files.counts c.args.files.now) (files.counts c.read_front.new.files) _ _ c.in-Ok.count c.in-Ok.ensures.counts
+    (omega (arith, given, c.in-Ok.ensures.fits)) (omega (arith, given, c.in-Ok.ensures.fits, c.requires.given))

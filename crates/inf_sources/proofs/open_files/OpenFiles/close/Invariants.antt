@@ -1,5 +1,5 @@
-use Rattle.std.proofs.Common.{◌≡◌, ◌+◌, ◌<◌, ◌≤◌, length, min, IsTrue}
-use Rattle.inf_devices.specs.Files.{Openings, last_count}
+use Rattle.std.proofs.Common.{◌≡◌, ◌+◌, ◌<◌, length, IsTrue}
+use Rattle.inf_devices.specs.Files.{Openings}
 use Rattle.inf_sources.specs.Open.{IsNested}
 use Rattle.inf_sources.proofs.open_files.OpenFiles.close.Given as goal
 
@@ -14,8 +14,8 @@ invariant-loop g l =
       all : IsTrue (files.is_honest l.fn.files) → (files.openings l.files).all ≡ (files.openings l.fn.files).all;
       depth : files.depth l.files + length l.fn.self.outer ≡ files.depth l.fn.files + length l.self.outer;
       faults : files.faults l.files ≡ files.faults l.fn.files;
-      opened : min (files.opened l.fn.files) last_count ≤ files.opened l.files;
-      given : files.given l.files ≡ files.given l.fn.files;
+      opened : files.opened l.files ≡ files.opened l.fn.files;
+      too_long : (files.counts l.files).too_long ≡ (files.counts l.fn.files).too_long;
       sources : files.sources l.files ≡ files.sources l.fn.files;
       honesty : files.is_honest l.files ≡ files.is_honest l.fn.files;
     }

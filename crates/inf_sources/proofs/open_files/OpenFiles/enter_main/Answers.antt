@@ -1,3 +1,7 @@
+use Rattle.std.proofs.Common.{sym, subst}
+use Rattle.inf_lexer.specs.Entering.{AreOpened}
+use Rattle.inf_lexer.specs.Names.{Nest}
+use Rattle.inf_lexer.proofs.Opened.{none_opened}
 use Rattle.inf_sources.proofs.Openings.{main_nested_of, main_of, only_name}
 use Rattle.inf_sources.proofs.open_files.OpenFiles.enter_main.Goals as goal
 
@@ -18,3 +22,8 @@ returns-clause-nested g c = λ honest.
     main_nested_of (files.openings c.args.files.now) (files.openings c.enter_main.new.files) e.name c.enter_main.new.self
     c.in_ok-lexer.lexer c.new.result.items
     (e.is_opened honest) c.new.ensures.items
+
+pub returns-clause-opened : goal.returns-clause-opened
+returns-clause-opened g c =
+    let opened = g.F.Files.opened c.args.files.now in
+    c.in_ok-lexer.ensures.opened.opened (subst (λ (n : Nest). AreOpened n.names opened) (sym c.new-names.ensures) (none_opened opened))

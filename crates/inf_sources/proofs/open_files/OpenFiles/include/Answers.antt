@@ -15,7 +15,6 @@ use Rattle.inf_sources.specs.declared.open_files.Included.TheVariants as include
 use Rattle.inf_sources.proofs.Answering.{is_true, deep_is, entered_fits, entered_is, entered_nested_of, first_is, opened_in_vain}
 use Rattle.inf_sources.proofs.Answering.{opens_too_many}
 use Rattle.inf_sources.proofs.Calls.{asked_too_many, went_by, went_in}
-use Rattle.inf_sources.proofs.Counting.{entered_counts}
 use Rattle.inf_sources.proofs.Fronts.{entered_given, failed_fit, failed_given, fit_more}
 use Rattle.inf_sources.proofs.Openings.{failed_nested}
 use Rattle.inf_sources.proofs.open_files.OpenFiles.include.Goals as goal
@@ -103,9 +102,8 @@ returns-in-Ok-clause-went g c =
     ∙ ap (λ fs. fs ++ waits c.self.inside.lexer c.args.conditionals.now c.args.is_system.now ∷ []) c.in_ok-reserve.ensures.items in
     let front = ap (λ (r : Reader). r.window.given) (c.replace.ensures.after ∙ e.is_entered.1) in
     subst (λ (o : Open). Went files c.args.files.now c.enter.new.files o after) c.self.view_is
-    (went_in files c.args.files.now c.enter.new.files before after enter.sources enter.honesty enter.faults.0 enter.depth enter.given
+    (went_in files c.args.files.now c.enter.new.files before after enter.sources enter.honesty enter.faults.0 enter.depth enter.counts
     enter.opened (waits c.self.inside.lexer c.args.conditionals.now c.args.is_system.now) refl outer front
-    (entered_counts e.name before.nest after.nest e.is_entered.0)
     (λ honest start n. entered_nested_of start old new before e.name c.enter.new.self c.replace.new.dest
     c.push_reserved.new.self.items (waits c.self.inside.lexer c.args.conditionals.now c.args.is_system.now) refl n (e.is_opened honest)
     outer)
@@ -224,7 +222,7 @@ returns-in-Err-Device-clause-went g c =
     ∙ ap (λ (fs : List OpenFile). record { nest = c.self.inside.names; lexer = c.self.inside.lexer; outer = fs })
     c.in_ok-reserve.ensures.items in
     subst (λ (o : Open). Went files c.args.files.now c.enter.new.files o after) c.self.view_is
-    (went_by files c.args.files.now c.enter.new.files before after enter.sources enter.honesty enter.faults.0 enter.depth enter.given
+    (went_by files c.args.files.now c.enter.new.files before after enter.sources enter.honesty enter.faults.0 enter.depth enter.counts
     enter.opened same
     (λ honest start n. failed_nested s before.nest.names names start old new before n (left honest))
     (λ honest start n all. failed_given s before.nest.names names start old new before n (left honest) all))
@@ -276,15 +274,13 @@ returns-in-Err-Device-clause-cause g c = (
       λ h. let never = (c.in-Err-Device.ensures.too_deep (is_true (can_name text) fit) h).0 in cc in
       elim (c.in-Err-Device.ensures.cause (ap (λ f. Err f) c.in-Err-Device.field-0-is))
       as (λ _. Rose (files.faults c.args.files.now) (files.faults c.enter.new.files)
-      ⊎ (AskedTooMany files c.args.files.now c.enter.new.files c.args.self.now after × Honestly files c.args.files.now c.args.self.now
+      ⊎ (AskedTooMany files c.enter.new.files after × Honestly files c.args.files.now c.args.self.now
       (λ start.
       OpensTooMany (inclusion s directories text (nesting s start old c.args.self.now)) (nesting s start old c.args.self.now)
       (opened_since start new)))) [
         | inl rose ↦ inl rose
         | inr many ↦ inr (
-          subst (λ (o : Open). AskedTooMany files c.args.files.now c.enter.new.files o after) c.self.view_is
-              (asked_too_many files c.args.files.now c.enter.new.files before after (candidates directories (innermost_name before.nest) text)
-              c.in-Err-Device.ensures.err many.is_named many.counted),
+          asked_too_many files c.enter.new.files after before.nest many.name c.in-Err-Device.ensures.err many.is_too_many many.is_opened,
           subst (λ (o : Open). Honestly files c.args.files.now o (λ start.
               OpensTooMany (inclusion s directories text (nesting s start old o)) (nesting s start old o) (opened_since start new)))
               c.self.view_is

@@ -63,7 +63,7 @@ returns-clause-went g c =
     let before : Open = record { nest = c.self.inside.names; lexer = c.self.inside.lexer; outer = c.self.inside.outer.items } in
     let after : Open = record { nest = c.leave.new.self; lexer = f.lexer; outer = c.pop.new.self.items } in
     subst (λ (o : Open). Went files c.args.files.now c.leave.new.files o after) c.self.view_is
-    (went_out files c.args.files.now c.leave.new.files before after leave.sources leave.honesty leave.faults leave.depth leave.given
+    (went_out files c.args.files.now c.leave.new.files before after leave.sources leave.honesty leave.faults leave.depth leave.counts
     leave.opened f refl items
     (ap (λ (n : Nest). n.names) leave.left) leave.closes)
 

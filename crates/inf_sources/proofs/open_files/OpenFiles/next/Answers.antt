@@ -29,7 +29,7 @@ returns-clause-went g c =
     subst (λ (o : Open). Went files c.args.files.now c.next.new.files o
     (record { nest = inside.names; lexer = c.next.new.self; outer = inside.outer.items })) c.self.view_is
     (went_read files c.args.files.now c.next.new.files inside.names inside.lexer c.next.new.self inside.outer.items next.sources
-    next.honesty next.faults.0 next.depth next.given next.opened
+    next.honesty next.faults.0 next.depth next.counts next.opened
     next.gave next.same.2 next.window next.end next.still)
 
 pub returns-in_err-token-clause-went : goal.returns-in_err-token-clause-went
@@ -40,7 +40,7 @@ returns-in_err-token-clause-went g c =
     subst (λ (o : Open). Went files c.args.files.now c.next.new.files o
     (record { nest = inside.names; lexer = c.next.new.self; outer = inside.outer.items })) c.self.view_is
     (went_read files c.args.files.now c.next.new.files inside.names inside.lexer c.next.new.self inside.outer.items next.sources
-    next.honesty next.faults.0 next.depth next.given next.opened
+    next.honesty next.faults.0 next.depth next.counts next.opened
     next.gave next.same.2 next.window next.end next.still)
 
 pub returns-clause-opened : goal.returns-clause-opened

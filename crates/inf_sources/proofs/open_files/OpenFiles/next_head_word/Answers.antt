@@ -29,7 +29,7 @@ returns-clause-went g c =
     subst (λ (o : Open). Went files c.args.files.now c.next_head_word.new.files o
     (record { nest = inside.names; lexer = c.next_head_word.new.self; outer = inside.outer.items })) c.self.view_is
     (went_read files c.args.files.now c.next_head_word.new.files inside.names inside.lexer c.next_head_word.new.self inside.outer.items
-    next.sources next.honesty next.faults next.depth next.given next.opened next.gave next.same.2 next.window next.end next.still)
+    next.sources next.honesty next.faults next.depth next.counts next.opened next.gave next.same.2 next.window next.end next.still)
 
 pub returns-in_err-is_word-clause-went : goal.returns-in_err-is_word-clause-went
 returns-in_err-is_word-clause-went g c =
@@ -39,7 +39,7 @@ returns-in_err-is_word-clause-went g c =
     subst (λ (o : Open). Went files c.args.files.now c.next_head_word.new.files o
     (record { nest = inside.names; lexer = c.next_head_word.new.self; outer = inside.outer.items })) c.self.view_is
     (went_read files c.args.files.now c.next_head_word.new.files inside.names inside.lexer c.next_head_word.new.self inside.outer.items
-    next.sources next.honesty next.faults next.depth next.given next.opened next.gave next.same.2 next.window next.end next.still)
+    next.sources next.honesty next.faults next.depth next.counts next.opened next.gave next.same.2 next.window next.end next.still)
 
 pub returns-clause-opened : goal.returns-clause-opened
 returns-clause-opened g c = λ honest start nested.

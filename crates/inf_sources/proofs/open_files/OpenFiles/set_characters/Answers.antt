@@ -3,11 +3,11 @@ use Rattle.std.specs.Vec.{with_items}
 use Rattle.std.proofs.lemmas.List.{with_items_is}
 use Rattle.inf_lexer.specs.Names.{Nest}
 use Rattle.inf_lexer.specs.Readers.{Reader}
-use Rattle.inf_sources.specs.Calls.{given_all}
+use Rattle.inf_sources.specs.Calls.{given_each}
 use Rattle.inf_sources.specs.Choosing.{file_with, open_with}
 use Rattle.inf_sources.specs.Open.{AllGiven, AllWait, IsNested, Open, files_of, lexers_of, nesting}
 use Rattle.inf_sources.specs.declared.open_file.OpenFile.{OpenFile}
-use Rattle.inf_sources.proofs.Choosing.{all_given_with, all_wait_with, given_all_with, is_nested_with, nesting_is_with, numbers_with}
+use Rattle.inf_sources.proofs.Choosing.{all_given_with, all_wait_with, given_each_with, is_nested_with, nesting_is_with, numbers_with}
 use Rattle.inf_sources.proofs.open_files.OpenFiles.set_characters.Goals as goal
 
 pub invariant_of-self : goal.invariant_of-self
@@ -65,4 +65,4 @@ returns-clause-given_all c = λ sources n now all.
     subst (λ (o : Open). AllGiven sources n now o) (sym (after_is c)) (all_given_with c.args.set sources n now c.args.self.now all)
 
 pub returns-clause-given : goal.returns-clause-given
-returns-clause-given c = ap given_all (after_is c) ∙ given_all_with c.args.set c.args.self.now
+returns-clause-given c = ap given_each (after_is c) ∙ given_each_with c.args.set c.args.self.now
