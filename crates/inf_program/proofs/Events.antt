@@ -58,15 +58,15 @@ not_ahead limits count w e = ap (λ n. closed_ahead limits n w) e ∙ none_ahead
 -- The first token of a course
 
 -- The machine takes the first token as `now`. What is to come is that of this token, and then of the others.
-record Ahead (atom : ℕ) (now : Taken Action) (atoms : List ℕ) (course : Course) (left : List (Symbol Action)) : Type 0 where
-  rest : Course
-  derives : Derives now.left atoms rest left
-  events : course.events ≡ events_of now.actions atom ++ rest.events
-  ends : course.ends ≡ closings now.left ∷ rest.ends
+pub record Ahead (atom : ℕ) (now : Taken Action) (atoms : List ℕ) (course : Course) (left : List (Symbol Action)) : Type 0 where
+  pub rest : Course
+  pub derives : Derives now.left atoms rest left
+  pub events : course.events ≡ events_of now.actions atom ++ rest.events
+  pub ends : course.ends ≡ closings now.left ∷ rest.ends
 
-record First (atom : ℕ) (symbols : List (Symbol Action)) (atoms : List ℕ) (course : Course) (left : List (Symbol Action)) : Type 0 where
-  fits_here : fits grammar known atom symbols ≡ true
-  ahead : Ahead atom (taken grammar known atom symbols) atoms course left
+pub record First (atom : ℕ) (symbols : List (Symbol Action)) (atoms : List ℕ) (course : Course) (left : List (Symbol Action)) : Type 0 where
+  pub fits_here : fits grammar known atom symbols ≡ true
+  pub ahead : Ahead atom (taken grammar known atom symbols) atoms course left
 
 -- the course of a derivation
 abbrev pub course_of : {symbols left : List (Symbol Action)} {atoms : List ℕ} {events : List (Event Action)}
@@ -100,7 +100,7 @@ first_by {atom} {left} {atoms} (row {rule} {r} {symbols} m free l) spaced =
     ∙ ap (λ parts. taken grammar known atom (parts ++ symbols)) one.is) in
     record { fits_here = one.fits_here; ahead = subst (λ (n : Taken Action). Ahead atom n atoms (course_of l) left) same on.ahead }
 
-first_token : (atom : ℕ) (symbols : List (Symbol Action)) (atoms : List ℕ) (course : Course) (left : List (Symbol Action))
+pub first_token : (atom : ℕ) (symbols : List (Symbol Action)) (atoms : List ℕ) (course : Course) (left : List (Symbol Action))
     → Derives symbols (atom ∷ atoms) course left → IsSpaced grammar known symbols → First atom symbols atoms course left
 first_token atom symbols atoms course left d spaced =
     let f : First atom symbols atoms (course_of d.leads) left = first_by d.leads spaced in

@@ -5,8 +5,8 @@ use Rattle.inf_settings.specs.Bounds.{Limits, limits_of}
 use Rattle.inf_devices.specs.Files.{Sources}
 use Rattle.inf_session.specs.Choices.{Choices}
 use Rattle.inf_session.specs.Ending.{Outcome}
-use Rattle.inf_session.specs.Session.{State as TurnState, has_ended, run, start, told_out}
-use Rattle.inf_compile.specs.Outcome.{IsCompiled, IsOutcome, IsOutcomeOf, ending_of}
+use Rattle.inf_session.specs.Session.{State as TurnState, has_ended, run, start}
+use Rattle.inf_compile.specs.Outcome.{IsCompiled, IsOutcome, IsOutcomeOf}
 use Rattle.inf_compile.proofs.OutcomeLaws.{outcomes_are_unique}
 use Rattle.inf_compile.proofs.Reaching.{outcomes_exist}
 use Rattle.inf_program.specs.SideTurns.{silent_run}
@@ -14,12 +14,14 @@ use Rattle.inf_program.specs.Writing.{silent_run as turn_run, unwritten}
 use Rattle.inf_program.proofs.Turns.{lines_are_written_at_any_time}
 use Rattle.inf_program.specs.BySides.{with_conditions}
 use Rattle.inf_program.specs.definition.States.{State, has_ended as has_ended_by, start as start_by}
-use Rattle.inf_program.specs.definition.Written.{IsOutcomeOfProgram, turned_to}
+use Rattle.inf_program.specs.definition.Supplied.{AreSupplied}
+use Rattle.inf_program.specs.definition.Written.{IsOutcomeOfProgram, ending}
 use Rattle.inf_program.specs.Readings.{ProgramOf, SourcesAreRegular, SourcesHavePrograms}
 use Rattle.inf_program.proofs.Outcomes.{programs_have_their_outcome, unwritten_same}
 use Rattle.inf_program.proofs.Readings.{regular_readings_are_programs}
 use Rattle.inf_program.proofs.RegularTurns.{sources_regular}
 use Rattle.inf_program.proofs.SideTurns.{Ran, source_ran}
+use Rattle.inf_program.proofs.Supplied.{texts_are_programs}
 
 pub sources_are_regular : SourcesAreRegular
 sources_are_regular sources o name n = sources_regular (limits_of o.settings) sources o name n
@@ -49,15 +51,19 @@ outcomes_are_those_of_programs sources o serial name source e there going = (onw
   where
     onward : IsOutcome sources o serial name e → IsOutcomeOfProgram sources o serial name e
     onward outcome =
+        let limits : Limits = limits_of o.settings in
         let p = sources_have_programs sources o name source there in
+        let all : (end : State) × AreSupplied limits sources o end 0 p.0 = (texts_are_programs limits).all sources o 0 p.0 in
         record {
           final = p.0;
+          end = all.0;
           is_program = p.1;
-          is_ending = outcomes_are_unique sources o serial name e (ending_of (limits_of o.settings) o serial (told_out (turned_to p.0))) outcome
-              (programs_have_their_outcome sources o serial name source p.0 there going p.1);
+          are_supplied = all.1;
+          is_ending = outcomes_are_unique sources o serial name e (ending limits serial all.0) outcome
+              (programs_have_their_outcome sources o serial name source p.0 all.0 there going p.1 all.1);
         }
 
     back : IsOutcomeOfProgram sources o serial name e → IsOutcome sources o serial name e
     back w =
         subst (λ (x : Outcome). IsOutcome sources o serial name x) (sym w.is_ending)
-        (programs_have_their_outcome sources o serial name source w.final there going w.is_program)
+        (programs_have_their_outcome sources o serial name source w.final w.end there going w.is_program w.are_supplied)

@@ -149,7 +149,7 @@ at_rest s = if is_resting s then piece_closed s else s
 at_rest_moves : Moves at_rest
 at_rest_moves = if_moves is_resting piece_closed (λ s. s) (λ lines told s. refl) piece_closed_moves nothing_moves
 
-rested_moves : Moves rested
+pub rested_moves : Moves rested
 rested_moves = if_moves has_ended (λ s. s) at_rest (λ lines told s. refl) nothing_moves at_rest_moves
 
 pub followed_moves : (sources : Sources) (o : Choices) → Moves (followed sources o)

@@ -27,7 +27,7 @@ use Rattle.inf_program.specs.definition.Fronts.{AllGoOn, IsOpen, PieceState, are
 use Rattle.inf_program.proofs.Stacks.{IsRest, none_left}
 use Rattle.inf_program.proofs.Stepping.{followed_plainly, position_within}
 use Rattle.inf_program.proofs.Walking.{IsAt, next_is_at}
-use Rattle.inf_program.specs.definition.States.{State, context_of}
+use Rattle.inf_program.specs.definition.States.{AsksNothing, State, context_of}
 use Rattle.inf_program.specs.SideTurns.{IsQuiet, silent_turn, silent_turned, stand_of, stepped, steps_of}
 
 -- Tokens that fit lead on.
@@ -72,7 +72,7 @@ kept_of limits context (Reads (Kept t) ∷ steps) s fit = kept_of limits context
 
 -- Steps in two parts
 
-atoms_joined : (a b : List Step) (atoms : List ℕ) → kept_atoms (a ++ b) ++ atoms ≡ kept_atoms a ++ (kept_atoms b ++ atoms)
+pub atoms_joined : (a b : List Step) (atoms : List ℕ) → kept_atoms (a ++ b) ++ atoms ≡ kept_atoms a ++ (kept_atoms b ++ atoms)
 atoms_joined [] b atoms = refl
 atoms_joined (Reads (Kept t) ∷ a) b atoms = ap (λ (xs : List ℕ). atom_of t ∷ xs) (atoms_joined a b atoms)
 atoms_joined (Reads (Unfit t) ∷ a) b atoms = atoms_joined a b atoms
@@ -157,7 +157,7 @@ pub is_open_at : (m : PieceState) (x : State) (atoms : List ℕ) (left : List (S
 is_open_at m x atoms left s quiet going some = record {
   is_going = ap (λ (y : State). y.is_over) s.same ∙ going;
   is_not_over = ap (λ (y : State). y.work.report.counts.is_over) s.same ∙ quiet.is_not_over;
-  asks_nothing = ap (λ (y : State). y.work.asked) s.same ∙ quiet.asks_nothing;
+  asks_nothing = subst (λ (y : State). AsksNothing y) (sym s.same) quiet.asks_nothing;
   has_more = more_left x.reading.stack atoms m.course.events left s.inside.derives.leads s.inside.is_rest some;
 }
 

@@ -13,7 +13,6 @@ pub mod Walking
 pub mod Skipping
 pub mod Nexts
 pub mod Programs
-pub mod Outcomes
 pub mod EndStacks
 pub mod Asking
 pub mod Shapes
@@ -25,6 +24,9 @@ pub mod Soundness
 pub mod Readings
 pub mod SideStates
 pub mod SideTurns
+pub mod TextTurns
+pub mod Supplied
+pub mod Outcomes
 pub mod Existing
 pub mod Early
 pub mod Written

@@ -22,7 +22,7 @@ use Rattle.inf_statement_laws.specs.Happenings.{Between}
 use Rattle.inf_program.specs.definition.Steps.{Ends, Passes, Reads, Step}
 use Rattle.inf_program.specs.Turns.{step_by, steps_by}
 use Rattle.inf_program.specs.definition.Program.{NoneGiven}
-use Rattle.inf_program.proofs.Stepping.{followed_over, over_ends}
+use Rattle.inf_program.proofs.Stepping.{followed_over, followed_supplied, over_ends}
 use Rattle.inf_program.specs.Regular.{AreRegular}
 use Rattle.inf_program.proofs.Asking.{Calm, given_settled}
 use Rattle.inf_program.proofs.EndStacks.{ends_last}
@@ -145,16 +145,17 @@ gone_calm sources o x r true e =
 gone_calm sources o x r false e =
     answered_calm x.work.asked sources o (asked_nothing x) (record { asks = refl; last = r.last; spaced = r.spaced })
 
-pub followed_calm : (sources : Sources) (o : Choices) (x : State) → Rests (stand_of x) → (b : Bool) → x.work.report.counts.is_over ≡ b
-    → has_ended (followed sources o x) ≡ false → Calm (stand_of (followed sources o x))
-followed_calm sources o x r true over going =
+pub followed_calm : (sources : Sources) (o : Choices) (x : State) → x.is_supplied ≡ false → Rests (stand_of x) → (b : Bool)
+    → x.work.report.counts.is_over ≡ b → has_ended (followed sources o x) ≡ false → Calm (stand_of (followed sources o x))
+followed_calm sources o x of_file r true over going =
     absurd (true≢false (sym (ap has_ended (followed_over sources o x over) ∙ over_ends x over) ∙ going))
-followed_calm sources o x r false over going =
+followed_calm sources o x of_file r false over going =
     let carried : carried_out sources o x
     ≡ (if is_mode_ended x.reading.mode then left x else answered x.work.asked sources o (asked_nothing x)) =
     ap (λ b. if b then x else if is_mode_ended x.reading.mode then left x else answered x.work.asked sources o (asked_nothing x)) over in
-    rested_calm (carried_out sources o x)
-    (subst (λ (y : State). Calm (stand_of y)) (sym carried) (gone_calm sources o x r (is_mode_ended x.reading.mode) refl))
+    subst (λ (b : Bool). Calm (stand_of (rested (if b then x else carried_out sources o x)))) (sym of_file)
+    (rested_calm (carried_out sources o x)
+    (subst (λ (y : State). Calm (stand_of y)) (sym carried) (gone_calm sources o x r (is_mode_ended x.reading.mode) refl)))
 
 -- All turns
 
@@ -162,18 +163,27 @@ second_none : (a b : Bool) → (a || b) ≡ false → a ≡ false
 second_none true b e = absurd (true≢false e)
 second_none false b e = refl
 
-turns_regular : (limits : Limits) (sources : Sources) (o : Choices) (n : ℕ) (s : State) → (has_ended s ≡ false → Calm (stand_of s))
-    → AreRegular limits sources o n s
-turns_regular limits sources o zero s calm = tt
-turns_regular limits sources o (suc n) s calm = λ going.
+turns_regular : (limits : Limits) (sources : Sources) (o : Choices) (n : ℕ) (s : State) → s.is_supplied ≡ false
+    → (has_ended s ≡ false → Calm (stand_of s)) → AreRegular limits sources o n s
+turns_regular limits sources o zero s of_file calm = tt
+turns_regular limits sources o (suc n) s of_file calm = λ going.
     let x : State = stepped limits o s in
     let r : Rests (stand_of x) = turn_rests limits sources o s (calm going) in (
-      record { asks_at_ends = λ e. r.inside (second_none (is_between x.reading) (is_mode_ended x.reading.mode) e) },
-      turns_regular limits sources o n (followed sources o x)
-          (λ on. followed_calm sources o x r x.work.report.counts.is_over refl on),
+      record { asks_at_ends = λ e _. r.inside (second_none (is_between x.reading) (is_mode_ended x.reading.mode) e) },
+      turns_regular limits sources o n (followed sources o x) (followed_supplied sources o x ∙ of_file)
+          (λ on. followed_calm sources o x of_file r x.work.report.counts.is_over refl on),
     )
 
 pub sources_regular : (limits : Limits) (sources : Sources) (o : Choices) (name : List ℕ) (n : ℕ)
     → AreRegular limits sources o n (start sources o name)
 sources_regular limits sources o name n =
-    turns_regular limits sources o n (start sources o name) (λ _. record { asks = refl; last = refl; spaced = tt })
+    turns_regular limits sources o n (start sources o name) refl (λ _. record { asks = refl; last = refl; spaced = tt })
+
+-- In the text of a supplied routine nothing is done that is asked for, so each turn is regular.
+pub text_regular : (limits : Limits) (sources : Sources) (o : Choices) (n : ℕ) (s : State) → s.is_supplied ≡ true
+    → AreRegular limits sources o n s
+text_regular limits sources o zero s supplied = tt
+text_regular limits sources o (suc n) s supplied = λ going. (
+  record { asks_at_ends = λ _ of_file. absurd (true≢false (sym supplied ∙ of_file)) },
+  text_regular limits sources o n (followed sources o (stepped limits o s)) (followed_supplied sources o (stepped limits o s) ∙ supplied),
+)

@@ -158,7 +158,7 @@ pub record IsOpen (c : Conditions) (s : State) : Type 0 where
   pub none : c.pending ≡ []
   pub stay : c.left_out ≡ None
 
-open_ready : (c : Conditions) (s : State) → IsOpen c s → Ready c s
+pub open_ready : (c : Conditions) (s : State) → IsOpen c s → Ready c s
 open_ready c s i = record {
   agree = i.agree;
   declared = i.declared;

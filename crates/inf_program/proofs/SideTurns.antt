@@ -30,14 +30,15 @@ use Rattle.inf_reader.specs.Handing.{is_between, site_of}
 use Rattle.inf_reader.specs.Reading.{Reading, ReaderState, is_mode_ended}
 use Rattle.inf_session.specs.Choices.{Choices}
 use Rattle.inf_session.specs.Session.{State as TurnState, carried_out as turn_carried_out, followed as turn_followed, left as turn_left}
-use Rattle.inf_session.specs.Session.{answered as turn_answered, asked_nothing as turn_asked_nothing, start as turn_start, stepped as turn_stepped, token_of}
+use Rattle.inf_session.specs.Session.{answered as turn_answered, asked_nothing as turn_asked_nothing, rested as turn_rested}
+use Rattle.inf_session.specs.Session.{start as turn_start, stepped as turn_stepped, token_of}
 use Rattle.inf_session.specs.Taking.{quoted_behind}
 use Rattle.inf_laws.specs.KeptTokens.{given_sign, given_token}
 use Rattle.inf_program.specs.BySides.{TurnsGoBySides, with_conditions}
 use Rattle.inf_program.specs.Writing.{silent_run as turn_run, silent_turn as turn_silent}
 use Rattle.inf_program.specs.definition.NextToken.{Position, coming, step_at, told_at}
 use Rattle.inf_program.specs.definition.States.{State, answered, asked_nothing, carried_out, context_of, followed, has_ended, is_resting, left}
-use Rattle.inf_program.specs.definition.States.{start}
+use Rattle.inf_program.specs.definition.States.{rested, start}
 use Rattle.inf_program.specs.definition.Steps.{Passes, Step, said_between, step_of, steps_of_all, token_steps}
 use Rattle.inf_program.specs.definition.Program.{NoneGiven}
 use Rattle.inf_program.specs.SideTurns.{position_of, silent_run, silent_turn, stand_behind, stand_of, stepped, steps_of}
@@ -46,7 +47,7 @@ use Rattle.inf_program.proofs.Asking.{Calm}
 use Rattle.inf_program.proofs.Given.{NoneIn, mild_at, none_free}
 use Rattle.inf_program.proofs.RegularTurns.{followed_calm, none_asked, none_read, turn_rests}
 use Rattle.inf_program.proofs.SideStates.{Behind, Matches, Ready, handed_alike, none_alike, then_rested}
-use Rattle.inf_program.proofs.Stepping.{over_ends}
+use Rattle.inf_program.proofs.Stepping.{followed_supplied, over_ends}
 use Rattle.inf_program.proofs.TurnSteps.{steps_joined, turns_are_steps}
 
 -- The steps of a token, by its judgement and by what is given of it
@@ -112,13 +113,13 @@ judged_are_given limits context t said j x =
 -- One token
 
 -- what is known of a token by its judgement and by the sides
-record Taken (limits : Limits) (o : Choices) (c : Conditions) (s : State) (b : Judged) : Type 0 where
-  agree : Agree b.now (step_at (position_of s.reading) s).now
-  given : given_of (coming (position_of s.reading) s) b.judged ≡ heard (position_of s.reading).is_passed (step_at (position_of s.reading) s).given
-  told : telling b.now ≡ told_at o (position_of s.reading) s
-  rests : Rests (is_between s.reading) c.declared b
+pub record Taken (limits : Limits) (o : Choices) (c : Conditions) (s : State) (b : Judged) : Type 0 where
+  pub agree : Agree b.now (step_at (position_of s.reading) s).now
+  pub given : given_of (coming (position_of s.reading) s) b.judged ≡ heard (position_of s.reading).is_passed (step_at (position_of s.reading) s).given
+  pub told : telling b.now ≡ told_at o (position_of s.reading) s
+  pub rests : Rests (is_between s.reading) c.declared b
 
-taken_by : (limits : Limits) (o : Choices) (c : Conditions) (s : State) → c.most_tokens ≡ s.most_tokens → Matches c s
+pub taken_by : (limits : Limits) (o : Choices) (c : Conditions) (s : State) → c.most_tokens ≡ s.most_tokens → Matches c s
     → Taken limits o c s (judged (site_of o.settings s.reading) s.work.output (coming (position_of s.reading) s) c)
 taken_by limits o c s most m =
     let site : Site = site_of o.settings s.reading in
@@ -140,7 +141,7 @@ taken_by limits o c s most m =
     }
 
 -- the state behind the token is the same
-stepped_alike : (limits : Limits) (sources : Sources) (o : Choices) (c : Conditions) (q : ℕ) (s : State)
+pub stepped_alike : (limits : Limits) (sources : Sources) (o : Choices) (c : Conditions) (q : ℕ) (s : State)
     → let site = site_of o.settings s.reading in
     let t = coming (position_of s.reading) s in
     let b = judged site s.work.output t c in
@@ -177,6 +178,13 @@ none_in t j none =
     (subst (λ (xs : List GivenBySides). NoneIn (xs ++ (lone_given j.unmatched ++ end_given j.ended))) (sym (none.1 t))
     (none_in_ends j.unmatched j.ended))
 
+pub none_handed : (limits : Limits) (o : Choices) (c : Conditions) (s : State) (b : Judged) → Taken limits o c s b → HandsNone b.judged
+    → NoneGiven (steps_of limits o s)
+none_handed limits o c s b k none =
+    let p : Position = position_of s.reading in
+    none_free limits s.nesting.names (heard p.is_passed (step_at p s).given)
+    (subst (λ (xs : List GivenBySides). NoneIn xs) k.given (none_in (coming p s) b.judged none))
+
 record Still (s y : State) : Type 0 where
   reading : y.reading ≡ s.reading
   asks : y.work.asked ≡ Nothing
@@ -185,9 +193,7 @@ stands_still : (limits : Limits) (o : Choices) (c : Conditions) (s : State) (b :
     → HandsNone b.judged → Still s (stepped limits o s)
 stands_still limits o c s b k calm none =
     let p : Position = position_of s.reading in
-    let free : NoneGiven (steps_of limits o s) =
-    none_free limits s.nesting.names (heard p.is_passed (step_at p s).given)
-    (subst (λ (xs : List GivenBySides). NoneIn xs) k.given (none_in (coming p s) b.judged none)) in
+    let free : NoneGiven (steps_of limits o s) = none_handed limits o c s b k none in
     record {
       reading = none_read limits (context_of o s) (steps_of limits o s) (stand_of s) free;
       asks = none_asked limits (context_of o s) (steps_of limits o s) (stand_of s) free (mild_at limits o p s) ∙ calm.asks;
@@ -195,7 +201,7 @@ stands_still limits o c s b k calm none =
 
 -- Behind the token
 
-agree_silent : (c : Conditions) (x : Sides) → Agree c x → Agree (silent c) x
+pub agree_silent : (c : Conditions) (x : Sides) → Agree c x → Agree (silent c) x
 agree_silent c x a =
     record { pending = a.pending; conditions = a.conditions; sign = a.sign; sides = a.sides; fronts = a.fronts }
 
@@ -209,29 +215,48 @@ both true b e f = f
 both false b e f = absurd (true≢false (sym e))
 
 -- the state behind a token, before a file is entered or left
-record Passed (c : Conditions) (s y : State) (b : Judged) : Type 0 where
-  agree : Agree b.now y.sides
-  declared : b.now.declared ≡ y.declared
-  most : b.now.most_tokens ≡ y.most_tokens
-  rests : Rests (is_between s.reading) c.declared b
+pub record Passed (c : Conditions) (s y : State) (b : Judged) : Type 0 where
+  pub agree : Agree b.now y.sides
+  pub declared : b.now.declared ≡ y.declared
+  pub most : b.now.most_tokens ≡ y.most_tokens
+  pub rests : Rests (is_between s.reading) c.declared b
+
+pub passed_by : (limits : Limits) (o : Choices) (c : Conditions) (s : State) (b : Judged) → Taken limits o c s b → c.declared ≡ s.declared
+    → Passed c s (stepped limits o s) b
+passed_by limits o c s b k declared = record {
+  agree = k.agree;
+  declared = k.rests.declared ∙ declared;
+  most = ap (λ (x : Told). x.most_tokens) k.told;
+  rests = k.rests;
+}
 
 -- where nothing was handed on
-still_ready : (c : Conditions) (s y : State) (b : Judged) → Passed c s y b → Still s y → Ready (silent b.now) (asked_nothing y)
+pub still_ready : (c : Conditions) (s y : State) (b : Judged) → Passed c s y b → y.reading ≡ s.reading → Ready (silent b.now) y
 still_ready c s y b p still = record {
   agree = agree_silent b.now y.sides p.agree;
   declared = p.declared;
   none_said = refl;
   settled = by_settled p.rests.settled;
-  seated = subst (λ (between : Bool). AreSeated between b.now.pending) (sym (ap is_between still.reading)) p.rests.seated;
+  seated = subst (λ (between : Bool). AreSeated between b.now.pending) (sym (ap is_between still)) p.rests.seated;
   levels = p.rests.levels;
 }
   where
     by_settled : (is_settled b.now ≡ true) ⊎ ((is_between s.reading ≡ true) × ((b.now.pending ≡ []) × HandsNone b.judged))
-        → (is_settled (silent b.now) ≡ true) ⊎ (is_resting (asked_nothing y) ≡ true)
+        → (is_settled (silent b.now) ≡ true) ⊎ (is_resting y ≡ true)
     by_settled (inl settled) = inl settled
     by_settled (inr u) =
-        inr (both (is_between y.reading) (has_none y.sides.texts) (ap is_between still.reading ∙ u.0)
+        inr (both (is_between y.reading) (has_none y.sides.texts) (ap is_between still ∙ u.0)
         (sym (none_alike y.sides.texts) ∙ (ap is_none_pending (sym p.agree.pending) ∙ ap is_none_pending u.1.0)))
+
+asked_ready : (c : Conditions) (y : State) → Ready c y → Ready c (asked_nothing y)
+asked_ready c y r = record {
+  agree = r.agree;
+  declared = r.declared;
+  none_said = r.none_said;
+  settled = r.settled;
+  seated = r.seated;
+  levels = r.levels;
+}
 
 abbrev Carried : ℕ → TurnState → State → Type 0
 Carried q t s = Behind q t s (λ now. Ready now s)
@@ -259,7 +284,7 @@ gone_alike sources o q c s y b p still reads (inr quiet) =
     (if m then left y else answered y.work.asked sources o (asked_nothing y))) (sym e)
     (subst (λ (a : Request). Carried q (turn_answered a sources o (turn_asked_nothing t)) (answered a sources o (asked_nothing y)))
     (sym u.asks)
-    (record { now = silent b.now; same = refl; most = p.most; ready = λ on. still_ready c s y b p u }))
+    (record { now = silent b.now; same = refl; most = p.most; ready = λ on. asked_ready (silent b.now) y (still_ready c s y b p u.reading) }))
 
 carried_alike : (sources : Sources) (o : Choices) (q : ℕ) (c : Conditions) (s y : State) (b : Judged) → Passed c s y b
     → (HandsNone b.judged → Still s y) → is_mode_ended s.reading.mode ≡ false → (over : Bool) → y.work.report.counts.is_over ≡ over
@@ -279,14 +304,17 @@ carried_alike sources o q c s y b p still reads false over =
 
 -- One turn
 
-record Turned (sources : Sources) (t : TurnState) (s : State) : Type 0 where
-  quoted : ℕ
-  behind : Behind quoted t s (λ now. Matches now s)
+abbrev pub Matched : ℕ → TurnState → State → Type 0
+Matched q t s = Behind q t s (λ now. Matches now s)
+
+pub record Turned (t : TurnState) (s : State) : Type 0 where
+  pub quoted : ℕ
+  pub behind : Matched quoted t s
 
 turned_alike : (limits : Limits) (sources : Sources) (o : Choices) (c : Conditions) (q : ℕ) (s : State) → c.most_tokens ≡ s.most_tokens
-    → has_ended s ≡ false → Matches c s → Calm (stand_of s)
-    → Turned sources (turn_silent limits sources o (with_conditions c q s)) (silent_turn limits sources o s)
-turned_alike limits sources o c q s most going m calm =
+    → has_ended s ≡ false → s.is_supplied ≡ false → Matches c s → Calm (stand_of s)
+    → Turned (turn_silent limits sources o (with_conditions c q s)) (silent_turn limits sources o s)
+turned_alike limits sources o c q s most going of_file m calm =
     let site : Site = site_of o.settings s.reading in
     let p : Position = position_of s.reading in
     let t : SourceToken = coming p s in
@@ -294,26 +322,24 @@ turned_alike limits sources o c q s most going m calm =
     let y : State = stepped limits o s in
     let q2 : ℕ = quoted_behind site b.judged t q in
     let k : Taken limits o c s b = taken_by limits o c s most m in
-    let passed : Passed c s y b = record {
-      agree = k.agree;
-      declared = k.rests.declared ∙ m.declared;
-      most = ap (λ (x : Told). x.most_tokens) k.told;
-      rests = k.rests;
-    } in
+    let passed : Passed c s y b = passed_by limits o c s b k m.declared in
+    let gone : TurnState = turn_carried_out sources o (with_conditions (silent b.now) q2 y) in
     let carried : Carried q2 (turn_carried_out sources o (with_conditions (silent b.now) q2 y)) (carried_out sources o y) =
     carried_alike sources o q2 c s y b passed (λ none. stands_still limits o c s b k calm none)
     (mode_of s.is_over s.work.report.counts.is_over (is_mode_ended s.reading.mode) going) y.work.report.counts.is_over refl in
     record {
       quoted = q2;
-      behind = subst (λ (x : TurnState). Behind q2 (turn_followed sources o x) (followed sources o y) (λ now. Matches now (followed sources o y)))
+      behind = subst (λ (x : TurnState). Matched q2 (turn_followed sources o x) (followed sources o y))
           (sym (stepped_alike limits sources o c q s k))
-          (then_rested q2 (turn_carried_out sources o (with_conditions (silent b.now) q2 y)) (carried_out sources o y) carried);
+          (subst (λ (is_supplied : Bool). Matched q2 (turn_rested gone) (rested (if is_supplied then y else carried_out sources o y)))
+          (sym of_file) (then_rested q2 gone (carried_out sources o y) carried));
     }
 
 -- All turns
 
 -- what is known of a state from which reading goes on
 pub record Goes (c : Conditions) (s : State) : Type 0 where
+  pub of_file : s.is_supplied ≡ false
   pub matches : Matches c s
   pub calm : Calm (stand_of s)
 
@@ -342,16 +368,17 @@ run_by limits sources o n later c q s most goes false going =
     let g : Goes c s = goes going in
     let x : State = silent_turn limits sources o s in
     let y : State = stepped limits o s in
-    let turned : Turned sources (turn_silent limits sources o (with_conditions c q s)) x =
-    turned_alike limits sources o c q s most going g.matches g.calm in
-    let behind : Behind turned.quoted (turn_silent limits sources o (with_conditions c q s)) x (λ now. Matches now x) = turned.behind in
+    let turned : Turned (turn_silent limits sources o (with_conditions c q s)) x =
+    turned_alike limits sources o c q s most going g.of_file g.matches g.calm in
+    let behind : Matched turned.quoted (turn_silent limits sources o (with_conditions c q s)) x = turned.behind in
     subst (λ (b : Bool). Ran
     (if b then with_conditions c q s else turn_run limits sources o n (turn_silent limits sources o (with_conditions c q s)))
     (if b then s else silent_run limits sources o n x)) (sym going)
     (subst (λ (t : TurnState). Ran (turn_run limits sources o n t) (silent_run limits sources o n x)) (sym behind.same)
     (later behind.now turned.quoted x behind.most (λ on. record {
+      of_file = followed_supplied sources o y ∙ g.of_file;
       matches = behind.ready on;
-      calm = followed_calm sources o y (turn_rests limits sources o s g.calm) y.work.report.counts.is_over refl on;
+      calm = followed_calm sources o y g.of_file (turn_rests limits sources o s g.calm) y.work.report.counts.is_over refl on;
     })))
 
 run_alike : (limits : Limits) (sources : Sources) (o : Choices) (n : ℕ) → RunsAlike limits sources o n
@@ -363,6 +390,7 @@ pub source_ran : (limits : Limits) (sources : Sources) (o : Choices) (name : Lis
     → Ran (turn_run limits sources o n (turn_start sources o name)) (silent_run limits sources o n (start sources o name))
 source_ran limits sources o name n =
     run_alike limits sources o n no_conditions 0 (start sources o name) refl (λ going. record {
+      of_file = refl;
       matches = record {
         agree = sides_are_judged.start;
         declared = refl;

@@ -8,8 +8,8 @@ use Rattle.inf_machine.specs.Grammar.{here}
 use Rattle.inf_machine.specs.declared.symbols.Symbol.{Symbol}
 use Rattle.inf_sources.specs.Inclusions.{Waiting}
 use Rattle.inf_syntax.specs.declared.actions.Action.{Action}
-use Rattle.inf_unit.specs.Directives.{Nothing}
 use Rattle.inf_unit.specs.Tokens.{SourceToken}
+use Rattle.inf_unit.proofs.Cases.{of_both}
 use Rattle.inf_conditional_sides.specs.Sides.{has_none}
 use Rattle.inf_reader.specs.Handing.{is_between, is_empty, reads, skips}
 use Rattle.inf_reader.specs.Reading.{Reading, between, is_mode_ended}
@@ -30,9 +30,9 @@ use Rattle.inf_program.proofs.FrontTurns.{BadRead, FirstFit, IsFront, bad_read, 
 use Rattle.inf_program.proofs.Given.{shape_at}
 use Rattle.inf_program.proofs.Shapes.{CutFirst, CutSecond, Fit, Sorted, shape_skipped, sorted}
 use Rattle.inf_program.proofs.Skipping.{position_skips, skip_turn}
-use Rattle.inf_program.proofs.Stepping.{carried_out_reading, followed_over, followed_plainly, goes_on, over_ends, rested_reading}
-use Rattle.inf_program.specs.definition.States.{State, answered, asked_nothing, carried_out, context_of, file_closed, followed, has_ended}
-use Rattle.inf_program.specs.definition.States.{is_resting, left, left_by, piece_closed, rested}
+use Rattle.inf_program.proofs.Stepping.{followed_over, followed_plainly, goes_on, handled_reading, over_ends, rested_reading}
+use Rattle.inf_program.specs.definition.States.{AsksNothing, State, answered, asked_nothing, carried_out, context_of, file_closed, followed}
+use Rattle.inf_program.specs.definition.States.{handled, has_ended, is_resting, left, left_by, piece_closed, rested}
 use Rattle.inf_program.specs.SideTurns.{IsQuiet, position_of, silent_run, silent_turn, silent_turned, stand_of, stepped, steps_of}
 
 -- Readings behind a turn
@@ -43,13 +43,13 @@ HasProgram limits sources o s = (final : State) × IsProgram limits sources o fi
 
 -- Nothing is asked within a piece, or where tokens are passed over.
 abbrev pub AsksAtEnds : State → Type 0
-AsksAtEnds x = (is_between x.reading || is_mode_ended x.reading.mode) ≡ false → x.work.asked ≡ Nothing
+AsksAtEnds x = (is_between x.reading || is_mode_ended x.reading.mode) ≡ false → AsksNothing x
 
 pub followed_reads : (sources : Sources) (o : Choices) (x : State) → x.reading ≡ between mode.Reads
     → (followed sources o x).reading ≡ between mode.Reads
 followed_reads sources o x reading =
-    rested_reading (carried_out sources o x)
-    ∙ (carried_out_reading sources o x (ap (λ (r : Reading). is_mode_ended r.mode) reading) ∙ reading)
+    rested_reading (handled sources o x)
+    ∙ (handled_reading sources o x (ap (λ (r : Reading). is_mode_ended r.mode) reading) ∙ reading)
 
 pub over_rested : (s : State) → has_ended s ≡ true → has_ended (rested s) ≡ true
 over_rested s e = ap has_ended (ap (λ b. if b then s else if is_resting s then piece_closed s else s) e) ∙ e
@@ -77,8 +77,11 @@ pub ended_on : (sources : Sources) (o : Choices) (x : State) → x.reading ≡ b
     → (has_ended (followed sources o x) ≡ true) ⊎ ((followed sources o x).reading ≡ between mode.Reads)
 ended_on sources o x reading true over = inl (ap has_ended (followed_over sources o x over) ∙ over_ends x over)
 ended_on sources o x reading false going =
-    subst (λ (y : State). (has_ended (rested y) ≡ true) ⊎ ((rested y).reading ≡ between mode.Reads)) (sym carried)
-    (left_on sources o x x.nesting.waiting reading)
+    of_both (λ (y : State). (has_ended (rested y) ≡ true) ⊎ ((rested y).reading ≡ between mode.Reads)) x.is_supplied x
+    (carried_out sources o x)
+    (λ _. inl (over_rested x (mode_ended x (ap (λ (r : Reading). is_mode_ended r.mode) reading))))
+    (λ _. subst (λ (y : State). (has_ended (rested y) ≡ true) ⊎ ((rested y).reading ≡ between mode.Reads)) (sym carried)
+    (left_on sources o x x.nesting.waiting reading))
   where
     carried : carried_out sources o x ≡ left x
     carried =
@@ -199,7 +202,7 @@ skip_more limits sources o k later from x same skip quiet r =
     let on : SkipsOn limits o from = record {
       is_going = ap (λ (y : State). y.is_over) (sym same) ∙ r.is_going;
       is_not_over = ap (λ (y : State). y.work.report.counts.is_over) (sym same) ∙ quiet.is_not_over;
-      asks_nothing = ap (λ (y : State). y.work.asked) (sym same) ∙ quiet.asks_nothing;
+      asks_nothing = subst (λ (y : State). AsksNothing y) same quiet.asks_nothing;
       skips_more = skip;
       are_skipped = shape_skipped (steps_at limits o passed_over from.state) from.skip
           (shape_at limits o passed_over from.state) skip;

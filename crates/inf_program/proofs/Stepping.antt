@@ -1,11 +1,11 @@
 -- Turns of a reading whose messages are still to be written: which of them lead from one state to another, and what a turn does where
 -- nothing else happens behind its token.
-use Rattle.std.proofs.Common.{◌≡◌, ℕ, suc, ◌+◌, List, ◌&&◌, ◌||◌, Bool, true, false, refl, sym, ◌∙◌, ap, arith}
+use Rattle.std.proofs.Common.{◌≡◌, ℕ, suc, ◌+◌, List, [], ◌∷◌, ◌&&◌, ◌||◌, Bool, true, false, refl, sym, ◌∙◌, ap, arith}
 use Rattle.std.specs.Prelude.{if◌then◌else◌}
 use Rattle.inf_settings.specs.Bounds.{Limits}
 use Rattle.inf_scanner.specs.declared.tokens.Place.{Place}
 use Rattle.inf_devices.specs.Files.{Sources}
-use Rattle.inf_sources.specs.Inclusions.{Inclusion, Opens, OpensNone, inclusion}
+use Rattle.inf_sources.specs.Inclusions.{Inclusion, Opens, OpensNone, Waiting, inclusion}
 use Rattle.inf_sources.specs.declared.open_files.Included.TheVariants as answer
 use Rattle.inf_unit.specs.Directives.{Characters, End, Include, Nothing, Request}
 use Rattle.inf_unit.proofs.Cases.{of_both}
@@ -17,8 +17,9 @@ use Rattle.inf_reader.specs.declared.recovery.Recovery.TheVariants as mode
 use Rattle.inf_session.specs.Choices.{Choices}
 use Rattle.inf_program.specs.Turns.{steps_by}
 use Rattle.inf_program.specs.definition.NextToken.{Position, afresh, behind_at, position, steps_at, within}
-use Rattle.inf_program.specs.definition.States.{State, answered, asked_nothing, carried_out, context_of, followed, has_ended, included_by}
-use Rattle.inf_program.specs.definition.States.{is_resting, left, piece_closed, rested}
+use Rattle.inf_program.specs.definition.States.{State, answered, asked_nothing, carried_out, context_of, file_closed, followed, has_ended}
+use Rattle.inf_program.specs.definition.States.{included_by}
+use Rattle.inf_program.specs.definition.States.{handled, is_resting, left, left_by, piece_closed, rested}
 use Rattle.inf_program.specs.SideTurns.{IsQuiet, position_of, silent_run, silent_turn, stand_of, stepped}
 
 -- Turns that lead from one state to another
@@ -82,13 +83,18 @@ answered_plainly : (asked : Request) (sources : Sources) (o : Choices) (s : Stat
     → answered asked sources o s ≡ s
 answered_plainly asked sources o s nothing = ap (λ a. answered a sources o s) nothing
 
-carried_plainly : (sources : Sources) (o : Choices) (s : State) → IsQuiet s → carried_out sources o s ≡ s
-carried_plainly sources o s quiet =
+carried_plainly : (sources : Sources) (o : Choices) (s : State) → IsQuiet s → s.work.asked ≡ Nothing → carried_out sources o s ≡ s
+carried_plainly sources o s quiet nothing =
     ap (λ b. if b then s else if is_mode_ended s.reading.mode then left s else answered s.work.asked sources o (asked_nothing s))
     quiet.is_not_over
     ∙ (ap (λ b. if b then left s else answered s.work.asked sources o (asked_nothing s)) quiet.has_more
-    ∙ (answered_plainly s.work.asked sources o (asked_nothing s) quiet.asks_nothing
-    ∙ ap (λ (a : Request). record s { work = record s.work { asked = a } }) (sym quiet.asks_nothing)))
+    ∙ (answered_plainly s.work.asked sources o (asked_nothing s) nothing
+    ∙ ap (λ (a : Request). record s { work = record s.work { asked = a } }) (sym nothing)))
+
+handled_plainly : (sources : Sources) (o : Choices) (s : State) → IsQuiet s → handled sources o s ≡ s
+handled_plainly sources o s quiet =
+    of_both (λ (x : State). x ≡ s) s.is_supplied s (carried_out sources o s) (λ _. refl)
+    (λ of_file. carried_plainly sources o s quiet (quiet.asks_nothing of_file))
 
 either_state : (b : Bool) (s : State) → (if b then s else s) ≡ s
 either_state true s = refl
@@ -99,13 +105,14 @@ rested_plainly s inside =
     ap (λ b. if has_ended s then s else if b then piece_closed s else s) inside ∙ either_state (has_ended s) s
 
 pub followed_plainly : (sources : Sources) (o : Choices) (s : State) → IsQuiet s → followed sources o s ≡ s
-followed_plainly sources o s quiet = ap rested (carried_plainly sources o s quiet) ∙ rested_plainly s quiet.is_inside
+followed_plainly sources o s quiet = ap rested (handled_plainly sources o s quiet) ∙ rested_plainly s quiet.is_inside
 
 -- behind a fatal message nothing happens
 pub followed_over : (sources : Sources) (o : Choices) (s : State) → s.work.report.counts.is_over ≡ true → followed sources o s ≡ s
 followed_over sources o s over =
     ap rested
-    (ap (λ b. if b then s else if is_mode_ended s.reading.mode then left s else answered s.work.asked sources o (asked_nothing s)) over)
+    (of_both (λ (x : State). x ≡ s) s.is_supplied s (carried_out sources o s) (λ _. refl)
+    (λ _. ap (λ b. if b then s else if is_mode_ended s.reading.mode then left s else answered s.work.asked sources o (asked_nothing s)) over))
     ∙ ap (λ b. if b then s else if is_resting s then piece_closed s else s) (over_ends s over)
 
 -- The reading behind a token
@@ -123,7 +130,7 @@ answered_reading End sources o s = refl
 answered_reading (Characters set) sources o s = refl
 answered_reading Nothing sources o s = refl
 
-pub carried_out_reading : (sources : Sources) (o : Choices) (s : State) → is_mode_ended s.reading.mode ≡ false
+carried_out_reading : (sources : Sources) (o : Choices) (s : State) → is_mode_ended s.reading.mode ≡ false
     → (carried_out sources o s).reading ≡ s.reading
 carried_out_reading sources o s going =
     of_both (λ (x : State). x.reading ≡ s.reading) s.work.report.counts.is_over s
@@ -132,10 +139,55 @@ carried_out_reading sources o s going =
     (λ _. ap (λ b. (if b then left s else answered s.work.asked sources o (asked_nothing s)).reading) going
     ∙ answered_reading s.work.asked sources o (asked_nothing s))
 
+pub handled_reading : (sources : Sources) (o : Choices) (s : State) → is_mode_ended s.reading.mode ≡ false
+    → (handled sources o s).reading ≡ s.reading
+handled_reading sources o s going =
+    of_both (λ (x : State). x.reading ≡ s.reading) s.is_supplied s (carried_out sources o s) (λ _. refl)
+    (λ _. carried_out_reading sources o s going)
+
 pub rested_reading : (s : State) → (rested s).reading ≡ s.reading
 rested_reading s =
     of_both (λ (x : State). x.reading ≡ s.reading) (has_ended s) s (if is_resting s then piece_closed s else s) (λ _. refl)
     (λ _. of_both (λ (x : State). x.reading ≡ s.reading) (is_resting s) (piece_closed s) s (λ _. refl) (λ _. refl))
+
+-- Behind a token of a file comes one of a file, and behind one of a supplied text another one of it.
+
+left_supplied : (waiting : List Waiting) (s : State) → (left_by waiting s).is_supplied ≡ s.is_supplied
+left_supplied [] s = refl
+left_supplied (w ∷ waiting) s = refl
+
+included_supplied : (sources : Sources) (o : Choices) (unit : Place) (text : List ℕ) (i : Inclusion) (s : State)
+    → (included_by sources o unit text i s).is_supplied ≡ s.is_supplied
+included_supplied sources o unit text (Opens name) s = refl
+included_supplied sources o unit text (OpensNone answer.Entered) s = refl
+included_supplied sources o unit text (OpensNone answer.NotThere) s = refl
+included_supplied sources o unit text (OpensNone answer.TooDeep) s = refl
+
+answered_supplied : (asked : Request) (sources : Sources) (o : Choices) (s : State) → (answered asked sources o s).is_supplied ≡ s.is_supplied
+answered_supplied (Include text unit) sources o s =
+    included_supplied sources o unit text (inclusion sources o.directories text s.nesting) s
+answered_supplied End sources o s = refl
+answered_supplied (Characters set) sources o s = refl
+answered_supplied Nothing sources o s = refl
+
+carried_supplied : (sources : Sources) (o : Choices) (s : State) → (carried_out sources o s).is_supplied ≡ s.is_supplied
+carried_supplied sources o s =
+    of_both (λ (x : State). x.is_supplied ≡ s.is_supplied) s.work.report.counts.is_over s
+    (if is_mode_ended s.reading.mode then left s else answered s.work.asked sources o (asked_nothing s)) (λ _. refl)
+    (λ _. of_both (λ (x : State). x.is_supplied ≡ s.is_supplied) (is_mode_ended s.reading.mode) (left s)
+    (answered s.work.asked sources o (asked_nothing s)) (λ _. left_supplied s.nesting.waiting (file_closed s))
+    (λ _. answered_supplied s.work.asked sources o (asked_nothing s)))
+
+rested_supplied : (s : State) → (rested s).is_supplied ≡ s.is_supplied
+rested_supplied s =
+    of_both (λ (x : State). x.is_supplied ≡ s.is_supplied) (has_ended s) s (if is_resting s then piece_closed s else s) (λ _. refl)
+    (λ _. of_both (λ (x : State). x.is_supplied ≡ s.is_supplied) (is_resting s) (piece_closed s) s (λ _. refl) (λ _. refl))
+
+pub followed_supplied : (sources : Sources) (o : Choices) (s : State) → (followed sources o s).is_supplied ≡ s.is_supplied
+followed_supplied sources o s =
+    rested_supplied (handled sources o s)
+    ∙ of_both (λ (x : State). x.is_supplied ≡ s.is_supplied) s.is_supplied s (carried_out sources o s) (λ _. refl)
+    (λ _. carried_supplied sources o s)
 
 -- The steps of a turn
 

@@ -38,7 +38,7 @@ behind_token n told s = record {
   passed = s.passed;
 }
 
-stepped_moves : (limits : Limits) (o : Choices) → Moves (stepped limits o)
+pub stepped_moves : (limits : Limits) (o : Choices) → Moves (stepped limits o)
 stepped_moves limits o = record {
   moves = λ lines told s.
       ap (λ (t : SourceToken). behind_token (token_taken limits (context_of o s) t s.conditions (state_behind lines (stand_of s)) s.quoted)

@@ -28,7 +28,7 @@ use Rattle.inf_program.proofs.Events.{Agrees, InPiece, steps_agree}
 use Rattle.inf_program.proofs.Stacks.{none_left, piece_is_rest, some_left}
 use Rattle.inf_program.proofs.Stepping.{Comes, comes_next, comes_same, comes_then, followed_plainly, goes_on}
 use Rattle.inf_program.proofs.Stepping.{position_within, stand, turn_behind, turn_steps}
-use Rattle.inf_program.specs.definition.States.{State, context_of, followed, has_ended}
+use Rattle.inf_program.specs.definition.States.{AsksNothing, State, context_of, followed, has_ended}
 use Rattle.inf_program.specs.SideTurns.{IsQuiet, position_of, stand_of, stepped}
 
 -- A state of the reading, behind the token of a turn, is that of a piece of which these atoms are still to come, and these symbols are
@@ -84,7 +84,7 @@ pub quiet_at : (m : PieceState) (x : State) (atoms : List ℕ) (left : List (Sym
 quiet_at m x atoms left s is = record {
   is_not_over = ap (λ (q : State). q.work.report.counts.is_over) (sym s.same) ∙ is.is_not_over;
   has_more = ap is_mode_ended s.inside.at.reads;
-  asks_nothing = ap (λ (q : State). q.work.asked) (sym s.same) ∙ is.asks_nothing;
+  asks_nothing = subst (λ (q : State). AsksNothing q) s.same is.asks_nothing;
   is_inside =
       ap (λ b. b && has_none x.sides.texts) (ap (λ (p : Position). p.is_front) (is_within m x atoms left s is));
 }

@@ -12,10 +12,12 @@ use Rattle.inf_compile.proofs.OutcomeLaws.{outcomes_are_unique}
 use Rattle.inf_compile.proofs.Reaching.{outcomes_exist}
 use Rattle.inf_program.specs.definition.Program.{Continues, IsOver, IsProgram}
 use Rattle.inf_program.specs.definition.States.{State, has_ended, start}
-use Rattle.inf_program.specs.definition.Written.{IsOutcomeOfProgram, IsWritten, IsWrittenOf, turned_to}
+use Rattle.inf_program.specs.definition.Supplied.{AreSupplied}
+use Rattle.inf_program.specs.definition.Written.{IsOutcomeOfProgram, IsWritten, IsWrittenOf, ending}
 use Rattle.inf_program.specs.Writings.{OutcomesAreWritten}
 use Rattle.inf_program.proofs.Early.{ending_told, start_over}
 use Rattle.inf_program.proofs.Existing.{outcomes_are_those_of_programs}
+use Rattle.inf_program.proofs.Supplied.{supplied_ending, texts_are_programs}
 
 -- Reading ends before the first token
 
@@ -25,17 +27,32 @@ nothing_comes : (limits : Limits) (sources : Sources) (o : Choices) (final s : S
 nothing_comes limits sources o final s ended (IsOver over same) = same
 nothing_comes limits sources o final s ended (Continues going fresh next rest) = absurd (true≢false (sym ended ∙ going))
 
+-- the messages of the ending are then all that were written
+early_ending : (sources : Sources) (o : Choices) (serial name : List ℕ) (end : State) → has_ended (start sources o name) ≡ true
+    → AreSupplied (limits_of o.settings) sources o end 0 (start sources o name)
+    → ending_of (limits_of o.settings) o serial (turn_start sources o name) ≡ ending (limits_of o.settings) serial end
+early_ending sources o serial name end ended supplied =
+    let limits : Limits = limits_of o.settings in
+    let s : TurnState = turn_start sources o name in
+    sym (ending_told limits o serial s (start_over sources o name ended))
+    ∙ supplied_ending limits sources o serial end 0 (start sources o name) supplied (told_out s)
+    (record { nesting = refl; work = refl; told = refl; most = refl; passed = refl })
+
 early_onward : (sources : Sources) (o : Choices) (serial name : List ℕ) (e : Outcome) → has_ended (start sources o name) ≡ true
     → IsCompiled sources o serial name e → IsOutcomeOfProgram sources o serial name e
 early_onward sources o serial name e ended c =
     let limits : Limits = limits_of o.settings in
     let s : TurnState = turn_start sources o name in
+    let first : State = start sources o name in
     let final : c.final ≡ s = sym c.is_read.leads ∙ run_ended limits sources o c.is_read.turns s ended in
+    let all : (end : State) × AreSupplied limits sources o end 0 first = (texts_are_programs limits).all sources o 0 first in
     record {
-      final = start sources o name;
+      final = first;
+      end = all.0;
       is_program = IsOver ended refl;
+      are_supplied = all.1;
       is_ending = c.is_ending
-          ∙ (ap (λ (x : TurnState). ending_of limits o serial x) final ∙ sym (ending_told limits o serial s (start_over sources o name ended)));
+          ∙ (ap (λ (x : TurnState). ending_of limits o serial x) final ∙ early_ending sources o serial name all.0 ended all.1);
     }
 
 early_back : (sources : Sources) (o : Choices) (serial name : List ℕ) (e : Outcome) → has_ended (start sources o name) ≡ true
@@ -44,12 +61,12 @@ early_back sources o serial name e ended p =
     let limits : Limits = limits_of o.settings in
     let s : State = start sources o name in
     let final : s ≡ p.final = nothing_comes limits sources o p.final s ended p.is_program in
+    let all : AreSupplied limits sources o p.end 0 s =
+    subst (λ (x : State). AreSupplied limits sources o p.end 0 x) (sym final) p.are_supplied in
     record {
       final = turn_start sources o name;
       is_read = record { turns = zero; leads = refl; ends = ended };
-      is_ending = p.is_ending
-          ∙ (ap (λ (x : State). ending_of limits o serial (told_out (turned_to x))) (sym final)
-          ∙ ending_told limits o serial (turn_start sources o name) (start_over sources o name ended));
+      is_ending = p.is_ending ∙ sym (early_ending sources o serial name p.end ended all);
     }
 
 -- Outcomes

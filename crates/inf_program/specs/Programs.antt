@@ -3,11 +3,11 @@ use Rattle.std.specs.Prelude.{◌≡◌, ℕ, List, Some, true, false}
 use Rattle.inf_settings.specs.Bounds.{Limits, limits_of}
 use Rattle.inf_devices.specs.Files.{Sources}
 use Rattle.inf_session.specs.Choices.{Choices}
-use Rattle.inf_session.specs.Session.{told_out}
-use Rattle.inf_compile.specs.Outcome.{IsOutcome, ending_of}
+use Rattle.inf_compile.specs.Outcome.{IsOutcome}
 use Rattle.inf_program.specs.definition.NextToken.{afresh}
 use Rattle.inf_program.specs.definition.Program.{IsProgram}
-use Rattle.inf_program.specs.definition.Written.{turned_to}
+use Rattle.inf_program.specs.definition.Supplied.{AreSupplied}
+use Rattle.inf_program.specs.definition.Written.{ending}
 use Rattle.inf_program.specs.definition.States.{State, has_ended, start}
 use Rattle.inf_program.specs.SideTurns.{silent_run}
 
@@ -28,10 +28,11 @@ ProgramsEndInOneWay limits =
     (sources : Sources) (o : Choices) (first second s : State) → IsProgram limits sources o first s → IsProgram limits sources o second s
     → afresh first ≡ afresh second
 
--- The ending of the program of a main source, behind its messages, is the outcome of the source, unless reading ends before its first
--- token.
+-- The ending behind the program of a main source and the supplied routines is the outcome of the source, unless reading ends before its
+-- first token.
 abbrev pub ProgramsHaveTheirOutcome : Type 0
 ProgramsHaveTheirOutcome =
-    (sources : Sources) (o : Choices) (serial name source : List ℕ) (final : State) → sources name ≡ Some source
+    (sources : Sources) (o : Choices) (serial name source : List ℕ) (final end : State) → sources name ≡ Some source
     → has_ended (start sources o name) ≡ false → IsProgram (limits_of o.settings) sources o final (start sources o name)
-    → IsOutcome sources o serial name (ending_of (limits_of o.settings) o serial (told_out (turned_to final)))
+    → AreSupplied (limits_of o.settings) sources o end 0 final
+    → IsOutcome sources o serial name (ending (limits_of o.settings) serial end)

@@ -1,4 +1,4 @@
--- Readings are programs; so each main source has one.
+-- Readings are programs; so each main source has one, and each text of a supplied routine.
 use Rattle.std.specs.Prelude.{◌≡◌, ℕ, List, Some, true}
 use Rattle.inf_settings.specs.Bounds.{Limits, limits_of}
 use Rattle.inf_devices.specs.Files.{Sources}
@@ -9,6 +9,7 @@ use Rattle.inf_program.specs.definition.NextToken.{afresh}
 use Rattle.inf_program.specs.definition.Program.{IsProgram}
 use Rattle.inf_program.specs.Regular.{AreRegular}
 use Rattle.inf_program.specs.definition.States.{State, has_ended, start}
+use Rattle.inf_program.specs.definition.Supplied.{AreSupplied, text_start}
 use Rattle.inf_program.specs.SideTurns.{silent_run}
 
 -- A program from a state on that ends as `n` turns do, but for the rest of a piece that is broken off there.
@@ -33,3 +34,11 @@ abbrev pub SourcesHavePrograms : Type 0
 SourcesHavePrograms =
     (sources : Sources) (o : Choices) (name source : List ℕ) → sources name ≡ Some source
     → (final : State) × IsProgram (limits_of o.settings) sources o final (start sources o name)
+
+-- The reading of the text of a supplied routine, behind any state. Each turn of it is regular, and it is a program. So the supplied routines
+-- behind any number are read up to some end.
+pub record TextsArePrograms (limits : Limits) : Type 0 where
+  pub regular : (sources : Sources) (o : Choices) (number n : ℕ) (s : State) → AreRegular limits sources o n (text_start o number s)
+  pub programs : (sources : Sources) (o : Choices) (number : ℕ) (s : State)
+      → (final : State) × IsProgram limits sources o final (text_start o number s)
+  pub all : (sources : Sources) (o : Choices) (number : ℕ) (s : State) → (end : State) × AreSupplied limits sources o end number s

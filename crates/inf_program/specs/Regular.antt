@@ -2,16 +2,15 @@
 use Rattle.std.specs.Prelude.{◌≡◌, ◌||◌, ℕ, zero, suc, false}
 use Rattle.inf_settings.specs.Bounds.{Limits}
 use Rattle.inf_devices.specs.Files.{Sources}
-use Rattle.inf_unit.specs.Directives.{Nothing}
 use Rattle.inf_reader.specs.Handing.{is_between}
 use Rattle.inf_reader.specs.Reading.{is_mode_ended}
 use Rattle.inf_session.specs.Choices.{Choices}
-use Rattle.inf_program.specs.definition.States.{State, has_ended}
+use Rattle.inf_program.specs.definition.States.{AsksNothing, State, has_ended}
 use Rattle.inf_program.specs.SideTurns.{silent_turn, stepped}
 
 pub record IsRegular (limits : Limits) (o : Choices) (s : State) : Type 0 where
   pub asks_at_ends : (is_between (stepped limits o s).reading || is_mode_ended (stepped limits o s).reading.mode) ≡ false
-      → (stepped limits o s).work.asked ≡ Nothing
+      → AsksNothing (stepped limits o s)
 
 -- each of `n` turns is regular, up to the end of reading
 abbrev pub AreRegular : Limits → Sources → Choices → ℕ → State → Type 0

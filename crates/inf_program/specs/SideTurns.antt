@@ -2,12 +2,11 @@
 use Rattle.std.specs.Prelude.{◌≡◌, ℕ, zero, suc, List, false, if◌then◌else◌}
 use Rattle.inf_settings.specs.Bounds.{Limits}
 use Rattle.inf_devices.specs.Files.{Sources}
-use Rattle.inf_unit.specs.Directives.{Nothing}
 use Rattle.inf_reader.specs.Handing.{is_between, skips}
 use Rattle.inf_reader.specs.Reading.{Reading, ReaderState, is_mode_ended}
 use Rattle.inf_session.specs.Choices.{Choices}
 use Rattle.inf_program.specs.definition.NextToken.{Position, behind_at, position, steps_at}
-use Rattle.inf_program.specs.definition.States.{State, context_of, followed, has_ended, is_resting}
+use Rattle.inf_program.specs.definition.States.{AsksNothing, State, context_of, followed, has_ended, is_resting}
 use Rattle.inf_program.specs.definition.Steps.{Step}
 use Rattle.inf_program.specs.Turns.{steps_by}
 
@@ -47,5 +46,5 @@ silent_turned limits sources o (suc n) s = silent_turned limits sources o n (sil
 pub record IsQuiet (s : State) : Type 0 where
   pub is_not_over : s.work.report.counts.is_over ≡ false
   pub has_more : is_mode_ended s.reading.mode ≡ false
-  pub asks_nothing : s.work.asked ≡ Nothing
+  pub asks_nothing : AsksNothing s
   pub is_inside : is_resting s ≡ false

@@ -2,7 +2,7 @@
 ghost use Rattle.inf_settings.specs.Bounds.{Limits};
 ghost use Rattle.inf_program.specs.BySides.{TurnsGoBySides};
 ghost use Rattle.inf_program.specs.Programs.{ProgramsEndInOneWay, ProgramsHaveTheirOutcome, TurnsDoPrograms};
-ghost use Rattle.inf_program.specs.Readings.{RegularReadingsArePrograms, SourcesAreRegular, SourcesHavePrograms};
+ghost use Rattle.inf_program.specs.Readings.{RegularReadingsArePrograms, SourcesAreRegular, SourcesHavePrograms, TextsArePrograms};
 ghost use Rattle.inf_program.specs.Turns.{TurnsTakeTokens};
 ghost use Rattle.inf_program.specs.Writing.{LinesAreWrittenAtAnyTime};
 ghost use Rattle.inf_program.specs.Writings.{OutcomesAreWritten};
@@ -36,7 +36,7 @@ pub fn programs_end_in_one_way()
     ensures { (limits : Limits) → ProgramsEndInOneWay limits }
 {}
 
-/// Shows that the ending of the program of a main source is the outcome of the source, as turns give it.
+/// Shows that the ending behind the program of a main source and the supplied routines is the outcome of the source, as turns give it.
 pub fn programs_have_their_outcome()
     ensures { ProgramsHaveTheirOutcome }
 {}
@@ -54,6 +54,12 @@ pub fn sources_are_regular()
 /// Shows that a main source has a program.
 pub fn sources_have_programs()
     ensures { SourcesHavePrograms }
+{}
+
+/// Shows that the text of each supplied routine is a program, behind any state, and that its turns by sides are regular; so the supplied
+/// routines are read up to some end.
+pub fn texts_are_programs()
+    ensures { (limits : Limits) → TextsArePrograms limits }
 {}
 
 /// Shows that the outcome that the program of a source gives is the one that turns give; and that for all sources, choices, serial

@@ -9,5 +9,6 @@ pub use inf_compile::{Fault, NameHashing, Status};
 pub use laws::{
     lines_are_written_at_any_time, outcomes_are_written, programs_end_in_one_way,
     programs_have_their_outcome, regular_readings_are_programs, sources_are_regular,
-    sources_have_programs, turns_do_programs, turns_go_by_sides, turns_take_tokens,
+    sources_have_programs, texts_are_programs, turns_do_programs, turns_go_by_sides,
+    turns_take_tokens,
 };

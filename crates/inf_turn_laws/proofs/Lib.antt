@@ -2,5 +2,9 @@ pub mod Derived
 pub mod Ahead
 pub mod Acted
 pub mod Routines
+pub mod Marks
+pub mod Merged
+pub mod Directives
+pub mod RoutinePieces
 pub mod MarkedLocals
 pub mod LocalsNamed

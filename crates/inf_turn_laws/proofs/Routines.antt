@@ -51,7 +51,7 @@ unfolding grammar known
 bracket_fits = refl
 
 -- tokens behind a first one, by the way in which that is taken
-abbrev taken_by : Limits → Context → Seen → List Seen → Taken Action → Compilation → Compilation
+abbrev pub taken_by : Limits → Context → Seen → List Seen → Taken Action → Compilation → Compilation
 taken_by limits context s seen n w =
     all_taken limits context seen n.left
     (directed limits s.directive (closings n.left)

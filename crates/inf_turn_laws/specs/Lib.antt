@@ -1,3 +1,5 @@
 pub mod Acted
 pub mod Routines
+pub mod Directives
+pub mod RoutinePieces
 pub mod UnusedLocals

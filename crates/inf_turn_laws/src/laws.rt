@@ -1,6 +1,8 @@
 //! Laws of the turns through a piece.
 ghost use Rattle.inf_settings.specs.Bounds.{Limits};
 ghost use Rattle.inf_turn_laws.specs.Acted.{PiecesDoTheirActions};
+ghost use Rattle.inf_turn_laws.specs.Directives.{PiecesDoTheirDirectives};
+ghost use Rattle.inf_turn_laws.specs.RoutinePieces.{PiecesDoTheirRoutines};
 ghost use Rattle.inf_turn_laws.specs.Routines.{TurnsReadRoutinesWhole};
 ghost use Rattle.inf_turn_laws.specs.UnusedLocals.{HeadersMakeNew, UnusedAreWarned};
 
@@ -15,6 +17,18 @@ pub fn pieces_do_their_actions()
 /// header, its statements as they are nested, and its end.
 pub fn turns_read_routines_whole()
     ensures { (limits : Limits) → TurnsReadRoutinesWhole limits }
+{}
+
+/// Shows that a whole piece of a program, whose tokens begin as a directive that is one unit, has the effect of this directive as a tree
+/// (Designer's Manual, fourth edition, section 1.4).
+pub fn pieces_do_their_directives()
+    ensures { (limits : Limits) → PiecesDoTheirDirectives limits }
+{}
+
+/// Shows that a whole piece of a program that begins with a bracket has the effect of a routine as a tree: of its header, of its statements
+/// and of its end (Designer's Manual, fourth edition, section 1.3).
+pub fn pieces_do_their_routines()
+    ensures { (limits : Limits) → PiecesDoTheirRoutines limits }
 {}
 
 /// Shows that the warnings at the end of a routine are about the locals that no name in a unit of it is, in order, whatever happens between

@@ -5,7 +5,6 @@ use Rattle.inf_settings.specs.Bounds.{Limits}
 use Rattle.inf_machine.specs.declared.symbols.Symbol.{Symbol}
 use Rattle.inf_machine.specs.declared.symbols.Symbol.TheVariants.{Rule}
 use Rattle.inf_syntax.specs.declared.actions.Action.{Action}
-use Rattle.inf_unit.specs.Directives.{Nothing}
 use Rattle.inf_unit.specs.Messages.{location}
 use Rattle.inf_unit.specs.Tokens.{SourceToken, atom_of, is_end}
 use Rattle.inf_compilation.specs.Actions.{Compilation, piece_begun as work_begun}
@@ -20,7 +19,7 @@ use Rattle.inf_laws.specs.BadTokens.{skip_behind}
 use Rattle.inf_laws.specs.KeptTokens.{Given, IsBad, Kept, Unfit, token_in}
 use Rattle.inf_statement_laws.specs.Happenings.{Between}
 use Rattle.inf_statement_laws.specs.Laid.{passed}
-use Rattle.inf_program.specs.definition.States.{State, context_of}
+use Rattle.inf_program.specs.definition.States.{AsksNothing, State, context_of}
 use Rattle.inf_program.specs.definition.Steps.{AllKept}
 use Rattle.inf_program.specs.definition.Steps.{Ends, Passes, Reads, Step}
 use Rattle.inf_program.specs.definition.NextToken.{Position, at_front, behind_at, passed_over, steps_at, within}
@@ -73,7 +72,7 @@ all_skipped limits o (suc n) k = all_skipped limits o n (skipped_on limits o k)
 pub record SkipsOn (limits : Limits) (o : Choices) (k : SkipState) : Type 0 where
   pub is_going : k.state.is_over ≡ false
   pub is_not_over : k.state.work.report.counts.is_over ≡ false
-  pub asks_nothing : k.state.work.asked ≡ Nothing
+  pub asks_nothing : AsksNothing k.state
   pub skips_more : skips k.skip ≡ true
   pub are_skipped : AllSkipped (steps_at limits o passed_over k.state) k.skip
 

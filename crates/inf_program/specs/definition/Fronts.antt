@@ -9,7 +9,6 @@ use Rattle.inf_machine.specs.declared.symbols.Symbol.TheVariants.{Rule}
 use Rattle.inf_syntax.specs.declared.actions.Action.{Action}
 use Rattle.inf_grammar.specs.Language.{grammar}
 use Rattle.inf_grammar.specs.Routines.{closings}
-use Rattle.inf_unit.specs.Directives.{Nothing}
 use Rattle.inf_unit.specs.Tokens.{SourceToken, atom_of, is_end}
 use Rattle.inf_compilation.specs.Actions.{Compilation, piece_begun as work_begun, took as work_took}
 use Rattle.inf_compilation.specs.Context.{Context}
@@ -21,7 +20,7 @@ use Rattle.inf_session.specs.Choices.{Choices}
 use Rattle.inf_laws.specs.KeptTokens.{Kept, Unfit}
 use Rattle.inf_statement_laws.specs.Happenings.{Between}
 use Rattle.inf_statement_laws.specs.Laid.{passed}
-use Rattle.inf_program.specs.definition.States.{State, context_of}
+use Rattle.inf_program.specs.definition.States.{AsksNothing, State, context_of}
 use Rattle.inf_program.specs.definition.Steps.{AllKept}
 use Rattle.inf_program.specs.definition.Steps.{Ends, Passes, Reads, Step}
 use Rattle.inf_program.specs.definition.NextToken.{Position, at_front, behind_at, steps_at, within}
@@ -153,7 +152,7 @@ walked limits o (suc n) m = walked limits o n (moved limits o m)
 pub record IsOpen (left : List (Symbol Action)) (m : PieceState) : Type 0 where
   pub is_going : m.state.is_over ≡ false
   pub is_not_over : m.state.work.report.counts.is_over ≡ false
-  pub asks_nothing : m.state.work.asked ≡ Nothing
+  pub asks_nothing : AsksNothing m.state
   pub has_more : is_whole m.course.events left ≡ false
 
 -- The piece goes on: what is handed on for the next token of the file is kept.

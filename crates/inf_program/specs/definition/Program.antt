@@ -1,6 +1,6 @@
--- A program: all that comes in its files. From a place between two pieces a token comes that conditionals take, a piece, a bad piece, or
--- the end of the file. Then a directive may ask for a file, which is read from its first piece on, or that reading ends; and behind the
--- end of an included file reading goes on in the file that includes it.
+-- A program: all that comes in its files, or in the text of a supplied routine. From a place between two pieces a token comes that
+-- conditionals take, a piece, a bad piece, or the end of the file. Then a directive may ask for a file, which is read from its first piece
+-- on, or that reading ends; and behind the end of an included file reading goes on in the file that includes it.
 use Rattle.std.specs.Prelude.{◌≡◌, ℕ, List, [], ◌∷◌, true, false}
 use Rattle.inf_settings.specs.Bounds.{Limits}
 use Rattle.inf_devices.specs.Files.{Sources}

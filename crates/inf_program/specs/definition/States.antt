@@ -1,7 +1,8 @@
 -- The state of a reading between two tokens: the files that are open, the sides of conditionals, and all that was compiled so far; and what
 -- happens behind a token. A directive may ask for a file, or that reading ends; where the end of an included file was read, reading goes on
--- in the file that includes it; and behind a directive the sides are over that were opened inside of it.
-use Rattle.std.specs.Prelude.{ℕ, List, [], ◌∷◌, map, Bool, ◌&&◌, ◌||◌, true, false, if◌then◌else◌}
+-- in the file that includes it; and behind a directive the sides are over that were opened inside of it. In the text of a routine that the
+-- compiler supplies, only the last of these happens.
+use Rattle.std.specs.Prelude.{◌≡◌, ℕ, List, [], ◌∷◌, map, Bool, ◌&&◌, ◌||◌, true, false, if◌then◌else◌}
 use Rattle.inf_scanner.specs.declared.tokens.Place.{Place}
 use Rattle.inf_devices.specs.Files.{Sources}
 use Rattle.inf_letters.specs.Letters.{set_of}
@@ -26,7 +27,7 @@ use Rattle.inf_session.specs.Session.{begun_with}
 
 -- The files that are open, each with the bytes that are still to come of it; the sides of conditionals in the innermost; the number of
 -- names that were declared before the directive at hand, and the most tokens that a condition had; whether tokens are read, or passed
--- over; all that was compiled, with the messages; and whether a directive ended reading.
+-- over; all that was compiled, with the messages; whether a directive ended reading; and whether the text of a supplied routine is read.
 pub record State : Type 0 where
   pub nesting : Nesting
   pub sides : Sides
@@ -35,6 +36,7 @@ pub record State : Type 0 where
   pub reading : Reading
   pub work : Compilation
   pub is_over : Bool
+  pub is_supplied : Bool
 
 -- the state before the first token of the main source of a name: behind its head
 abbrev pub start : Sources → Choices → List ℕ → State
@@ -49,6 +51,7 @@ start sources o name =
       reading = s.reading;
       work = s.work;
       is_over = false;
+      is_supplied = false;
     }
 
 -- what is compiled depends on the names of the files, the character set of the innermost, and the settings
@@ -126,11 +129,19 @@ answered End sources o s = record s { is_over = true }
 answered (Characters set) sources o s = record s { nesting = nesting_with set s.nesting }
 answered Nothing sources o s = s
 
--- the state behind a token: behind a fatal message nothing is done, and at the end of a file nothing is asked
+-- the state behind a token of a file: behind a fatal message nothing is done, and at the end of a file nothing is asked
 abbrev pub carried_out : Sources → Choices → State → State
 carried_out sources o s =
     if s.work.report.counts.is_over then s else
     if is_mode_ended s.reading.mode then left s else answered s.work.asked sources o (asked_nothing s)
+
+-- the state behind a token, where in the text of a supplied routine nothing is done
+abbrev pub handled : Sources → Choices → State → State
+handled sources o s = if s.is_supplied then s else carried_out sources o s
+
+-- No directive asks for anything that is done.
+abbrev pub AsksNothing : State → Type 0
+AsksNothing s = s.is_supplied ≡ false → s.work.asked ≡ Nothing
 
 -- The end of a directive
 
@@ -151,4 +162,4 @@ rested s = if has_ended s then s else if is_resting s then piece_closed s else s
 
 -- the state where reading goes on behind a token
 abbrev pub followed : Sources → Choices → State → State
-followed sources o s = rested (carried_out sources o s)
+followed sources o s = rested (handled sources o s)

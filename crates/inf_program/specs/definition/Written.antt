@@ -1,35 +1,28 @@
--- The outcome of a source, as its program gives it: the ending of the program, where its messages are written and the supplied routines are
--- read behind it.
-use Rattle.std.specs.Prelude.{◌≡◌, ℕ, List, [], Option, Some, None}
-use Rattle.inf_settings.specs.Bounds.{limits_of}
+-- The outcome of a source, as its program gives it: behind the program the supplied routines are read, and then the compilation ends.
+use Rattle.std.specs.Prelude.{◌≡◌, ℕ, List, ◌++◌, Option, Some, None}
+use Rattle.inf_settings.specs.Bounds.{Limits, limits_of}
 use Rattle.inf_devices.specs.Files.{Sources}
-use Rattle.inf_conditionals.specs.Open.{no_conditions}
+use Rattle.inf_unit.specs.Messages.{flushed}
 use Rattle.inf_session.specs.Choices.{Choices}
-use Rattle.inf_session.specs.Ending.{Outcome, missing}
-use Rattle.inf_session.specs.Session.{State as TurnState, told_out}
-use Rattle.inf_compile.specs.Outcome.{ending_of}
+use Rattle.inf_session.specs.Ending.{Outcome, finished, missing}
 use Rattle.inf_program.specs.definition.Program.{IsProgram}
 use Rattle.inf_program.specs.definition.States.{State, start}
+use Rattle.inf_program.specs.definition.Supplied.{AreSupplied}
 
--- the state of turns in which the supplied routines are read behind the program: no conditional is open, and no message is written yet
-abbrev pub turned_to : State → TurnState
-turned_to s = record {
-  nesting = s.nesting;
-  conditions = record no_conditions { most_tokens = s.most_tokens };
-  reading = s.reading;
-  work = s.work;
-  told = [];
-  is_over = s.is_over;
-  quoted = 0;
-  passed = 0;
-}
+-- The ending behind all that was read: the messages of the reading, and then those of the ending, with the story and the status.
+abbrev pub ending : Limits → List ℕ → State → Outcome
+ending limits serial s =
+    let e = finished limits serial s.nesting.names (record s.work { report = flushed s.work.report }) in
+    record e { messages = s.work.report.lines ++ e.messages }
 
 -- The ending of a program of a main source that is there. Where a setting is too small for any story, reading ends before the first token,
 -- and the program has nothing.
 pub record IsOutcomeOfProgram (sources : Sources) (o : Choices) (serial name : List ℕ) (e : Outcome) : Type 0 where
   pub final : State
+  pub end : State
   pub is_program : IsProgram (limits_of o.settings) sources o final (start sources o name)
-  pub is_ending : e ≡ ending_of (limits_of o.settings) o serial (told_out (turned_to final))
+  pub are_supplied : AreSupplied (limits_of o.settings) sources o end 0 final
+  pub is_ending : e ≡ ending (limits_of o.settings) serial end
 
 abbrev pub IsWrittenOf : Option (List ℕ) → Sources → Choices → List ℕ → List ℕ → Outcome → Type 0
 IsWrittenOf None sources o serial name e = e ≡ missing name
