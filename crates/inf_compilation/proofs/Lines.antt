@@ -13,7 +13,7 @@ line_of w = line_opcode w.unit
 
 still_known : (p : Part) (opcode : Option Opcode) (w after : Compilation) → line_of after ≡ line_of w
     → KnowsOpcode p opcode w → KnowsOpcode p opcode after
-still_known p opcode w after same known = λ is_line. known is_line ∙ sym same
+still_known p opcode w after same known = λ line. known line ∙ sym same
 
 pub known_prepared : (limits : Limits) (p : Part) (opcode : Option Opcode) (w after : Compilation) → after ≡ case_prepared limits p w
     → KnowsOpcode p opcode w → KnowsOpcode p opcode after
@@ -23,7 +23,7 @@ known_prepared limits part.Start opcode w after e known = still_known part.Start
 known_prepared limits part.Step opcode w after e known = still_known part.Step opcode w after (ap line_of e) known
 known_prepared limits part.Loop opcode w after e known = still_known part.Loop opcode w after (ap line_of e) known
 known_prepared limits part.Switched opcode w after e known = still_known part.Switched opcode w after (ap line_of e) known
-known_prepared limits part.Case opcode w after e known = λ is_line. cc
+known_prepared limits part.Case opcode w after e known = λ wrong. absurd (cc wrong)
 
 pub known_begun : (limits : Limits) (p : Part) (opcode : Option Opcode) (w after : Compilation) → after ≡ named (part_begun limits p w)
     → KnowsOpcode p opcode w → KnowsOpcode p opcode after
@@ -33,4 +33,4 @@ known_begun limits part.Start opcode w after e known = still_known part.Start op
 known_begun limits part.Step opcode w after e known = still_known part.Step opcode w after (ap line_of e) known
 known_begun limits part.Loop opcode w after e known = still_known part.Loop opcode w after (ap line_of e) known
 known_begun limits part.Switched opcode w after e known = still_known part.Switched opcode w after (ap line_of e) known
-known_begun limits part.Case opcode w after e known = λ is_line. cc
+known_begun limits part.Case opcode w after e known = λ wrong. absurd (cc wrong)

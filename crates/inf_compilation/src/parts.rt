@@ -492,7 +492,7 @@ impl<B: Bounds> Compilation<B> {
     }
 
     /// Ends `part`, a unit of a routine, before a token at `place`. In a routine that is passed over nothing has an effect.
-    #[tactic(auto, using(crate::proofs::Lines::known_prepared, crate::proofs::Lines::known_begun))]
+    #[tactic(auto, using(crate::proofs::Lines::known_prepared))]
     pub fn end_part(
         &mut self,
         context: &Context<'_>,

@@ -11,7 +11,7 @@ use Rattle.inf_statements.specs.Uses.{LeavesStay}
 use Rattle.inf_compilation.specs.Actions.{Compilation, finding_at, operands_of, settled_of, trees_at}
 use Rattle.inf_compilation.specs.Context.{Context}
 use Rattle.inf_declarations.specs.Arrays.{added, added_finding, adding, bare_leaf, bare_text, entry_added, entry_added_by}
-use Rattle.inf_declarations.specs.Arrays.{entry_finding, looked_value, own_finding, value_added}
+use Rattle.inf_declarations.specs.Arrays.{entry_finding, looked_value, one_more, own_finding, value_added}
 use Rattle.inf_declarations.specs.Declarations.{value_in, value_of}
 
 -- the value of the unit's expression, and the output when its names were used
@@ -36,6 +36,13 @@ pub several_found : (limits : Limits) (context : Context) (alone : Bool) (w : Co
 several_found limits context alone w several =
     sym (ap (λ (text : Option ℕ). least_of_both (finding_at 0 wanted.Constant w) (own_finding limits context text alone w))
     (no_text alone w several))
+
+-- Its finding does not depend on whether there were entries before.
+pub more_found : (limits : Limits) (context : Context) (alone : Bool) (w : Compilation)
+    → (length w.unit.gathering.symbols == 1) ≡ false
+    → entry_finding limits context alone (one_more w) ≡ entry_finding limits context alone w
+more_found limits context alone w several =
+    sym (several_found limits context alone (one_more w) several) ∙ several_found limits context alone w several
 
 added_stays : (limits : Limits) (context : Context) (alone : Bool) (w : Compilation)
     → LeavesStay w.locals w.output w.unit.tokens w.unit.gathering.leaves (operands_of w)
