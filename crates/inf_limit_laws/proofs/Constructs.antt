@@ -1,0 +1,360 @@
+-- The code of statements that hold others, and the names, texts and words that a unit uses, keep an output counted.
+use Rattle.std.proofs.Common.{ℕ, zero, suc, List, [], ◌∷◌, Bool, true, false, Option, Some, None}
+use Rattle.std.specs.Prelude.{if◌then◌else◌, unwrap_or}
+use Rattle.inf_settings.specs.Bounds.{Limits}
+use Rattle.inf_characters.specs.declared.characters.CharSet.{CharSet}
+use Rattle.inf_characters.specs.declared.texts.TextItem.{TextItem}
+use Rattle.inf_text.specs.Packing.{packed}
+use Rattle.inf_dictionary.specs.declared.uses.WordUse.TheVariants as word_use
+use Rattle.inf_scanner.specs.declared.tokens.Place.{Place}
+use Rattle.inf_gathering.specs.declared.gathering.Leaf.{Leaf}
+use Rattle.inf_gathering.specs.declared.gathering.Leaf.TheVariants as leaf
+use Rattle.inf_opcode.specs.declared.instructions.Label.{Label}
+use Rattle.inf_opcode.specs.declared.opcodes.Opcode.TheVariants as opcode
+use Rattle.inf_expressions.specs.Questions.{children_of, range_of}
+use Rattle.inf_expressions.specs.Rooted.{Rooted}
+use Rattle.inf_expressions.specs.Trees.{Tree}
+use Rattle.inf_expressions.specs.declared.operators.Operand.TheVariants as operand
+use Rattle.inf_names.specs.Locals.{Local, number_of}
+use Rattle.inf_names.specs.Spellings.{Name}
+use Rattle.inf_names.specs.Symbols.{declare_fault}
+use Rattle.inf_names.specs.declared.symbols.DeclareFault.{DeclareFault}
+use Rattle.inf_output.specs.Actions.{action_by, action_of, appeared, fake_number, faked, faked_by, first_seen, key_of, numbered_as}
+use Rattle.inf_output.specs.Actions.{numbered_by, one_fake, routine_name, routine_referred, seen_by}
+use Rattle.inf_output.specs.Output.{Out, behind, items_of, laid_all, marked}
+use Rattle.inf_output.specs.Output.{to, ◌▸◌}
+use Rattle.inf_output.specs.Texts.{used_in}
+use Rattle.inf_output.specs.declared.items.Item.{Item}
+use Rattle.inf_output.specs.declared.operands.Simple.{Simple}
+use Rattle.inf_output.specs.declared.operands.Simple.TheVariants.{Known, Variable}
+use Rattle.inf_settings.specs.Bounds.{unbounded}
+use Rattle.inf_settings.specs.declared.setting.Setting.TheVariants as setting
+use Rattle.inf_templates.specs.Meaning.{Meaning, meaning, part}
+use Rattle.inf_unit.specs.Tokens.{SourceToken}
+use Rattle.inf_unit.specs.Units.{bytes_at, name_at}
+use Rattle.inf_verbs.specs.Routines.{action_fault}
+use Rattle.inf_verbs.specs.declared.routines.ActionFault.{ActionFault}
+use Rattle.inf_constructs.specs.Cases.{case_code, case_tested, group_tested, grouped, is_empty, is_open, laid_before, operand_in, range_tested}
+use Rattle.inf_constructs.specs.Cases.{SWITCHED, beside, value_grouped, value_laid, within}
+use Rattle.inf_constructs.specs.Constructs.{Laying, all_ended, begun, between, case_closed, case_entered, cases_begun, changed, closed, ended}
+use Rattle.inf_constructs.specs.Constructs.{ending, entered, entered_by, front, joint, looped, looped_by, looped_on, looped_over, opened}
+use Rattle.inf_constructs.specs.Constructs.{over_all, over_children, tested_over, with_labels}
+use Rattle.inf_constructs.specs.declared.constructs.Case.{Case}
+use Rattle.inf_constructs.specs.declared.constructs.Case.TheVariants as case
+use Rattle.inf_constructs.specs.declared.constructs.Construct.{Construct}
+use Rattle.inf_constructs.specs.declared.constructs.Kind.{Kind}
+use Rattle.inf_constructs.specs.declared.constructs.Kind.TheVariants as kind
+use Rattle.inf_constructs.specs.declared.constructs.Over.{Over}
+use Rattle.inf_constructs.specs.declared.constructs.Over.TheVariants as over
+use Rattle.inf_statements.specs.Operands.{Settled, is_stack, leaf_added, one_added, settled, settled_action, settled_alone, settled_by}
+use Rattle.inf_statements.specs.Operands.{settled_leaf, settled_name, settled_text, with_settled}
+use Rattle.inf_statements.specs.Printing.{text_at}
+use Rattle.inf_statements.specs.Statements.{text_packed}
+use Rattle.inf_limit_laws.specs.Rooms.{Before, Counted, Keeps, Sound}
+use Rattle.inf_limit_laws.proofs.Outputs.{declare_keeps, items_keep, refer_keeps, table_keeps, text_keeps, word_keeps}
+use Rattle.inf_limit_laws.proofs.Statements.{Gives, gives_code}
+use Rattle.inf_limit_laws.proofs.Templates.{MeaningSound, meaning_sound, sound_if, sound_instruction, sound_jump, sound_label, sound_mark}
+use Rattle.inf_limit_laws.proofs.Templates.{sound_naming, sound_nothing, sound_then, worked_sound}
+
+-- Cases
+
+group_sound : {was : Before} (limits : Limits) (group : List Simple) (sense : Bool) (label : Label) →
+    Sound limits was (group_tested limits group sense label)
+unfolding group_tested
+group_sound {was} limits [] sense label = sound_nothing
+group_sound {was} limits (a ∷ others) sense label = sound_instruction opcode.Je _ None _
+
+beside_sound : {was : Before} (limits : Limits) (a b : Simple) (next : Label) → Sound limits was (beside limits a b next)
+beside_sound {was} limits a b next =
+    sound_then (sound_instruction opcode.Jl (Variable SWITCHED ∷ a ∷ []) None (to true next))
+    (sound_instruction opcode.Jg (Variable SWITCHED ∷ b ∷ []) None (to true next))
+
+within_sound : {was : Before} (limits : Limits) (a b : Simple) (here : Label) → Sound limits was (within limits a b here)
+within_sound {was} limits a b here =
+    sound_label _ (λ beyond. sound_then (sound_instruction opcode.Jl (Variable SWITCHED ∷ a ∷ []) None (to true beyond))
+    (sound_then (sound_instruction opcode.Jg (Variable SWITCHED ∷ b ∷ []) None (to false here)) (sound_mark beyond)))
+
+range_sound : {was : Before} (limits : Limits) (is_last : Bool) (a b : Simple) (here next : Label) →
+    Sound limits was (range_tested limits is_last a b here next)
+unfolding range_tested
+range_sound {was} limits is_last a b here next = sound_if is_last (beside_sound limits a b next) (within_sound limits a b here)
+
+before_sound : {was : Before} (limits : Limits) (range : Option (Tree × Tree)) (is_last : Bool) (group : List Simple) (here next : Label)
+    → Sound limits was (laid_before limits range is_last group here next)
+before_sound {was} limits (Some ends) is_last group here next =
+    sound_then (group_sound limits group true here)
+    (range_sound limits is_last (operand_in limits ends.0) (operand_in limits ends.1) here next)
+before_sound {was} limits None is_last group here next = sound_if (is_open group) sound_nothing (group_sound limits group true here)
+
+value_sound : {was : Before} (limits : Limits) (v : Tree) (is_last : Bool) (group : List Simple) (here next : Label)
+    → Sound limits was (value_laid limits v is_last group here next)
+unfolding value_laid
+value_sound {was} limits v is_last group here next = before_sound limits (range_of v) is_last group here next
+
+grouped_sound : {was : Before} (limits : Limits) (group : List Simple) (values : List Tree) (here next : Label)
+    → Sound limits was (grouped limits group values here next)
+grouped_sound {was} limits group [] here next = group_sound limits group false next
+grouped_sound {was} limits group (v ∷ values) here next =
+    sound_then (value_sound limits v (is_empty values) group here next)
+    (grouped_sound limits (value_grouped limits v group) values here next)
+
+tests_sound : {was : Before} (limits : Limits) (values : List Tree) (next : Label) → Sound limits was (case_tested limits values next)
+tests_sound {was} limits values next =
+    sound_label (λ here. grouped limits [] values here next ▸ marked limits here)
+    (λ here. sound_then (grouped_sound limits [] values here next) (sound_mark here))
+
+pub case_sound : {was : Before} (limits : Limits) (next : Option Label) (values : List Tree) →
+    Sound limits was (case_code limits next values)
+unfolding case_code
+case_sound {was} limits None values = sound_nothing
+case_sound {was} limits (Some next) values = tests_sound limits values next
+
+-- Statements that hold others
+
+front_sound : {was : Before} (limits : Limits) (k : Kind) (c : Construct) → Sound limits was (front limits k c)
+front_sound {was} limits kind.While c = sound_mark c.next
+front_sound {was} limits kind.Do c = sound_mark c.top
+front_sound {was} limits kind.If c = sound_nothing
+front_sound {was} limits kind.Else c = sound_nothing
+front_sound {was} limits kind.For c = sound_nothing
+front_sound {was} limits (kind.Objects how v) c = sound_nothing
+front_sound {was} limits (kind.Switch old had_default) c = sound_nothing
+front_sound {was} limits (kind.Cases old had_default) c = sound_nothing
+
+opened_gives : {was : Before} (limits : Limits) (k : Kind) → Gives limits was (opened limits k)
+unfolding opened
+opened_gives {was} limits k = record { keeps = λ o h. let c = with_labels k o in (front_sound limits k c.0).keeps c.1 h }
+
+joint_sound : {was : Before} (limits : Limits) (c : Construct) (k : Kind) → Sound limits was (joint limits c k)
+joint_sound {was} limits c kind.If = sound_then (sound_jump c.end) (sound_mark c.next)
+joint_sound {was} limits c kind.Do = sound_mark c.next
+joint_sound {was} limits c kind.For = sound_mark c.top
+joint_sound {was} limits c (kind.Objects over.Nothing v) = sound_mark c.top
+joint_sound {was} limits c (kind.Objects over.Children v) = sound_nothing
+joint_sound {was} limits c (kind.Objects over.All v) = sound_nothing
+joint_sound {was} limits c kind.Else = sound_nothing
+joint_sound {was} limits c kind.While = sound_nothing
+joint_sound {was} limits c (kind.Switch old had_default) = sound_nothing
+joint_sound {was} limits c (kind.Cases old had_default) = sound_nothing
+
+pub between_gives : {was : Before} (limits : Limits) (c : Construct) → Gives limits was (between limits c)
+unfolding between
+between_gives {was} limits c = record { keeps = λ o h. (joint_sound limits c c.kind).keeps o h }
+
+children_sound : {was : Before} (limits : Limits) (e : Tree) (v : ℕ) (c : Construct) → Sound limits was (over_children limits e v c)
+children_sound {was} limits e v c =
+    sound_then (worked_sound limits opcode.GetChild (part (meaning limits e) ∷ []) (Some v) (to false c.end)
+    ((meaning_sound limits e).value, tt))
+    (sound_mark c.top)
+
+over_sound : {was : Before} (limits : Limits) (x : Option Simple) (e : Meaning) (next : Label) → MeaningSound limits was e →
+    Sound limits was (tested_over x e next)
+over_sound {was} limits (Some operand) e next h = sound_nothing
+over_sound {was} limits None e next h = h.branch false next
+
+all_sound : {was : Before} (limits : Limits) (e : Tree) (v : ℕ) (c : Construct) → Sound limits was (over_all limits (meaning limits e) v c)
+all_sound {was} limits e v c =
+    sound_then (sound_naming opcode.Store v (Known 5 ∷ []) None None) (sound_then (sound_mark c.top)
+    (over_sound limits (meaning limits e).operand (meaning limits e) c.next (meaning_sound limits e)))
+
+looped_by_gives : {was : Before} (limits : Limits) (parent : Option Tree) (e : Tree) (v : ℕ) (c : Construct) →
+    Gives limits was (looped_by limits parent e v c)
+looped_by_gives {was} limits (Some parent) e v c = gives_code _ (children_sound limits parent v c)
+looped_by_gives {was} limits None e v c = gives_code _ (all_sound limits e v c)
+
+looped_gives : {was : Before} (limits : Limits) (r : Rooted) (c : Construct) → Gives limits was (looped limits r c)
+unfolding looped
+looped_gives {was} limits r c = looped_by_gives limits (children_of r.tree) r.tree (unwrap_or r.origin.lead.variable 0) c
+
+on_sound : {was : Before} (limits : Limits) (how : Over) (v : ℕ) (top : Label) → Sound limits was (looped_on limits how v top)
+on_sound {was} limits over.Nothing v top = sound_nothing
+on_sound {was} limits over.Children v top = sound_instruction opcode.GetSibling (Variable v ∷ []) (Some v) _
+on_sound {was} limits over.All v top = sound_naming opcode.IncChk v _ None _
+
+case_closed_sound : {was : Before} (limits : Limits) (c : Case) (end : Label) → Sound limits was (case_closed limits c end)
+case_closed_sound {was} limits case.Nothing end = sound_nothing
+case_closed_sound {was} limits (case.Values next) end = sound_then (sound_jump end) (sound_mark next)
+case_closed_sound {was} limits case.Default end = sound_jump end
+
+step_sound : {was : Before} (limits : Limits) (items : List Item) → Sound limits was (laid_all limits items)
+step_sound limits items = record { keeps = items_keep limits items }
+
+ending_sound : {was : Before} (limits : Limits) (c : Construct) (k : Kind) → Sound limits was (ending limits c k)
+ending_sound {was} limits c kind.If = sound_mark c.next
+ending_sound {was} limits c kind.Else = sound_mark c.end
+ending_sound {was} limits c kind.While = sound_then (sound_jump c.next) (sound_mark c.end)
+ending_sound {was} limits c kind.Do = sound_mark c.end
+ending_sound {was} limits c kind.For =
+    sound_then (sound_mark c.next) (sound_then (step_sound limits (items_of c.step))
+    (sound_then (sound_jump c.top) (sound_mark c.end)))
+ending_sound {was} limits c (kind.Objects how v) =
+    sound_then (sound_mark c.next) (sound_then (on_sound limits how v c.top) (sound_mark c.end))
+ending_sound {was} limits c (kind.Switch old had_default) = sound_then (case_closed_sound limits old c.end) (sound_mark c.end)
+ending_sound {was} limits c (kind.Cases old had_default) = sound_then (case_closed_sound limits old c.end) (sound_mark c.end)
+
+closed_sound : {was : Before} (limits : Limits) (c : Construct) → Sound limits was (closed limits c)
+unfolding closed
+closed_sound {was} limits c = ending_sound limits c c.kind
+
+case_entered_gives : {was : Before} (limits : Limits) (are_own is_default : Bool) (old : Case) (had_default : Bool) (c : Construct)
+    → Gives limits was (case_entered limits are_own is_default old had_default c)
+case_entered_gives {was} limits are_own true old had_default c = record { keeps = λ o h. (case_closed_sound limits old c.end).keeps o h }
+case_entered_gives {was} limits are_own false old had_default c = record {
+  keeps = λ o h. (case_closed_sound limits old c.end).keeps (record o { next = behind o.next }) h;
+}
+
+entered_by_gives : {was : Before} (limits : Limits) (k : Kind) (is_default : Bool) (c : Construct) →
+    Gives limits was (entered_by limits k is_default c)
+entered_by_gives {was} limits (kind.Switch old had_default) is_default c =
+    record { keeps = λ o h. (case_entered_gives limits false is_default old had_default c).keeps o h }
+entered_by_gives {was} limits (kind.Cases old had_default) is_default c =
+    record { keeps = λ o h. (case_entered_gives limits true is_default old had_default c).keeps o h }
+entered_by_gives {was} limits kind.If is_default c = record { keeps = λ o h. h }
+entered_by_gives {was} limits kind.Else is_default c = record { keeps = λ o h. h }
+entered_by_gives {was} limits kind.While is_default c = record { keeps = λ o h. h }
+entered_by_gives {was} limits kind.Do is_default c = record { keeps = λ o h. h }
+entered_by_gives {was} limits kind.For is_default c = record { keeps = λ o h. h }
+entered_by_gives {was} limits (kind.Objects how v) is_default c = record { keeps = λ o h. h }
+
+pub entered_gives : {was : Before} (limits : Limits) (is_default : Bool) (c : Construct) → Gives limits was (entered limits is_default c)
+unfolding entered
+entered_gives {was} limits is_default c = record { keeps = λ o h. (entered_by_gives limits c.kind is_default c).keeps o h }
+
+-- Open statements
+
+pub begun_gives : {was : Before} (limits : Limits) (k : Kind) (constructs : List Construct) → Gives limits was (begun limits k constructs)
+begun_gives {was} limits k constructs = record { keeps = λ o h. (opened_gives limits k).keeps o h }
+
+pub changed_gives : {was : Before} (limits : Limits) (change : Construct → Laying Construct) →
+    ((c : Construct) → Gives limits was (change c))
+    → (constructs : List Construct) → Gives limits was (changed change constructs)
+changed_gives {was} limits change each [] = record { keeps = λ o h. h }
+changed_gives {was} limits change each (c ∷ constructs) = record { keeps = λ o h. (each c).keeps o h }
+
+pub cases_gives : {was : Before} (limits : Limits) (constructs : List Construct) → Gives limits was (cases_begun limits constructs)
+cases_gives {was} limits [] = record { keeps = λ o h. (begun_gives limits (kind.Cases case.Nothing false) []).keeps o h }
+cases_gives {was} limits (c ∷ constructs) = record { keeps = λ o h. h }
+
+pub ended_gives : {was : Before} (limits : Limits) (constructs : List Construct) → Gives limits was (ended limits constructs)
+ended_gives {was} limits [] = record { keeps = λ o h. h }
+ended_gives {was} limits (c ∷ constructs) = record { keeps = λ o h. (closed_sound limits c).keeps o h }
+
+pub all_ended_keep : {was : Before} (limits : Limits) (n : ℕ) (constructs : List Construct) (o : Out) → Counted limits was o
+    → Counted limits was (all_ended limits n constructs o).1
+all_ended_keep {was} limits zero constructs o h = h
+all_ended_keep {was} limits (suc n) constructs o h =
+    let e = ended limits constructs o in all_ended_keep limits n e.0 e.1 ((ended_gives limits constructs).keeps o h)
+
+pub looped_over_gives : {was : Before} (limits : Limits) (trees : List Rooted) (constructs : List Construct) →
+    Gives limits was (looped_over limits trees constructs)
+looped_over_gives {was} limits [] constructs = record { keeps = λ o h. h }
+looped_over_gives {was} limits (r ∷ trees) constructs =
+    record { keeps = λ o h. (changed_gives limits (looped limits r) (looped_gives limits r) constructs).keeps o h }
+
+-- Actions
+
+appeared_keeps : {was : Before} (limits : Limits) (key : List ℕ) (place : Place) → Keeps limits was (appeared key place)
+appeared_keeps {was} limits key place o h = go (declare_fault unbounded key o.seen)
+  where
+    go : (fault : Option (DeclareFault Place)) → Counted limits was (seen_by fault key place o)
+    go None = h
+    go (Some fault) = h
+
+numbered_keeps : {was : Before} (limits : Limits) (routine : Option ℕ) (o : Out) → Counted limits was o →
+    Counted limits was (numbered_as limits routine o).0
+numbered_keeps {was} limits None o h = h
+numbered_keeps {was} limits (Some routine) o h = go (action_fault limits routine o.tables.actions)
+  where
+    go : (fault : Option ActionFault) → Counted limits was (numbered_by limits fault routine o).0
+    go None = h
+    go (Some fault) = table_keeps limits setting.Actions o h
+
+pub action_keeps : {was : Before} (limits : Limits) (name : List ℕ) (place : Place) (o : Out) → Counted limits was o →
+    Counted limits was (action_of limits name place o).0
+action_keeps {was} limits name place o h = go (fake_number (key_of name) o)
+  where
+    go : (fake : Option ℕ) → Counted limits was (action_by limits fake name place o).0
+    go (Some fake) = h
+    go None =
+        let v = appeared (key_of name) place o in
+        let r = routine_referred limits (routine_name name) place v in
+        numbered_keeps limits r.1 r.0
+        (refer_keeps limits (routine_name name) place v (appeared_keeps limits (key_of name) place o h))
+
+pub faked_keeps : {was : Before} (limits : Limits) (name : List ℕ) (place : Place) (o : Out) → Counted limits was o →
+    Counted limits was (faked limits name place o).0
+faked_keeps {was} limits name place o h = go (first_seen (key_of name) o)
+  where
+    go : (first : Option Place) → Counted limits was (faked_by limits first (key_of name) place o).0
+    go (Some first) = h
+    go None = declare_keeps limits (key_of name) place _ (one_fake o) h
+
+-- Names, texts and words of a unit
+
+by_keeps : {was : Before} (limits : Limits) (local : Option ℕ) (name : List ℕ) (place : Place) (o : Out) → Counted limits was o
+    → Counted limits was (settled_by limits local name place o).0
+by_keeps {was} limits (Some local) name place o h = h
+by_keeps {was} limits None name place o h = refer_keeps limits name place o h
+
+name_keeps : {was : Before} (limits : Limits) (locals : List Local) (n : Option Name) (o : Out) → Counted limits was o
+    → Counted limits was (settled_name limits locals n o).0
+name_keeps {was} limits locals None o h = h
+name_keeps {was} limits locals (Some n) o h = by_keeps limits (number_of n.bytes locals) n.bytes n.place o h
+
+pick : {A : Type 0} {was : Before} (limits : Limits) (b : Bool) (p q : Out × A) → Counted limits was p.0 → Counted limits was q.0
+    → Counted limits was (if◌then◌else◌ {A = Out × A} b p q).0
+pick limits true p q h k = h
+pick limits false p q h k = k
+
+alone_keeps : {was : Before} (limits : Limits) (locals : List Local) (tokens : List SourceToken) (at : ℕ) (o : Out) → Counted limits was o
+    → Counted limits was (settled_alone limits locals tokens at o).0
+alone_keeps limits locals tokens at o h =
+    pick limits (is_stack (bytes_at tokens at) (number_of (bytes_at tokens at) locals)) (o, operand.Variable 0)
+    (settled_name limits locals (name_at tokens at) o) h (name_keeps limits locals (name_at tokens at) o h)
+
+some_text_keeps : {was : Before} (limits : Limits) (items : Option (List TextItem)) (o : Out) → Counted limits was o
+    → Counted limits was (settled_text limits items o).0
+some_text_keeps {was} limits None o h = h
+some_text_keeps {was} limits (Some items) o h = text_keeps limits (packed items (used_in o.texts)) (text_packed o) h
+
+some_action_keeps : {was : Before} (limits : Limits) (n : Option Name) (o : Out) → Counted limits was o →
+    Counted limits was (settled_action limits n o).0
+some_action_keeps {was} limits None o h = h
+some_action_keeps {was} limits (Some n) o h = action_keeps limits n.bytes n.place o h
+
+leaf_keeps : {was : Before} (limits : Limits) (set : CharSet) (locals : List Local) (tokens : List SourceToken) (l : Leaf) (o : Out) →
+    Counted limits was o
+    → Counted limits was (settled_leaf limits set locals tokens l o).0
+leaf_keeps {was} limits set locals tokens (leaf.Name at) o h = name_keeps limits locals (name_at tokens at) o h
+leaf_keeps {was} limits set locals tokens (leaf.Alone at) o h = alone_keeps limits locals tokens at o h
+leaf_keeps {was} limits set locals tokens (leaf.Number number) o h = h
+leaf_keeps {was} limits set locals tokens (leaf.Char zscii) o h = h
+leaf_keeps {was} limits set locals tokens (leaf.Word word) o h = word_keeps limits word.text word_use.Other word.is_plural o h
+leaf_keeps {was} limits set locals tokens (leaf.Text at) o h = some_text_keeps limits (text_at set tokens at) o h
+leaf_keeps {was} limits set locals tokens (leaf.Action at) o h = some_action_keeps limits (name_at tokens at) o h
+leaf_keeps {was} limits set locals tokens (leaf.System at) o h = h
+
+pub settled_keeps : {was : Before} (limits : Limits) (set : CharSet) (locals : List Local) (tokens : List SourceToken) (leaves : List Leaf)
+    (s : Settled)
+    → Counted limits was s.out → Counted limits was (settled limits set locals tokens leaves s).out
+settled_keeps {was} limits set locals tokens [] s h = h
+settled_keeps {was} limits set locals tokens (l ∷ leaves) s h =
+    settled_keeps limits set locals tokens leaves (with_settled (settled_leaf limits set locals tokens l s.out) s.operands)
+    (leaf_keeps limits set locals tokens l s.out h)
+
+one_added_keeps : {was : Before} (limits : Limits) (set : CharSet) (tokens : List SourceToken) (l : Leaf) →
+    Keeps limits was (one_added limits set tokens l)
+one_added_keeps {was} limits set tokens (leaf.Text at) o h = some_text_keeps limits (text_at set tokens at) o h
+one_added_keeps {was} limits set tokens (leaf.Word word) o h = word_keeps limits word.text word_use.Other word.is_plural o h
+one_added_keeps {was} limits set tokens (leaf.Action at) o h = some_action_keeps limits (name_at tokens at) o h
+one_added_keeps {was} limits set tokens (leaf.Name at) o h = h
+one_added_keeps {was} limits set tokens (leaf.Alone at) o h = h
+one_added_keeps {was} limits set tokens (leaf.Number number) o h = h
+one_added_keeps {was} limits set tokens (leaf.Char zscii) o h = h
+one_added_keeps {was} limits set tokens (leaf.System at) o h = h
+
+pub added_keeps : {was : Before} (limits : Limits) (set : CharSet) (tokens : List SourceToken) (leaves : List Leaf)
+    → Keeps limits was (leaf_added limits set tokens leaves)
+added_keeps {was} limits set tokens [] o h = h
+added_keeps {was} limits set tokens (l ∷ leaves) o h =
+    added_keeps limits set tokens leaves (one_added limits set tokens l o) (one_added_keeps limits set tokens l o h)

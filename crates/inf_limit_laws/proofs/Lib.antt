@@ -1,0 +1,17 @@
+pub mod Rooms
+pub mod Outputs
+pub mod Templates
+pub mod Statements
+pub mod Constructs
+pub mod Leaving
+pub mod Ways
+pub mod Units
+pub mod Declaring
+pub mod Bodies
+pub mod VerbLines
+pub mod Actions
+pub mod Conditions
+pub mod ConditionTokens
+pub mod Turns
+pub mod Whole
+pub mod Reaching

@@ -1,0 +1,448 @@
+-- Turns of a reading, token by token, and the supplied routines behind it.
+use Rattle.std.proofs.Common.{◌≡◌, ◌∙◌, ◌≤◌, ℕ, List, [], ◌∷◌, Bool, true, false, Option, Some, None, refl, ap, sym, subst}
+use Rattle.std.specs.Prelude.{if◌then◌else◌, is_some, reverse}
+use Rattle.inf_settings.specs.Bounds.{Limits}
+use Rattle.inf_settings.specs.Settings.{number_of}
+use Rattle.inf_settings.specs.declared.setting.Setting.TheVariants as setting
+use Rattle.inf_scanner.specs.declared.tokens.Place.{Place}
+use Rattle.inf_gathering.specs.declared.gathering.Leaf.{Leaf}
+use Rattle.inf_gathering.specs.declared.gathering.Leaf.TheVariants as leaf
+use Rattle.inf_devices.specs.Files.{Sources}
+use Rattle.inf_machine.specs.Machine.{fits, taken}
+use Rattle.inf_machine.specs.declared.symbols.Symbol.{Symbol}
+use Rattle.inf_syntax.specs.declared.actions.Action.{Action}
+use Rattle.inf_grammar.specs.Language.{grammar, known}
+use Rattle.inf_grammar.specs.Routines.{closings}
+use Rattle.inf_names.specs.Spellings.{Name}
+use Rattle.inf_report.specs.Messages.{DeepNesting, Exceeded, LoneConditional, Location, Message, NoInclude, TooManyFiles, kind_of}
+use Rattle.inf_report.specs.declared.messages.Kind.{Kind}
+use Rattle.inf_report.specs.declared.messages.Kind.TheVariants as weight
+use Rattle.inf_sources.specs.Inclusions.{Inclusion, Opens, OpensNone, Waiting, inclusion}
+use Rattle.inf_sources.specs.declared.open_file.Conditional.{Conditional}
+use Rattle.inf_sources.specs.declared.open_files.Included.{Included}
+use Rattle.inf_sources.specs.declared.open_files.Included.TheVariants as answer
+use Rattle.inf_unit.specs.Directives.{Characters, End, Include, Nothing, Request}
+use Rattle.inf_unit.specs.Messages.{FileNames, location, with_fatal}
+use Rattle.inf_unit.specs.Tokens.{SourceToken, atom_of, is_end}
+use Rattle.inf_unit.specs.Units.{name_at}
+use Rattle.inf_compilation.specs.Actions.{Compilation, piece_begun as work_begun}
+use Rattle.inf_compilation.specs.Context.{Context}
+use Rattle.inf_compilation.specs.Parts.{closed_ahead}
+use Rattle.inf_conditionals.specs.Ends.{file_told, piece_told, with_all_lone, with_lone}
+use Rattle.inf_conditionals.specs.Judging.{Behind, judged}
+use Rattle.inf_conditionals.specs.Open.{Conditions}
+use Rattle.inf_conditionals.specs.Operands.{action_added, actions_added, appeared_by}
+use Rattle.inf_conditionals.specs.Said.{Deep, Long, Right, Said, Wrong, with_said}
+use Rattle.inf_conditionals.specs.declared.filtered.Filtered.{Filtered}
+use Rattle.inf_conditionals.specs.declared.filtered.Forwarded.{Forwarded}
+use Rattle.inf_conditionals.specs.declared.filtered.Forwarded.TheVariants as handed
+use Rattle.inf_conditionals.specs.declared.filtered.Sign.{Sign}
+use Rattle.inf_conditionals.specs.declared.filtered.Site.{Site}
+use Rattle.inf_reader.specs.Acting.{all_acted, cut_at}
+use Rattle.inf_reader.specs.Handing.{handed_as, hash, judged_taken, lone_told, said_told, sign_taken, site_of, token_taken, unfit_in, unit_ended}
+use Rattle.inf_reader.specs.Reading.{Reading, ReaderState, bad, is_mode_ended, judged as token_judged, piece_begun, read_at, step, step_in, took}
+use Rattle.inf_reader.specs.Reading.{with_complaint, with_complaint_of}
+use Rattle.inf_reader.specs.Tests.{complaint_of}
+use Rattle.inf_reader.specs.declared.recovery.Recovery.{Recovery}
+use Rattle.inf_reader.specs.declared.recovery.Recovery.TheVariants as mode
+use Rattle.inf_session.specs.Choices.{Choices}
+use Rattle.inf_session.specs.Session.{State, answered, asked_nothing, carried_out, context_of, file_closed, followed, has_ended, included_by}
+use Rattle.inf_session.specs.Session.{is_resting, left, left_by, none_included, piece_closed, rested, stand_of, stepped, token_of, turn}
+use Rattle.inf_limit_laws.specs.Rooms.{Before, Keeps}
+use Rattle.inf_limit_laws.specs.Signs.{SignFits, is_loud}
+use Rattle.inf_limit_laws.specs.Within.{Ends, Lays, Steps, is_over}
+use Rattle.inf_limit_laws.proofs.Actions.{all_acted_steps, cut_at_steps, took_steps}
+use Rattle.inf_limit_laws.proofs.ConditionTokens.{loud_is_over, tokens_are_few}
+use Rattle.inf_limit_laws.proofs.Conditions.{NoneRight, is_right, right_ends}
+use Rattle.inf_limit_laws.proofs.Constructs.{action_keeps}
+use Rattle.inf_limit_laws.proofs.Units.{ahead_lays}
+use Rattle.inf_limit_laws.proofs.Ways.{Remains, begun_ends, lay_of, lays_end, report_steps, stays, step_of, steps_then}
+use Rattle.inf_limit_laws.proofs.Ways.{with_error_stays, with_fatal_stays}
+
+-- Actions of a condition
+
+appeared_by_keeps : {was : Before} (limits : Limits) (n : Option Name) → Keeps limits was (appeared_by limits n)
+appeared_by_keeps {was} limits None o h = h
+appeared_by_keeps {was} limits (Some n) o h = action_keeps limits n.bytes n.place o h
+
+one_action_keeps : {was : Before} (limits : Limits) (tokens : List SourceToken) (l : Leaf) → Keeps limits was (action_added limits tokens l)
+one_action_keeps {was} limits tokens (leaf.Action at) o h = appeared_by_keeps limits (name_at tokens at) o h
+one_action_keeps {was} limits tokens (leaf.Name at) o h = h
+one_action_keeps {was} limits tokens (leaf.Alone at) o h = h
+one_action_keeps {was} limits tokens (leaf.Number number) o h = h
+one_action_keeps {was} limits tokens (leaf.Char zscii) o h = h
+one_action_keeps {was} limits tokens (leaf.Word word) o h = h
+one_action_keeps {was} limits tokens (leaf.Text at) o h = h
+one_action_keeps {was} limits tokens (leaf.System at) o h = h
+
+pub actions_keep : {was : Before} (limits : Limits) (tokens : List SourceToken) (leaves : List Leaf) →
+    Keeps limits was (actions_added limits tokens leaves)
+actions_keep {was} limits tokens [] o h = h
+actions_keep {was} limits tokens (l ∷ leaves) o h =
+    actions_keep limits tokens leaves (action_added limits tokens l o) (one_action_keeps limits tokens l o h)
+
+-- Messages about tokens and conditionals
+
+complaint_stays : (k : Kind) (at : Location) (m : Message) → Remains (with_complaint_of k at m)
+complaint_stays weight.Fatal at m = with_fatal_stays at m
+complaint_stays weight.Error at m = with_error_stays at at m
+complaint_stays weight.Warning at m = with_error_stays at at m
+
+with_complaint_stays : (at : Location) (m : Message) → Remains (with_complaint at m)
+with_complaint_stays at m = complaint_stays (kind_of m) at m
+
+lone_stays : (files : FileNames) (place : Place) → Remains (with_lone files place)
+lone_stays files place = with_error_stays (location files place) (location files place) LoneConditional
+
+all_lone_stay : (files : FileNames) (conditionals : List Conditional) → Remains (with_all_lone files conditionals)
+all_lone_stay files [] r free = free
+all_lone_stay files (c ∷ conditionals) r free =
+    lone_stays files c.place r (all_lone_stay files conditionals (with_lone files c.place r) free)
+
+piece_stays : (files : FileNames) (c : Conditions) → Remains (piece_told files c)
+piece_stays files c = all_lone_stay files (reverse c.inner)
+
+file_stays : (files : FileNames) (c : Conditions) → Remains (file_told files c)
+file_stays files c r free = piece_stays files c r (all_lone_stay files (reverse c.among) (piece_told files c r) free)
+
+said_stays : (files : FileNames) (said : Option Said) → Remains (with_said files said)
+said_stays files None r free = free
+said_stays files (Some (Right tokens leaves)) r free = free
+said_stays files (Some (Wrong directive b)) r free =
+    with_error_stays (location files b.place) (location files directive) b.message r free
+said_stays files (Some (Long place)) r free = with_fatal_stays (location files place) (Exceeded setting.ExpressionNodes) r free
+said_stays files (Some (Deep place)) r free = with_fatal_stays (location files place) DeepNesting r free
+
+-- Tokens that the grammar gets
+
+bad_steps : {limits : Limits} {context : Context} {was : Before} (t : SourceToken) (r : Reading) (w : Compilation)
+    → Steps limits context was w (bad limits context t r w).work
+bad_steps {limits} {context} {was} t r w =
+    let c = cut_at limits context t.place w in
+    steps_then (cut_at_steps t.place w)
+    (report_steps c (with_complaint (location context.names t.place) (complaint_of t))
+    (with_complaint_stays (location context.names t.place) (complaint_of t)))
+
+took_token_steps : {limits : Limits} {context : Context} {was : Before} (t : SourceToken) (r : Reading) (w : Compilation)
+    → Steps limits context was w (took limits context t r w).work
+took_token_steps {limits} {context} {was} t r w =
+    let n = taken grammar known (atom_of t) r.stack in
+    steps_then (all_acted_steps t.place n.actions w) (took_steps t (all_acted limits context t.place n.actions w))
+
+-- one of two states
+either_steps : {limits : Limits} {context : Context} {was : Before} (b : Bool) (w : Compilation) (x y : ReaderState)
+    → Steps limits context was w x.work → Steps limits context was w y.work → Steps limits context was w (if b then x else y).work
+either_steps true w x y f g = f
+either_steps false w x y f g = g
+
+judged_steps : {limits : Limits} {context : Context} {was : Before} (t : SourceToken) (r : Reading) (w : Compilation)
+    → Steps limits context was w (token_judged limits context t r w).work
+judged_steps {limits} {context} {was} t r w =
+    either_steps (fits grammar known (atom_of t) r.stack) w (took limits context t r w) (bad limits context t r w)
+    (took_token_steps t r w) (bad_steps t r w)
+
+-- a piece begins
+piece_steps : {limits : Limits} {context : Context} {was : Before} (w : Compilation) → Steps limits context was w (work_begun w)
+piece_steps w = record { on = λ e. e; kept = λ e h. h; few = λ e b h k. k; near = λ e h k. k }
+
+at_steps : {limits : Limits} {context : Context} {was : Before} (t : SourceToken) (stack : List (Symbol Action)) (r : Reading)
+    (w : Compilation) → Steps limits context was w (read_at limits context t stack r w).work
+at_steps {limits} {context} {was} t [] r w =
+    either_steps (is_end t.kind) w (record { reading = record r { mode = mode.Ended }; work = w })
+    (token_judged limits context t (piece_begun r) (work_begun w)) (stays w)
+    (steps_then (piece_steps w) (judged_steps t (piece_begun r) (work_begun w)))
+at_steps t (symbol ∷ symbols) r w = judged_steps t r w
+
+in_steps : {limits : Limits} {context : Context} {was : Before} (m : Recovery) (t : SourceToken) (r : Reading) (w : Compilation)
+    → Steps limits context was w (step_in limits m context t r w).work
+in_steps mode.Reads t r w = at_steps t r.stack r w
+in_steps mode.SkipsRoutine t r w = stays w
+in_steps mode.SkipsDirective t r w = stays w
+in_steps mode.Ended t r w = stays w
+
+token_steps : {limits : Limits} {context : Context} {was : Before} (t : SourceToken) (r : Reading) (w : Compilation)
+    → Steps limits context was w (step limits context t r w).work
+token_steps t r w = in_steps r.mode t r w
+
+unfit_steps : {limits : Limits} {context : Context} {was : Before} (m : Recovery) (t : SourceToken) (s : ReaderState)
+    → Steps limits context was s.work (unfit_in limits m context t s).work
+unfit_steps mode.Reads t s = bad_steps t s.reading s.work
+unfit_steps mode.SkipsRoutine t s = token_steps t s.reading s.work
+unfit_steps mode.SkipsDirective t s = token_steps t s.reading s.work
+unfit_steps mode.Ended t s = token_steps t s.reading s.work
+
+handed_steps : {limits : Limits} {context : Context} {was : Before} (h : Forwarded) (t : SourceToken) (s : ReaderState)
+    → Steps limits context was s.work (handed_as limits h context t s).work
+handed_steps handed.Kept t s = token_steps t s.reading s.work
+handed_steps handed.Unfit t s = unfit_steps s.reading.mode t s
+handed_steps handed.Condition t s = stays s.work
+
+sign_steps : {limits : Limits} {context : Context} {was : Before} (sign : Option Sign) (s : ReaderState)
+    → Steps limits context was s.work (sign_taken limits sign context s).work
+sign_steps None s = stays s.work
+sign_steps (Some sign) s = handed_steps sign.handed (hash sign.place) s
+
+given_steps : {limits : Limits} {context : Context} {was : Before} (h : Option Forwarded) (t : SourceToken) (s : ReaderState)
+    → Steps limits context was s.work (token_taken limits h context t s).work
+given_steps None t s = stays s.work
+given_steps (Some h) t s = handed_steps h t s
+
+lone_steps : {limits : Limits} {context : Context} {was : Before} (place : Option Place) (s : ReaderState)
+    → Steps limits context was s.work (lone_told place context s).work
+lone_steps None s = stays s.work
+lone_steps {limits} {context} {was} (Some place) s =
+    report_steps s.work (with_lone context.names place) (lone_stays context.names place)
+
+directive_ends : {limits : Limits} {context : Context} {was : Before} (place : Place) (s : ReaderState)
+    → Ends limits context was s.work (unit_ended limits (Some place) context s).work
+directive_ends {limits} {context} {was} place s =
+    let w = closed_ahead limits (closings s.reading.stack) s.work in
+    lays_end (ahead_lays (closings s.reading.stack) s.work) (begun_ends context.names place w)
+
+ended_steps : {limits : Limits} {context : Context} {was : Before} (place : Option Place) (s : ReaderState)
+    → Steps limits context was s.work (unit_ended limits place context s).work
+ended_steps None s = stays s.work
+ended_steps (Some place) s = step_of (directive_ends place s)
+
+-- Messages about a condition. One that is right has its actions appear, before its directive ends.
+
+told_lays : {limits : Limits} {context : Context} {was : Before} (said : Option Said) (s : ReaderState)
+    → Lays limits context was s.work (said_told limits said context s).work
+told_lays {limits} {context} {was} None s = record { on = said_stays context.names None s.work.report; kept = λ e h. h }
+told_lays {limits} {context} {was} (Some (Right tokens leaves)) s = record {
+  on = λ e. e;
+  kept = λ e h. (h.0, (h.1.0, actions_keep limits tokens leaves s.work.output h.1.1));
+}
+told_lays {limits} {context} {was} (Some (Wrong directive b)) s =
+    record { on = said_stays context.names (Some (Wrong directive b)) s.work.report; kept = λ e h. h }
+told_lays {limits} {context} {was} (Some (Long place)) s =
+    record { on = said_stays context.names (Some (Long place)) s.work.report; kept = λ e h. h }
+told_lays {limits} {context} {was} (Some (Deep place)) s =
+    record { on = said_stays context.names (Some (Deep place)) s.work.report; kept = λ e h. h }
+
+told_steps : {limits : Limits} {context : Context} {was : Before} (said : Option Said) (s : ReaderState) → is_right said ≡ false
+    → Steps limits context was s.work (said_told limits said context s).work
+told_steps {limits} {context} {was} None s none =
+    record { on = said_stays context.names None s.work.report; kept = λ e h. h; few = λ e b h k. k; near = λ e h k. k }
+told_steps {limits} {context} {was} (Some (Right tokens leaves)) s none = cc
+told_steps {limits} {context} {was} (Some (Wrong directive b)) s none =
+    record {
+      on = said_stays context.names (Some (Wrong directive b)) s.work.report;
+      kept = λ e h. h;
+      few = λ e b h k. k;
+      near =
+          λ e h k. k;
+    }
+told_steps {limits} {context} {was} (Some (Long place)) s none =
+    record { on = said_stays context.names (Some (Long place)) s.work.report; kept = λ e h. h; few = λ e b h k. k; near = λ e h k. k }
+told_steps {limits} {context} {was} (Some (Deep place)) s none =
+    record { on = said_stays context.names (Some (Deep place)) s.work.report; kept = λ e h. h; few = λ e b h k. k; near = λ e h k. k }
+
+-- the tokens of a turn, up to the end of a conditional directive
+between_steps : {limits : Limits} {context : Context} {was : Before} (t : SourceToken) (j : Filtered) (s : ReaderState)
+    → Steps limits context was s.work
+    (lone_told j.unmatched context (token_taken limits j.token context t (sign_taken limits j.sign context s))).work
+between_steps {limits} {context} {was} t j s =
+    let first = sign_taken limits j.sign context s in
+    let second = token_taken limits j.token context t first in
+    steps_then (sign_steps j.sign s) (steps_then (given_steps j.token t first) (lone_steps j.unmatched second))
+
+-- a turn in which a conditional directive ends
+ending_steps : {limits : Limits} {context : Context} {was : Before} (t : SourceToken) (j : Filtered) (said : Option Said) (s : ReaderState)
+    (ended : Option Place) → is_some ended ≡ true → Ends limits context was s.work
+    (unit_ended limits ended context (lone_told j.unmatched context (token_taken limits j.token context t (sign_taken limits j.sign context
+    (said_told limits said context s))))).work
+ending_steps t j said s None e = cc
+ending_steps {limits} {context} {was} t j said s (Some place) e =
+    let told = said_told limits said context s in
+    lays_end (told_lays said s) (lays_end (lay_of (between_steps t j told)) (directive_ends place
+    (lone_told j.unmatched context (token_taken limits j.token context t (sign_taken limits j.sign context told)))))
+
+turned_steps : {limits : Limits} {context : Context} {was : Before} (t : SourceToken) (j : Filtered) (said : Option Said) (s : ReaderState)
+    → (is_right said ≡ true → is_some j.ended ≡ true)
+    → Steps limits context was s.work (judged_taken limits context t j (said_told limits said context s)).work
+turned_steps {limits} {context} {was} t j said s ends = go (is_right said) refl
+  where
+    told : ReaderState
+    told = said_told limits said context s
+
+    go : (b : Bool) → is_right said ≡ b → Steps limits context was s.work (judged_taken limits context t j told).work
+    go true e = step_of (ending_steps t j said s j.ended (ends e))
+    go false e = steps_then (told_steps said s e) (steps_then (between_steps t j told) (ended_steps j.ended
+        (lone_told j.unmatched context (token_taken limits j.token context t (sign_taken limits j.sign context told)))))
+
+-- States
+
+-- one turn of tokens
+pub stepped_steps : {was : Before} (limits : Limits) (o : Choices) (s : State) → NoneRight s.conditions
+    → Steps limits (context_of o s) was s.work (stepped limits o s).work
+stepped_steps limits o s none =
+    let site = site_of (context_of o s).settings s.reading in
+    let b = judged site s.work.output (token_of s) s.conditions in
+    turned_steps (token_of s) b.judged b.now.said (stand_of s) (right_ends site s.work.output (token_of s) s.conditions none)
+
+-- one of two states
+either_state : {limits : Limits} {context : Context} {was : Before} (b : Bool) (w : Compilation) (x y : State)
+    → Steps limits context was w x.work → Steps limits context was w y.work → Steps limits context was w (if b then x else y).work
+either_state true w x y f g = f
+either_state false w x y f g = g
+
+left_steps : {limits : Limits} {context : Context} {was : Before} (waiting : List Waiting) (s : State)
+    → Steps limits context was s.work (left_by waiting s).work
+left_steps [] s = stays s.work
+left_steps (w ∷ waiting) s = record { on = λ e. e; kept = λ e h. h; few = λ e b h k. k; near = λ e h k. k }
+
+closed_steps : {limits : Limits} {context : Context} {was : Before} (s : State) → Steps limits context was s.work (file_closed s).work
+closed_steps s = report_steps s.work (file_told s.nesting.names s.conditions) (file_stays s.nesting.names s.conditions)
+
+none_steps : {limits : Limits} {context : Context} {was : Before} (unit : Place) (text : List ℕ) (why : Included) (s : State)
+    → Steps limits context was s.work (none_included unit text why s).work
+none_steps unit text answer.Entered s = stays s.work
+none_steps unit text answer.NotThere s =
+    report_steps s.work (with_fatal (location s.nesting.names unit) (NoInclude text))
+    (with_fatal_stays (location s.nesting.names unit) (NoInclude text))
+none_steps unit text answer.TooDeep s =
+    report_steps s.work (with_fatal (location s.nesting.names unit) TooManyFiles)
+    (with_fatal_stays (location s.nesting.names unit) TooManyFiles)
+
+included_steps : {limits : Limits} {context : Context} {was : Before} (sources : Sources) (o : Choices) (unit : Place) (text : List ℕ)
+    (i : Inclusion) (s : State) → Steps limits context was s.work (included_by sources o unit text i s).work
+included_steps sources o unit text (Opens name) s = record { on = λ e. e; kept = λ e h. h; few = λ e b h k. k; near = λ e h k. k }
+included_steps sources o unit text (OpensNone why) s = none_steps unit text why s
+
+answered_steps : {limits : Limits} {context : Context} {was : Before} (r : Request) (sources : Sources) (o : Choices) (s : State)
+    → Steps limits context was s.work (answered r sources o s).work
+answered_steps (Include text unit) sources o s = included_steps sources o unit text (inclusion sources o.directories text s.nesting) s
+answered_steps End sources o s = stays s.work
+answered_steps (Characters set) sources o s = stays s.work
+answered_steps Nothing sources o s = stays s.work
+
+-- nothing is asked any more
+silent_steps : {limits : Limits} {context : Context} {was : Before} (s : State) → Steps limits context was s.work (asked_nothing s).work
+silent_steps s = record { on = λ e. e; kept = λ e h. h; few = λ e b h k. k; near = λ e h k. k }
+
+carried_steps : {limits : Limits} {context : Context} {was : Before} (sources : Sources) (o : Choices) (s : State)
+    → Steps limits context was s.work (carried_out sources o s).work
+carried_steps {limits} {context} {was} sources o s =
+    either_state s.work.report.counts.is_over s.work s _ (stays s.work)
+    (either_state (is_mode_ended s.reading.mode) s.work (left s) (answered s.work.asked sources o (asked_nothing s))
+    (steps_then (closed_steps s) (left_steps s.nesting.waiting (file_closed s)))
+    (steps_then (silent_steps s) (answered_steps s.work.asked sources o (asked_nothing s))))
+
+pub rested_steps : {limits : Limits} {context : Context} {was : Before} (s : State) → Steps limits context was s.work (rested s).work
+rested_steps s =
+    either_state (has_ended s) s.work s _ (stays s.work)
+    (either_state (is_resting s) s.work (piece_closed s) s
+    (report_steps s.work (piece_told s.nesting.names s.conditions) (piece_stays s.nesting.names s.conditions)) (stays s.work))
+
+pub followed_steps : {limits : Limits} {context : Context} {was : Before} (sources : Sources) (o : Choices) (s : State)
+    → Steps limits context was s.work (followed sources o s).work
+followed_steps sources o s = steps_then (carried_steps sources o s) (rested_steps (carried_out sources o s))
+
+-- a whole turn
+pub turn_steps : {was : Before} (limits : Limits) (sources : Sources) (o : Choices) (s : State) → NoneRight s.conditions
+    → Steps limits (context_of o s) was s.work (turn limits sources o s).work
+turn_steps limits sources o s none =
+    let t = stepped limits o s in
+    steps_then (stepped_steps limits o s none)
+    (steps_then (followed_steps sources o t) (record { on = λ e. e; kept = λ e h. h; few = λ e b h k. k; near = λ e h k. k }))
+
+-- Behind the token of a turn, the conditionals tell the same of a condition, and count the same tokens.
+
+abbrev Alike : Conditions → Conditions → Type 0
+Alike c d = (d.said ≡ c.said) × (d.most_tokens ≡ c.most_tokens)
+
+either_alike : (c : Conditions) (b : Bool) (x y : State) → Alike c x.conditions → Alike c y.conditions
+    → Alike c (if b then x else y).conditions
+either_alike c true x y h k = h
+either_alike c false x y h k = k
+
+left_alike : (waiting : List Waiting) (s : State) → Alike s.conditions (left_by waiting s).conditions
+left_alike [] s = (refl, refl)
+left_alike (w ∷ waiting) s = (refl, refl)
+
+why_alike : (unit : Place) (text : List ℕ) (why : Included) (s : State) → Alike s.conditions (none_included unit text why s).conditions
+why_alike unit text answer.Entered s = (refl, refl)
+why_alike unit text answer.NotThere s = (refl, refl)
+why_alike unit text answer.TooDeep s = (refl, refl)
+
+included_alike : (sources : Sources) (o : Choices) (unit : Place) (text : List ℕ) (i : Inclusion) (s : State)
+    → Alike s.conditions (included_by sources o unit text i s).conditions
+included_alike sources o unit text (Opens name) s = (refl, refl)
+included_alike sources o unit text (OpensNone why) s = why_alike unit text why s
+
+answered_alike : (r : Request) (sources : Sources) (o : Choices) (s : State) → Alike s.conditions (answered r sources o s).conditions
+answered_alike (Include text unit) sources o s =
+    included_alike sources o unit text (inclusion sources o.directories text s.nesting) s
+answered_alike End sources o s = (refl, refl)
+answered_alike (Characters set) sources o s = (refl, refl)
+answered_alike Nothing sources o s = (refl, refl)
+
+carried_alike : (sources : Sources) (o : Choices) (s : State) → Alike s.conditions (carried_out sources o s).conditions
+carried_alike sources o s =
+    let answer = answered s.work.asked sources o (asked_nothing s) in
+    either_alike s.conditions s.work.report.counts.is_over s (if is_mode_ended s.reading.mode then left s else answer) (refl, refl)
+    (either_alike s.conditions (is_mode_ended s.reading.mode) (left s) answer (left_alike s.nesting.waiting (file_closed s))
+    (answered_alike s.work.asked sources o (asked_nothing s)))
+
+rested_alike : (s : State) → Alike s.conditions (rested s).conditions
+rested_alike s =
+    either_alike s.conditions (has_ended s) s (if is_resting s then piece_closed s else s) (refl, refl)
+    (either_alike s.conditions (is_resting s) (piece_closed s) s (refl, refl) (refl, refl))
+
+followed_alike : (sources : Sources) (o : Choices) (s : State) → Alike s.conditions (followed sources o s).conditions
+followed_alike sources o s =
+    let first = carried_alike sources o s in
+    let second = rested_alike (carried_out sources o s) in
+    (second.0 ∙ first.0, second.1 ∙ first.1)
+
+-- so nothing right is told behind a turn
+pub rested_none : (s : State) → NoneRight s.conditions → NoneRight (rested s).conditions
+rested_none s none = ap is_right (rested_alike s).0 ∙ none
+
+pub turn_none : (limits : Limits) (sources : Sources) (o : Choices) (s : State) → NoneRight (turn limits sources o s).conditions
+turn_none limits sources o s = ap is_right (followed_alike sources o (stepped limits o s)).0
+
+-- Tokens of conditions
+
+-- no fatal message stood before a token where none stands behind it
+before_token : (limits : Limits) (context : Context) (was : Before) (t : SourceToken) (j : Filtered) (s : ReaderState)
+    → is_over (judged_taken limits context t j s).work ≡ false → is_over s.work ≡ false
+before_token limits context was t j s e =
+    let told = lone_told j.unmatched context (token_taken limits j.token context t (sign_taken limits j.sign context s)) in
+    let f = steps_then {limits = limits} {context = context} {was = was} (between_steps t j s) (ended_steps j.ended told) in
+    f.on e
+
+stepped_few : (limits : Limits) (o : Choices) (s : State) → SignFits (site_of o.settings s.reading) s.conditions
+    → s.conditions.most_tokens ≤ number_of setting.ExpressionNodes o.settings → is_over (stepped limits o s).work ≡ false
+    → (stepped limits o s).conditions.most_tokens ≤ number_of setting.ExpressionNodes o.settings
+stepped_few limits o s none few e = go (is_loud b.now.said) refl
+  where
+    site : Site
+    site = site_of o.settings s.reading
+
+    b : Behind
+    b = judged site s.work.output (token_of s) s.conditions
+
+    told : ReaderState
+    told = said_told limits b.now.said (context_of o s) (stand_of s)
+
+    go : (loud : Bool) → is_loud b.now.said ≡ loud → b.now.most_tokens ≤ number_of setting.ExpressionNodes o.settings
+    go true said =
+        let stands : is_over told.work ≡ true = loud_is_over s.nesting.names b.now.said s.work.report said in
+        let free : is_over told.work ≡ false =
+        before_token limits (context_of o s) (record { has_begun = false; is_exact = false }) (token_of s) b.judged told e in
+        let never : true ≡ false = sym stands ∙ free in
+        cc
+    go false said = tokens_are_few site s.work.output (token_of s) s.conditions none few said
+
+pub conditions_few : (limits : Limits) (sources : Sources) (o : Choices) (s : State)
+    → SignFits (site_of o.settings s.reading) s.conditions
+    → s.conditions.most_tokens ≤ number_of setting.ExpressionNodes o.settings → is_over (turn limits sources o s).work ≡ false
+    → (turn limits sources o s).conditions.most_tokens ≤ number_of setting.ExpressionNodes o.settings
+conditions_few limits sources o s none few e =
+    let t = stepped limits o s in
+    let f =
+    followed_steps {limits = limits} {context = context_of o s} {was = record { has_begun = false; is_exact = false }} sources o t in
+    subst (λ (n : ℕ). n ≤ number_of setting.ExpressionNodes o.settings) (sym (followed_alike sources o t).1)
+    (stepped_few limits o s none few (f.on e))

@@ -1,0 +1,241 @@
+-- Counts keep to their settings from the start of a reading on.
+use Rattle.std.proofs.Common.{◌≡◌, ◌+◌, ◌≤◌, ℕ, zero, suc, List, length, cond, ltb, Bool, true, false, Option, Some, None, refl, arith}
+use Rattle.std.proofs.lemmas.Bool.{ltb-false}
+use Rattle.std.proofs.Math.Nat.{max-le}
+use Rattle.std.specs.Prelude.{if◌then◌else◌}
+use Rattle.inf_settings.specs.Bounds.{Limits, limits_of}
+use Rattle.inf_settings.specs.Settings.{number_of}
+use Rattle.inf_settings.specs.declared.setting.Setting.{Setting}
+use Rattle.inf_settings.specs.declared.setting.Setting.TheVariants as setting
+use Rattle.inf_settings.specs.declared.settings.Settings.{Settings}
+use Rattle.inf_scanner.specs.declared.tokens.Place.{Place}
+use Rattle.inf_devices.specs.Files.{Sources}
+use Rattle.inf_area.specs.Cells.{later_count}
+use Rattle.inf_tables.specs.Tables.{more, no_tables, references}
+use Rattle.inf_text_lexer.specs.TextReaders.{TextReader}
+use Rattle.inf_compilation.specs.Actions.{letters_chosen, unit_ended}
+use Rattle.inf_compilation.specs.Context.{Context}
+use Rattle.inf_compilation.specs.Findings.{Findings}
+use Rattle.inf_reader.specs.Reading.{begun_stand}
+use Rattle.inf_session.specs.Choices.{Choices}
+use Rattle.inf_session.specs.Session.{State, context_of, first_place, has_ended, rested, start, stepped, tables_full, turn}
+use Rattle.inf_session.specs.Veneer.{in_text, text_begun, text_front, text_read, text_turns, veneer_text}
+use Rattle.inf_limit_laws.specs.Laws.{CountsKeepToSettings, StepsKeepCounts}
+use Rattle.inf_limit_laws.specs.Reached.{Begins, Goes, Here, IsBehind, IsReached, IsTurned, Supplies, Turns}
+use Rattle.inf_limit_laws.specs.Rooms.{Before}
+use Rattle.inf_limit_laws.specs.Within.{AreFew, AreNear, IsKept, Steps, is_over}
+use Rattle.inf_limit_laws.proofs.Actions.{act_steps, cut_at_steps, took_steps}
+use Rattle.inf_limit_laws.proofs.Conditions.{NoneRight}
+use Rattle.inf_limit_laws.proofs.Turns.{conditions_few, rested_none, rested_steps, stepped_steps, turn_none, turn_steps}
+use Rattle.inf_limit_laws.proofs.Ways.{begun_ends, near_of, none_full, steps_then, unit_ends}
+
+-- nothing is known of a compilation before; or that code had begun; or that expressions were within their setting
+abbrev plain : Before
+plain = record { has_begun = false; is_exact = false }
+
+-- A state whose counts are kept, and whose references are few where code had begun
+pub record Holds (o : Choices) (was : Before) (s : State) : Type 0 where
+  pub quiet : NoneRight s.conditions
+  pub kept : is_over s.work ≡ false → IsKept (limits_of o.settings) (context_of o s) was s.work
+  pub few : is_over s.work ≡ false → was.has_begun ≡ true → AreFew (limits_of o.settings) s.work
+  pub near : is_over s.work ≡ false → AreNear (limits_of o.settings) s.work
+
+holds_by : {o : Choices} {was : Before} {s t : State} → Holds o was s
+    → Steps (limits_of o.settings) (context_of o s) was s.work t.work → NoneRight t.conditions → Holds o was t
+holds_by {o} {was} {s} {t} h f none = record {
+  quiet = none;
+  kept = λ e. f.kept e (h.kept (f.on e));
+  few = λ e b. f.few e b (h.kept (f.on e)) (h.few (f.on e) b);
+  near = λ e. f.near e (h.kept (f.on e)) (h.near (f.on e));
+}
+
+turn_holds : {o : Choices} {was : Before} {s : State} (sources : Sources) → Holds o was s
+    → Holds o was (turn (limits_of o.settings) sources o s)
+turn_holds {o} {was} {s} sources h =
+    holds_by h (turn_steps (limits_of o.settings) sources o s h.quiet) (turn_none (limits_of o.settings) sources o s)
+
+-- Supplied routines, whose tokens may come behind conditions with more than they may have
+
+either_holds : {o : Choices} {was : Before} (b : Bool) (s t : State) → Holds o was s → Holds o was t → Holds o was (if b then s else t)
+either_holds true s t h k = h
+either_holds false s t h k = k
+
+turns_hold : {was : Before} (o : Choices) (n : ℕ) (s : State) → Holds o was s → Holds o was (text_turns (limits_of o.settings) o n s)
+turns_hold o zero s h = h
+turns_hold o (suc n) s h =
+    let t = stepped (limits_of o.settings) o s in
+    either_holds (has_ended s) s (text_turns (limits_of o.settings) o n (rested t)) h
+    (turns_hold o n (rested t)
+    (holds_by h (steps_then (stepped_steps (limits_of o.settings) o s h.quiet) (rested_steps t)) (rested_none t refl)))
+
+begun_holds : {was : Before} (o : Choices) (s : State) → was.is_exact ≡ false → Holds o was s → Holds o was (text_begun s)
+begun_holds {was} o s loose h = record {
+  quiet = refl;
+  kept = λ e. let k = h.kept e in ((λ x. cc), k.1);
+  few = h.few;
+  near = h.near;
+}
+
+in_text_holds : {was : Before} (o : Choices) (l : TextReader) (s : State) → Holds o was s → Holds o was (in_text l s)
+in_text_holds o l s h = record { quiet = h.quiet; kept = h.kept; few = h.few; near = h.near }
+
+read_holds : {was : Before} (o : Choices) (n : ℕ) (s : State) → was.is_exact ≡ false → Holds o was s
+    → Holds o was (text_read (limits_of o.settings) o n s)
+read_holds o n s loose h =
+    let t = turns_hold o (suc (length (veneer_text n))) (in_text (text_front o n s) (text_begun s))
+    (in_text_holds o (text_front o n s) (text_begun s) (begun_holds o s loose h)) in
+    record { quiet = t.quiet; kept = t.kept; few = t.few; near = t.near }
+
+behind_holds : {o : Choices} {was : Before} {s : State} (sources : Sources) → was.is_exact ≡ false → Holds o was s → {t : State}
+    → IsBehind sources o s t → Holds o was t
+behind_holds sources loose h Here = h
+behind_holds sources loose h (Turns behind) = turn_holds sources (behind_holds sources loose h behind)
+behind_holds {o} sources loose h (Supplies {t} number behind) = read_holds o number t loose (behind_holds sources loose h behind)
+
+-- The start
+
+no_references : references no_tables ≡ 0
+unfolding more
+no_references = refl
+
+if_none : (b : Bool) (s : Setting) (others : Option Setting) → cond b (Some s) others ≡ None → others ≡ None
+if_none true s others e = cc
+if_none false s others e = e
+
+has_room : (limit least : ℕ) (s : Setting) → cond (ltb limit least) (Some s) None ≡ None → least ≤ limit
+has_room limit least s = go (ltb limit least) refl
+  where
+    go : (b : Bool) → ltb limit least ≡ b → cond b (Some s) None ≡ None → least ≤ limit
+    go true e none = cc
+    go false e none = ltb-false limit least e
+
+four_fit : (settings : Settings) → tables_full settings ≡ None → 4 ≤ number_of setting.References settings
+four_fit settings none =
+    let last = cond (ltb (number_of setting.References settings) 4) (Some setting.References) None in
+    let low = cond (ltb (number_of setting.LowStrings settings) 2) (Some setting.LowStrings) last in
+    let properties = cond (ltb (number_of setting.PropertyTables settings) 30) (Some setting.PropertyTables) low in
+    has_room (number_of setting.References settings) 4 setting.References
+    (if_none (ltb (number_of setting.LowStrings settings) 2) setting.LowStrings last
+    (if_none (ltb (number_of setting.PropertyTables settings) 30) setting.PropertyTables low
+    (if_none (ltb (number_of setting.Objects settings) 4) setting.Objects properties none)))
+
+start_few : (sources : Sources) (o : Choices) (name : List ℕ) → is_over (start sources o name).work ≡ false
+    → AreFew (limits_of o.settings) (start sources o name).work
+start_few sources o name e =
+    omega (
+      arith,
+      no_references,
+      four_fit o.settings (none_full (start sources o name).nesting.names first_place
+          (tables_full o.settings) (letters_chosen o.letters (begun_stand o.settings).work).report e),
+    )
+
+start_holds : (sources : Sources) (o : Choices) (name : List ℕ) → Holds o plain (start sources o name)
+start_holds sources o name = record {
+  quiet = refl;
+  kept = λ e. ((λ x. omega arith), (omega arith, record { stays = λ b. cc; begun = λ b. cc; room = λ p is free. cc }));
+  few = λ e b. cc;
+  near = λ e. near_of (limits_of o.settings) (start sources o name).work (start_few sources o name e);
+}
+
+pub reached_holds : (sources : Sources) (o : Choices) (name : List ℕ) (s : State) → IsReached sources o name s → Holds o plain s
+reached_holds sources o name s reached = behind_holds sources refl (start_holds sources o name) reached
+
+-- References behind a state in which code had begun
+
+abbrev begun : Before
+begun = record { has_begun = true; is_exact = false }
+
+from_begun : (o : Choices) (s : State) → Holds o plain s → s.work.output.code.has_begun ≡ true → AreFew (limits_of o.settings) s.work
+    → Holds o begun s
+from_begun o s h has few = record {
+  quiet = h.quiet;
+  kept = λ e. let k = h.kept e in ((λ x. cc), (k.1.0, record { stays = λ b. has; begun = k.1.1.begun; room = k.1.1.room }));
+  few = λ e b. few;
+  near = h.near;
+}
+
+-- one above the setting, at most, in any case
+near_within : (b : Bool) (later tables limit : ℕ) → 4 + later + tables ≤ limit → more (cond b 5 4 + later) tables ≤ limit + 1
+unfolding more
+near_within true later tables limit near = omega (arith, near)
+near_within false later tables limit near = omega (arith, near)
+
+more_within : (a b limit : ℕ) → a + b ≤ limit → more a b ≤ limit
+unfolding more
+more_within a b limit few = omega (arith, few)
+
+references_keep : (sources : Sources) (o : Choices) (s t : State) → Holds o plain s → s.work.output.code.has_begun ≡ true
+    → AreFew (limits_of o.settings) s.work → IsBehind sources o s t → is_over t.work ≡ false → AreFew (limits_of o.settings) t.work
+references_keep sources o s t h has few behind e = (behind_holds sources refl (from_begun o s h has few) behind).few e refl
+
+-- Tokens of expressions, turn by turn
+
+abbrev exact : Before
+exact = record { has_begun = false; is_exact = true }
+
+tokens_keep : (sources : Sources) (o : Choices) (s : State) → Holds o plain s
+    → s.work.most_tokens ≤ number_of setting.ExpressionNodes o.settings → is_over (turn (limits_of o.settings) sources o s).work ≡ false
+    → (turn (limits_of o.settings) sources o s).work.most_tokens ≤ number_of setting.ExpressionNodes o.settings
+tokens_keep sources o s h few e = (f.kept e kept).0 refl
+  where
+    f : Steps (limits_of o.settings) (context_of o s) exact s.work (turn (limits_of o.settings) sources o s).work
+    f = turn_steps (limits_of o.settings) sources o s h.quiet
+
+    kept : IsKept (limits_of o.settings) (context_of o s) exact s.work
+    kept = let k = h.kept (f.on e) in ((λ x. few), (k.1.0, record { stays = λ b. cc; begun = k.1.1.begun; room = k.1.1.room }))
+
+turned_reached : {sources : Sources} {o : Choices} {name : List ℕ} {s : State} → IsTurned sources o name s → IsReached sources o name s
+turned_reached Begins = Here
+turned_reached (Goes turned fits) = Turns (turned_reached turned)
+
+tokens_few : (sources : Sources) (o : Choices) (name : List ℕ) {s : State} → IsTurned sources o name s → is_over s.work ≡ false
+    → (s.work.most_tokens ≤ number_of setting.ExpressionNodes o.settings)
+    × (s.conditions.most_tokens ≤ number_of setting.ExpressionNodes o.settings)
+tokens_few sources o name Begins e = (omega arith, omega arith)
+tokens_few sources o name (Goes {s} turned fits) e =
+    let h = reached_holds sources o name s (turned_reached turned) in
+    let f = turn_steps {was = exact} (limits_of o.settings) sources o s h.quiet in
+    let few = tokens_few sources o name turned (f.on e) in
+    (tokens_keep sources o s h few.0 e, conditions_few (limits_of o.settings) sources o s fits few.1 e)
+
+-- All of it
+
+unit_few : (o : Choices) (s : State) → Holds o plain s → (context : Context) (first : Place) (has_last : Bool) (found : Findings)
+    → is_over (unit_ended (limits_of o.settings) context first has_last found s.work) ≡ false
+    → AreFew (limits_of o.settings) (unit_ended (limits_of o.settings) context first has_last found s.work)
+unit_few o s h context first has_last found e =
+    let f = unit_ends {limits = limits_of o.settings} {context = context} {was = plain} first has_last found s.work in
+    let k = h.kept (f.on e) in
+    f.few e ((λ x. cc), k.1)
+
+pub counts_keep_to_settings : (sources : Sources) (o : Choices) → CountsKeepToSettings sources o
+counts_keep_to_settings sources o = record {
+  labels = λ name s reached e. ((reached_holds sources o name s reached).kept e).1.0;
+  begins = start_few sources o;
+  units = λ name s reached. unit_few o s (reached_holds sources o name s reached);
+  ends = λ name s reached e.
+      let f = begun_ends {limits = limits_of o.settings} {context = context_of o s} {was = plain} s.nesting.names first_place s.work in
+      let k = (reached_holds sources o name s reached).kept (f.on e) in
+      record {
+        labels = (f.kept e k).1.0;
+        references = more_within _ _ (number_of setting.References o.settings) (f.few e k);
+      };
+  near = λ name s reached e.
+      near_within s.work.output.code.has_begun (later_count s.work.output.code.finished) (references s.work.output.tables)
+      (number_of setting.References o.settings) ((reached_holds sources o name s reached).near e);
+  references = λ name s t reached has few behind e.
+      more_within _ _ (number_of setting.References o.settings)
+      (references_keep sources o s t (reached_holds sources o name s reached) has few behind e);
+  expressions = λ name s reached. tokens_keep sources o s (reached_holds sources o name s reached);
+  conditions = conditions_few (limits_of o.settings) sources o;
+  tokens = λ name s turned e. let few = tokens_few sources o name turned e in max-le few.0 few.1;
+}
+
+pub steps_keep_counts : (limits : Limits) → StepsKeepCounts limits
+steps_keep_counts limits = record {
+  action = λ context was place a w. act_steps place a w;
+  token = λ context was t w. took_steps t w;
+  cut = λ context was place w. cut_at_steps place w;
+  unit = λ context was first has_last found w. unit_ends first has_last found w;
+  conditional = λ context was files first w. begun_ends files first w;
+}

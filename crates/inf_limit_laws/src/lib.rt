@@ -1,0 +1,7 @@
+//! Laws of the settings: counts that are compared with them where an expression or a unit has ended keep to them. A function carries
+//! the law as its clause, and does nothing.
+#![tactic(auto)]
+
+mod laws;
+
+pub use laws::{counts_keep_to_settings, states_come_behind, steps_keep_counts};
