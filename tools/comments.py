@@ -16,7 +16,7 @@ import os
 import re
 import sys
 
-OPEN = re.compile(r"(What|The same|It|How many|How much|So many|So much|Whether so|That there|The following)\b")
+OPEN = re.compile(r"(What|The same|It|How many|How much|So many|So much|So is|So are|So it|Its|Whether so|That there|The following)\b")
 SO = re.compile(r"\b[Ss]o (many|much)\b(?! `)")
 VERB = re.compile(r"[A-Z][a-z]+s\b")
 NOUNS = {"Its", "This", "As", "Pages", "Words", "Bytes", "Places", "Texts", "Values", "Rows", "Names", "Routines", "Always", "Perhaps"}

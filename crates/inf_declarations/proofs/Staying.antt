@@ -37,7 +37,7 @@ several_found limits context alone w several =
     sym (ap (λ (text : Option ℕ). least_of_both (finding_at 0 wanted.Constant w) (own_finding limits context text alone w))
     (no_text alone w several))
 
--- Its finding does not depend on whether there were entries before.
+-- The finding about an entry of several leaves does not depend on whether there were entries before it.
 pub more_found : (limits : Limits) (context : Context) (alone : Bool) (w : Compilation)
     → (length w.unit.gathering.symbols == 1) ≡ false
     → entry_finding limits context alone (one_more w) ≡ entry_finding limits context alone w

@@ -18,11 +18,11 @@ abbrev pub IsKept : Limits → Context → Before → Compilation → Type 0
 IsKept limits context was w =
     (was.is_exact ≡ true → w.most_tokens ≤ longest context) × ((w.most_labels ≤ limits setting.Labels) × Counted limits was w.output)
 
--- So are the references of finished routines and of tables.
+-- The references of finished routines and of tables are within their setting.
 abbrev pub AreFew : Limits → Compilation → Type 0
 AreFew limits w = reference_count w.output.code + references w.output.tables ≤ limits setting.References
 
--- Those of the source are, if not the one of the first routine, which calls `Main`.
+-- The references of the source are within their setting, if not the one of the first routine, which calls `Main`.
 abbrev pub AreNear : Limits → Compilation → Type 0
 AreNear limits w = 4 + later_count w.output.code.finished + references w.output.tables ≤ limits setting.References
 
@@ -31,8 +31,8 @@ pub record Lays (limits : Limits) (context : Context) (was : Before) (w v : Comp
   pub on : is_over v ≡ false → is_over w ≡ false
   pub kept : is_over v ≡ false → IsKept limits context was w → IsKept limits context was v
 
--- So it goes from the end of a unit to that of another one, or to some place before: references are few behind it where they were
--- before and code had begun.
+-- From the end of a unit a compilation goes to that of another one, or to some place before: a fatal message stays, what is kept stays
+-- kept, and references are few behind it where they were before and code had begun.
 pub record Steps (limits : Limits) (context : Context) (was : Before) (w v : Compilation) : Type 0 where
   pub on : is_over v ≡ false → is_over w ≡ false
   pub kept : is_over v ≡ false → IsKept limits context was w → IsKept limits context was v

@@ -241,7 +241,7 @@ StatementsAreLaidAsTrees limits =
     (next : Place) (seen : List Seen) (events : List (Event Action)) → IsText grammar (statement ∷ []) (atoms_of seen) events
     → AreSeen (atoms_of seen) (tokens_of seen) → length seen + 1 < 4294967295 → AreTrees limits next seen events
 
--- So is the body of a routine, between its header and its end.
+-- The body of each routine, between its header and its end, is laid as trees.
 abbrev pub BodiesAreLaidAsTrees : Limits → Type 0
 BodiesAreLaidAsTrees limits =
     (next : Place) (seen : List Seen) (events : List (Event Action)) → IsText grammar (directive_2 ∷ []) (atoms_of seen) events

@@ -63,7 +63,7 @@ pub record Goes (limits : Limits) (u : UnitAtHand) (seen : List Seen) (events : 
       → run limits context (happenings_before next events seen) (record w { unit = ready u })
       ≡ record (parts_told context (ready u) parts w) { unit = with_parts parts (ready u) }
 
--- So it is behind any unit that the tokens fit in.
+-- Behind each unit that they fit in, the tokens are parts.
 abbrev pub Going : Limits → List Seen → List (Event Action) → Type 0
 Going limits seen events =
     (u : UnitAtHand) → AreSeen (atoms_of seen) (tokens_of seen) → u.begun ≤ length u.tokens → length u.tokens + length seen < 4294967295
