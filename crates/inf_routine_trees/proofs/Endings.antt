@@ -14,24 +14,23 @@ use Rattle.inf_syntax.specs.Parts.{string_rest, style_rest, switch_rest, text_mo
 use Rattle.inf_syntax.specs.Parts.{top_following_1, top_item, top_item_1, top_item_10, top_item_12, top_item_13, top_item_14, top_item_15}
 use Rattle.inf_syntax.specs.Parts.{top_item_16, top_item_17, top_item_19, top_item_2, top_item_20, top_item_21, top_item_5, top_item_6}
 use Rattle.inf_syntax.specs.Parts.{top_item_7, top_item_8, top_item_9, top_more, top_next, top_range, top_values, top_word, top_word_1}
-use Rattle.inf_syntax.specs.Parts.{while_rest}
+use Rattle.inf_syntax.specs.Parts.{first_case, first_case_1, first_case_2, first_case_4, minus_following, minus_more, minus_more_1}
+use Rattle.inf_syntax.specs.Parts.{outer_following, outer_following_1, outer_more, switch_following, switch_item, switch_item_1}
+use Rattle.inf_syntax.specs.Parts.{switch_item_10, switch_item_11, switch_item_12, switch_item_13, switch_item_14, switch_item_15}
+use Rattle.inf_syntax.specs.Parts.{switch_item_17, switch_item_18, switch_item_19, switch_item_2, switch_item_20, switch_item_21}
+use Rattle.inf_syntax.specs.Parts.{switch_item_22, switch_item_24, switch_item_25, switch_item_26, switch_item_3, switch_item_4}
+use Rattle.inf_syntax.specs.Parts.{switch_item_5, switch_item_7, switch_item_8, switch_more, switch_next, switch_next_1, switch_word}
+use Rattle.inf_syntax.specs.Parts.{switch_word_1, values, while_rest}
 use Rattle.inf_syntax.specs.declared.actions.Action.{Action}
 use Rattle.inf_syntax.specs.declared.actions.Action.TheVariants as action_of
 use Rattle.inf_grammar.specs.Language.{grammar}
 use Rattle.inf_unit.proofs.Cases.{of_both}
 use Rattle.inf_compilation.specs.Context.{Context}
-use Rattle.inf_compilation.specs.Actions.{Compilation, took}
+use Rattle.inf_compilation.specs.Actions.{Compilation}
 use Rattle.inf_compilation.specs.Parts.{construct_closed, construct_ended}
 use Rattle.inf_reader.specs.Acting.{act}
-use Rattle.inf_statement_laws.specs.Laid.{next_comes, passed, run}
-use Rattle.inf_statement_laws.specs.Readings.{Seen}
-use Rattle.inf_language.specs.Texts.{happenings_before}
-use Rattle.inf_language.specs.Units.{TakeAll}
 use Rattle.inf_trees.proofs.RuleRows.{is_among, keeps, passes}
-
-abbrev pub is_close : Action → Bool
-is_close action_of.Close = true
-is_close _ = false
+use Rattle.inf_routine_trees.specs.Bodies.{is_close}
 
 close_is : (a : Action) → is_close a ≡ true → a ≡ action_of.Close
 close_is action_of.Close is = refl
@@ -51,7 +50,12 @@ end_rules =
     text_more ∷ text_statement ∷ text_statement_1 ∷ top_following ∷ top_following_1 ∷ top_item ∷ top_item_1 ∷ top_item_10 ∷
     top_item_12 ∷ top_item_13 ∷ top_item_14 ∷ top_item_15 ∷ top_item_16 ∷ top_item_17 ∷ top_item_19 ∷ top_item_2 ∷ top_item_20 ∷
     top_item_21 ∷ top_item_5 ∷ top_item_6 ∷ top_item_7 ∷ top_item_8 ∷ top_item_9 ∷ top_more ∷ top_next ∷ top_range ∷ top_values ∷
-    top_word ∷ top_word_1 ∷ while_rest ∷ []
+    top_word ∷ top_word_1 ∷ while_rest ∷ first_case ∷ first_case_1 ∷ first_case_2 ∷ first_case_4 ∷ values ∷ switch_item ∷ switch_item_1 ∷
+    switch_item_2 ∷ switch_item_3 ∷ switch_item_4 ∷ switch_item_5 ∷ switch_item_7 ∷ switch_item_8 ∷ switch_item_10 ∷ switch_item_11 ∷
+    switch_item_12 ∷ switch_item_13 ∷ switch_item_14 ∷ switch_item_15 ∷ switch_item_17 ∷ switch_item_18 ∷ switch_item_19 ∷ switch_item_20 ∷
+    switch_item_21 ∷ switch_item_22 ∷ switch_item_24 ∷ switch_item_25 ∷ switch_item_26 ∷ switch_word ∷ switch_word_1 ∷ minus_more ∷
+    minus_more_1 ∷ switch_more ∷ outer_more ∷ switch_next ∷ switch_next_1 ∷ minus_following ∷ switch_following ∷ outer_following ∷
+    outer_following_1 ∷ []
 
 unfoldable pub ends : ℕ → Bool
 ends rule = is_among rule end_rules
@@ -134,25 +138,10 @@ close_opening limits w =
     of_both (λ (v : Compilation). v.opening ≡ w.opening) (nat_lt 0 w.closed) (record w { closed = w.closed - 1 }) (construct_ended limits w)
     (λ e. refl) (λ e. ended_opening limits w)
 
-both_true : (b : Bool) (a : Action) → (b && is_close a) ≡ true → (b ≡ true) × (a ≡ action_of.Close)
+pub both_true : (b : Bool) (a : Action) → (b && is_close a) ≡ true → (b ≡ true) × (a ≡ action_of.Close)
 both_true b a is = let both = and_parts b (is_close a) is in (both.0, close_is a both.1)
 
-act_opening : (limits : Limits) (context : Context) (place : Place) (a : Action) (w : Compilation) → a ≡ action_of.Close
+pub act_opening : (limits : Limits) (context : Context) (place : Place) (a : Action) (w : Compilation) → a ≡ action_of.Close
     → w.opening ≡ None → (act limits context place a w).opening ≡ None
 act_opening limits context place a w is none =
     ap (λ b. (act limits context place b w).opening) is ∙ (close_opening limits w ∙ none)
-
-pub none_behind : (limits : Limits) (context : Context) (next : Place) (b : Bool) (events : List (Event Action)) (seen : List Seen)
-    (w : Compilation) → TakeAll events seen → last_took b events ≡ true → (b ≡ true → w.opening ≡ None)
-    → (run limits context (happenings_before next events seen) w).opening ≡ None
-none_behind limits context next b [] [] w all last none = none last
-none_behind limits context next b [] (s ∷ seen) w all last none = absurd all
-none_behind limits context next b (Did a ∷ events) [] w all last none =
-    none_behind limits context next (b && is_close a) events [] (act limits context next a w) all last
-    (λ e. let both = both_true b a e in act_opening limits context next a w both.1 (none both.0))
-none_behind limits context next b (Did a ∷ events) (s ∷ seen) w all last none =
-    none_behind limits context next (b && is_close a) events (s ∷ seen) (act limits context s.token.place a w) all last
-    (λ e. let both = both_true b a e in act_opening limits context s.token.place a w both.1 (none both.0))
-none_behind limits context next b (Took atom ∷ events) [] w all last none = absurd all
-none_behind limits context next b (Took atom ∷ events) (s ∷ seen) w all last none =
-    none_behind limits context next true events seen (next_comes (passed s.behind (took context s.token w))) all last (λ e. refl)

@@ -1,4 +1,4 @@
--- `while (x) print "a";` and `[ Main; ];` meet the premises of the laws, as evaluation shows.
+-- `while (x) print "a";`, `switch (x) { 1: rtrue; }` and `[ Main; ];` meet the premises of the laws, as evaluation shows.
 use Rattle.std.proofs.Common.{◌≡◌, ℕ, List, [], ◌∷◌, ◌++◌, false, Some, None, refl, lit≤}
 use Rattle.std.specs.Prelude.{codes}
 use Rattle.inf_settings.specs.Bounds.{Limits}
@@ -23,7 +23,7 @@ use Rattle.inf_unit.specs.Tokens.{SourceToken, atom_of}
 use Rattle.inf_language.specs.Texts.{atoms_of}
 use Rattle.inf_routine_trees.specs.Bodies.{AreTrees}
 use Rattle.inf_routine_trees.specs.Routines.{IsRoutine, routine_symbols}
-use Rattle.inf_routine_trees.proofs.Loops.{statements_are_laid_as_trees}
+use Rattle.inf_routine_trees.proofs.StatementTrees.{statements_are_laid_as_trees}
 use Rattle.inf_routine_trees.proofs.RoutineTrees.{routines_are_trees}
 
 -- a token on the first line, with no conditional directive behind it
@@ -130,6 +130,87 @@ pub looped : (limits : Limits) (next : Place) → AreTrees limits next while_see
 looped limits next =
     statements_are_laid_as_trees limits next while_seen (while_events ++ Did action_of.Close ∷ []) while_text
     (while_is_seen, (opening_is_seen, (name_is_seen, (closing_is_seen, (print_is_seen, (text_is_seen, (semicolon_is_seen, tt)))))))
+    (lit≤ tt)
+
+-- A statement over a case
+
+abbrev word_switch : Seen
+word_switch = seen_as kind.Name (codes "switch")
+
+abbrev brace : Seen
+brace = seen_as (kind.Mark mark.OpenBrace) (codes "{")
+
+abbrev one : Seen
+one = seen_as (kind.Number 1) (codes "1")
+
+abbrev colon : Seen
+colon = seen_as (kind.Mark mark.Colon) (codes ":")
+
+abbrev word_rtrue : Seen
+word_rtrue = seen_as kind.Name (codes "rtrue")
+
+abbrev end_brace : Seen
+end_brace = seen_as (kind.Mark mark.CloseBrace) (codes "}")
+
+switch_is_seen : Marked word_switch
+switch_is_seen mark.Arrow same = cc
+switch_is_seen _ same = cc
+
+brace_is_seen : Marked brace
+brace_is_seen mark.OpenBrace same = refl
+brace_is_seen _ same = cc
+
+one_is_seen : Marked one
+one_is_seen mark.Arrow same = cc
+one_is_seen _ same = cc
+
+colon_is_seen : Marked colon
+colon_is_seen mark.Colon same = refl
+colon_is_seen _ same = cc
+
+rtrue_is_seen : Marked word_rtrue
+rtrue_is_seen mark.Arrow same = cc
+rtrue_is_seen _ same = cc
+
+end_brace_is_seen : Marked end_brace
+end_brace_is_seen mark.CloseBrace same = refl
+end_brace_is_seen _ same = cc
+
+abbrev switch_seen : List Seen
+switch_seen =
+    word_switch ∷ opening ∷ name ∷ closing ∷ brace ∷ one ∷ colon ∷ word_rtrue ∷ semicolon ∷ end_brace ∷ []
+
+abbrev switch_events : List (Event Action)
+switch_events =
+    Did action_of.Deeper ∷ Took word_switch.atom ∷ Did action_of.OpenSwitch ∷ Took opening.atom ∷ Did action_of.Begin ∷ Did action_of.Outer
+    ∷ Took name.atom ∷ Did action_of.Name ∷ Did action_of.EndSwitch ∷ Took closing.atom ∷ Took brace.atom ∷ Did action_of.Outer
+    ∷ Took one.atom ∷ Did action_of.Number ∷ Did action_of.EndCase ∷ Took colon.atom ∷ Did action_of.Begin ∷ Took word_rtrue.atom
+    ∷ Did action_of.EndStatement ∷ Took semicolon.atom ∷ Took end_brace.atom ∷ []
+
+switch_read : read grammar known (statement ∷ []) (atoms_of switch_seen) ≡ Some (record { events = switch_events; left = !close ∷ [] })
+unfolding grammar known
+switch_read = refl
+
+switch_text : IsText grammar (statement ∷ []) (atoms_of switch_seen) (switch_events ++ Did action_of.Close ∷ [])
+switch_text =
+    (texts_are_taken grammar known (number statement) (atoms_of switch_seen) (switch_events ++ Did action_of.Close ∷ [])
+    language_is_decided).1 (record { events = switch_events; left = !close ∷ [] }, Did action_of.Close ∷ [], switch_read, refl, action here)
+
+pub switched : (limits : Limits) (next : Place) → AreTrees limits next switch_seen (switch_events ++ Did action_of.Close ∷ [])
+switched limits next =
+    statements_are_laid_as_trees limits next switch_seen (switch_events ++ Did action_of.Close ∷ []) switch_text (
+      switch_is_seen,
+      (
+        opening_is_seen,
+        (
+          name_is_seen,
+          (
+            closing_is_seen,
+            (brace_is_seen, (one_is_seen, (colon_is_seen, (rtrue_is_seen, (semicolon_is_seen, (end_brace_is_seen, tt)))))),
+          ),
+        ),
+      ),
+    )
     (lit≤ tt)
 
 -- The routine

@@ -1,5 +1,5 @@
 -- A `for` is a tree.
-use Rattle.std.proofs.Common.{◌≡◌, ℕ, suc, ◌+◌, ◌≤◌, ◌<◌, List, [], ◌∷◌, ◌++◌, length, Bool, true, Option, Some, None, refl, sym, ◌∙◌, ap}
+use Rattle.std.proofs.Common.{◌≡◌, ℕ, suc, ◌+◌, ◌≤◌, ◌<◌, List, [], ◌∷◌, ◌++◌, length, Bool, true, false, Option, Some, None, refl, sym, ◌∙◌, ap}
 use Rattle.std.proofs.Common.{append_assoc, append-nil, arith}
 use Rattle.std.proofs.lemmas.Bool.{and_from}
 use Rattle.inf_settings.specs.Bounds.{Limits}
@@ -34,7 +34,9 @@ use Rattle.inf_trees.proofs.RuleRows.{of_rows}
 use Rattle.inf_trees.proofs.StatementsRead.{bracketed_units_are_trees}
 use Rattle.inf_trees.proofs.StatementTexts.{Rows}
 use Rattle.inf_trees.proofs.UnitsRead.{place_before, seen_parts}
-use Rattle.inf_routine_trees.specs.Bodies.{For as ForTree, MaybeWritten, maybe_done, maybe_seen, token_done, tree_laid, tree_seen, word_done}
+use Rattle.inf_routine_trees.specs.Bodies.{For as ForTree, MaybeWritten, Standing, maybe_done, maybe_seen, token_done, tree_laid}
+use Rattle.inf_routine_trees.specs.Bodies.{Tree, later_effects, next_effect, tree_seen, with_effect, with_effects, word_done}
+use Rattle.inf_routine_trees.proofs.Effects.{Effects, put, with_behind}
 use Rattle.inf_routine_trees.proofs.Pieces.{Worded, before_word, quiet-append, quiet_text}
 use Rattle.inf_simple_trees.proofs.Symbols.{ActFirst, PartsOf, TokenFirst, act_first, nothing_left, parts_of, token_first}
 use Rattle.inf_routine_trees.proofs.Pieces.{unit_quiet, unit_symbols, word_happens, worded}
@@ -144,8 +146,8 @@ abbrev for_symbols : List (Symbol Action)
 for_symbols = 'open_parenthesis' ∷ for_rest_1 ∷ behind_start
 
 -- The pieces of a `for` behind its word
-record ForText (limits : Limits) (is_inner : Bool) (next : Place) (seen : List Seen) (events : List (Event Action))
-    (wd : Worded limits is_inner (for_rest ∷ []) seen events) : Type 0 where
+record ForText (limits : Limits) (stands : Standing) (next : Place) (seen : List Seen) (events : List (Event Action))
+    (wd : Worded limits stands (for_rest ∷ []) seen events) : Type 0 where
   o : ActFirst action_of.OpenFor for_symbols wd.rest wd.late
   t : TokenFirst (for_rest_1 ∷ behind_start) wd.rest o.late
   p : PartsOf (for_rest_1 ∷ []) behind_start t.rest t.late
@@ -160,11 +162,11 @@ record ForText (limits : Limits) (is_inner : Bool) (next : Place) (seen : List S
   step : MaybeText limits action_of.EndForStep e.s.token.place r.front r.early
   body : BodyText limits next e.rest e.late
 
-for_text : (limits : Limits) (n : ℕ) → Below limits n → (is_inner : Bool) (next : Place) (seen : List Seen)
-    (events : List (Event Action)) → (wd : Worded limits is_inner (for_rest ∷ []) seen events)
+for_text : (limits : Limits) (n : ℕ) → Below limits n → (stands : Standing) (next : Place) (seen : List Seen)
+    (events : List (Event Action)) → (wd : Worded limits stands (for_rest ∷ []) seen events)
     → IsText grammar (!open_for ∷ for_symbols) (atoms_of wd.rest) wd.late → AreAll seen → length seen + 1 < 4294967295
-    → length seen ≤ suc n → ForText limits is_inner next seen events wd
-for_text limits n below is_inner next seen events wd text are_seen few fewer =
+    → length seen ≤ suc n → ForText limits stands next seen events wd
+for_text limits n below stands next seen events wd text are_seen few fewer =
     let all = moved_seen (sym wd.same) are_seen in
     let count : suc (length wd.rest) ≡ length seen = ap length wd.same in
     let o = act_first action_of.OpenFor for_symbols wd.rest wd.late text in
@@ -218,60 +220,70 @@ for_text limits n below is_inner next seen events wd text are_seen few fewer =
       body = body;
     }
 
-abbrev start_quiet : {limits : Limits} {is_inner : Bool} {next : Place} {seen : List Seen} {events : List (Event Action)}
-    {wd : Worded limits is_inner (for_rest ∷ []) seen events} → ForText limits is_inner next seen events wd → Quiet
+abbrev start_quiet : {limits : Limits} {stands : Standing} {next : Place} {seen : List Seen} {events : List (Event Action)}
+    {wd : Worded limits stands (for_rest ∷ []) seen events} → ForText limits stands next seen events wd → Quiet
 start_quiet x = record { all = Takes x.t.s.token x.t.s.behind ∷ x.start.happens; are = x.start.quiet refl }
 
-abbrev between_colons : {limits : Limits} {is_inner : Bool} {next : Place} {seen : List Seen} {events : List (Event Action)}
-    {wd : Worded limits is_inner (for_rest ∷ []) seen events} → ForText limits is_inner next seen events wd → List Happening
+abbrev between_colons : {limits : Limits} {stands : Standing} {next : Place} {seen : List Seen} {events : List (Event Action)}
+    {wd : Worded limits stands (for_rest ∷ []) seen events} → ForText limits stands next seen events wd → List Happening
 between_colons x = Takes x.d.s.token x.d.s.behind ∷ []
 
-abbrev test_quiet : {limits : Limits} {is_inner : Bool} {next : Place} {seen : List Seen} {events : List (Event Action)}
-    {wd : Worded limits is_inner (for_rest ∷ []) seen events} → ForText limits is_inner next seen events wd → Quiet
+abbrev test_quiet : {limits : Limits} {stands : Standing} {next : Place} {seen : List Seen} {events : List (Event Action)}
+    {wd : Worded limits stands (for_rest ∷ []) seen events} → ForText limits stands next seen events wd → Quiet
 test_quiet x = record {
   all = Takes x.c.s.token x.c.s.behind ∷ (x.test.happens ++ between_colons x);
   are = quiet-append x.test.happens (between_colons x) (x.test.quiet refl) refl;
 }
 
-abbrev closing_quiet : {limits : Limits} {is_inner : Bool} {next : Place} {seen : List Seen} {events : List (Event Action)}
-    {wd : Worded limits is_inner (for_rest ∷ []) seen events} → ForText limits is_inner next seen events wd → Quiet
+abbrev closing_quiet : {limits : Limits} {stands : Standing} {next : Place} {seen : List Seen} {events : List (Event Action)}
+    {wd : Worded limits stands (for_rest ∷ []) seen events} → ForText limits stands next seen events wd → Quiet
 closing_quiet x = record { all = Takes x.e.s.token x.e.s.behind ∷ []; are = refl }
 
-abbrev step_is : {limits : Limits} {is_inner : Bool} {next : Place} {seen : List Seen} {events : List (Event Action)}
-    {wd : Worded limits is_inner (for_rest ∷ []) seen events} → ForText limits is_inner next seen events wd → Step
+abbrev step_is : {limits : Limits} {stands : Standing} {next : Place} {seen : List Seen} {events : List (Event Action)}
+    {wd : Worded limits stands (for_rest ∷ []) seen events} → ForText limits stands next seen events wd → Step
 step_is x = x.step.step refl
 
-abbrev opens : {limits : Limits} {is_inner : Bool} {next : Place} {seen : List Seen} {events : List (Event Action)}
-    {wd : Worded limits is_inner (for_rest ∷ []) seen events} → ForText limits is_inner next seen events wd → Moment
+abbrev opens : {limits : Limits} {stands : Standing} {next : Place} {seen : List Seen} {events : List (Event Action)}
+    {wd : Worded limits stands (for_rest ∷ []) seen events} → ForText limits stands next seen events wd → Moment
 opens x = plainly_at x.t.s.token.place
 
-abbrev top_at : {limits : Limits} {is_inner : Bool} {next : Place} {seen : List Seen} {events : List (Event Action)}
-    {wd : Worded limits is_inner (for_rest ∷ []) seen events} → ForText limits is_inner next seen events wd → Moment
+abbrev top_at : {limits : Limits} {stands : Standing} {next : Place} {seen : List Seen} {events : List (Event Action)}
+    {wd : Worded limits stands (for_rest ∷ []) seen events} → ForText limits stands next seen events wd → Moment
 top_at x = plainly_at x.c.s.token.place
 
-abbrev last : {limits : Limits} {is_inner : Bool} {next : Place} {seen : List Seen} {events : List (Event Action)}
-    {wd : Worded limits is_inner (for_rest ∷ []) seen events} → ForText limits is_inner next seen events wd → List Happening
+abbrev last : {limits : Limits} {stands : Standing} {next : Place} {seen : List Seen} {events : List (Event Action)}
+    {wd : Worded limits stands (for_rest ∷ []) seen events} → ForText limits stands next seen events wd → List Happening
 last {next = next} x = happenings x.body.nested ++ Acts (plainly_at next) action_of.Close ∷ []
 
-abbrev behind_second : {limits : Limits} {is_inner : Bool} {next : Place} {seen : List Seen} {events : List (Event Action)}
-    {wd : Worded limits is_inner (for_rest ∷ []) seen events} → ForText limits is_inner next seen events wd → List Happening
+abbrev behind_second : {limits : Limits} {stands : Standing} {next : Place} {seen : List Seen} {events : List (Event Action)}
+    {wd : Worded limits stands (for_rest ∷ []) seen events} → ForText limits stands next seen events wd → List Happening
 behind_second x = step_happenings (step_is x) ++ Takes x.e.s.token x.e.s.behind ∷ last x
 
-abbrev nested_for : {b : Bool} {limits : Limits} {is_inner : Bool} {next : Place} {seen : List Seen} {events : List (Event Action)}
-    {wd : Worded limits is_inner (for_rest ∷ []) seen events} → ForText limits is_inner next seen events wd → Nested b
+abbrev with_body : {b : Bool} {limits : Limits} {stands : Standing} {next : Place} {seen : List Seen} {events : List (Event Action)}
+    {wd : Worded limits stands (for_rest ∷ []) seen events} → ForText limits stands next seen events wd → Nested false → Moment → Nested b
+with_body x body closes =
+    For (opens x) (start_quiet x) (top_at x) (test_quiet x) (step_is x) (closing_quiet x) body closes
+
+abbrev tree_for : {limits : Limits} {stands : Standing} {next : Place} {seen : List Seen} {events : List (Event Action)}
+    {wd : Worded limits stands (for_rest ∷ []) seen events} → ForText limits stands next seen events wd → Tree → Tree
+tree_for {stands = stands} {wd = wd} x body =
+    ForTree stands wd.word x.t.s x.start.unit x.c.s x.test.unit x.d.s x.step.unit x.e.s body
+
+abbrev nested_for : {b : Bool} {limits : Limits} {stands : Standing} {next : Place} {seen : List Seen} {events : List (Event Action)}
+    {wd : Worded limits stands (for_rest ∷ []) seen events} → ForText limits stands next seen events wd → Nested b
 nested_for {next = next} x =
     For (opens x) (start_quiet x) (top_at x) (test_quiet x) (step_is x) (closing_quiet x) x.body.nested (plainly_at next)
 
-from_step : {limits : Limits} {is_inner : Bool} {next : Place} {seen : List Seen} {events : List (Event Action)}
-    {wd : Worded limits is_inner (for_rest ∷ []) seen events} (x : ForText limits is_inner next seen events wd) → happenings_before next x.d.late x.d.rest ≡ behind_second x
+from_step : {limits : Limits} {stands : Standing} {next : Place} {seen : List Seen} {events : List (Event Action)}
+    {wd : Worded limits stands (for_rest ∷ []) seen events} (x : ForText limits stands next seen events wd) → happenings_before next x.d.late x.d.rest ≡ behind_second x
 from_step {next = next} x =
     x.r.happen next
     ∙ (ap (λ y. happenings_before y x.r.early x.r.front ++ happenings_before next x.r.late x.r.rest) (x.e.place next)
     ∙ (ap (λ l. l ++ happenings_before next x.r.late x.r.rest) (x.step.same ∙ sym (x.step.step_same refl))
     ∙ ap (λ l. step_happenings (step_is x) ++ l) (x.e.happen next ∙ ap (λ l. Takes x.e.s.token x.e.s.behind ∷ l) x.body.happen)))
 
-from_test : {limits : Limits} {is_inner : Bool} {next : Place} {seen : List Seen} {events : List (Event Action)}
-    {wd : Worded limits is_inner (for_rest ∷ []) seen events} (x : ForText limits is_inner next seen events wd)
+from_test : {limits : Limits} {stands : Standing} {next : Place} {seen : List Seen} {events : List (Event Action)}
+    {wd : Worded limits stands (for_rest ∷ []) seen events} (x : ForText limits stands next seen events wd)
     → happenings_before next x.c.late x.c.rest ≡ (x.test.happens ++ between_colons x) ++ behind_second x
 from_test {next = next} x =
     x.q.happen next
@@ -280,8 +292,8 @@ from_test {next = next} x =
     ∙ (ap (λ l. x.test.happens ++ l) (x.d.happen next ∙ ap (λ l. Takes x.d.s.token x.d.s.behind ∷ l) (from_step x))
     ∙ sym (append_assoc x.test.happens (between_colons x) (behind_second x)))))
 
-from_start : {limits : Limits} {is_inner : Bool} {next : Place} {seen : List Seen} {events : List (Event Action)}
-    {wd : Worded limits is_inner (for_rest ∷ []) seen events} (x : ForText limits is_inner next seen events wd)
+from_start : {limits : Limits} {stands : Standing} {next : Place} {seen : List Seen} {events : List (Event Action)}
+    {wd : Worded limits stands (for_rest ∷ []) seen events} (x : ForText limits stands next seen events wd)
     → happenings_before next x.t.late x.t.rest
     ≡ x.start.happens ++ Acts (top_at x) action_of.ForTop ∷ ((test_quiet x).all ++ behind_second x)
 from_start {next = next} x =
@@ -292,18 +304,18 @@ from_start {next = next} x =
     ∙ (ap (λ y. Acts (plainly_at y) action_of.ForTop ∷ happenings_before next x.j.late x.p.rest) (x.c.place next)
     ∙ ap (λ l. Acts (top_at x) action_of.ForTop ∷ l) (x.c.happen next ∙ ap (λ l. Takes x.c.s.token x.c.s.behind ∷ l) (from_test x))))))
 
-for_same : (b : Bool) {limits : Limits} {is_inner : Bool} {next : Place} {seen : List Seen} {events : List (Event Action)}
-    {wd : Worded limits is_inner (for_rest ∷ []) seen events} (x : ForText limits is_inner next seen events wd)
-    → happenings_before next events seen ≡ word_happens is_inner wd.word ++ happenings (nested_for {b = b} x)
-for_same b {is_inner = is_inner} {next} {wd = wd} x =
+for_same : (b : Bool) {limits : Limits} {stands : Standing} {next : Place} {seen : List Seen} {events : List (Event Action)}
+    {wd : Worded limits stands (for_rest ∷ []) seen events} (x : ForText limits stands next seen events wd)
+    → happenings_before next events seen ≡ word_happens stands wd.word ++ happenings (nested_for {b = b} x)
+for_same b {stands = stands} {next} {wd = wd} x =
     wd.happen next
-    ∙ ap (λ y. word_happens is_inner wd.word ++ y) (x.o.happen next
+    ∙ ap (λ y. word_happens stands wd.word ++ y) (x.o.happen next
     ∙ (ap (λ y. Acts (plainly_at y) action_of.OpenFor ∷ happenings_before next x.o.late wd.rest) (x.t.place next)
     ∙ ap (λ y. Acts (opens x) action_of.OpenFor ∷ y) (x.t.happen next ∙ ap (λ y. Takes x.t.s.token x.t.s.behind ∷ y) (from_start x))))
 
-for_all : {limits : Limits} {is_inner : Bool} {next : Place} {seen : List Seen} {events : List (Event Action)}
-    {wd : Worded limits is_inner (for_rest ∷ []) seen events} (x : ForText limits is_inner next seen events wd)
-    → tree_seen (ForTree is_inner wd.word x.t.s x.start.unit x.c.s x.test.unit x.d.s x.step.unit x.e.s x.body.tree) ≡ seen
+for_all : {limits : Limits} {stands : Standing} {next : Place} {seen : List Seen} {events : List (Event Action)}
+    {wd : Worded limits stands (for_rest ∷ []) seen events} (x : ForText limits stands next seen events wd)
+    → tree_seen (ForTree stands wd.word x.t.s x.start.unit x.c.s x.test.unit x.d.s x.step.unit x.e.s x.body.tree) ≡ seen
 for_all {wd = wd} x =
     let word = λ (y : List Seen). wd.word ∷ x.t.s ∷ y in
     let started = λ (y : List Seen). word (x.p.front ++ y) in
@@ -320,19 +332,20 @@ for_all {wd = wd} x =
     ∙ (ap (λ y. started (x.c.s ∷ y)) x.q.same
     ∙ (ap started x.c.same ∙ (ap word x.p.same ∙ (ap (λ y. wd.word ∷ y) x.t.same ∙ wd.same))))))))))
 
-for_lays : (b : Bool) (limits : Limits) (is_inner : Bool) (next : Place) (seen : List Seen) (events : List (Event Action))
-    (wd : Worded limits is_inner (for_rest ∷ []) seen events) (x : ForText limits is_inner next seen events wd)
-    (context : Context) (w : Compilation) → w.closed ≡ 0 → w.opening ≡ None
-    → laid limits context (After (Plain (word_quiet wd)) (nested_for {b = b} x)) w
-    ≡ tree_laid limits context (ForTree is_inner wd.word x.t.s x.start.unit x.c.s x.test.unit x.d.s x.step.unit x.e.s x.body.tree) w
-for_lays b limits is_inner next seen events wd x context w ahead none =
-    let v = word_done limits context is_inner wd.word w in
+for_lays : (b : Bool) (limits : Limits) (stands : Standing) (next : Place) (seen : List Seen) (events : List (Event Action))
+    (wd : Worded limits stands (for_rest ∷ []) seen events) (x : ForText limits stands next seen events wd)
+    (effects : Effects) (context : Context) (w : Compilation) → w.closed ≡ 0 → w.opening ≡ None
+    → laid limits context (After (Plain (word_quiet wd)) (with_body {b = b} x (put effects x.body.nested).0 (plainly_at next))) w
+    ≡ tree_laid limits context (tree_for x (with_effects effects x.body.tree).0) w
+for_lays b limits stands next seen events wd x effects context w ahead none =
+    let inner = put effects x.body.nested in
+    let v = word_done limits context stands wd.word w in
     let k = opened limits kind.For v.output in
     let begins = opened_at context (opens x) k v in
     let closed_by = λ (top : Construct) (z : Compilation).
     let own = with_step_in z.constructs top in
     ended_as limits (plainly_at next) own v.constructs
-    (laid limits context x.body.nested (token_done context x.e.s (record z { constructs = own ∷ v.constructs }))) in
+    (laid limits context inner.0 (token_done context x.e.s (record z { constructs = own ∷ v.constructs }))) in
     let behind_start = λ (z : Compilation).
     let top = between limits k.0 z.output in
     closed_by top.0 (run limits context (step_happenings (step_is x)) (run limits context (test_quiet x).all (holding (top_at x) top v.constructs z))) in
@@ -352,35 +365,42 @@ for_lays b limits is_inner next seen events wd x context w ahead none =
     let stepped_closed = maybe_closed x.step context tested refl tested_closed in
     let own = with_step_in stepped.constructs top.0 in
     let inside = record stepped { constructs = own ∷ v.constructs } in
-    ap (laid {b = b} limits context (nested_for x)) (wd.runs context w)
+    ap (laid {b = b} limits context (with_body x inner.0 (plainly_at next))) (wd.runs context w)
     ∙ (ap behind_start (x.start.runs context y refl)
     ∙ (ap (λ g. closed_by top.0 (run limits context (step_happenings (step_is x)) g))
     (run_then limits context x.test.happens (between_colons x) z ∙ ap (token_done context x.d.s) (x.test.runs context z refl))
     ∙ (ap (closed_by top.0)
     (ap (λ hs. run limits context hs tested) (x.step.step_same refl) ∙ x.step.runs context tested refl)
     ∙ ap (λ g. ended_as limits (plainly_at next) own v.constructs g)
-    (x.body.lays context (token_done context x.e.s inside) (took_none context x.e.s.token inside ∙ stepped_closed) refl))))
+    (x.body.lays effects context (token_done context x.e.s inside) (took_none context x.e.s.token inside ∙ stepped_closed) refl))))
 
-for_built : {b : Bool} (limits : Limits) (is_inner : Bool) (next : Place) (seen : List Seen) (events : List (Event Action))
-    (wd : Worded limits is_inner (for_rest ∷ []) seen events) → ForText limits is_inner next seen events wd → IsTree b limits next seen events
-for_built {b} limits is_inner next seen events wd x = record {
-  tree = ForTree is_inner wd.word x.t.s x.start.unit x.c.s x.test.unit x.d.s x.step.unit x.e.s x.body.tree;
+for_built : {b : Bool} (limits : Limits) (stands : Standing) (next : Place) (seen : List Seen) (events : List (Event Action))
+    (wd : Worded limits stands (for_rest ∷ []) seen events) → ForText limits stands next seen events wd → IsTree b limits next seen events
+for_built {b} limits stands next seen events wd x = record {
+  tree = ForTree stands wd.word x.t.s x.start.unit x.c.s x.test.unit x.d.s x.step.unit x.e.s x.body.tree;
   all = for_all x;
   written = (x.start.written, (x.test.written, (x.step.written, x.body.written)));
   nested = After (Plain (word_quiet wd)) (nested_for x);
   same = sym (for_same b x);
-  lays = λ context w ahead none. for_lays b limits is_inner next seen events wd x context w ahead none;
+  lays = λ effects context w ahead none.
+      let inner = put effects x.body.nested in
+      let holding_body = tree_for x (with_effects effects x.body.tree).0 in
+      with_behind limits context (next_effect inner.1) holding_body w next
+      (λ at. laid {b = b} limits context (After (Plain (word_quiet wd)) (with_body x inner.0 at)) w) (λ m. refl)
+      (for_lays b limits stands next seen events wd x effects context w ahead none)
+      ∙ ap (λ r. tree_laid limits context (with_effect (next_effect r) holding_body) w) (x.body.rests effects);
+  rests = λ effects. ap later_effects (x.body.rests effects);
 }
 
 for_rows : Rows for_rest (row (!open_for ∷ for_symbols) ∷ [])
 unfolding grammar
 for_rows = refl
 
-pub for_tree : {b : Bool} (limits : Limits) (n : ℕ) → Below limits n → (is_inner : Bool) (next : Place) (seen : List Seen)
-    (events : List (Event Action)) → IsText grammar (before_word is_inner ++ 'for' ∷ for_rest ∷ []) (atoms_of seen) events
+pub for_tree : {b : Bool} (limits : Limits) (n : ℕ) → Below limits n → (stands : Standing) (next : Place) (seen : List Seen)
+    (events : List (Event Action)) → IsText grammar (before_word stands ++ 'for' ∷ for_rest ∷ []) (atoms_of seen) events
     → AreAll seen → length seen + 1 < 4294967295 → length seen ≤ suc n → IsTree b limits next seen events
-for_tree {b} limits n below is_inner next seen events text are_seen few fewer =
-    let wd = worded limits is_inner _ (for_rest ∷ []) seen events text in
+for_tree {b} limits n below stands next seen events text are_seen few fewer =
+    let wd = worded limits stands _ (for_rest ∷ []) seen events text in
     of_rows (IsTree b limits next seen events) (number for_rest) (row (!open_for ∷ for_symbols) ∷ []) (atoms_of wd.rest) wd.late for_rows
-    ((λ t. for_built limits is_inner next seen events wd (for_text limits n below is_inner next seen events wd t are_seen few fewer)), tt)
+    ((λ t. for_built limits stands next seen events wd (for_text limits n below stands next seen events wd t are_seen few fewer)), tt)
     wd.text

@@ -1,10 +1,15 @@
 pub mod Pieces
 pub mod Endings
+pub mod Effects
 pub mod Wider
 pub mod Trees
 pub mod ObjectLoops
 pub mod ForLoops
 pub mod Loops
+pub mod CaseTrees
+pub mod Switches
+pub mod StatementTrees
 pub mod BodyTrees
+pub mod Headers
 pub mod RoutineTrees
 pub mod Examples

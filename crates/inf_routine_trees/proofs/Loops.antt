@@ -1,14 +1,12 @@
--- A `do` and a block are trees; and so is each statement.
+-- A `do` and a block are trees.
 use Rattle.std.proofs.Common.{◌≡◌, ℕ, zero, suc, ◌+◌, ◌≤◌, ◌<◌, List, [], ◌∷◌, ◌++◌, length, Bool, true, false, None, refl, sym, ◌∙◌, ap}
 use Rattle.std.proofs.Common.{append_assoc, arith}
 use Rattle.inf_settings.specs.Bounds.{Limits}
 use Rattle.inf_scanner.specs.declared.tokens.Place.{Place}
 use Rattle.inf_machine.specs.declared.symbols.Symbol.{Symbol}
-use Rattle.inf_machine.specs.Grammar.{Did, Event, IsOneOf, IsText, Row, Took, first, here, later}
-use Rattle.inf_syntax.specs.Parts.{ !close, !deeper, !end_until, !begin, !open_do, !outer, !until, 'close_brace', 'close_parenthesis', 'do'}
-use Rattle.inf_syntax.specs.Parts.{'for', 'if', 'objectloop', 'open_brace', 'open_parenthesis', 'semicolon', 'switch', 'until', 'while'}
-use Rattle.inf_syntax.specs.Parts.{do_rest, expression, for_rest, if_rest, mark_statement_1, objectloop_rest, statement, statement_3}
-use Rattle.inf_syntax.specs.Parts.{switch_rest, while_rest}
+use Rattle.inf_machine.specs.Grammar.{Did, Event, IsText, Took, here}
+use Rattle.inf_syntax.specs.Parts.{ !close, !end_until, !begin, !open_do, !outer, !until, 'close_brace', 'close_parenthesis', 'do'}
+use Rattle.inf_syntax.specs.Parts.{'open_brace', 'open_parenthesis', 'semicolon', 'until', do_rest, expression, mark_statement_1, statement}
 use Rattle.inf_syntax.specs.Rows.{row}
 use Rattle.inf_syntax.specs.declared.actions.Action.{Action}
 use Rattle.inf_syntax.specs.declared.actions.Action.TheVariants as action_of
@@ -17,9 +15,9 @@ use Rattle.inf_constructs.specs.Constructs.{between, opened}
 use Rattle.inf_constructs.specs.declared.constructs.Kind.TheVariants as kind
 use Rattle.inf_compilation.specs.Context.{Context}
 use Rattle.inf_compilation.specs.Actions.{Compilation}
-use Rattle.inf_statement_laws.specs.Happenings.{Acts, Happening, Quiet, Takes}
+use Rattle.inf_statement_laws.specs.Happenings.{Acts, Happening, Moment, Quiet, Takes}
 use Rattle.inf_statement_laws.specs.Laid.{ended_as, holding, laid, opened_at, run}
-use Rattle.inf_statement_laws.specs.Nested.{Do, Plain, happenings}
+use Rattle.inf_statement_laws.specs.Nested.{Do, Nested, Plain, happenings}
 use Rattle.inf_statement_laws.specs.Nested.{Then as After}
 use Rattle.inf_statement_laws.specs.Readings.{Seen, plainly_at}
 use Rattle.inf_statement_laws.proofs.Acts.{quiet_run}
@@ -28,26 +26,20 @@ use Rattle.inf_statement_laws.proofs.Rules.{number}
 use Rattle.inf_language.specs.Texts.{atoms_of, happenings_before}
 use Rattle.inf_language.specs.Units.{TakeAll}
 use Rattle.inf_language.proofs.Derivations.{texts_take_all}
-use Rattle.inf_trees.specs.Statements.{other_statements}
-use Rattle.inf_trees.proofs.Expanded.{with_rows}
 use Rattle.inf_trees.proofs.RuleRows.{of_rows}
-use Rattle.inf_trees.proofs.StatementTexts.{Rows, statement_text}
+use Rattle.inf_trees.proofs.StatementTexts.{Rows}
 use Rattle.inf_trees.proofs.UnitsRead.{place_before, seen_parts}
-use Rattle.inf_routine_trees.specs.Bodies.{Block, Do as DoTree, Nothing, Then, bracketed_seen, moment_before}
-use Rattle.inf_routine_trees.specs.Bodies.{IsTold, StatementsAreLaidAsTrees, opening_of, token_done, told_statements, tree_laid, tree_seen, word_done}
-use Rattle.inf_simple_trees.specs.Simple.{holding_statements}
+use Rattle.inf_routine_trees.specs.Bodies.{Block, Do as DoTree, Nothing, bracketed_seen, moment_before}
+use Rattle.inf_routine_trees.specs.Bodies.{Standing, Then, bracketed_done, later_effects, next_effect, opening_of, token_done, tree_laid}
+use Rattle.inf_routine_trees.specs.Bodies.{tree_seen, with_effect, with_effects, word_done}
 use Rattle.inf_routine_trees.proofs.Endings.{end_so, ends, last_took, text_ends}
-use Rattle.inf_routine_trees.proofs.ForLoops.{for_tree}
-use Rattle.inf_routine_trees.proofs.ObjectLoops.{loop_tree}
 use Rattle.inf_routine_trees.proofs.Pieces.{Worded, before_word, bracketed_text, closed_text, test_happen, test_happens}
 use Rattle.inf_simple_trees.proofs.Symbols.{PartsOf, act_first, parts_of}
 use Rattle.inf_routine_trees.proofs.Pieces.{quiet-append, test_quiet, test_runs, word_happens, worded}
 use Rattle.inf_simple_trees.proofs.Symbols.{nothing_left, token_first}
-use Rattle.inf_routine_trees.proofs.Wider.{wider, wider_laid, wider_same}
-use Rattle.inf_simple_trees.proofs.SimpleRead.{beside_statement, simple_text}
-use Rattle.inf_simple_trees.proofs.SimpleTexts.{Another, OneUnit, SimpleText}
-use Rattle.inf_routine_trees.proofs.Trees.{AreAll, Below, IsTree, if_tree, moved_seen, simple_tree, told_tree, tree_closed}
-use Rattle.inf_routine_trees.proofs.Trees.{tree_opening, tree_runs, while_tree, word_closed, word_quiet}
+use Rattle.inf_routine_trees.proofs.Effects.{Effects, effects_seen, put, with_behind}
+use Rattle.inf_routine_trees.proofs.Wider.{wider, wider_laid, wider_put, wider_same}
+use Rattle.inf_routine_trees.proofs.Trees.{AreAll, Below, IsTree, moved_seen, tree_closed, tree_opening, word_closed, word_quiet}
 
 pub statement_ends : end_so false (statement ∷ []) ≡ true
 unfolding ends
@@ -67,11 +59,11 @@ first_place : (next : Place) (front rest : List Seen) (s : Seen) → place_befor
 first_place next [] rest s is = ap plainly_at is
 first_place next (x ∷ front) rest s is = refl
 
-do_row_tree : {b : Bool} (limits : Limits) (n : ℕ) → Below limits n → (is_inner : Bool) (next : Place) (seen : List Seen)
-    (events : List (Event Action)) → (wd : Worded limits is_inner (do_rest ∷ []) seen events)
+do_row_tree : {b : Bool} (limits : Limits) (n : ℕ) → Below limits n → (stands : Standing) (next : Place) (seen : List Seen)
+    (events : List (Event Action)) → (wd : Worded limits stands (do_rest ∷ []) seen events)
     → IsText grammar (!open_do ∷ do_symbols) (atoms_of wd.rest) wd.late → AreAll seen → length seen + 1 < 4294967295
     → length seen ≤ suc n → IsTree b limits next seen events
-do_row_tree {b} limits n below is_inner next seen events wd text are_seen few fewer =
+do_row_tree {b} limits n below stands next seen events wd text are_seen few fewer =
     let all = moved_seen (sym wd.same) are_seen in
     let count : suc (length wd.rest) ≡ length seen = ap length wd.same in
     let o = act_first action_of.OpenDo do_symbols wd.rest wd.late text in
@@ -95,7 +87,7 @@ do_row_tree {b} limits n below is_inner next seen events wd text are_seen few fe
     let opens = moment_before (tree_seen inner.tree) u.s in
     let at = opening_of t.tree in
     let closes = plainly_at next in
-    let word = word_happens is_inner wd.word in
+    let word = word_happens stands wd.word in
     let closing : List Happening = Acts closes action_of.Close ∷ [] in
     let opens_are : plainly_at (place_before wd.rest next) ≡ opens =
     ap (λ l. plainly_at (place_before l next)) (sym p.same)
@@ -109,7 +101,7 @@ do_row_tree {b} limits n below is_inner next seen events wd text are_seen few fe
     ∙ (ap (λ l. test_happens t ++ l) (s.happen next ∙ ap (λ l. Takes s.s.token s.s.behind ∷ l) (c.happen next))
     ∙ sym (append_assoc (test_happens t) last closing))))) in
     record {
-      tree = DoTree is_inner wd.word inner.tree u.s t.tree s.s;
+      tree = DoTree stands wd.word inner.tree u.s t.tree s.s;
       all =
           ap (λ l. wd.word ∷ (l ++ u.s ∷ (bracketed_seen t.tree ++ s.s ∷ []))) inner.all
           ∙ (ap (λ l. wd.word ∷ (p.front ++ u.s ∷ (bracketed_seen t.tree ++ s.s ∷ l))) (sym c.none)
@@ -124,33 +116,47 @@ do_row_tree {b} limits n below is_inner next seen events wd text are_seen few fe
           ∙ (ap (λ x. Acts x action_of.OpenDo ∷ happenings_before next o.late wd.rest) opens_are
           ∙ ap (λ l. Acts opens action_of.OpenDo ∷ l) (p.happen next
           ∙ (ap (λ l. l ++ happenings_before next p.late p.rest) (sym inner.same) ∙ ap (λ l. happenings inner.nested ++ l) until_happens)))));
-      lays = λ context w ahead none.
-          let v = word_done limits context is_inner wd.word w in
+      lays = λ effects context w ahead none.
+          let body = put effects inner.nested in
+          let body_tree = with_effects effects inner.tree in
+          let holding_body = DoTree stands wd.word body_tree.0 u.s t.tree s.s in
+          let opens_as : opens ≡ moment_before (tree_seen body_tree.0) u.s =
+          ap (λ l. moment_before l u.s) (sym (effects_seen effects inner.tree)) in
+          let v = word_done limits context stands wd.word w in
           let c = opened limits kind.Do v.output in
           let x = opened_at context opens c v in
           let v_open = word_closed wd context w ahead in
           let ended = λ (z : Compilation). let joined = between limits c.0 z.output in
           ended_as limits closes joined.0 v.constructs (run limits context q.all (holding at joined v.constructs z)) in
-          let former = token_done context u.s (tree_laid limits context inner.tree x) in
+          let former = token_done context u.s (tree_laid limits context body_tree.0 x) in
+          let laid_from = λ (from : Moment). let first = token_done context u.s (tree_laid limits context body_tree.0 (opened_at context from c v)) in
+          let to_test = between limits c.0 first.output in
+          ended_as limits at to_test.0 v.constructs
+          (token_done context s.s (bracketed_done limits context action_of.EndUntil t.tree (holding at to_test v.constructs first))) in
           let joined = between limits c.0 former.output in
           let y = holding at joined v.constructs former in
-          ap (laid {b = b} limits context (Do opens inner.nested word_2 at q closes)) (wd.runs context w)
-          ∙ (ap (λ z. ended (token_done context u.s z)) (inner.lays context x v_open refl)
-          ∙ ap (λ z. ended_as limits closes joined.0 v.constructs z)
-          (run_then limits context (test_happens t) last y ∙ ap (token_done context s.s) (test_runs t context y)));
+          with_behind limits context (next_effect body.1) holding_body w next
+          (λ moment. laid {b = b} limits context (After (Plain (word_quiet wd)) (Do opens body.0 word_2 at q moment)) w) (λ m. refl)
+          (ap (laid {b = b} limits context (Do opens body.0 word_2 at q closes)) (wd.runs context w)
+          ∙ (ap (λ z. ended (token_done context u.s z)) (inner.lays effects context x v_open refl)
+          ∙ (ap (λ z. ended_as limits closes joined.0 v.constructs z)
+          (run_then limits context (test_happens t) last y ∙ ap (token_done context s.s) (test_runs t context y))
+          ∙ ap laid_from opens_as)))
+          ∙ ap (λ r. tree_laid limits context (with_effect (next_effect r) holding_body) w) (inner.rests effects);
+      rests = λ effects. ap later_effects (inner.rests effects);
     }
 
 do_rows : Rows do_rest (row (!open_do ∷ do_symbols) ∷ [])
 unfolding grammar
 do_rows = refl
 
-pub do_tree : {b : Bool} (limits : Limits) (n : ℕ) → Below limits n → (is_inner : Bool) (next : Place) (seen : List Seen)
-    (events : List (Event Action)) → IsText grammar (before_word is_inner ++ 'do' ∷ do_rest ∷ []) (atoms_of seen) events
+pub do_tree : {b : Bool} (limits : Limits) (n : ℕ) → Below limits n → (stands : Standing) (next : Place) (seen : List Seen)
+    (events : List (Event Action)) → IsText grammar (before_word stands ++ 'do' ∷ do_rest ∷ []) (atoms_of seen) events
     → AreAll seen → length seen + 1 < 4294967295 → length seen ≤ suc n → IsTree b limits next seen events
-do_tree {b} limits n below is_inner next seen events text are_seen few fewer =
-    let wd = worded limits is_inner _ (do_rest ∷ []) seen events text in
+do_tree {b} limits n below stands next seen events text are_seen few fewer =
+    let wd = worded limits stands _ (do_rest ∷ []) seen events text in
     of_rows (IsTree b limits next seen events) (number do_rest) (row (!open_do ∷ do_symbols) ∷ []) (atoms_of wd.rest) wd.late do_rows
-    ((λ t. do_row_tree limits n below is_inner next seen events wd t are_seen few fewer), tt) wd.text
+    ((λ t. do_row_tree limits n below stands next seen events wd t are_seen few fewer), tt) wd.text
 
 -- Statements in braces
 
@@ -161,8 +167,8 @@ block_rows = refl
 -- a list of statements, and the word that no word waits behind it where none waits before it
 record IsList (limits : Limits) (next : Place) (seen : List Seen) (events : List (Event Action)) : Type 0 where
   list : IsTree false limits next seen events
-  opening : (context : Context) (w : Compilation) → w.closed ≡ 0 → w.opening ≡ None
-      → (tree_laid limits context list.tree w).opening ≡ None
+  opening : (effects : Effects) (context : Context) (w : Compilation) → w.closed ≡ 0 → w.opening ≡ None
+      → (tree_laid limits context (with_effects effects list.tree).0 w).opening ≡ None
 
 no_statements : (limits : Limits) (next : Place) {atoms : List ℕ} {events : List (Event Action)} → IsText grammar [] atoms events
     → (seen : List Seen) → atoms_of seen ≡ atoms → IsList limits next seen events
@@ -173,9 +179,10 @@ no_statements limits next here [] is = record {
     written = tt;
     nested = Plain (record { all = []; are = refl });
     same = refl;
-    lays = λ context w ahead none. refl;
+    lays = λ effects context w ahead none. refl;
+    rests = λ effects. refl;
   };
-  opening = λ context w ahead none. none;
+  opening = λ effects context w ahead none. none;
 }
 no_statements limits next here (s ∷ seen) is = cc
 
@@ -210,15 +217,21 @@ module _ (limits : Limits) (n : ℕ) (below : Below limits n) where
           same =
               ap (λ l. l ++ happenings rest.list.nested) head.same
               ∙ (ap (λ l. happenings_before place p.early p.front ++ l) rest.list.same ∙ sym (p.happen next));
-          lays = λ context w ahead none.
-              ap (laid limits context rest.list.nested) (head.lays context w ahead none)
-              ∙ rest.list.lays context (tree_laid limits context head.tree w)
-              (tree_closed limits place p.front p.early head context w ahead none)
-              (tree_opening limits place p.front p.early head all last context w ahead none);
+          lays = λ effects context w ahead none.
+              let x = put effects head.nested in
+              let y = with_effects effects head.tree in
+              ap (laid limits context (put x.1 rest.list.nested).0) (head.lays effects context w ahead none)
+              ∙ (rest.list.lays x.1 context (tree_laid limits context y.0 w)
+              (tree_closed limits place p.front p.early head effects context w ahead none)
+              (tree_opening limits place p.front p.early head all last effects context w ahead none)
+              ∙ ap (λ r. tree_laid limits context (with_effects r rest.list.tree).0 (tree_laid limits context y.0 w)) (head.rests effects));
+          rests = λ effects.
+              rest.list.rests (put effects head.nested).1 ∙ ap (λ r. (with_effects r rest.list.tree).1) (head.rests effects);
         };
-        opening = λ context w ahead none.
-            rest.opening context (tree_laid limits context head.tree w) (tree_closed limits place p.front p.early head context w ahead none)
-            (tree_opening limits place p.front p.early head all last context w ahead none);
+        opening = λ effects context w ahead none.
+            rest.opening (with_effects effects head.tree).1 context (tree_laid limits context (with_effects effects head.tree).0 w)
+            (tree_closed limits place p.front p.early head effects context w ahead none)
+            (tree_opening limits place p.front p.early head all last effects context w ahead none);
       }
 
   no_more : (next : Place) (seen : List Seen) (events : List (Event Action))
@@ -287,79 +300,11 @@ module _ (limits : Limits) (n : ℕ) (below : Below limits n) where
             ∙ ap (λ l. Takes o.s.token o.s.behind ∷ l) (p.happen next
             ∙ ap (λ l. happenings_before place p.early p.front ++ l) (c.happen next
             ∙ ap (λ l. Takes c.s.token c.s.behind ∷ l) (e.happen next))));
-        lays = λ context w ahead none.
+        lays = λ effects context w ahead none.
             let x = token_done context o.s w in
             ap (token_done context c.s)
-            (wider_laid b limits context inner.list.nested x
-            ∙ inner.list.lays context x ((quiet_run limits context front_quiet.all w refl).1 ∙ ahead) refl);
+            (ap (λ (y : Nested b × Effects). laid limits context y.0 x) (wider_put b effects inner.list.nested)
+            ∙ (wider_laid b limits context (put effects inner.list.nested).0 x
+            ∙ inner.list.lays effects context x ((quiet_run limits context front_quiet.all w refl).1 ∙ ahead) refl));
+        rests = λ effects. ap (λ (y : Nested b × Effects). y.1) (wider_put b effects inner.list.nested) ∙ inner.list.rests effects;
       }
-
--- Statements
-
-abbrev holding_words : List (Row Action)
-holding_words =
-    row ('if' ∷ if_rest ∷ []) ∷ row ('while' ∷ while_rest ∷ []) ∷ row ('do' ∷ do_rest ∷ []) ∷ row ('for' ∷ for_rest ∷ [])
-    ∷ row ('objectloop' ∷ objectloop_rest ∷ []) ∷ row ('switch' ∷ switch_rest ∷ []) ∷ []
-
-holding_rows : Rows statement_3 holding_words
-unfolding grammar
-holding_rows = refl
-
-module _ (limits : Limits) (n : ℕ) (below : Below limits n) (next : Place) (seen : List Seen) (events : List (Event Action))
-    (are_seen : AreAll seen) (few : length seen + 1 < 4294967295) (fewer : length seen ≤ suc n)
-    (whole : IsText grammar (statement ∷ []) (atoms_of seen) events) where
-  told_by : (symbols : List (Symbol Action)) → IsOneOf symbols told_statements → IsText grammar symbols (atoms_of seen) events → IsTold seen
-  told_by symbols is text = record { symbols = symbols; is_one = is; events = events; is_text = text }
-
-  holding_tree : IsText grammar (!deeper ∷ statement_3 ∷ []) (atoms_of seen) events → IsTree false limits next seen events
-  holding_tree text =
-      with_rows (IsTree false limits next seen events) (!deeper ∷ []) (number statement_3) [] holding_words (atoms_of seen) events
-      holding_rows (
-        (λ t. if_tree limits n below true next seen events t are_seen few fewer),
-        (
-          (λ t. while_tree limits n below true next seen events t are_seen few fewer),
-          (
-            (λ t. do_tree limits n below true next seen events t are_seen few fewer),
-            (
-              (λ t. for_tree limits n below true next seen events t are_seen few fewer),
-              (
-                (λ t. loop_tree limits n below true next seen events t are_seen few fewer),
-                ((λ t. told_tree limits next seen events (told_by (!deeper ∷ 'switch' ∷ switch_rest ∷ []) first t) whole), tt),
-              ),
-            ),
-          ),
-        ),
-      )
-      text
-
-  other_tree : (symbols : List (Symbol Action)) → IsOneOf symbols holding_statements → IsText grammar symbols (atoms_of seen) events
-      → IsTree false limits next seen events
-  other_tree _ first text = block_tree limits n below next seen events text are_seen few fewer
-  other_tree _ (later first) text = holding_tree text
-  other_tree _ (later (later missing)) text = elim missing [ ]
-
-  by_text : SimpleText holding_statements (atoms_of seen) events → IsTree false limits next seen events
-  by_text (OneUnit front reading text) = simple_tree limits next seen events front reading text are_seen few
-  by_text (Another symbols is_other text) = other_tree symbols is_other text
-
-pub statement_trees : (limits : Limits) (n : ℕ) → Below limits n
-statement_trees limits zero next seen events text are_seen few fewer =
-    let one = nonempty events seen (texts_take_all text seen refl) (text_ends text refl false statement_ends) in
-    absurd (none (omega (arith, fewer, one)))
-  where
-    none : 1 ≤ 0 → ⊥
-    none e = omega (arith, e)
-statement_trees limits (suc n) next seen events text are_seen few fewer =
-    by_text limits n (statement_trees limits n) next seen events are_seen few fewer text
-    (simple_text other_statements holding_statements (atoms_of seen) events (beside_statement (atoms_of seen) events)
-    (statement_text (atoms_of seen) events text))
-
-pub statements_are_laid_as_trees : (limits : Limits) → StatementsAreLaidAsTrees limits
-statements_are_laid_as_trees limits next seen events text are_seen few =
-    let t = statement_trees limits (length seen) next seen events text are_seen few (omega arith) in
-    record {
-      tree = t.tree;
-      same = t.all;
-      written = t.written;
-      does = λ context w ahead none. tree_runs limits next seen events t context w ahead none;
-    }

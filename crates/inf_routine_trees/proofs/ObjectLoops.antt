@@ -30,8 +30,9 @@ use Rattle.inf_trees.proofs.RuleRows.{of_rows}
 use Rattle.inf_trees.proofs.StatementsRead.{bracketed_units_are_trees}
 use Rattle.inf_trees.proofs.StatementTexts.{Rows}
 use Rattle.inf_trees.proofs.UnitsRead.{seen_parts}
-use Rattle.inf_routine_trees.specs.Bodies.{Bracketed, Objectloop as LoopTree, opening_of, token_done}
-use Rattle.inf_routine_trees.specs.Bodies.{unit_done, word_done}
+use Rattle.inf_routine_trees.specs.Bodies.{Bracketed, Objectloop as LoopTree, Standing, opening_of, token_done}
+use Rattle.inf_routine_trees.specs.Bodies.{later_effects, next_effect, tree_laid, unit_done, with_effect, with_effects, word_done}
+use Rattle.inf_routine_trees.proofs.Effects.{put, with_behind}
 use Rattle.inf_routine_trees.proofs.Pieces.{Worded, before_word, quiet_text, unit_quiet, unit_symbols}
 use Rattle.inf_simple_trees.proofs.Symbols.{act_first, parts_of, token_first}
 use Rattle.inf_routine_trees.proofs.Pieces.{word_happens, worded}
@@ -43,11 +44,11 @@ behind_unit = !end_objectloop ∷ !loop ∷ 'close_parenthesis' ∷ statement �
 abbrev loop_symbols : List (Symbol Action)
 loop_symbols = 'open_parenthesis' ∷ (unit_symbols ++ behind_unit)
 
-loop_row_tree : {b : Bool} (limits : Limits) (n : ℕ) → Below limits n → (is_inner : Bool) (next : Place) (seen : List Seen)
-    (events : List (Event Action)) → (wd : Worded limits is_inner (objectloop_rest ∷ []) seen events)
+loop_row_tree : {b : Bool} (limits : Limits) (n : ℕ) → Below limits n → (stands : Standing) (next : Place) (seen : List Seen)
+    (events : List (Event Action)) → (wd : Worded limits stands (objectloop_rest ∷ []) seen events)
     → IsText grammar (!open_objectloop ∷ loop_symbols) (atoms_of wd.rest) wd.late → AreAll seen → length seen + 1 < 4294967295
     → length seen ≤ suc n → IsTree b limits next seen events
-loop_row_tree {b} limits n below is_inner next seen events wd text are_seen few fewer =
+loop_row_tree {b} limits n below stands next seen events wd text are_seen few fewer =
     let all = moved_seen (sym wd.same) are_seen in
     let count : suc (length wd.rest) ≡ length seen = ap length wd.same in
     let o = act_first action_of.OpenObjectloop loop_symbols wd.rest wd.late text in
@@ -78,10 +79,10 @@ loop_row_tree {b} limits n below is_inner next seen events wd text are_seen few 
     let opens = opening_of loop in
     let at = plainly_at place in
     let closes = plainly_at next in
-    let word = word_happens is_inner wd.word in
+    let word = word_happens stands wd.word in
     let front = λ (x : List Happening). Takes t.s.token t.s.behind ∷ (hs ++ x) in
     record {
-      tree = LoopTree is_inner wd.word loop body.tree;
+      tree = LoopTree stands wd.word loop body.tree;
       all =
           ap (λ x. wd.word ∷ ((t.s ∷ (all_seen (unit no_unit).parts ++ c.s ∷ [])) ++ x)) body.all
           ∙ (ap (λ x. wd.word ∷ t.s ∷ x) (append_assoc (all_seen (unit no_unit).parts) (c.s ∷ []) c.rest
@@ -102,8 +103,10 @@ loop_row_tree {b} limits n below is_inner next seen events wd text are_seen few 
           ∙ (ap (λ x. Acts (plainly_at x) action_of.Loop ∷ happenings_before next l.late p.rest) (c.place next)
           ∙ ap (λ x. Acts at action_of.Loop ∷ x) (c.happen next
           ∙ ap (λ x. Takes c.s.token c.s.behind ∷ x) body.happen)))))))))));
-      lays = λ context w ahead none.
-          let v = word_done limits context is_inner wd.word w in
+      lays = λ effects context w ahead none.
+          let inner = put effects body.nested in
+          let holding_body = LoopTree stands wd.word loop (with_effects effects body.tree).0 in
+          let v = word_done limits context stands wd.word w in
           let d = opened limits (kind.Objects over.Nothing 0) v.output in
           let x = opened_at context opens d v in
           let runs : run limits context q.all x ≡ unit_done context loop x =
@@ -112,28 +115,33 @@ loop_row_tree {b} limits n below is_inner next seen events wd text are_seen few 
           let looped = act limits context place action_of.EndObjectloop z in
           let joined = between limits (with_kind_in looped.constructs d.0) looped.output in
           ended_as limits closes joined.0 v.constructs
-          (laid limits context body.nested (token_done context c.s (holding at joined v.constructs looped))) in
+          (laid limits context inner.0 (token_done context c.s (holding at joined v.constructs looped))) in
           let read = unit_done context loop x in
           let read_closed =
           ap (λ (z : Compilation). z.closed) (sym runs) ∙ ((quiet_run limits context q.all x q.are).1 ∙ word_closed wd context w ahead) in
           let looped = act limits context place action_of.EndObjectloop read in
           let joined = between limits (with_kind_in looped.constructs d.0) looped.output in
           let y = holding at joined v.constructs looped in
-          ap (laid {b = b} limits context (Objectloop opens q at at closed_quiet body.nested closes)) (wd.runs context w)
+          with_behind limits context (next_effect inner.1) holding_body w next
+          (λ moment. laid {b = b} limits context (After (Plain (word_quiet wd)) (Objectloop opens q at at closed_quiet inner.0 moment)) w)
+          (λ m. refl)
+          (ap (laid {b = b} limits context (Objectloop opens q at at closed_quiet inner.0 closes)) (wd.runs context w)
           ∙ (ap ended runs
           ∙ ap (λ z. ended_as limits closes joined.0 v.constructs z)
-          (body.lays context (token_done context c.s y)
-          (took_none context c.s.token y ∙ inside_act limits context place action_of.EndObjectloop read refl read_closed) refl));
+          (body.lays effects context (token_done context c.s y)
+          (took_none context c.s.token y ∙ inside_act limits context place action_of.EndObjectloop read refl read_closed) refl)))
+          ∙ ap (λ r. tree_laid limits context (with_effect (next_effect r) holding_body) w) (body.rests effects);
+      rests = λ effects. ap later_effects (body.rests effects);
     }
 
 loop_rows : Rows objectloop_rest (row (!open_objectloop ∷ loop_symbols) ∷ [])
 unfolding grammar
 loop_rows = refl
 
-pub loop_tree : {b : Bool} (limits : Limits) (n : ℕ) → Below limits n → (is_inner : Bool) (next : Place) (seen : List Seen)
-    (events : List (Event Action)) → IsText grammar (before_word is_inner ++ 'objectloop' ∷ objectloop_rest ∷ []) (atoms_of seen) events
+pub loop_tree : {b : Bool} (limits : Limits) (n : ℕ) → Below limits n → (stands : Standing) (next : Place) (seen : List Seen)
+    (events : List (Event Action)) → IsText grammar (before_word stands ++ 'objectloop' ∷ objectloop_rest ∷ []) (atoms_of seen) events
     → AreAll seen → length seen + 1 < 4294967295 → length seen ≤ suc n → IsTree b limits next seen events
-loop_tree {b} limits n below is_inner next seen events text are_seen few fewer =
-    let wd = worded limits is_inner _ (objectloop_rest ∷ []) seen events text in
+loop_tree {b} limits n below stands next seen events text are_seen few fewer =
+    let wd = worded limits stands _ (objectloop_rest ∷ []) seen events text in
     of_rows (IsTree b limits next seen events) (number objectloop_rest) (row (!open_objectloop ∷ loop_symbols) ∷ []) (atoms_of wd.rest) wd.late
-    loop_rows ((λ t. loop_row_tree limits n below is_inner next seen events wd t are_seen few fewer), tt) wd.text
+    loop_rows ((λ t. loop_row_tree limits n below stands next seen events wd t are_seen few fewer), tt) wd.text

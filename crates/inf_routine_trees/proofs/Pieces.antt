@@ -1,5 +1,5 @@
 -- The pieces of statements that hold others: their tokens, events and happenings.
-use Rattle.std.proofs.Common.{◌≡◌, ℕ, suc, ◌+◌, ◌≤◌, ◌<◌, List, [], ◌∷◌, ◌++◌, length, Bool, true, false, refl, sym, ◌∙◌, ap, subst}
+use Rattle.std.proofs.Common.{◌≡◌, ℕ, suc, ◌+◌, ◌≤◌, ◌<◌, List, [], ◌∷◌, ◌++◌, length, true, refl, sym, ◌∙◌, ap, subst}
 use Rattle.std.proofs.Common.{append_assoc, arith}
 use Rattle.std.proofs.lemmas.Bool.{and_from, and_parts}
 use Rattle.inf_settings.specs.Bounds.{Limits}
@@ -7,7 +7,7 @@ use Rattle.inf_scanner.specs.declared.tokens.Place.{Place}
 use Rattle.inf_machine.specs.declared.symbols.Symbol.{Symbol}
 use Rattle.inf_machine.specs.declared.symbols.Symbol.TheVariants.{Act, Token}
 use Rattle.inf_machine.specs.Grammar.{Did, Event, IsText, Took, action, here, token}
-use Rattle.inf_syntax.specs.Parts.{ !begin, !close, !deeper, !outer, 'close_parenthesis', 'open_parenthesis', expression}
+use Rattle.inf_syntax.specs.Parts.{ !begin, !close, !deeper, !maybe_deeper, !outer, 'close_parenthesis', 'open_parenthesis', expression}
 use Rattle.inf_syntax.specs.declared.actions.Action.{Action}
 use Rattle.inf_syntax.specs.declared.actions.Action.TheVariants as action_of
 use Rattle.inf_grammar.specs.Language.{grammar}
@@ -28,7 +28,8 @@ use Rattle.inf_language.proofs.Derivations.{texts_take_all}
 use Rattle.inf_trees.specs.Trees.{all_seen}
 use Rattle.inf_trees.proofs.StatementsRead.{bracketed_units_are_trees}
 use Rattle.inf_trees.proofs.UnitsRead.{place_before, seen_parts}
-use Rattle.inf_routine_trees.specs.Bodies.{Bracketed, UnitWritten, bracketed_done, bracketed_seen, token_done, unit_done, word_done}
+use Rattle.inf_routine_trees.specs.Bodies.{AtTop, Bracketed, Inner, OfSwitch, Standing, UnitWritten, bracketed_done, bracketed_seen}
+use Rattle.inf_routine_trees.specs.Bodies.{token_done, unit_done, word_done}
 use Rattle.inf_simple_trees.proofs.Symbols.{act_first, parts_of, token_first}
 
 -- The happenings of events
@@ -165,30 +166,44 @@ test_runs {limits} {end} b context w =
 
 -- The word of a statement that holds others
 
-abbrev pub before_word : Bool → List (Symbol Action)
-before_word true = !deeper ∷ []
-before_word false = []
+abbrev pub before_word : Standing → List (Symbol Action)
+before_word AtTop = []
+before_word Inner = !deeper ∷ []
+before_word OfSwitch = !maybe_deeper ∷ []
 
-abbrev pub word_happens : Bool → Seen → List Happening
-word_happens true word = Acts (plainly_at word.token.place) action_of.Deeper ∷ Takes word.token word.behind ∷ []
-word_happens false word = Takes word.token word.behind ∷ []
+abbrev pub word_happens : Standing → Seen → List Happening
+word_happens AtTop word = Takes word.token word.behind ∷ []
+word_happens Inner word = Acts (plainly_at word.token.place) action_of.Deeper ∷ Takes word.token word.behind ∷ []
+word_happens OfSwitch word = Acts (plainly_at word.token.place) action_of.MaybeDeeper ∷ Takes word.token word.behind ∷ []
 
-pub record Worded (limits : Limits) (is_inner : Bool) (symbols : List (Symbol Action)) (seen : List Seen) (events : List (Event Action))
+pub record Worded (limits : Limits) (stands : Standing) (symbols : List (Symbol Action)) (seen : List Seen) (events : List (Event Action))
     : Type 0 where
   pub word : Seen
   pub rest : List Seen
   pub late : List (Event Action)
   pub same : word ∷ rest ≡ seen
   pub text : IsText grammar symbols (atoms_of rest) late
-  pub happen : (next : Place) → happenings_before next events seen ≡ word_happens is_inner word ++ happenings_before next late rest
-  pub quiet : happen_quietly (word_happens is_inner word) ≡ true
+  pub happen : (next : Place) → happenings_before next events seen ≡ word_happens stands word ++ happenings_before next late rest
+  pub quiet : happen_quietly (word_happens stands word) ≡ true
   pub runs : (context : Context) (w : Compilation)
-      → run limits context (word_happens is_inner word) w ≡ word_done limits context is_inner word w
+      → run limits context (word_happens stands word) w ≡ word_done limits context stands word w
 
-pub worded : (limits : Limits) (is_inner : Bool) (class : ℕ) (symbols : List (Symbol Action)) (seen : List Seen)
-    (events : List (Event Action)) → IsText grammar (before_word is_inner ++ Token class ∷ symbols) (atoms_of seen) events
-    → Worded limits is_inner symbols seen events
-worded limits true class symbols seen events text =
+pub worded : (limits : Limits) (stands : Standing) (class : ℕ) (symbols : List (Symbol Action)) (seen : List Seen)
+    (events : List (Event Action)) → IsText grammar (before_word stands ++ Token class ∷ symbols) (atoms_of seen) events
+    → Worded limits stands symbols seen events
+worded limits AtTop class symbols seen events text =
+    let t = token_first symbols seen events text in
+    record {
+      word = t.s;
+      rest = t.rest;
+      late = t.late;
+      same = t.same;
+      text = t.text;
+      happen = t.happen;
+      quiet = refl;
+      runs = λ context w. refl;
+    }
+worded limits Inner class symbols seen events text =
     let d = act_first action_of.Deeper (Token class ∷ symbols) seen events text in
     let t = token_first symbols seen d.late d.text in
     record {
@@ -204,15 +219,19 @@ worded limits true class symbols seen events text =
       quiet = refl;
       runs = λ context w. refl;
     }
-worded limits false class symbols seen events text =
-    let t = token_first symbols seen events text in
+worded limits OfSwitch class symbols seen events text =
+    let d = act_first action_of.MaybeDeeper (Token class ∷ symbols) seen events text in
+    let t = token_first symbols seen d.late d.text in
     record {
       word = t.s;
       rest = t.rest;
       late = t.late;
       same = t.same;
       text = t.text;
-      happen = t.happen;
+      happen = λ next.
+          d.happen next
+          ∙ (ap (λ x. Acts (plainly_at x) action_of.MaybeDeeper ∷ happenings_before next d.late seen) (t.place next)
+          ∙ ap (λ l. Acts (plainly_at t.s.token.place) action_of.MaybeDeeper ∷ l) (t.happen next));
       quiet = refl;
       runs = λ context w. refl;
     }

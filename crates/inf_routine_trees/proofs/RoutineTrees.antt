@@ -1,6 +1,6 @@
 -- Routines are trees.
-use Rattle.std.proofs.Common.{◌≡◌, ℕ, suc, ◌+◌, List, [], ◌∷◌, ◌++◌, length, refl, sym, ◌∙◌, ap, subst}
-use Rattle.std.proofs.Common.{append-nil, arith}
+use Rattle.std.proofs.Common.{◌≡◌, ℕ, suc, ◌+◌, ◌<◌, None, List, [], ◌∷◌, ◌++◌, length, refl, sym, ◌∙◌, ap, subst}
+use Rattle.std.proofs.Common.{append-nil, append_assoc, arith}
 use Rattle.inf_settings.specs.Bounds.{Limits}
 use Rattle.inf_scanner.specs.declared.tokens.Place.{Place}
 use Rattle.inf_machine.specs.declared.symbols.Symbol.{Symbol}
@@ -14,19 +14,26 @@ use Rattle.inf_syntax.specs.declared.actions.Action.TheVariants as action_of
 use Rattle.inf_grammar.specs.Language.{grammar}
 use Rattle.inf_reader.specs.Acting.{act}
 use Rattle.inf_expression_laws.proofs.OperatorRows.{free}
-use Rattle.inf_statement_laws.specs.Happenings.{Acts, Happening, Quiet, Takes}
+use Rattle.inf_statement_laws.specs.Happenings.{Acts, Happening, Takes}
 use Rattle.inf_statement_laws.specs.Laid.{next_comes, run}
 use Rattle.inf_statement_laws.specs.Readings.{Seen, plainly_at}
 use Rattle.inf_statement_laws.proofs.Acts.{inside_act, quiet_run, took_none}
 use Rattle.inf_statement_laws.proofs.Laying.{run_then}
 use Rattle.inf_statement_laws.proofs.Rules.{header_parts, number, quiet_header}
-use Rattle.inf_language.specs.Texts.{atoms_of, happenings_before, happenings_of}
+use Rattle.inf_language.specs.Texts.{atoms_of, happenings_before, happenings_of, tokens_of}
 use Rattle.inf_language.proofs.Derivations.{happenings-append, texts_take_all}
 use Rattle.inf_language.proofs.TextsActed.{texts_do_their_actions}
+use Rattle.inf_compilation.specs.Actions.{Compilation}
+use Rattle.inf_trees.specs.Trees.{parts_told, with_parts}
 use Rattle.inf_trees.proofs.UnitsRead.{before-append, place_before, seen_parts}
-use Rattle.inf_routine_trees.specs.Bodies.{token_done}
-use Rattle.inf_routine_trees.specs.Routines.{Routine, RoutinesAreTrees, routine_symbols}
+use Rattle.inf_compilation.specs.Context.{Context}
+use Rattle.inf_expression_laws.specs.Gathered.{AreSeen}
+use Rattle.inf_routine_trees.specs.Bodies.{Tree, TreeWritten, token_done}
+use Rattle.inf_routine_trees.specs.Routines.{Header, Routine, RoutinesAreTrees, header_parts as parts_of_header, routine_done}
+use Rattle.inf_routine_trees.specs.Routines.{routine_seen, routine_symbols, routine_with}
+use Rattle.inf_routine_trees.proofs.Effects.{Effects, given, given-append, given_behind, none_effects, none_given}
 use Rattle.inf_routine_trees.proofs.BodyTrees.{body_tree}
+use Rattle.inf_routine_trees.proofs.Headers.{header_text}
 use Rattle.inf_routine_trees.proofs.Pieces.{quiet_text}
 use Rattle.inf_simple_trees.proofs.Symbols.{act_first, nothing_left, parts_of, token_first}
 use Rattle.inf_routine_trees.proofs.Trees.{moved_seen, tree_runs}
@@ -78,8 +85,18 @@ last_happens next seen events text =
 
 -- The routine
 
-pub routines_are_trees : (limits : Limits) → RoutinesAreTrees limits
-routines_are_trees limits seen events text are_seen few none_ahead =
+-- The tokens of a text are a routine, and its happenings, with effects behind the ends of statements, have the effect of the routine with
+-- these behind its statements.
+pub record Runs (limits : Limits) (seen : List Seen) (events : List (Event Action)) : Type 0 where
+  pub tree : Routine
+  pub same : routine_seen tree ≡ seen
+  pub written : TreeWritten tree.body
+  pub runs : (effects : Effects) (context : Context) (w : Compilation) → w.closed ≡ 0 → w.opening ≡ None
+      → run limits context (given effects (happenings_of events seen)) w ≡ routine_done limits context (routine_with effects tree) w
+
+pub routine_runs : (limits : Limits) (seen : List Seen) (events : List (Event Action)) → IsText grammar routine_symbols (atoms_of seen) events
+    → AreSeen (atoms_of seen) (tokens_of seen) → length seen + 1 < 4294967295 → Runs limits seen events
+routine_runs limits seen events text are_seen few =
     let h =
     parts_of header_parts (!end_locals ∷ 'semicolon' ∷ directive_2 ∷ !end_routine ∷ 'close_bracket' ∷ 'semicolon' ∷ []) seen events text in
     let parts = seen_parts h.front h.rest (moved_seen (sym h.same) are_seen) in
@@ -96,9 +113,12 @@ routines_are_trees limits seen events text are_seen few none_ahead =
     let place = c.s.token.place in
     let at = place_before b.rest place in
     let header = happenings_before (place_before h.rest place) h.early h.front in
-    let q : Quiet = record { all = header; are = quiet_text header_parts quiet_header (place_before h.rest place) h.front h.early h.of_front } in
+    let quiet = quiet_text header_parts quiet_header (place_before h.rest place) h.front h.early h.of_front in
+    let names = header_text limits h.front h.early h.of_front in
     let body = body_tree limits at b.front b.early b.of_front inside.0 (omega (arith, few, h.count, s_count, b.count)) in
-    let tree : Routine = record { header = h.front; one_by_one = q; semicolon = s.s; body = body.tree; closing = c.s; last = l.s } in
+    let head : Header = record { bracket = names.bracket; name = names.name; locals = names.locals; semicolon = s.s } in
+    let tree : Routine = record { header = head; body = body.tree; closing = c.s; last = l.s } in
+    let front = names.bracket ∷ names.name ∷ names.locals in
     let body_happens = happenings_before at b.early b.front in
     let heads = plainly_at s.s.token.place in
     let ends = plainly_at place in
@@ -118,24 +138,47 @@ routines_are_trees limits seen events text are_seen few none_ahead =
     record {
       tree = tree;
       same =
-          ap (λ x. h.front ++ s.s ∷ (x ++ c.s ∷ l.s ∷ [])) body.all
+          ap (λ x. (front ++ s.s ∷ []) ++ (x ++ c.s ∷ l.s ∷ [])) body.all
+          ∙ (append_assoc front (s.s ∷ []) (b.front ++ c.s ∷ l.s ∷ [])
+          ∙ (ap (λ x. x ++ s.s ∷ (b.front ++ c.s ∷ l.s ∷ [])) names.same
           ∙ (ap (λ x. h.front ++ s.s ∷ (b.front ++ c.s ∷ l.s ∷ x)) (sym n.none)
           ∙ (ap (λ x. h.front ++ s.s ∷ (b.front ++ c.s ∷ x)) l.same
           ∙ (ap (λ x. h.front ++ s.s ∷ (b.front ++ x)) c.same
-          ∙ (ap (λ x. h.front ++ s.s ∷ x) b.same ∙ (ap (λ x. h.front ++ x) s.same ∙ h.same)))));
+          ∙ (ap (λ x. h.front ++ s.s ∷ x) b.same ∙ (ap (λ x. h.front ++ x) s.same ∙ h.same)))))));
       written = body.written;
-      does = λ context w ahead.
-          let begins = next_comes w in
-          let named = run limits context header begins in
+      runs = λ effects context w ahead none.
+          let parts = parts_of_header head in
+          let named : Compilation = record (parts_told context w.unit parts w) { unit = with_parts parts w.unit } in
           let headed = act limits context s.s.token.place action_of.EndLocals named in
           let ready = token_done context s.s headed in
-          let named_open = (quiet_run limits context header begins q.are).1 ∙ ahead in
+          let read : run limits context header w ≡ named = names.runs context (place_before h.rest place) w none in
+          let named_open = ap (λ (v : Compilation). v.closed) (sym read) ∙ ((quiet_run limits context header w quiet).1 ∙ ahead) in
+          let inside_given = given effects body_happens in
+          let others : List Happening = Acts heads action_of.EndLocals ∷ Takes s.s.token s.s.behind ∷ (inside_given ++ last) in
           let headed_open = inside_act limits context s.s.token.place action_of.EndLocals named refl named_open in
           let ready_open = took_none context s.s.token headed ∙ headed_open in
+          ap (λ hs. run limits context (given effects hs) w) (last_happens place seen events text ∙ all)
+          ∙ (ap (λ hs. run limits context hs w)
+          (given_behind effects (record { all = header; are = quiet })
+          (Acts heads action_of.EndLocals ∷ Takes s.s.token s.s.behind ∷ (body_happens ++ last))
+          ∙ ap (λ l. header ++ Acts heads action_of.EndLocals ∷ Takes s.s.token s.s.behind ∷ l) (given-append effects body_happens last))
+          ∙ (run_then limits context header others w
+          ∙ (ap (run limits context others) read
+          ∙ (run_then limits context inside_given last ready
+          ∙ ap (run limits context last) (tree_runs limits at b.front b.early body effects context ready ready_open refl)))));
+    }
+
+pub routines_are_trees : (limits : Limits) → RoutinesAreTrees limits
+routines_are_trees limits seen events text are_seen few none_ahead =
+    let r = routine_runs limits seen events text are_seen few in
+    record {
+      tree = r.tree;
+      same = r.same;
+      written = r.written;
+      does = λ context w ahead.
+          let begins = next_comes w in
           (texts_do_their_actions limits).act (number directive) seen events (routine_text (atoms_of seen) events text) none_ahead context w
-          ∙ (ap (λ hs. run limits context hs begins) (last_happens place seen events text ∙ all)
-          ∙ (run_then limits context header
-          (Acts heads action_of.EndLocals ∷ Takes s.s.token s.s.behind ∷ (body_happens ++ last)) begins
-          ∙ (run_then limits context body_happens last ready
-          ∙ ap (run limits context last) (tree_runs limits at b.front b.early body context ready ready_open refl))));
+          ∙ (ap (λ hs. run limits context hs begins) (sym (none_given (happenings_of events seen)))
+          ∙ (r.runs [] context begins ahead refl
+          ∙ ap (λ (x : Tree × Effects). routine_done limits context (record r.tree { body = x.0 }) begins) (none_effects r.tree.body)));
     }

@@ -29,22 +29,22 @@ use Rattle.inf_statement_laws.specs.Nested.{Then as After}
 use Rattle.inf_statement_laws.specs.Readings.{Seen, plainly_at}
 use Rattle.inf_statement_laws.proofs.Acts.{quiet_run}
 use Rattle.inf_statement_laws.proofs.Laying.{laid_as}
-use Rattle.inf_statement_laws.proofs.Nesting.{statement_is_nested}
 use Rattle.inf_statement_laws.proofs.Rules.{number}
 use Rattle.inf_language.specs.Texts.{atoms_of, happenings_before, tokens_of}
-use Rattle.inf_language.proofs.Derivations.{texts_take_all}
 use Rattle.inf_language.specs.Units.{TakeAll}
 use Rattle.inf_trees.specs.Statements.{statement_done}
 use Rattle.inf_trees.proofs.StatementsRead.{behind, parted}
 use Rattle.inf_trees.proofs.RuleRows.{of_rows}
 use Rattle.inf_trees.proofs.StatementTexts.{Rows, unit_end}
 use Rattle.inf_trees.proofs.UnitsRead.{place_before, seen_parts}
-use Rattle.inf_routine_trees.specs.Bodies.{IsTold, Simple, Told, Tree, TreeWritten, bracketed_done, bracketed_seen}
-use Rattle.inf_routine_trees.specs.Bodies.{opening_of, token_done, tree_laid, tree_seen, word_done}
+use Rattle.inf_routine_trees.specs.Bodies.{Simple, Standing, Tree, TreeWritten, bracketed_done, bracketed_seen}
+use Rattle.inf_routine_trees.specs.Bodies.{later_effects, next_effect, opening_of, token_done, tree_laid, tree_seen, with_effect, with_effects}
+use Rattle.inf_routine_trees.specs.Bodies.{word_done}
 use Rattle.inf_routine_trees.specs.Bodies.{If as IfTree, IfElse as ElseTree, While as WhileTree}
 use Rattle.inf_simple_trees.specs.Room.{have_room}
-use Rattle.inf_routine_trees.proofs.Endings.{last_took, none_behind}
-use Rattle.inf_routine_trees.proofs.Pieces.{BracketedText, are_of, bracketed_text}
+use Rattle.inf_routine_trees.proofs.Effects.{Effects, given, none_behind, none_effects, none_given, put, put_happens, with_behind}
+use Rattle.inf_routine_trees.proofs.Endings.{last_took}
+use Rattle.inf_routine_trees.proofs.Pieces.{BracketedText, bracketed_text}
 use Rattle.inf_simple_trees.proofs.Symbols.{PartsOf, act_first, parts_of}
 use Rattle.inf_routine_trees.proofs.Pieces.{Worded, closed_text, test_happen, test_happens, test_quiet, test_runs}
 use Rattle.inf_simple_trees.proofs.Symbols.{token_first}
@@ -60,32 +60,46 @@ pub record IsTree (b : Bool) (limits : Limits) (next : Place) (seen : List Seen)
   pub written : TreeWritten tree
   pub nested : Nested b
   pub same : happenings nested ≡ happenings_before next events seen
-  pub lays : (context : Context) (w : Compilation) → w.closed ≡ 0 → w.opening ≡ None
-      → laid limits context nested w ≡ tree_laid limits context tree w
+  pub lays : (effects : Effects) (context : Context) (w : Compilation) → w.closed ≡ 0 → w.opening ≡ None
+      → laid limits context (put effects nested).0 w ≡ tree_laid limits context (with_effects effects tree).0 w
+  pub rests : (effects : Effects) → (put effects nested).1 ≡ (with_effects effects tree).1
 
 -- Behind a tree no statement is closed ahead, and no word waits.
 pub tree_runs : {b : Bool} (limits : Limits) (next : Place) (seen : List Seen) (events : List (Event Action))
+    → (t : IsTree b limits next seen events) (effects : Effects) (context : Context) (w : Compilation) → w.closed ≡ 0 → w.opening ≡ None
+    → run limits context (given effects (happenings_before next events seen)) w ≡ tree_laid limits context (with_effects effects t.tree).0 w
+tree_runs limits next seen events t effects context w ahead none =
+    ap (λ hs. run limits context (given effects hs) w) (sym t.same)
+    ∙ (ap (λ hs. run limits context hs w) (sym (put_happens effects t.nested).same)
+    ∙ ((laid_as limits context (put effects t.nested).0 w ahead).runs ∙ t.lays effects context w ahead none))
+
+-- where no statement is closed ahead
+pub plain_runs : {b : Bool} (limits : Limits) (next : Place) (seen : List Seen) (events : List (Event Action))
     → (t : IsTree b limits next seen events) → (context : Context) (w : Compilation) → w.closed ≡ 0 → w.opening ≡ None
     → run limits context (happenings_before next events seen) w ≡ tree_laid limits context t.tree w
-tree_runs limits next seen events t context w ahead none =
-    ap (λ hs. run limits context hs w) (sym t.same) ∙ ((laid_as limits context t.nested w ahead).runs ∙ t.lays context w ahead none)
+plain_runs limits next seen events t context w ahead none =
+    ap (λ hs. run limits context hs w) (sym (none_given (happenings_before next events seen)))
+    ∙ (tree_runs limits next seen events t [] context w ahead none
+    ∙ ap (λ (x : Tree × Effects). tree_laid limits context x.0 w) (none_effects t.tree))
 
 pub tree_closed : {b : Bool} (limits : Limits) (next : Place) (seen : List Seen) (events : List (Event Action))
-    → (t : IsTree b limits next seen events) → (context : Context) (w : Compilation) → w.closed ≡ 0 → w.opening ≡ None
-    → (tree_laid limits context t.tree w).closed ≡ 0
-tree_closed limits next seen events t context w ahead none =
-    ap (λ (v : Compilation). v.closed) (sym (t.lays context w ahead none)) ∙ (laid_as limits context t.nested w ahead).none_ahead
+    → (t : IsTree b limits next seen events) (effects : Effects) (context : Context) (w : Compilation) → w.closed ≡ 0 → w.opening ≡ None
+    → (tree_laid limits context (with_effects effects t.tree).0 w).closed ≡ 0
+tree_closed limits next seen events t effects context w ahead none =
+    ap (λ (v : Compilation). v.closed) (sym (t.lays effects context w ahead none))
+    ∙ (laid_as limits context (put effects t.nested).0 w ahead).none_ahead
 
 pub tree_opening : {b : Bool} (limits : Limits) (next : Place) (seen : List Seen) (events : List (Event Action))
     → (t : IsTree b limits next seen events) → TakeAll events seen → last_took false events ≡ true
-    → (context : Context) (w : Compilation) → w.closed ≡ 0 → w.opening ≡ None → (tree_laid limits context t.tree w).opening ≡ None
-tree_opening limits next seen events t all last context w ahead none =
-    ap (λ (v : Compilation). v.opening) (sym (tree_runs limits next seen events t context w ahead none))
-    ∙ none_behind limits context next false events seen w all last (λ e. cc)
+    → (effects : Effects) (context : Context) (w : Compilation) → w.closed ≡ 0 → w.opening ≡ None
+    → (tree_laid limits context (with_effects effects t.tree).0 w).opening ≡ None
+tree_opening limits next seen events t all last effects context w ahead none =
+    ap (λ (v : Compilation). v.opening) (sym (tree_runs limits next seen events t effects context w ahead none))
+    ∙ none_behind limits context next effects false events seen w all last (λ e. cc)
 
 -- Statements of one unit
 
-happen_quiet : (next : Place) (events : List (Event Action)) (seen : List Seen) → AreQuiet events
+pub happen_quiet : (next : Place) (events : List (Event Action)) (seen : List Seen) → AreQuiet events
     → happen_quietly (happenings_before next events seen) ≡ true
 happen_quiet next [] seen quiet = refl
 happen_quiet next (Did a ∷ events) [] quiet =
@@ -100,7 +114,7 @@ quiet_joined [] late quiet other = other
 quiet_joined (Did a ∷ early) late quiet other = (quiet.0, quiet_joined early late quiet.1 other)
 quiet_joined (Took atom ∷ early) late quiet other = quiet_joined early late quiet other
 
-room_lays : (b : Bool) (done one_by_one : Compilation) → (b ≡ true → one_by_one ≡ done)
+pub room_lays : (b : Bool) (done one_by_one : Compilation) → (b ≡ true → one_by_one ≡ done)
     → one_by_one ≡ (if b then done else one_by_one)
 room_lays true done one_by_one same = same refl
 room_lays false done one_by_one same = refl
@@ -123,9 +137,10 @@ simple_tree limits next seen events front reading text are_seen few =
       written = λ u. (simple u).written;
       nested = Plain q;
       same = refl;
-      lays = λ context w ahead none.
+      lays = λ effects context w ahead none.
           room_lays (have_room limits (begun w.unit) (simple w.unit).tree.unit) (statement_done limits context (simple w.unit).tree w)
           (run limits context q.all w) (λ room. (simple w.unit).does context next w none room);
+      rests = λ effects. refl;
     }
 
 -- Statements that hold others
@@ -142,16 +157,16 @@ AreAll seen = AreSeen (atoms_of seen) (tokens_of seen)
 pub moved_seen : {xs ys : List Seen} → xs ≡ ys → AreAll xs → AreAll ys
 moved_seen same are = subst AreAll same are
 
-abbrev pub word_quiet : {limits : Limits} {is_inner : Bool} {symbols : List (Symbol Action)} {seen : List Seen} {events : List (Event Action)}
-    → Worded limits is_inner symbols seen events → Quiet
-word_quiet {is_inner = is_inner} wd = record { all = word_happens is_inner wd.word; are = wd.quiet }
+abbrev pub word_quiet : {limits : Limits} {stands : Standing} {symbols : List (Symbol Action)} {seen : List Seen} {events : List (Event Action)}
+    → Worded limits stands symbols seen events → Quiet
+word_quiet {stands = stands} wd = record { all = word_happens stands wd.word; are = wd.quiet }
 
-pub word_closed : {limits : Limits} {is_inner : Bool} {symbols : List (Symbol Action)} {seen : List Seen} {events : List (Event Action)}
-    (wd : Worded limits is_inner symbols seen events) (context : Context) (w : Compilation) → w.closed ≡ 0
-    → (word_done limits context is_inner wd.word w).closed ≡ 0
-word_closed {limits} {is_inner} wd context w ahead =
+pub word_closed : {limits : Limits} {stands : Standing} {symbols : List (Symbol Action)} {seen : List Seen} {events : List (Event Action)}
+    (wd : Worded limits stands symbols seen events) (context : Context) (w : Compilation) → w.closed ≡ 0
+    → (word_done limits context stands wd.word w).closed ≡ 0
+word_closed {limits} {stands} wd context w ahead =
     ap (λ (v : Compilation). v.closed) (sym (wd.runs context w))
-    ∙ ((quiet_run limits context (word_happens is_inner wd.word) w wd.quiet).1 ∙ ahead)
+    ∙ ((quiet_run limits context (word_happens stands wd.word) w wd.quiet).1 ∙ ahead)
 
 pub test_closed : {limits : Limits} {end : Action} {symbols : List (Symbol Action)} {seen : List Seen} {events : List (Event Action)}
     (t : BracketedText limits end symbols seen events) → is_quiet end ≡ true → (context : Context) (w : Compilation) → w.closed ≡ 0
@@ -167,8 +182,9 @@ pub record BodyText (limits : Limits) (next : Place) (seen : List Seen) (events 
   pub written : TreeWritten tree
   pub nested : Nested false
   pub happen : happenings_before next events seen ≡ happenings nested ++ Acts (plainly_at next) action_of.Close ∷ []
-  pub lays : (context : Context) (w : Compilation) → w.closed ≡ 0 → w.opening ≡ None
-      → laid limits context nested w ≡ tree_laid limits context tree w
+  pub lays : (effects : Effects) (context : Context) (w : Compilation) → w.closed ≡ 0 → w.opening ≡ None
+      → laid limits context (put effects nested).0 w ≡ tree_laid limits context (with_effects effects tree).0 w
+  pub rests : (effects : Effects) → (put effects nested).1 ≡ (with_effects effects tree).1
 
 pub body_text : (limits : Limits) (n : ℕ) → Below limits n → (next : Place) (seen : List Seen) (events : List (Event Action))
     → IsText grammar (statement ∷ !close ∷ []) (atoms_of seen) events → AreAll seen → length seen + 1 < 4294967295 → length seen ≤ n
@@ -188,13 +204,14 @@ body_text limits n below next seen events text are_seen few fewer =
           p.happen next
           ∙ (ap (λ l. l ++ happenings_before next p.late p.rest) (sym inner.same) ∙ ap (λ l. happenings inner.nested ++ l) (c.happen next));
       lays = inner.lays;
+      rests = inner.rests;
     }
 
-while_row_tree : {b : Bool} (limits : Limits) (n : ℕ) → Below limits n → (is_inner : Bool) (next : Place) (seen : List Seen)
-    (events : List (Event Action)) → (wd : Worded limits is_inner (while_rest ∷ []) seen events)
+while_row_tree : {b : Bool} (limits : Limits) (n : ℕ) → Below limits n → (stands : Standing) (next : Place) (seen : List Seen)
+    (events : List (Event Action)) → (wd : Worded limits stands (while_rest ∷ []) seen events)
     → IsText grammar (!open_while ∷ 'open_parenthesis' ∷ !begin ∷ !outer ∷ expression ∷ !end_while ∷ 'close_parenthesis' ∷ statement ∷ !close ∷ [])
     (atoms_of wd.rest) wd.late → AreAll seen → length seen + 1 < 4294967295 → length seen ≤ suc n → IsTree b limits next seen events
-while_row_tree {b} limits n below is_inner next seen events wd text are_seen few fewer =
+while_row_tree {b} limits n below stands next seen events wd text are_seen few fewer =
     let all = moved_seen (sym wd.same) are_seen in
     let count : suc (length wd.rest) ≡ length seen = ap length wd.same in
     let o =
@@ -205,9 +222,9 @@ while_row_tree {b} limits n below is_inner next seen events wd text are_seen few
     let q : Quiet = record { all = test_happens t; are = test_quiet t refl } in
     let opens = opening_of t.tree in
     let closes = plainly_at next in
-    let word = word_happens is_inner wd.word in
+    let word = word_happens stands wd.word in
     record {
-      tree = WhileTree is_inner wd.word t.tree body.tree;
+      tree = WhileTree stands wd.word t.tree body.tree;
       all = ap (λ l. wd.word ∷ (bracketed_seen t.tree ++ l)) body.all ∙ (ap (λ l. wd.word ∷ l) t.same ∙ wd.same);
       written = (t.written, body.written);
       nested = After (Plain (word_quiet wd)) (While opens q body.nested closes);
@@ -216,15 +233,21 @@ while_row_tree {b} limits n below is_inner next seen events wd text are_seen few
           ∙ ap (λ l. word ++ l) (o.happen next
           ∙ (ap (λ x. Acts (plainly_at x) action_of.OpenWhile ∷ happenings_before next o.late wd.rest) (t.place next)
           ∙ ap (λ l. Acts opens action_of.OpenWhile ∷ l) (test_happen t next ∙ ap (λ l. test_happens t ++ l) body.happen))));
-      lays = λ context w ahead none.
-          let v = word_done limits context is_inner wd.word w in
+      lays = λ effects context w ahead none.
+          let v = word_done limits context stands wd.word w in
           let c = opened limits kind.While v.output in
           let x = opened_at context opens c v in
           let y = bracketed_done limits context action_of.EndWhile t.tree x in
-          ap (laid {b = b} limits context (While opens q body.nested closes)) (wd.runs context w)
-          ∙ (ap (λ z. ended_as limits closes c.0 v.constructs (laid limits context body.nested z)) (test_runs t context x)
+          let inner = put effects body.nested in
+          let holding_body = WhileTree stands wd.word t.tree (with_effects effects body.tree).0 in
+          with_behind limits context (next_effect inner.1) holding_body w next
+          (λ at. laid {b = b} limits context (After (Plain (word_quiet wd)) (While opens q inner.0 at)) w) (λ m. refl)
+          (ap (laid {b = b} limits context (While opens q inner.0 closes)) (wd.runs context w)
+          ∙ (ap (λ z. ended_as limits closes c.0 v.constructs (laid limits context inner.0 z)) (test_runs t context x)
           ∙ ap (λ z. ended_as limits closes c.0 v.constructs z)
-          (body.lays context y (test_closed t refl context x (word_closed wd context w ahead)) refl));
+          (body.lays effects context y (test_closed t refl context x (word_closed wd context w ahead)) refl)))
+          ∙ ap (λ r. tree_laid limits context (with_effect (next_effect r) holding_body) w) (body.rests effects);
+      rests = λ effects. ap later_effects (body.rests effects);
     }
 
 while_rows : Rows while_rest
@@ -232,15 +255,15 @@ while_rows : Rows while_rest
 unfolding grammar
 while_rows = refl
 
-pub while_tree : {b : Bool} (limits : Limits) (n : ℕ) → Below limits n → (is_inner : Bool) (next : Place) (seen : List Seen)
-    (events : List (Event Action)) → IsText grammar (before_word is_inner ++ 'while' ∷ while_rest ∷ []) (atoms_of seen) events
+pub while_tree : {b : Bool} (limits : Limits) (n : ℕ) → Below limits n → (stands : Standing) (next : Place) (seen : List Seen)
+    (events : List (Event Action)) → IsText grammar (before_word stands ++ 'while' ∷ while_rest ∷ []) (atoms_of seen) events
     → AreAll seen → length seen + 1 < 4294967295 → length seen ≤ suc n → IsTree b limits next seen events
-while_tree {b} limits n below is_inner next seen events text are_seen few fewer =
-    let wd = worded limits is_inner _ (while_rest ∷ []) seen events text in
+while_tree {b} limits n below stands next seen events text are_seen few fewer =
+    let wd = worded limits stands _ (while_rest ∷ []) seen events text in
     of_rows (IsTree b limits next seen events) (number while_rest)
     (row (!open_while ∷ 'open_parenthesis' ∷ !begin ∷ !outer ∷ expression ∷ !end_while ∷ 'close_parenthesis' ∷ statement ∷ !close ∷ []) ∷ [])
     (atoms_of wd.rest) wd.late while_rows
-    ((λ t. while_row_tree limits n below is_inner next seen events wd t are_seen few fewer), tt) wd.text
+    ((λ t. while_row_tree limits n below stands next seen events wd t are_seen few fewer), tt) wd.text
 
 -- The rest of an `if` behind its body: its closing, or its `else`
 data ElseText (limits : Limits) (next : Place) (seen : List Seen) (events : List (Event Action)) : Type 0 where
@@ -283,8 +306,8 @@ abbrev if_front : List (Symbol Action)
 if_front = 'open_parenthesis' ∷ !begin ∷ !outer ∷ expression ∷ !end_if ∷ 'close_parenthesis' ∷ []
 
 -- the parts of an `if` before its end
-record IfText (limits : Limits) (n : ℕ) (is_inner : Bool) (next : Place) (seen : List Seen) (events : List (Event Action)) : Type 0 where
-  wd : Worded limits is_inner (if_rest ∷ []) seen events
+record IfText (limits : Limits) (n : ℕ) (stands : Standing) (next : Place) (seen : List Seen) (events : List (Event Action)) : Type 0 where
+  wd : Worded limits stands (if_rest ∷ []) seen events
   former : List (Event Action)
   opened_first : (next : Place) → happenings_before next wd.late wd.rest
       ≡ Acts (plainly_at (place_before wd.rest next)) action_of.OpenIf ∷ happenings_before next former wd.rest
@@ -295,11 +318,11 @@ record IfText (limits : Limits) (n : ℕ) (is_inner : Bool) (next : Place) (seen
   few : length parts.rest + 1 < 4294967295
   fewer : length parts.rest ≤ n
 
-if_text : (limits : Limits) (n : ℕ) → Below limits n → (is_inner : Bool) (next : Place) (seen : List Seen)
-    (events : List (Event Action)) → (wd : Worded limits is_inner (if_rest ∷ []) seen events)
+if_text : (limits : Limits) (n : ℕ) → Below limits n → (stands : Standing) (next : Place) (seen : List Seen)
+    (events : List (Event Action)) → (wd : Worded limits stands (if_rest ∷ []) seen events)
     → IsText grammar (!open_if ∷ (if_front ++ statement ∷ else_part ∷ [])) (atoms_of wd.rest) wd.late
-    → AreAll seen → length seen + 1 < 4294967295 → length seen ≤ suc n → IfText limits n is_inner next seen events
-if_text limits n below is_inner next seen events wd text are_seen few fewer =
+    → AreAll seen → length seen + 1 < 4294967295 → length seen ≤ suc n → IfText limits n stands next seen events
+if_text limits n below stands next seen events wd text are_seen few fewer =
     let all = moved_seen (sym wd.same) are_seen in
     let count : suc (length wd.rest) ≡ length seen = ap length wd.same in
     let o = act_first action_of.OpenIf (if_front ++ statement ∷ else_part ∷ []) wd.rest wd.late text in
@@ -320,31 +343,31 @@ if_text limits n below is_inner next seen events wd text are_seen few fewer =
       fewer = omega (arith, fewer, count, t.fewer, p.count);
     }
 
-if_happen : {limits : Limits} {n : ℕ} {is_inner : Bool} {next : Place} {seen : List Seen} {events : List (Event Action)}
-    (i : IfText limits n is_inner next seen events)
+if_happen : {limits : Limits} {n : ℕ} {stands : Standing} {next : Place} {seen : List Seen} {events : List (Event Action)}
+    (i : IfText limits n stands next seen events)
     → happenings_before next events seen
-    ≡ word_happens is_inner i.wd.word
+    ≡ word_happens stands i.wd.word
     ++ Acts (opening_of i.test.tree) action_of.OpenIf
     ∷ (test_happens i.test ++ (happenings i.body.nested ++ happenings_before next i.parts.late i.parts.rest))
-if_happen {is_inner = is_inner} {next} i =
+if_happen {stands = stands} {next} i =
     i.wd.happen next
-    ∙ ap (λ l. word_happens is_inner i.wd.word ++ l) (i.opened_first next
+    ∙ ap (λ l. word_happens stands i.wd.word ++ l) (i.opened_first next
     ∙ (ap (λ x. Acts (plainly_at x) action_of.OpenIf ∷ happenings_before next i.former i.wd.rest) (i.test.place next)
     ∙ ap (λ l. Acts (opening_of i.test.tree) action_of.OpenIf ∷ l) (test_happen i.test next
     ∙ ap (λ l. test_happens i.test ++ l) (i.parts.happen next
     ∙ ap (λ l. l ++ happenings_before next i.parts.late i.parts.rest) (sym i.body.same)))))
 
-if_by : {b : Bool} (limits : Limits) (n : ℕ) (is_inner : Bool) (next : Place) (seen : List Seen) (events : List (Event Action))
-    → (i : IfText limits n is_inner next seen events) → ElseText limits next i.parts.rest i.parts.late → IsTree b limits next seen events
-if_by {b} limits n is_inner next seen events i (Without none happen) =
+if_by : {b : Bool} (limits : Limits) (n : ℕ) (stands : Standing) (next : Place) (seen : List Seen) (events : List (Event Action))
+    → (i : IfText limits n stands next seen events) → ElseText limits next i.parts.rest i.parts.late → IsTree b limits next seen events
+if_by {b} limits n stands next seen events i (Without none happen) =
     let q : Quiet = record { all = test_happens i.test; are = test_quiet i.test refl } in
     let opens = opening_of i.test.tree in
     let closes = plainly_at next in
-    let word = word_happens is_inner i.wd.word in
+    let word = word_happens stands i.wd.word in
     let body : i.parts.front ≡ i.test.rest =
     sym (append-nil i.parts.front) ∙ (ap (λ l. i.parts.front ++ l) (sym none) ∙ i.parts.same) in
     record {
-      tree = IfTree is_inner i.wd.word i.test.tree i.body.tree;
+      tree = IfTree stands i.wd.word i.test.tree i.body.tree;
       all =
           ap (λ l. i.wd.word ∷ (bracketed_seen i.test.tree ++ l)) (i.body.all ∙ body)
           ∙ (ap (λ l. i.wd.word ∷ l) i.test.same ∙ i.wd.same);
@@ -353,25 +376,31 @@ if_by {b} limits n is_inner next seen events i (Without none happen) =
       same =
           sym (if_happen i
           ∙ ap (λ l. word ++ Acts opens action_of.OpenIf ∷ (test_happens i.test ++ (happenings i.body.nested ++ l))) happen);
-      lays = λ context w ahead none.
-          let v = word_done limits context is_inner i.wd.word w in
+      lays = λ effects context w ahead none.
+          let v = word_done limits context stands i.wd.word w in
           let c = opened limits kind.If v.output in
           let x = opened_at context opens c v in
           let y = bracketed_done limits context action_of.EndIf i.test.tree x in
-          ap (laid {b = b} limits context (If opens q i.body.nested closes)) (i.wd.runs context w)
-          ∙ (ap (λ z. ended_as limits closes c.0 v.constructs (laid limits context i.body.nested z)) (test_runs i.test context x)
+          let inner = put effects i.body.nested in
+          let holding_body = IfTree stands i.wd.word i.test.tree (with_effects effects i.body.tree).0 in
+          with_behind limits context (next_effect inner.1) holding_body w next
+          (λ at. laid {b = b} limits context (After (Plain (word_quiet i.wd)) (If opens q inner.0 at)) w) (λ m. refl)
+          (ap (laid {b = b} limits context (If opens q inner.0 closes)) (i.wd.runs context w)
+          ∙ (ap (λ z. ended_as limits closes c.0 v.constructs (laid limits context inner.0 z)) (test_runs i.test context x)
           ∙ ap (λ z. ended_as limits closes c.0 v.constructs z)
-          (i.body.lays context y (test_closed i.test refl context x (word_closed i.wd context w ahead)) refl));
+          (i.body.lays effects context y (test_closed i.test refl context x (word_closed i.wd context w ahead)) refl)))
+          ∙ ap (λ r. tree_laid limits context (with_effect (next_effect r) holding_body) w) (i.body.rests effects);
+      rests = λ effects. ap later_effects (i.body.rests effects);
     }
-if_by {b} limits n is_inner next seen events i (With joins rest late same happen other) =
+if_by {b} limits n stands next seen events i (With joins rest late same happen other) =
     let q : Quiet = record { all = test_happens i.test; are = test_quiet i.test refl } in
     let word_2 : Quiet = record { all = Takes joins.token joins.behind ∷ []; are = refl } in
     let opens = opening_of i.test.tree in
     let at = plainly_at joins.token.place in
     let closes = plainly_at next in
-    let word = word_happens is_inner i.wd.word in
+    let word = word_happens stands i.wd.word in
     record {
-      tree = ElseTree is_inner i.wd.word i.test.tree i.body.tree joins other.tree;
+      tree = ElseTree stands i.wd.word i.test.tree i.body.tree joins other.tree;
       all =
           ap (λ l. i.wd.word ∷ (bracketed_seen i.test.tree ++ (l ++ joins ∷ tree_seen other.tree))) i.body.all
           ∙ (ap (λ l. i.wd.word ∷ (bracketed_seen i.test.tree ++ (i.parts.front ++ joins ∷ l))) other.all
@@ -384,51 +413,55 @@ if_by {b} limits n is_inner next seen events i (With joins rest late same happen
           sym (if_happen i
           ∙ ap (λ l. word ++ Acts opens action_of.OpenIf ∷ (test_happens i.test ++ (happenings i.body.nested ++ l)))
           (happen ∙ ap (λ l. Acts at action_of.Else ∷ Takes joins.token joins.behind ∷ l) other.happen));
-      lays = λ context w ahead none.
-          let v = word_done limits context is_inner i.wd.word w in
+      lays = λ effects context w ahead none.
+          let v = word_done limits context stands i.wd.word w in
           let c = opened limits kind.If v.output in
           let x = opened_at context opens c v in
           let y = bracketed_done limits context action_of.EndIf i.test.tree x in
           let tested = test_closed i.test refl context x (word_closed i.wd context w ahead) in
+          let inner = put effects i.body.nested in
+          let inner_tree = with_effects effects i.body.tree in
+          let two = put inner.1 other.nested in
+          let two_tree = with_effects inner.1 other.tree in
           let behind = λ (z : Compilation). let joined = between limits c.0 z.output in
           ended_as limits closes joined.0 v.constructs
-          (laid limits context other.nested (token_done context joins (holding at joined v.constructs z))) in
-          let former = tree_laid limits context i.body.tree y in
+          (laid limits context two.0 (token_done context joins (holding at joined v.constructs z))) in
+          let former = tree_laid limits context inner_tree.0 y in
+          let holding_both = λ (r : Effects). ElseTree stands i.wd.word i.test.tree inner_tree.0 joins (with_effects r other.tree).0 in
           let joined = between limits c.0 former.output in
           let last = token_done context joins (holding at joined v.constructs former) in
           let last_open =
           (quiet_run limits context word_2.all (holding at joined v.constructs former) refl).1
-          ∙ tree_closed limits (place_before i.parts.rest next) i.parts.front i.parts.early i.body context y tested refl in
-          ap (laid {b = b} limits context (IfElse opens q i.body.nested at word_2 other.nested closes)) (i.wd.runs context w)
-          ∙ (ap (λ z. behind (laid limits context i.body.nested z)) (test_runs i.test context x)
-          ∙ (ap behind (i.body.lays context y tested refl)
-          ∙ ap (λ z. ended_as limits closes joined.0 v.constructs z) (other.lays context last last_open refl)));
+          ∙ tree_closed limits (place_before i.parts.rest next) i.parts.front i.parts.early i.body effects context y tested refl in
+          with_behind limits context (next_effect two.1) (holding_both inner.1) w next
+          (λ moment. laid {b = b} limits context (After (Plain (word_quiet i.wd)) (IfElse opens q inner.0 at word_2 two.0 moment)) w)
+          (λ m. refl)
+          (ap (laid {b = b} limits context (IfElse opens q inner.0 at word_2 two.0 closes)) (i.wd.runs context w)
+          ∙ (ap (λ z. behind (laid limits context inner.0 z)) (test_runs i.test context x)
+          ∙ (ap behind (i.body.lays effects context y tested refl)
+          ∙ ap (λ z. ended_as limits closes joined.0 v.constructs z) (other.lays inner.1 context last last_open refl))))
+          ∙ (ap (λ r. tree_laid limits context (with_effect (next_effect r) (holding_both inner.1)) w) (other.rests inner.1)
+          ∙ ap (λ r. tree_laid limits context (with_effect (next_effect (with_effects r other.tree).1) (holding_both r)) w)
+          (i.body.rests effects));
+      rests = λ effects.
+          ap later_effects (other.rests (put effects i.body.nested).1)
+          ∙ ap (λ r. later_effects (with_effects r other.tree).1) (i.body.rests effects);
     }
 
 if_rows : Rows if_rest (row (!open_if ∷ (if_front ++ statement ∷ else_part ∷ [])) ∷ [])
 unfolding grammar
 if_rows = refl
 
-pub if_tree : {b : Bool} (limits : Limits) (n : ℕ) → Below limits n → (is_inner : Bool) (next : Place) (seen : List Seen)
-    (events : List (Event Action)) → IsText grammar (before_word is_inner ++ 'if' ∷ if_rest ∷ []) (atoms_of seen) events
+pub if_tree : {b : Bool} (limits : Limits) (n : ℕ) → Below limits n → (stands : Standing) (next : Place) (seen : List Seen)
+    (events : List (Event Action)) → IsText grammar (before_word stands ++ 'if' ∷ if_rest ∷ []) (atoms_of seen) events
     → AreAll seen → length seen + 1 < 4294967295 → length seen ≤ suc n → IsTree b limits next seen events
-if_tree {b} limits n below is_inner next seen events text are_seen few fewer =
-    let wd = worded limits is_inner _ (if_rest ∷ []) seen events text in
+if_tree {b} limits n below stands next seen events text are_seen few fewer =
+    let wd = worded limits stands _ (if_rest ∷ []) seen events text in
     of_rows (IsTree b limits next seen events) (number if_rest) (row (!open_if ∷ (if_front ++ statement ∷ else_part ∷ [])) ∷ [])
     (atoms_of wd.rest) wd.late if_rows (
-      (λ t. let i = if_text limits n below is_inner next seen events wd t are_seen few fewer in
-          if_by limits n is_inner next seen events i
+      (λ t. let i = if_text limits n below stands next seen events wd t are_seen few fewer in
+          if_by limits n stands next seen events i
           (else_text limits n below next i.parts.rest i.parts.late i.parts.of_rest i.seen_rest i.few i.fewer)),
       tt,
     )
     wd.text
-
--- A statement whose tokens are not taken apart: nested by its words
-pub told_tree : (limits : Limits) (next : Place) (seen : List Seen) (events : List (Event Action)) → IsTold seen
-    → IsText grammar (statement ∷ []) (atoms_of seen) events → IsTree false limits next seen events
-told_tree limits next seen events told text =
-    let hs = happenings_before next events seen in
-    let n =
-    statement_is_nested hs
-    (record { atoms = atoms_of seen; events = events; is_text = text; are = are_of next events seen (texts_take_all text seen refl) }) in
-    record { tree = Told n.0 seen; all = refl; written = told; nested = n.0; same = n.1; lays = λ context w ahead none. refl }

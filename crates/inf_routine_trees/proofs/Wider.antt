@@ -4,6 +4,7 @@ use Rattle.inf_settings.specs.Bounds.{Limits}
 use Rattle.inf_compilation.specs.Context.{Context}
 use Rattle.inf_compilation.specs.Actions.{Compilation}
 use Rattle.inf_statement_laws.specs.Laid.{laid}
+use Rattle.inf_routine_trees.proofs.Effects.{Effects, put}
 use Rattle.inf_statement_laws.specs.Nested.{Do, For, If, IfElse, Nested, Objectloop, Plain, Switch, Then, While, happenings}
 
 pub wider : (b : Bool) → Nested false → Nested b
@@ -44,3 +45,20 @@ wider_laid b limits context (Do opens body word joins test closes) w = refl
 wider_laid b limits context (For opens start joins test step bracket body closes) w = refl
 wider_laid b limits context (Objectloop opens loop ends joins bracket body closes) w = refl
 wider_laid b limits context (Switch opens value cases brace closes) w = refl
+
+-- with the effects behind its statements
+pub wider_put : (b : Bool) (effects : Effects) (n : Nested false)
+    → put effects (wider b n) ≡ (wider b (put effects n).0, (put effects n).1)
+unfolding wider
+wider_put b effects (Plain plain) = refl
+wider_put b effects (Then first second) =
+    let x = put effects first in
+    ap (λ (y : Nested b × Effects). let z = put y.1 (wider b second) in (Then y.0 z.0, z.1)) (wider_put b effects first)
+    ∙ ap (λ (z : Nested b × Effects). (Then (wider b x.0) z.0, z.1)) (wider_put b x.1 second)
+wider_put b effects (If opens test body closes) = refl
+wider_put b effects (IfElse opens test body joins word other closes) = refl
+wider_put b effects (While opens test body closes) = refl
+wider_put b effects (Do opens body word joins test closes) = refl
+wider_put b effects (For opens start joins test step bracket body closes) = refl
+wider_put b effects (Objectloop opens loop ends joins bracket body closes) = refl
+wider_put b effects (Switch opens value cases brace closes) = refl

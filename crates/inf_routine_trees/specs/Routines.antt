@@ -1,5 +1,5 @@
--- A routine as a tree: its header and its end as their tokens tell, its statements as trees.
-use Rattle.std.specs.Prelude.{◌≡◌, ◌+◌, ◌<◌, List, [], ◌∷◌, ◌++◌, length}
+-- A routine as a tree: its header with the names of its locals, its statements as trees, and its end.
+use Rattle.std.specs.Prelude.{◌≡◌, ◌+◌, ◌<◌, List, [], ◌∷◌, ◌++◌, length, Option}
 use Rattle.inf_settings.specs.Bounds.{Limits}
 use Rattle.inf_machine.specs.declared.symbols.Symbol.{Symbol}
 use Rattle.inf_machine.specs.Grammar.{Event, IsText}
@@ -8,36 +8,61 @@ use Rattle.inf_syntax.specs.Parts.{directive_1, directive_2}
 use Rattle.inf_syntax.specs.declared.actions.Action.{Action}
 use Rattle.inf_syntax.specs.declared.actions.Action.TheVariants as action
 use Rattle.inf_grammar.specs.Language.{grammar}
+use Rattle.inf_unit.specs.declared.roles.Note.TheVariants as note
 use Rattle.inf_compilation.specs.Context.{Context}
 use Rattle.inf_compilation.specs.Actions.{Compilation}
 use Rattle.inf_reader.specs.Acting.{act}
 use Rattle.inf_expression_laws.specs.Gathered.{AreSeen}
-use Rattle.inf_statement_laws.specs.Happenings.{Quiet}
-use Rattle.inf_statement_laws.specs.Laid.{next_comes, run}
+use Rattle.inf_statement_laws.specs.Happenings.{Between}
+use Rattle.inf_statement_laws.specs.Laid.{next_comes}
 use Rattle.inf_statement_laws.specs.Readings.{Seen, all_taken}
 use Rattle.inf_language.specs.Texts.{NoneClosesAhead, atoms_of, tokens_of}
-use Rattle.inf_routine_trees.specs.Bodies.{Tree, TreeWritten, token_done, tree_laid, tree_seen}
+use Rattle.inf_trees.specs.Trees.{Noted, Part, Single, parts_told, with_parts}
+use Rattle.inf_routine_trees.specs.Bodies.{Tree, TreeWritten, token_done, tree_laid, tree_seen, with_effects}
 
--- A routine: the tokens of its header, with what their reading does one by one, the semicolon behind them, its statements, and the
--- bracket and the semicolon at its end.
-pub record Routine : Type 0 where
-  pub header : List Seen
-  pub one_by_one : Quiet
+-- A header: the bracket that begins the routine, its name, the names of its locals, and the semicolon behind them.
+pub record Header : Type 0 where
+  pub bracket : Seen
+  pub name : Seen
+  pub locals : List Seen
   pub semicolon : Seen
+
+-- The unit of a header: its bracket, its name, and each name of a local, which is noted as one.
+abbrev pub local_parts : List Seen → List Part
+local_parts [] = []
+local_parts (s ∷ locals) = Single s ∷ Noted note.Local ∷ local_parts locals
+
+abbrev pub header_parts : Header → List Part
+header_parts h = Single h.bracket ∷ Single h.name ∷ local_parts h.locals
+
+-- A routine: its header, its statements, and the bracket and the semicolon at its end.
+pub record Routine : Type 0 where
+  pub header : Header
   pub body : Tree
   pub closing : Seen
   pub last : Seen
 
-abbrev pub routine_seen : Routine → List Seen
-routine_seen r = r.header ++ r.semicolon ∷ (tree_seen r.body ++ r.closing ∷ r.last ∷ [])
+abbrev pub header_seen : Header → List Seen
+header_seen h = h.bracket ∷ h.name ∷ (h.locals ++ h.semicolon ∷ [])
 
--- The effect of a routine: its header, whose end acts before its semicolon, its statements, and its end, which acts before the
--- closing bracket.
+abbrev pub routine_seen : Routine → List Seen
+routine_seen r = header_seen r.header ++ (tree_seen r.body ++ r.closing ∷ r.last ∷ [])
+
+-- The effect of a header: the reports of its tokens, and its end, with the name and the locals of its unit, before its semicolon.
+abbrev pub header_done : Limits → Context → Header → Compilation → Compilation
+header_done limits context h w =
+    let named = record (parts_told context w.unit (header_parts h) w) { unit = with_parts (header_parts h) w.unit } in
+    token_done context h.semicolon (act limits context h.semicolon.token.place action.EndLocals named)
+
+-- The effect of a routine: its header, its statements, and its end, which acts before the closing bracket.
 abbrev pub routine_done : Limits → Context → Routine → Compilation → Compilation
 routine_done limits context r w =
-    let headed = act limits context r.semicolon.token.place action.EndLocals (run limits context r.one_by_one.all w) in
-    let inside = tree_laid limits context r.body (token_done context r.semicolon headed) in
+    let inside = tree_laid limits context r.body (header_done limits context r.header w) in
     token_done context r.last (token_done context r.closing (act limits context r.closing.token.place action.EndRoutine inside))
+
+-- a routine with effects of conditional directives behind the ends of its statements
+abbrev pub routine_with : List (Option Between) → Routine → Routine
+routine_with effects r = record r { body = (with_effects effects r.body).0 }
 
 -- the row of the grammar for a routine
 abbrev pub routine_symbols : List (Symbol Action)

@@ -120,7 +120,7 @@ maybe_told context u tokens depth n (s ∷ seen) w =
     let v = record u { tokens = so_far; outer = None; is_sure = false; is_over = false; depth = behind } in
     maybe_told context u so_far behind n seen (passed s.behind (told_at context v s.token w))
 
-sized_beside : (context : Context) (too_many : Option Place) (u : UnitAtHand) (w : Compilation)
+pub sized_beside : (context : Context) (too_many : Option Place) (u : UnitAtHand) (w : Compilation)
     → stopped context too_many (record w { unit = u }) ≡ record (length_told context too_many (outer_tokens u) w) { unit = u }
 sized_beside context None u w = refl
 sized_beside context (Some place) u w = refl
@@ -131,7 +131,7 @@ sure_acts : (limits : Limits) (context : Context) (place : Place) (u : UnitAtHan
     ≡ record (front_told context (with_front (tokens_of front) (ready u)) w) { unit = sure u front g }
 sure_acts limits context place u front g w = sized_beside context (long_at (longest context) (sure u front g)) (sure u front g) w
 
-length_opening : (context : Context) (too_many : Option Place) (count : ℕ) (w : Compilation)
+pub length_opening : (context : Context) (too_many : Option Place) (count : ℕ) (w : Compilation)
     → (length_told context too_many count w).opening ≡ w.opening
 length_opening context None count w = refl
 length_opening context (Some place) count w = refl

@@ -32,7 +32,7 @@ use Rattle.inf_trees.proofs.ValueForms.{HasForm, by_row, form_of, is_value, valu
 use Rattle.inf_simple_trees.proofs.Doubts.{apart, doubted_expression, formed_doubt}
 use Rattle.inf_simple_trees.proofs.Symbols.{act_first, token_first}
 use Rattle.inf_simple_trees.proofs.PrintRules.{rule_events, ruled_value}
-use Rattle.inf_simple_trees.proofs.StepRules.{have_steps, is_step_rule, only_steps}
+use Rattle.inf_trees.proofs.StepRules.{have_steps, is_step_rule, only_steps}
 use Rattle.inf_simple_trees.proofs.UnitsGo.{AText, Going, alone, alone_goes, expressed, moved, note_goes, noted_goes, nothing, value_acts}
 
 -- Tokens are parts of a unit, whatever parts follow them.

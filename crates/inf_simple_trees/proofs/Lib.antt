@@ -2,7 +2,12 @@ pub mod UnitsGo
 pub mod Doubts
 pub mod Symbols
 pub mod PrintRules
-pub mod StepRules
 pub mod Items
 pub mod SimpleTexts
 pub mod SimpleRead
+pub mod Values
+pub mod CommaLists
+pub mod CaseTexts
+pub mod SwitchItems
+pub mod TopItems
+pub mod FirstCases

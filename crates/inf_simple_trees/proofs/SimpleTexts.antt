@@ -32,7 +32,7 @@ use Rattle.inf_trees.proofs.UnitsRead.{ready}
 use Rattle.inf_trees.proofs.ValueForms.{HasForm, form_of, is_value}
 use Rattle.inf_simple_trees.proofs.Doubts.{doubted_expression, formed_doubt, text_doubt}
 use Rattle.inf_simple_trees.proofs.Items.{print_goes, text_printed}
-use Rattle.inf_simple_trees.proofs.StepRules.{have_steps, is_step_rule, only_steps}
+use Rattle.inf_trees.proofs.StepRules.{have_steps, is_step_rule, only_steps}
 use Rattle.inf_simple_trees.proofs.UnitsGo.{Going, alone, alone_goes, expressed, moved, noted_goes, nothing, nothing_goes, units_go}
 
 -- Tokens that are a text of some symbols are the parts of a unit.

@@ -3,11 +3,12 @@
 use Rattle.std.specs.Prelude.{List, [], ◌∷◌, ◌++◌, Bool, true, not, ◌&&◌, nat_lt}
 use Rattle.inf_settings.specs.Bounds.{Limits}
 use Rattle.inf_settings.specs.declared.setting.Setting.TheVariants as setting
-use Rattle.inf_unit.specs.Units.{Unit as UnitAtHand, action_gathered, is_full, noted, taken}
+use Rattle.inf_unit.specs.Units.{Unit as UnitAtHand, action_gathered, is_full, noted, stepped, taken}
 use Rattle.inf_unit.specs.declared.roles.Note.{Note}
 use Rattle.inf_unit.specs.declared.roles.Note.TheVariants as note
 use Rattle.inf_language.specs.Texts.{tokens_of}
-use Rattle.inf_trees.specs.Trees.{Doubtful, Named, Noted, Part, Ruled, Single, Value, with_rule, with_value, without_outer}
+use Rattle.inf_trees.specs.Trees.{Doubtful, Further, Joined, Named, Noted, Part, Ruled, Single, Value, Worded, with_further, with_rule}
+use Rattle.inf_trees.specs.Trees.{with_value, with_word, without_outer}
 
 -- Tells whether there is room for what is noted of a unit: for what is printed or given, as long as the code of what it has so far may
 -- have the bytes that it has at least; for an operand, unless an assembly line has more than eight.
@@ -32,3 +33,6 @@ have_room limits u (Ruled bracket name closing ∷ parts) =
     && have_room limits (with_rule bracket.token name.token closing.token u) parts
 have_room limits u (Named ∷ parts) = have_room limits (action_gathered u) parts
 have_room limits u (Noted n ∷ parts) = has_room limits n u && have_room limits (noted n u) parts
+have_room limits u (Worded ∷ parts) = have_room limits (with_word u) parts
+have_room limits u (Further level tokens value ∷ parts) = have_room limits (with_further (tokens_of tokens) value u) parts
+have_room limits u (Joined joint ∷ parts) = have_room limits (stepped joint u) parts

@@ -37,63 +37,63 @@ apart xs ys atom none x y =
 
 -- A token of some classes is none of the words.
 
-abbrev OutsideWords : ℕ → Type 0
+abbrev pub OutsideWords : ℕ → Type 0
 OutsideWords class = bit_and (grammar.atoms_of class) words ≡ 0
 
 no_word : (class atom : ℕ) → OutsideWords class → has (grammar.atoms_of class) atom ≡ true → is_word atom ≡ true → ⊥
 unfolding is_word
 no_word class atom none h is = apart (grammar.atoms_of class) words atom none h is
 
-outside_0 : OutsideWords 0
+pub outside_0 : OutsideWords 0
 unfolding grammar
 outside_0 = refl
 
-outside_1 : OutsideWords 1
+pub outside_1 : OutsideWords 1
 unfolding grammar
 outside_1 = refl
 
-outside_2 : OutsideWords 2
+pub outside_2 : OutsideWords 2
 unfolding grammar
 outside_2 = refl
 
-outside_5 : OutsideWords 5
+pub outside_5 : OutsideWords 5
 unfolding grammar
 outside_5 = refl
 
-outside_7 : OutsideWords 7
+pub outside_7 : OutsideWords 7
 unfolding grammar
 outside_7 = refl
 
-outside_8 : OutsideWords 8
+pub outside_8 : OutsideWords 8
 unfolding grammar
 outside_8 = refl
 
-outside_10 : OutsideWords 10
+pub outside_10 : OutsideWords 10
 unfolding grammar
 outside_10 = refl
 
-outside_11 : OutsideWords 11
+pub outside_11 : OutsideWords 11
 unfolding grammar
 outside_11 = refl
 
-outside_12 : OutsideWords 12
+pub outside_12 : OutsideWords 12
 unfolding grammar
 outside_12 = refl
 
-outside_13 : OutsideWords 13
+pub outside_13 : OutsideWords 13
 unfolding grammar
 outside_13 = refl
 
-outside_15 : OutsideWords 15
+pub outside_15 : OutsideWords 15
 unfolding grammar
 outside_15 = refl
 
 -- Rows
 
-abbrev unit_end : List (Symbol Action)
+abbrev pub unit_end : List (Symbol Action)
 unit_end = !end_directive ∷ 'semicolon' ∷ []
 
-abbrev directive_rows : List (Row Action)
+abbrev pub directive_rows : List (Row Action)
 directive_rows =
     row_of
     (!routine ∷ 'open_bracket' ∷ NAME ∷ directive_1 ∷ !end_locals ∷ 'semicolon' ∷ directive_2 ∷ !end_routine ∷ 'close_bracket'
@@ -109,24 +109,24 @@ directive_rows =
     ∷ row_of (whole_directive ∷ unit_end)
     ∷ []
 
-directives_have : grammar.rows_of (number directive) ≡ directive_rows
+pub directives_have : grammar.rows_of (number directive) ≡ directive_rows
 unfolding grammar
 directives_have = refl
 
-abbrev piece_rows : List (Row Action)
+abbrev pub piece_rows : List (Row Action)
 piece_rows = row_of ('semicolon' ∷ []) ∷ row_of ('hash' ∷ directive ∷ []) ∷ row_of (directive ∷ []) ∷ []
 
-pieces_have : grammar.rows_of (number piece) ≡ piece_rows
+pub pieces_have : grammar.rows_of (number piece) ≡ piece_rows
 unfolding grammar
 pieces_have = refl
 
 -- A directive that begins with one of the words is the last of the rows.
 
-by_word : (class atom : ℕ) (symbols : List (Symbol Action)) (atoms : List ℕ) (events : List (Event Action)) → OutsideWords class
+pub by_word : (class atom : ℕ) (symbols : List (Symbol Action)) (atoms : List ℕ) (events : List (Event Action)) → OutsideWords class
     → is_word atom ≡ true → IsText grammar (Token class ∷ symbols) (atom ∷ atoms) events → ⊥
 by_word class atom symbols atoms events none is (token h leads) = no_word class atom none h is
 
-routine_no_word : (atom : ℕ) (symbols : List (Symbol Action)) (atoms : List ℕ) (events : List (Event Action)) → is_word atom ≡ true
+pub routine_no_word : (atom : ℕ) (symbols : List (Symbol Action)) (atoms : List ℕ) (events : List (Event Action)) → is_word atom ≡ true
     → IsText grammar (!routine ∷ 'open_bracket' ∷ symbols) (atom ∷ atoms) events → ⊥
 routine_no_word atom symbols atoms events is (action {events = rest} leads) =
     by_word 2 atom symbols atoms rest outside_2 is leads
@@ -167,7 +167,7 @@ sign_unfit : fits grammar known (mark_atom mark.Hash) (directive ∷ []) ≡ fal
 unfolding grammar known
 sign_unfit = refl
 
-no_sign : (atom : ℕ) (atoms : List ℕ) (events : List (Event Action)) → atom ≡ mark_atom mark.Hash
+pub no_sign : (atom : ℕ) (atoms : List ℕ) (events : List (Event Action)) → atom ≡ mark_atom mark.Hash
     → IsText grammar (directive ∷ []) (atom ∷ atoms) events → ⊥
 no_sign atom atoms events is text =
     let one = leads_only grammar known language_is_decided text (rule_is_spaced 2) in

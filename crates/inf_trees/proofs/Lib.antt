@@ -13,3 +13,7 @@ pub mod TopTexts
 pub mod StatementEnds
 pub mod StatementsRead
 pub mod Examples
+pub mod Rests
+pub mod Operators
+pub mod CaseValues
+pub mod StepRules

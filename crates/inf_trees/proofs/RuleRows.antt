@@ -44,7 +44,7 @@ past_keeps : (b : Bool) (test : List (Symbol Action) → Bool) (rows : List (Row
 past_keeps true test rows none = ap (all_rows test) none
 past_keeps false test rows none = refl
 
-row_passes : (test : List (Symbol Action) → Bool) (rows : List (Row Action)) (r : Row Action) → IsOneOf r rows → all_rows test rows ≡ true
+pub row_passes : (test : List (Symbol Action) → Bool) (rows : List (Row Action)) (r : Row Action) → IsOneOf r rows → all_rows test rows ≡ true
     → test r.parts ≡ true
 row_passes test [] r m all = elim m [ ]
 row_passes test (x ∷ rows) r first all = (and_parts (test x.parts) (all_rows test rows) all).0

@@ -46,11 +46,11 @@ pub data StatementText (others : List (List (Symbol Action))) (atoms : List ℕ)
 abbrev pub Rows : Symbol Action → List (Row Action) → Type 0
 Rows rule rows = grammar.rows_of (number rule) ≡ rows
 
-end_rows : Rows end (row unit_end ∷ [])
+pub end_rows : Rows end (row unit_end ∷ [])
 unfolding grammar
 end_rows = refl
 
-last_rows : Rows statement_end (row (expression_tail ∷ end ∷ []) ∷ [])
+pub last_rows : Rows statement_end (row (expression_tail ∷ end ∷ []) ∷ [])
 unfolding grammar
 last_rows = refl
 
@@ -74,15 +74,15 @@ pub style_rows : Rows style_rest (row (NAME ∷ end ∷ []) ∷ [])
 unfolding grammar
 style_rows = refl
 
-operand_rows : Rows statement_1 (row (plain_prim ∷ []) ∷ row (bracketed ∷ []) ∷ [])
+pub operand_rows : Rows statement_1 (row (plain_prim ∷ []) ∷ row (bracketed ∷ []) ∷ [])
 unfolding grammar
 operand_rows = refl
 
-prefix_rows : Rows statement_2 (row (prefixed ∷ []) ∷ row ('minus' ∷ neg ∷ !negate ∷ after_unary ∷ []) ∷ [])
+pub prefix_rows : Rows statement_2 (row (prefixed ∷ []) ∷ row ('minus' ∷ neg ∷ !negate ∷ after_unary ∷ []) ∷ [])
 unfolding grammar
 prefix_rows = refl
 
-abbrev mark_parts : List (Row Action)
+abbrev pub mark_parts : List (Row Action)
 mark_parts =
     row (!begin ∷ end ∷ [])
     ∷ row ('open_brace' ∷ mark_statement_1 ∷ 'close_brace' ∷ [])
@@ -92,15 +92,15 @@ mark_parts =
     ∷ row (!begin ∷ 'at' ∷ NAME ∷ assembly ∷ end ∷ [])
     ∷ []
 
-text_rows : Rows text_statement (row (!outer_maybe ∷ TEXT ∷ text_statement_1 ∷ []) ∷ [])
+pub text_rows : Rows text_statement (row (!outer_maybe ∷ TEXT ∷ text_statement_1 ∷ []) ∷ [])
 unfolding grammar
 text_rows = refl
 
-text_rest_rows : Rows text_statement_1 (row (!print_text ∷ end ∷ []) ∷ row (!outer_sure ∷ !text ∷ text_more ∷ []) ∷ [])
+pub text_rest_rows : Rows text_statement_1 (row (!print_text ∷ end ∷ []) ∷ row (!outer_sure ∷ !text ∷ text_more ∷ []) ∷ [])
 unfolding grammar
 text_rest_rows = refl
 
-mark_rows : Rows mark_statement mark_parts
+pub mark_rows : Rows mark_statement mark_parts
 unfolding grammar
 mark_rows = refl
 
@@ -117,7 +117,7 @@ late_parts =
     ∷ row (!begin ∷ 'style' ∷ style_rest ∷ [])
     ∷ []
 
-abbrev statement_parts : List (Row Action)
+abbrev pub statement_parts : List (Row Action)
 statement_parts =
     row (mark_statement ∷ [])
     ∷ row (!begin ∷ text_statement ∷ [])
@@ -128,7 +128,7 @@ statement_parts =
     ∷ row (!begin ∷ statement_4 ∷ print_rest ∷ [])
     ∷ late_parts
 
-statement_rows : Rows statement statement_parts
+pub statement_rows : Rows statement statement_parts
 unfolding grammar
 statement_rows = refl
 

@@ -31,7 +31,7 @@ use Rattle.inf_trees.proofs.ValueForms.{is_value}
 
 -- Rows, by evaluation
 
-top_item_1_rows : Rows top_item_1 (row (case_end ∷ []) ∷ row (top_more ∷ []) ∷ [])
+pub top_item_1_rows : Rows top_item_1 (row (case_end ∷ []) ∷ row (top_more ∷ []) ∷ [])
 unfolding grammar
 top_item_1_rows = refl
 
@@ -71,7 +71,7 @@ top_item_4_rows : Rows top_item_4 (row (prefixed ∷ []) ∷ row ('minus' ∷ ne
 unfolding grammar
 top_item_4_rows = refl
 
-top_more_rows : Rows top_more (row (operator ∷ statement_end ∷ []) ∷ row (top_range ∷ []) ∷ row ('comma' ∷ top_next ∷ []) ∷ row (end ∷ []) ∷ [])
+pub top_more_rows : Rows top_more (row (operator ∷ statement_end ∷ []) ∷ row (top_range ∷ []) ∷ row ('comma' ∷ top_next ∷ []) ∷ row (end ∷ []) ∷ [])
 unfolding grammar
 top_more_rows = refl
 
@@ -122,19 +122,19 @@ case_name_steps : OnlySteps (CASENAME ∷ !name ∷ [])
 unfolding is_rule
 case_name_steps atoms events text = only_steps text refl
 
-operator_rows : Rows operator (row (call ∷ post_tail ∷ address_tail ∷ step_tail ∷ after_unary ∷ []) ∷ row (other_operator ∷ []) ∷ [])
+pub operator_rows : Rows operator (row (call ∷ post_tail ∷ address_tail ∷ step_tail ∷ after_unary ∷ []) ∷ row (other_operator ∷ []) ∷ [])
 unfolding grammar
 operator_rows = refl
 
-other_operator_rows : Rows other_operator (row (member_operator ∷ after_unary ∷ []) ∷ row (outer_operator ∷ []) ∷ [])
+pub other_operator_rows : Rows other_operator (row (member_operator ∷ after_unary ∷ []) ∷ row (outer_operator ∷ []) ∷ [])
 unfolding grammar
 other_operator_rows = refl
 
-member_operator_rows : Rows member_operator (row ('dot' ∷ prim ∷ !member ∷ post_tail ∷ address_tail ∷ step_tail ∷ []) ∷ row (address_operator ∷ address_tail ∷ step_tail ∷ []) ∷ row (step_operator ∷ step_tail ∷ []) ∷ [])
+pub member_operator_rows : Rows member_operator (row ('dot' ∷ prim ∷ !member ∷ post_tail ∷ address_tail ∷ step_tail ∷ []) ∷ row (address_operator ∷ address_tail ∷ step_tail ∷ []) ∷ row (step_operator ∷ step_tail ∷ []) ∷ [])
 unfolding grammar
 member_operator_rows = refl
 
-outer_operator_rows : Rows outer_operator (row (array_operator ∷ after_unary ∷ []) ∷ row (term_operator ∷ term_tail ∷ sum_tail ∷ test_tail ∷ logic_tail ∷ assign_tail ∷ []) ∷ row (sum_operator ∷ sum_tail ∷ test_tail ∷ logic_tail ∷ assign_tail ∷ []) ∷ row (test ∷ logic_tail ∷ assign_tail ∷ []) ∷ row (logic_operator ∷ logic_tail ∷ assign_tail ∷ []) ∷ row ('assign' ∷ assign ∷ !assign ∷ []) ∷ [])
+pub outer_operator_rows : Rows outer_operator (row (array_operator ∷ after_unary ∷ []) ∷ row (term_operator ∷ term_tail ∷ sum_tail ∷ test_tail ∷ logic_tail ∷ assign_tail ∷ []) ∷ row (sum_operator ∷ sum_tail ∷ test_tail ∷ logic_tail ∷ assign_tail ∷ []) ∷ row (test ∷ logic_tail ∷ assign_tail ∷ []) ∷ row (logic_operator ∷ logic_tail ∷ assign_tail ∷ []) ∷ row ('assign' ∷ assign ∷ !assign ∷ []) ∷ [])
 unfolding grammar
 outer_operator_rows = refl
 

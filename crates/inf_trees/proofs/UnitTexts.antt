@@ -55,7 +55,7 @@ is_noted OperandEnds a = is_end a
 is_noted AnyNotes a = is_any a
 
 -- the rules of directives, and those of statements, in which such actions stand
-abbrev directive_rules : List (Symbol Action)
+abbrev pub directive_rules : List (Symbol Action)
 directive_rules =
     whole_directive ∷ whole_directive_1 ∷ whole_directive_2 ∷ whole_directive_3 ∷ whole_directive_4 ∷ whole_directive_5 ∷ whole_directive_6
     ∷ initial ∷ []

@@ -5,6 +5,8 @@ use Rattle.inf_expressions.specs.Sources.{Source}
 use Rattle.inf_unit.specs.Tokens.{SourceToken}
 use Rattle.inf_unit.specs.Units.{Unit as UnitAtHand, action_gathered, leaf_gathered, long_at, noted, outer_tokens, ruled, stepped, taken}
 use Rattle.inf_unit.specs.declared.roles.Note.{Note}
+use Rattle.inf_unit.specs.declared.roles.Note.TheVariants as note
+use Rattle.inf_unit.specs.declared.steps.GatherStep.{GatherStep}
 use Rattle.inf_unit.specs.declared.steps.GatherStep.TheVariants as step
 use Rattle.inf_compilation.specs.Actions.{Compilation}
 use Rattle.inf_compilation.specs.Context.{Context, longest}
@@ -18,7 +20,9 @@ use Rattle.inf_language.specs.Texts.{atoms_of, tokens_of}
 -- A part of a unit: a token by itself; the tokens of an expression, with the expression that they are, and the level at which its
 -- operators bind at least; such tokens whose first ones could as well be something else, a text or a name in brackets, and then the
 -- others; the name of a print rule in its brackets; the mark that the token before it is the name of an action; or what stands behind
--- an expression: its end, where another part follows, or what is to be done with it.
+-- an expression: its end, where another part follows, or what is to be done with it. Where a unit has values one behind the other, as a
+-- case, there are also: the mark that the token before it, the word of a statement, is the first value; an expression behind a value and
+-- a sign; and the mark that the values before it are joined, two to a range or one to those before it by a comma.
 pub data Part : Type 0 where
   Single : (s : Seen) → Part
   Value : (level : ℕ) (tokens : List Seen) (value : Source) → Part
@@ -26,6 +30,9 @@ pub data Part : Type 0 where
   Ruled : (bracket name closing : Seen) → Part
   Named : Part
   Noted : (n : Note) → Part
+  Worded : Part
+  Further : (level : ℕ) (tokens : List Seen) (value : Source) → Part
+  Joined : (joint : GatherStep) → Part
 
 -- the tokens of a part, and those of a unit
 abbrev pub part_seen : Part → List Seen
@@ -35,6 +42,9 @@ part_seen (Doubtful level front tokens value) = front ++ tokens
 part_seen (Ruled bracket name closing) = bracket ∷ name ∷ closing ∷ []
 part_seen Named = []
 part_seen (Noted n) = []
+part_seen Worded = []
+part_seen (Further level tokens value) = tokens
+part_seen (Joined joint) = []
 
 abbrev pub all_seen : List Part → List Seen
 all_seen [] = []
@@ -63,6 +73,17 @@ abbrev pub with_rule : SourceToken → SourceToken → SourceToken → UnitAtHan
 with_rule bracket name closing u =
     ruled (taken closing (leaf_gathered (taken name (stepped step.Bracket (taken bracket (without_outer u))))))
 
+-- a unit in which the word of a statement is a value, and one with an expression more behind others
+abbrev pub with_word : UnitAtHand → UnitAtHand
+with_word u = leaf_gathered (noted note.OuterWord u)
+
+abbrev pub with_further : List SourceToken → Source → UnitAtHand → UnitAtHand
+with_further tokens value u = record u {
+  tokens = u.tokens ++ tokens;
+  gathering = with_source u.outer u.begun (u.tokens ++ tokens) value u.gathering;
+  depth = brackets_behind tokens u.depth;
+}
+
 -- a unit with a part more, and with more parts
 abbrev pub with_part : Part → UnitAtHand → UnitAtHand
 with_part (Single s) u = taken s.token u
@@ -71,6 +92,9 @@ with_part (Doubtful level front tokens value) u = with_value (tokens_of front ++
 with_part (Ruled bracket name closing) u = with_rule bracket.token name.token closing.token u
 with_part Named u = action_gathered u
 with_part (Noted n) u = noted n u
+with_part Worded u = with_word u
+with_part (Further level tokens value) u = with_further (tokens_of tokens) value u
+with_part (Joined joint) u = stepped joint u
 
 abbrev pub with_parts : List Part → UnitAtHand → UnitAtHand
 with_parts [] u = u
@@ -90,6 +114,11 @@ AreWritten u (Doubtful level front tokens value ∷ parts) =
 AreWritten u (Ruled bracket name closing ∷ parts) = AreWritten (with_rule bracket.token name.token closing.token u) parts
 AreWritten u (Named ∷ parts) = AreWritten (action_gathered u) parts
 AreWritten u (Noted n ∷ parts) = AreWritten (noted n u) parts
+AreWritten u (Worded ∷ parts) = AreWritten (with_word u) parts
+AreWritten u (Further level tokens value ∷ parts) =
+    Written level (length u.tokens) (length u.gathering.leaves) (atoms_of tokens) value
+    × AreWritten (with_further (tokens_of tokens) value u) parts
+AreWritten u (Joined joint ∷ parts) = AreWritten (stepped joint u) parts
 
 -- The reports of tokens
 
@@ -121,6 +150,9 @@ part_told context u (Doubtful level front tokens value) w =
 part_told context u (Ruled bracket name closing) w = tokens_told context (without_outer u) (bracket ∷ name ∷ closing ∷ []) w
 part_told context u Named w = w
 part_told context u (Noted n) w = w
+part_told context u Worded w = front_told context (noted note.OuterWord u) w
+part_told context u (Further level tokens value) w = tokens_told context u tokens w
+part_told context u (Joined joint) w = w
 
 abbrev pub parts_told : Context → UnitAtHand → List Part → Compilation → Compilation
 parts_told context u [] w = w

@@ -1,7 +1,7 @@
 -- The kept tokens of a whole front are a text, and the state behind the front has the effect of taking them.
-use Rattle.std.proofs.Common.{◌≡◌, ◌<◌, ℕ, zero, suc, List, [], ◌∷◌, ◌++◌, length, true, false, refl, sym, ◌∙◌, ap, subst, append-nil}
+use Rattle.std.proofs.Common.{◌≡◌, ℕ, zero, suc, List, [], ◌∷◌, ◌++◌, false, refl, sym, ◌∙◌, ap, subst, append-nil}
 use Rattle.inf_settings.specs.Bounds.{Limits}
-use Rattle.inf_machine.specs.Grammar.{Event, IsText, Leads}
+use Rattle.inf_machine.specs.Grammar.{IsText, Leads}
 use Rattle.inf_machine.specs.declared.symbols.Symbol.{Symbol}
 use Rattle.inf_machine.specs.declared.symbols.Symbol.TheVariants.{Rule}
 use Rattle.inf_syntax.specs.declared.actions.Action.{Action}
@@ -16,7 +16,7 @@ use Rattle.inf_session.specs.Choices.{Choices}
 use Rattle.inf_laws.specs.KeptTokens.{Kept, Unfit}
 use Rattle.inf_statement_laws.specs.Happenings.{Between}
 use Rattle.inf_statement_laws.specs.Laid.{passed}
-use Rattle.inf_statement_laws.specs.Readings.{Seen, all_taken}
+use Rattle.inf_statement_laws.specs.Readings.{all_taken}
 use Rattle.inf_language.specs.Constants.{piece_done}
 use Rattle.inf_language.specs.Texts.{atoms_of}
 use Rattle.inf_language.proofs.TextsActed.{rule_is_spaced, texts_do_their_actions}
@@ -34,11 +34,12 @@ use Rattle.inf_program.proofs.Grouping.{steps_are_taken}
 use Rattle.inf_program.proofs.Stepping.{stand}
 use Rattle.inf_program.proofs.Walking.{first_step, front_agrees}
 use Rattle.inf_turn_laws.specs.Acted.{seen_in}
-use Rattle.inf_turn_laws.specs.Directives.{ClosesNone, DoesDirective, PiecesDoTheirDirectives, all_merged, front_seen, steps_from}
+use Rattle.inf_turn_laws.specs.Directives.{PiecesDoTheirDirectives, all_merged, front_seen, steps_from}
 use Rattle.inf_turn_laws.specs.Directives.{taken_seen}
 use Rattle.inf_turn_laws.proofs.Acted.{all_fit_by}
 use Rattle.inf_turn_laws.proofs.Marks.{steps_seen}
-use Rattle.inf_turn_laws.proofs.Merged.{merged_atoms, merged_seen, none_merged, taken_merged}
+use Rattle.inf_turn_laws.proofs.Merged.{ClosesNone, merged_atoms, merged_seen, none_merged, taken_merged}
+use Rattle.inf_turn_laws.proofs.Unclosed.{directives_close_none}
 
 -- The steps of a front
 
@@ -125,7 +126,7 @@ whole_of limits o s f none empty =
     }
 
 -- the text of the tokens, each with the effect behind it
-seen_derives : (t : SourceToken) (steps : List Step) (course : Course) → AllKept steps
+pub seen_derives : (t : SourceToken) (steps : List Step) (course : Course) → AllKept steps
     → Derives (Rule piece_rule ∷ []) (kept_atoms (Reads (Kept t) ∷ steps) ++ []) course []
     → Derives (Rule piece_rule ∷ []) (atoms_of (seen_in t steps)) course []
 seen_derives t steps course kept d =
@@ -133,7 +134,7 @@ seen_derives t steps course kept d =
     append-nil (kept_atoms (Reads (Kept t) ∷ steps)) ∙ sym (grouped_atoms (Reads (Kept t) ∷ steps) kept) in
     subst (λ (xs : List ℕ). Derives (Rule piece_rule ∷ []) xs course []) atoms d
 
-pub text_of : (t : SourceToken) (steps : List Step) (course : Course) → AllKept steps
+text_of : (t : SourceToken) (steps : List Step) (course : Course) → AllKept steps
     → Derives (Rule piece_rule ∷ []) (kept_atoms (Reads (Kept t) ∷ steps) ++ []) course []
     → IsText grammar (Rule piece_rule ∷ []) (atoms_of (all_merged (seen_in t steps))) course.events
 text_of t steps course kept d =
@@ -141,12 +142,11 @@ text_of t steps course kept d =
     (seen_derives t steps course kept d).leads
 
 -- taking the tokens has the effect of the front
-pub front_takes : (limits : Limits) (context : Context) (m : Between) (t : SourceToken) (steps : List Step) (course : Course) (w : Compilation)
+pub front_taken : (limits : Limits) (context : Context) (m : Between) (t : SourceToken) (steps : List Step) (course : Course) (w : Compilation)
     → is_end t.kind ≡ false → AllKept steps → Derives (Rule piece_rule ∷ []) (kept_atoms (Reads (Kept t) ∷ steps) ++ []) course []
-    → ClosesNone course.ends (seen_in t steps)
     → (done_by limits context (Passes m ∷ Reads (Kept t) ∷ steps) (fresh_progress course w)).work
-    ≡ all_taken limits context (all_merged (seen_in t steps)) (Rule piece_rule ∷ []) (work_begun (passed m w))
-front_takes limits context m t steps course w no_end kept d closes =
+    ≡ all_taken limits context (seen_in t steps) (Rule piece_rule ∷ []) (work_begun (passed m w))
+front_taken limits context m t steps course w no_end kept d =
     let a : Agrees [] [] (done_by limits context (Passes m ∷ Reads (Kept t) ∷ steps) (fresh_progress course w))
     (steps_by limits context (Passes m ∷ Reads (Kept t) ∷ steps) (stand (between mode.Reads) w)) =
     front_agrees limits context m t steps [] [] course w no_end kept d in
@@ -155,12 +155,21 @@ front_takes limits context m t steps course w no_end kept d closes =
     ((texts_do_their_actions limits).fit piece_rule (seen_in t steps) course.events (seen_derives t steps course kept d).leads) in
     sym a.same
     ∙ (ap (λ (x : ReaderState). (steps_by limits context steps x).work) (first_step limits context t m w no_end)
-    ∙ (steps_are_taken limits context (Reads (Kept t) ∷ steps) (piece_first m w) fit
+    ∙ steps_are_taken limits context (Reads (Kept t) ∷ steps) (piece_first m w) fit)
+
+-- with all effects behind the tokens, where no statement is over
+front_takes : (limits : Limits) (context : Context) (m : Between) (t : SourceToken) (steps : List Step) (course : Course) (w : Compilation)
+    → is_end t.kind ≡ false → AllKept steps → Derives (Rule piece_rule ∷ []) (kept_atoms (Reads (Kept t) ∷ steps) ++ []) course []
+    → ClosesNone course.ends (seen_in t steps)
+    → (done_by limits context (Passes m ∷ Reads (Kept t) ∷ steps) (fresh_progress course w)).work
+    ≡ all_taken limits context (all_merged (seen_in t steps)) (Rule piece_rule ∷ []) (work_begun (passed m w))
+front_takes limits context m t steps course w no_end kept d closes =
+    front_taken limits context m t steps course w no_end kept d
     ∙ taken_merged limits context (seen_in t steps) (Rule piece_rule ∷ []) [] course (seen_derives t steps course kept d)
-    (rule_is_spaced piece_rule) closes (work_begun (passed m w))))
+    (rule_is_spaced piece_rule) closes (work_begun (passed m w))
 
 pub pieces_do_their_directives : (limits : Limits) → PiecesDoTheirDirectives limits
-pieces_do_their_directives limits o s f none empty begins closes few =
+pieces_do_their_directives limits o s f none empty begins few =
     let p : Whole limits o s f = whole_of limits o s f none empty in
     let c : Context = context_of o s in
     let t : SourceToken = f.begins.token in
@@ -168,6 +177,10 @@ pieces_do_their_directives limits o s f none empty begins closes few =
     let is : IsDirective limits (front_seen f) =
     directives_are_trees limits (front_seen f) f.course.events (text_of t later f.course p.kept p.derives) begins
     (merged_seen (taken_seen f) (steps_seen (Reads (Kept t) ∷ later))) few (none_merged (taken_seen f)) in
+    let d : Derives (Rule piece_rule ∷ []) (atoms_of (taken_seen f)) f.course [] = seen_derives t later f.course p.kept p.derives in
+    let closes : ClosesNone f.course.ends (taken_seen f) =
+    directives_close_none (atoms_of (taken_seen f)) f.course.events f.course.ends (taken_seen f)
+    (ap begins_directive (sym (merged_atoms (taken_seen f))) ∙ begins) d.leads d.are_ends in
     record {
       tree = is.tree;
       same = is.same;

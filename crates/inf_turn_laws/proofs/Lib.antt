@@ -4,7 +4,9 @@ pub mod Acted
 pub mod Routines
 pub mod Marks
 pub mod Merged
+pub mod Unclosed
 pub mod Directives
+pub mod Behind
 pub mod RoutinePieces
 pub mod MarkedLocals
 pub mod LocalsNamed

@@ -1,5 +1,5 @@
 -- Where no statement is over, the effect of a conditional directive that ends is behind the token like the others.
-use Rattle.std.proofs.Common.{◌≡◌, ◌⊎◌, inl, inr, ℕ, List, [], ◌∷◌, Option, Some, None, refl, sym, ◌∙◌, ap, subst}
+use Rattle.std.proofs.Common.{◌≡◌, ◌⊎◌, inl, inr, ℕ, List, [], ◌∷◌, Option, Some, None, refl, ◌∙◌, ap, subst}
 use Rattle.inf_settings.specs.Bounds.{Limits}
 use Rattle.inf_machine.specs.Laws.{IsSpaced}
 use Rattle.inf_machine.specs.Machine.{Taken, taken, work}
@@ -19,7 +19,13 @@ use Rattle.inf_statement_laws.specs.Readings.{Seen, all_taken, behind_token, dir
 use Rattle.inf_language.specs.Texts.{NoneClosesAhead, atoms_of, tokens_of}
 use Rattle.inf_program.specs.definition.Fronts.{Course, Derives}
 use Rattle.inf_program.proofs.Events.{First, first_token, not_ahead}
-use Rattle.inf_turn_laws.specs.Directives.{ClosesNone, all_merged, merged}
+use Rattle.inf_turn_laws.specs.Directives.{all_merged}
+
+-- By the numbers of statements that are over behind the tokens, a conditional directive ends only where none is.
+abbrev pub ClosesNone : List ℕ → List Seen → Type 0
+ClosesNone counts [] = Unit {0}
+ClosesNone [] (s ∷ seen) = Unit {0}
+ClosesNone (count ∷ counts) (s ∷ seen) = ((count ≡ 0) ⊎ (s.directive ≡ None)) × ClosesNone counts seen
 
 directed_merged : (limits : Limits) (d : Option Between) (count : ℕ) (b : Between) (w : Compilation) → (count ≡ 0) ⊎ (d ≡ None)
     → directed limits d count (passed b w) ≡ passed (behind_token d 0 b) w

@@ -1,6 +1,5 @@
--- A whole piece that is a directive of one unit does what the tree of its tokens does. Where a conditional directive ends between its tokens,
--- no statement is over there.
-use Rattle.std.specs.Prelude.{◌≡◌, ◌<◌, ◌⊎◌, ℕ, zero, suc, List, [], ◌∷◌, ◌++◌, length, true, None}
+-- A whole piece that is a directive of one unit does what the tree of its tokens does.
+use Rattle.std.specs.Prelude.{◌≡◌, ◌<◌, ℕ, zero, suc, List, [], ◌∷◌, ◌++◌, length, true, None}
 use Rattle.inf_settings.specs.Bounds.{Limits}
 use Rattle.inf_unit.specs.Units.{no_unit}
 use Rattle.inf_compilation.specs.Actions.{piece_begun}
@@ -38,12 +37,6 @@ all_merged (s ∷ seen) = merged s ∷ all_merged seen
 abbrev pub front_seen : {limits : Limits} {o : Choices} {s : State} → Front limits o s → List Seen
 front_seen f = all_merged (taken_seen f)
 
--- By the numbers of statements that are over behind the tokens, a conditional directive ends only where none is.
-abbrev pub ClosesNone : List ℕ → List Seen → Type 0
-ClosesNone counts [] = Unit {0}
-ClosesNone [] (s ∷ seen) = Unit {0}
-ClosesNone (count ∷ counts) (s ∷ seen) = ((count ≡ 0) ⊎ (s.directive ≡ None)) × ClosesNone counts seen
-
 -- The tokens of a front are a directive as a tree, whose expressions are those of their tokens by the levels of operators, and the state
 -- behind the front has the effect of the directive.
 pub record DoesDirective (limits : Limits) (o : Choices) (s : State) (f : Front limits o s) : Type 0 where
@@ -53,10 +46,9 @@ pub record DoesDirective (limits : Limits) (o : Choices) (s : State) (f : Front 
   pub does : piece_done (reached f).state.work
       ≡ piece_done (directive_done limits (context_of o s) tree (piece_begun (passed f.begins.effect s.work)))
 
--- Each front of a whole piece, whose tokens begin as such a directive does, is one. Between them no conditional directive closes statements
--- ahead, and there are few enough of them for their orders to differ.
+-- Each front of a whole piece, whose tokens begin as such a directive does, is one, wherever conditional directives end between them. There
+-- are few enough of them for their orders to differ.
 abbrev pub PiecesDoTheirDirectives : Limits → Type 0
 PiecesDoTheirDirectives limits =
     (o : Choices) (s : State) (f : Front limits o s) → f.further ≡ [] → f.left ≡ []
-    → begins_directive (atoms_of (front_seen f)) ≡ true → ClosesNone f.course.ends (taken_seen f) → length (front_seen f) < 4294967295
-    → DoesDirective limits o s f
+    → begins_directive (atoms_of (front_seen f)) ≡ true → length (front_seen f) < 4294967295 → DoesDirective limits o s f

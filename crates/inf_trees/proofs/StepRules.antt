@@ -15,7 +15,7 @@ use Rattle.inf_grammar.specs.Language.{grammar}
 use Rattle.inf_language.specs.Units.{AllSteps, is_step}
 use Rattle.inf_trees.proofs.RuleRows.{is_among, keeps, passes}
 
-abbrev step_rules : List (Symbol Action)
+abbrev pub step_rules : List (Symbol Action)
 step_rules =
     assign ∷ assign_tail ∷ assign_tail_1 ∷ sum ∷ sum_operator ∷ sum_tail ∷ term ∷ term_operator ∷ term_tail ∷ bit ∷ array_operator
     ∷ array_tail ∷ address_operator ∷ address_tail ∷ neg ∷ negated ∷ inc ∷ step_operator ∷ step_prefix ∷ step_tail ∷ call ∷ call_1 ∷ call_2

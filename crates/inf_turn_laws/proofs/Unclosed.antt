@@ -1,0 +1,158 @@
+-- In a directive that is one unit no statement is over: the symbols behind each of its tokens begin with no end of one.
+use Rattle.std.proofs.Common.{◌≡◌, inl, inr, ℕ, List, [], ◌∷◌, ◌++◌, Bool, true, false, not, ◌&&◌, ◌==◌, refl, subst}
+use Rattle.std.proofs.lemmas.Bool.{agree_below, and_from, and_parts, eqb-true, or_cases}
+use Rattle.inf_scanner.specs.declared.tokens.Mark.TheVariants as mark
+use Rattle.inf_machine.specs.Grammar.{Event, IsOneOf, IsText, Leads, Row, action, first, here, later, row, token}
+use Rattle.inf_machine.specs.declared.symbols.Symbol.{Symbol}
+use Rattle.inf_machine.specs.declared.symbols.Symbol.TheVariants.{Act, Rule, Token}
+use Rattle.inf_syntax.specs.Atoms.{mark_atom}
+use Rattle.inf_syntax.specs.Parts.{address_operator, address_tail, after_prim, after_unary, array_operator, array_tail, assign, assign_tail}
+use Rattle.inf_syntax.specs.Parts.{assign_tail_1, bit, bracketed, call, call_1, call_2, directive, expression, expression_tail, inc, initial}
+use Rattle.inf_syntax.specs.Parts.{initial_1, logic, logic_operator, logic_tail, neg, negated, other_assign, other_prim, piece, plain_prim}
+use Rattle.inf_syntax.specs.Parts.{post, post_tail, prefixed, prim, step_operator, step_prefix, step_tail, sum, sum_operator, sum_tail, term}
+use Rattle.inf_syntax.specs.Parts.{term_operator, term_tail, test, test_tail, test_tail_1, tested, tested_1, whole_directive}
+use Rattle.inf_syntax.specs.Parts.{whole_directive_1, whole_directive_2, whole_directive_3, whole_directive_4, whole_directive_5}
+use Rattle.inf_syntax.specs.Parts.{whole_directive_6}
+use Rattle.inf_syntax.specs.declared.actions.Action.{Action}
+use Rattle.inf_syntax.specs.declared.actions.Action.TheVariants as action_of
+use Rattle.inf_grammar.specs.Language.{grammar}
+use Rattle.inf_grammar.specs.Routines.{closings}
+use Rattle.inf_statement_laws.specs.Readings.{Seen}
+use Rattle.inf_trees.specs.Directives.{begins_directive, is_word}
+use Rattle.inf_trees.proofs.DirectiveTexts.{by_word, directive_rows, directives_have, no_sign, outside_1, outside_10, outside_11, outside_12}
+use Rattle.inf_trees.proofs.DirectiveTexts.{outside_13, outside_15, outside_5, outside_7, outside_8, piece_rows, pieces_have}
+use Rattle.inf_trees.proofs.DirectiveTexts.{routine_no_word, unit_end}
+use Rattle.inf_trees.proofs.RuleRows.{is_among, keeps, passes}
+use Rattle.inf_program.specs.definition.Fronts.{ends_in}
+use Rattle.inf_turn_laws.proofs.Merged.{ClosesNone}
+
+-- Rules whose texts end no statement
+
+abbrev pub is_close : Action → Bool
+is_close action_of.Close = true
+is_close _ = false
+
+abbrev open_rules : List (Symbol Action)
+open_rules =
+    whole_directive ∷ whole_directive_1 ∷ whole_directive_2 ∷ whole_directive_3 ∷ whole_directive_4 ∷ whole_directive_5 ∷ whole_directive_6
+    ∷ initial ∷ initial_1 ∷ expression ∷ expression_tail ∷ assign ∷ assign_tail ∷ assign_tail_1 ∷ other_assign ∷ prefixed ∷ logic ∷ logic_tail
+    ∷ logic_operator ∷ negated ∷ test ∷ test_tail ∷ test_tail_1 ∷ tested ∷ tested_1 ∷ sum ∷ sum_operator ∷ sum_tail ∷ term ∷ term_operator
+    ∷ term_tail ∷ bit ∷ array_operator ∷ array_tail ∷ neg ∷ inc ∷ step_operator ∷ step_prefix ∷ step_tail ∷ address_operator ∷ address_tail
+    ∷ post ∷ post_tail ∷ call ∷ call_1 ∷ call_2 ∷ prim ∷ other_prim ∷ plain_prim ∷ bracketed ∷ after_prim ∷ after_unary ∷ []
+
+unfoldable pub is_open_rule : ℕ → Bool
+is_open_rule rule = is_among rule open_rules
+
+-- whether symbols are tokens, these rules, and actions that end no statement
+abbrev pub are_open : List (Symbol Action) → Bool
+are_open [] = true
+are_open (Token class ∷ symbols) = are_open symbols
+are_open (Act a ∷ symbols) = not (is_close a) && are_open symbols
+are_open (Rule rule ∷ symbols) = is_open_rule rule && are_open symbols
+
+rows_open : agree_below (keeps is_open_rule are_open) (λ rule. true) 251 ≡ true
+unfolding grammar is_open_rule
+rows_open = refl
+
+open-append : (xs ys : List (Symbol Action)) → are_open xs ≡ true → are_open ys ≡ true → are_open (xs ++ ys) ≡ true
+open-append [] ys x y = y
+open-append (Token class ∷ xs) ys x y = open-append xs ys x y
+open-append (Act a ∷ xs) ys x y =
+    let both = and_parts (not (is_close a)) (are_open xs) x in
+    and_from (not (is_close a)) (are_open (xs ++ ys)) both.0 (open-append xs ys both.1 y)
+open-append (Rule rule ∷ xs) ys x y =
+    let both = and_parts (is_open_rule rule) (are_open xs) x in
+    and_from (is_open_rule rule) (are_open (xs ++ ys)) both.0 (open-append xs ys both.1 y)
+
+-- No statement is over behind any token.
+abbrev AllZero : List ℕ → Type 0
+AllZero [] = Unit {0}
+AllZero (count ∷ counts) = (count ≡ 0) × AllZero counts
+
+act_closes : (a : Action) (symbols : List (Symbol Action)) → not (is_close a) ≡ true → closings (Act a ∷ symbols) ≡ 0
+act_closes action_of.Close symbols is = cc
+act_closes _ symbols is = refl
+
+none_over : (symbols : List (Symbol Action)) → are_open symbols ≡ true → closings symbols ≡ 0
+none_over [] is = refl
+none_over (Token class ∷ symbols) is = refl
+none_over (Rule rule ∷ symbols) is = refl
+none_over (Act a ∷ symbols) is = act_closes a symbols (and_parts (not (is_close a)) (are_open symbols) is).0
+
+open_ends : {symbols left : List (Symbol Action)} {atoms : List ℕ} {events : List (Event Action)}
+    → (leads : Leads grammar symbols atoms events left) → are_open symbols ≡ true → AllZero (ends_in leads)
+open_ends here is = tt
+open_ends (token {symbols = symbols} h leads) is = (none_over symbols is, open_ends leads is)
+open_ends (action {a = a} {symbols = symbols} leads) is = open_ends leads (and_parts (not (is_close a)) (are_open symbols) is).1
+open_ends (row {rule = rule} {r = r} {symbols = symbols} is_row free leads) is =
+    let both = and_parts (is_open_rule rule) (are_open symbols) is in
+    open_ends leads (open-append r.parts symbols (passes is_open_rule are_open rows_open rule both.0 r is_row) both.1)
+
+whole_is_open : are_open (whole_directive ∷ unit_end) ≡ true
+unfolding is_open_rule
+whole_is_open = refl
+
+-- A piece that begins as such a directive
+
+directive_row_ends : (r : Row Action) → IsOneOf r directive_rows → (atom : ℕ) (atoms : List ℕ) (events : List (Event Action))
+    → is_word atom ≡ true → (leads : Leads grammar (r.parts ++ []) (atom ∷ atoms) events []) → AllZero (ends_in leads)
+directive_row_ends r first atom atoms events is leads = absurd (routine_no_word atom _ atoms events is leads)
+directive_row_ends r (later first) atom atoms events is leads = absurd (by_word 5 atom _ atoms events outside_5 is leads)
+directive_row_ends r (later (later first)) atom atoms events is leads = absurd (by_word 7 atom _ atoms events outside_7 is leads)
+directive_row_ends r (later (later (later first))) atom atoms events is leads = absurd (by_word 8 atom _ atoms events outside_8 is leads)
+directive_row_ends r (later (later (later (later first)))) atom atoms events is leads =
+    absurd (by_word 10 atom _ atoms events outside_10 is leads)
+directive_row_ends r (later (later (later (later (later first))))) atom atoms events is leads =
+    absurd (by_word 11 atom _ atoms events outside_11 is leads)
+directive_row_ends r (later (later (later (later (later (later first)))))) atom atoms events is leads =
+    absurd (by_word 12 atom _ atoms events outside_12 is leads)
+directive_row_ends r (later (later (later (later (later (later (later first))))))) atom atoms events is leads =
+    absurd (by_word 13 atom _ atoms events outside_13 is leads)
+directive_row_ends r (later (later (later (later (later (later (later (later first)))))))) atom atoms events is leads =
+    absurd (by_word 15 atom _ atoms events outside_15 is leads)
+directive_row_ends r (later (later (later (later (later (later (later (later (later first))))))))) atom atoms events is leads =
+    open_ends leads whole_is_open
+directive_row_ends r (later (later (later (later (later (later (later (later (later (later missing)))))))))) atom atoms events is leads =
+    elim missing [ ]
+
+directive_ends : (atom : ℕ) (atoms : List ℕ) (events : List (Event Action)) → is_word atom ≡ true
+    → (leads : IsText grammar (directive ∷ []) (atom ∷ atoms) events) → AllZero (ends_in leads)
+directive_ends atom atoms events is (row {r = r} is_row free leads) =
+    directive_row_ends r (subst (λ rows. IsOneOf r rows) directives_have is_row) atom atoms events is leads
+
+-- a piece whose first row is that of the sign, or of a directive
+piece_row_ends : (r : Row Action) → IsOneOf r piece_rows → (one two : ℕ) (atoms : List ℕ) (events : List (Event Action))
+    → begins_directive (one ∷ two ∷ atoms) ≡ true → (leads : Leads grammar (r.parts ++ []) (one ∷ two ∷ atoms) events [])
+    → AllZero (ends_in leads)
+piece_row_ends r first one two atoms events begins (token h leads) = elim leads [ ]
+piece_row_ends r (later first) one two atoms events begins (token {events = rest} h leads) =
+    elim (or_cases (is_word one) ((one == mark_atom mark.Hash) && is_word two) begins) [
+      | inl is ↦ absurd (by_word 1 one _ (two ∷ atoms) events outside_1 is (token h leads))
+      | inr both ↦ (refl, directive_ends two atoms rest (and_parts (one == mark_atom mark.Hash) (is_word two) both).1 leads)
+    ]
+piece_row_ends r (later (later first)) one two atoms events begins leads =
+    elim (or_cases (is_word one) ((one == mark_atom mark.Hash) && is_word two) begins) [
+      | inl is ↦ directive_ends one (two ∷ atoms) events is leads
+      | inr both ↦
+          let parts = and_parts (one == mark_atom mark.Hash) (is_word two) both in
+          absurd (no_sign one (two ∷ atoms) events (eqb-true one (mark_atom mark.Hash) parts.0) leads)
+    ]
+piece_row_ends r (later (later (later missing))) one two atoms events begins leads = elim missing [ ]
+
+piece_ends : (atoms : List ℕ) (events : List (Event Action)) → begins_directive atoms ≡ true
+    → (leads : IsText grammar (piece ∷ []) atoms events) → AllZero (ends_in leads)
+piece_ends [] events begins leads = cc
+piece_ends (one ∷ []) events begins leads = cc
+piece_ends (one ∷ two ∷ atoms) events begins (row {r = r} is_row free leads) =
+    piece_row_ends r (subst (λ rows. IsOneOf r rows) pieces_have is_row) one two atoms events begins leads
+
+none_close : (counts : List ℕ) (seen : List Seen) → AllZero counts → ClosesNone counts seen
+none_close counts [] zero = tt
+none_close [] (s ∷ seen) zero = tt
+none_close (count ∷ counts) (s ∷ seen) zero = (inl zero.0, none_close counts seen zero.1)
+
+-- Conditional directives within such a piece close no statement ahead.
+pub directives_close_none : (atoms : List ℕ) (events : List (Event Action)) (counts : List ℕ) (seen : List Seen)
+    → begins_directive atoms ≡ true → (leads : IsText grammar (piece ∷ []) atoms events) → ends_in leads ≡ counts → ClosesNone counts seen
+directives_close_none atoms events counts seen begins leads are =
+    subst (λ (numbers : List ℕ). ClosesNone numbers seen) are (none_close (ends_in leads) seen (piece_ends atoms events begins leads))
