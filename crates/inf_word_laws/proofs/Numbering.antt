@@ -59,7 +59,7 @@ not_some e = absurd (cc e)
 same_some : {A : Type 0} {a b : A} → Some a ≡ Some b → a ≡ b
 same_some e = cc e
 
-put_longer : (key : List ℕ) (s : Standing Place) (names : List (Named Place)) → length names ≤ length (put key s names)
+pub put_longer : (key : List ℕ) (s : Standing Place) (names : List (Named Place)) → length names ≤ length (put key s names)
 put_longer key s [] = omega arith
 put_longer key s (n ∷ names) = go (bytes_eq key n.name) (put_longer key s names)
   where
@@ -68,7 +68,7 @@ put_longer key s (n ∷ names) = go (bytes_eq key n.name) (put_longer key s name
     go true later = omega arith
     go false later = omega (arith, later)
 
-index_within : (key : List ℕ) (names : List (Named Place)) → is_some (standing_of key names) ≡ true → index_of key names < length names
+pub index_within : (key : List ℕ) (names : List (Named Place)) → is_some (standing_of key names) ≡ true → index_of key names < length names
 index_within key [] h = cc
 index_within key (n ∷ names) h = go (bytes_eq key n.name) h (λ k. index_within key names k)
   where
@@ -78,7 +78,7 @@ index_within key (n ∷ names) h = go (bytes_eq key n.name) h (λ k. index_withi
     go true k later = omega arith
     go false k later = let r = later k in omega (arith, r)
 
-index_put : (key : List ℕ) (s : Standing Place) (names : List (Named Place)) → standing_of key names ≡ None →
+pub index_put : (key : List ℕ) (s : Standing Place) (names : List (Named Place)) → standing_of key names ≡ None →
     index_of key names < length (put key s names)
 index_put key s [] h = omega arith
 index_put key s (n ∷ names) h = go (bytes_eq key n.name) h (λ k. index_put key s names k)
@@ -205,7 +205,7 @@ own_operand own.SwitchVariable = refl
 own_operand own.TemporaryGlobal = refl
 own_operand own.Debug = refl
 
-own_by : (debugging : Bool) (n : Option SystemName) (m : Meaning) → meaning_if debugging n ≡ Some m → is_some (standing m) ≡ true
+pub own_by : (debugging : Bool) (n : Option SystemName) (m : Meaning) → meaning_if debugging n ≡ Some m → is_some (standing m) ≡ true
 own_by debugging None m e = not_some e
 own_by debugging (Some n) m e = go (is_known debugging n) e
   where

@@ -1,0 +1,240 @@
+-- Directives, headers, notes and all actions of the grammar; and the cut that a bad token makes.
+use Rattle.std.proofs.Common.{ℕ, List, [], ◌∷◌, true, false, Option, Some, None}
+use Rattle.std.specs.Prelude.{◌&&◌}
+use Rattle.inf_settings.specs.Bounds.{Limits}
+use Rattle.inf_scanner.specs.declared.tokens.Place.{Place}
+use Rattle.inf_output.specs.Output.{Out}
+use Rattle.inf_syntax.specs.declared.actions.Action.{Action}
+use Rattle.inf_names.specs.Spellings.{Name}
+use Rattle.inf_unit.specs.Directives.{End, Include, directive_of, weight_of}
+use Rattle.inf_unit.specs.Messages.{location, with_words}
+use Rattle.inf_unit.specs.Roles.{ends_outer, ends_token, ends_value, is_arrow, is_text, is_verb_word, makes_sure, role_of}
+use Rattle.inf_unit.specs.Tokens.{SourceToken}
+use Rattle.inf_unit.specs.Units.{directive_word, first_place, is_full, names_in, noted as unit_noted, quoted_in, stepped}
+use Rattle.inf_unit.specs.Units.{taken as unit_taken}
+use Rattle.inf_unit.specs.declared.directives.Directive.{Directive}
+use Rattle.inf_unit.specs.declared.directives.Directive.TheVariants as directive
+use Rattle.inf_unit.specs.declared.roles.Ending.{Ending}
+use Rattle.inf_unit.specs.declared.roles.Ending.TheVariants as ending
+use Rattle.inf_unit.specs.declared.roles.Note.{Note}
+use Rattle.inf_unit.specs.declared.roles.Role.{Role}
+use Rattle.inf_unit.specs.declared.roles.Role.TheVariants as role
+use Rattle.inf_compilation.specs.Actions.{Compilation, body_ended, code_begun, cut, given_up, is_deep, opening_checked_at, opens, sized}
+use Rattle.inf_compilation.specs.Actions.{took, words_of}
+use Rattle.inf_compilation.specs.Context.{Context}
+use Rattle.inf_compilation.specs.Findings.{nothing_found}
+use Rattle.inf_compilation.specs.Parts.{statement_at}
+use Rattle.inf_compilation.specs.declared.parts.Part.TheVariants as part
+use Rattle.inf_reader.specs.Acting.{act, acted, all_acted, cut_at, ended, held_ended, is_crowded, is_long, is_tall, is_wordy, kind_of}
+use Rattle.inf_reader.specs.Acting.{noted, noted_of, played}
+use Rattle.inf_reader.specs.Directives.{carried_out, code_begun_by, directive_end, directive_of_names, fit_ended}
+use Rattle.inf_reader.specs.Headers.{class_named, directive_header, header_as, header_ended, heading_of}
+use Rattle.inf_reader.specs.declared.headers.Heading.{Heading}
+use Rattle.inf_reader.specs.declared.headers.Heading.TheVariants as heading
+use Rattle.inf_target_laws.proofs.Bodies.{attribute_read_steps, body_steps, class_read_steps, class_steps, embedded_read_steps}
+use Rattle.inf_target_laws.proofs.Bodies.{given_up_steps, object_steps, property_read_steps, value_read_steps}
+use Rattle.inf_target_laws.proofs.Declaring.{abbreviate_steps, abbreviation_steps, array_steps, attribute_steps, entry_steps, global_steps}
+use Rattle.inf_target_laws.proofs.Declaring.{low_string_steps, property_steps, release_steps, serial_steps, switches_steps}
+use Rattle.inf_target_laws.proofs.Outputs.{begin_keeps}
+use Rattle.inf_target_laws.proofs.Units.{close_steps, closing_steps, constant_steps, default_steps, header_steps, joining_steps}
+use Rattle.inf_target_laws.proofs.Units.{opening_steps, part_steps, replace_steps, stub_steps}
+use Rattle.inf_target_laws.proofs.VerbLines.{extend_steps, fake_steps, line_steps, verb_steps}
+use Rattle.inf_target_laws.proofs.Ways.{Steps, nested_steps, output_steps, passed_steps, report_steps, sized_steps, stays, steps_if}
+use Rattle.inf_target_laws.proofs.Ways.{steps_then, unit_ends, unit_steps}
+
+-- Directives
+
+begun_steps : {limits : Limits} {context : Context} {u : Out} (w : Compilation) → Steps limits context u w (code_begun limits w)
+begun_steps {limits} {context} {u} w = output_steps w _ (begin_keeps limits u w.output)
+
+fit_ends : {limits : Limits} {context : Context} {u : Out} (first : Place) (w : Compilation)
+    → Steps limits context u w (fit_ended limits context first w)
+fit_ends first w = unit_ends first true nothing_found w
+
+carried_steps : {limits : Limits} {context : Context} {u : Out} (d : Directive) (first : Place) (names : List Name) (w : Compilation)
+    → Steps limits context u w (carried_out limits d context first names w)
+carried_steps {limits} {context} {u} directive.Include first names w =
+    steps_then {a = w} {b = record w { asked = Include (quoted_in w.unit.tokens) first }} (record { on = λ e. e; kept = λ e h. h })
+    (fit_ends first _)
+carried_steps {limits} {context} {u} directive.Message first names w =
+    steps_then
+    (report_steps w (with_words (location context.names first) (weight_of names) (words_of context.set w.unit) w.report)) (fit_ends first _)
+carried_steps {limits} {context} {u} directive.End first names w =
+    steps_then {a = w} {b = record w { asked = End }} (record { on = λ e. e; kept = λ e h. h }) (fit_ends first _)
+carried_steps directive.Constant first names w = constant_steps first names w
+carried_steps directive.Replace first names w = replace_steps first names w
+carried_steps directive.Stub first names w = stub_steps first names w
+carried_steps directive.Default first names w = default_steps first names w
+carried_steps directive.Attribute first names w = attribute_steps first names w
+carried_steps directive.Property first names w = property_steps first names w
+carried_steps directive.Global first names w = global_steps first names w
+carried_steps directive.FakeAction first names w = fake_steps first names w
+carried_steps directive.Switches first names w = switches_steps first names w
+carried_steps directive.Lowstring first names w = low_string_steps first names w
+carried_steps directive.Release first names w = release_steps first w
+carried_steps directive.Serial first names w = serial_steps first w
+carried_steps {limits} {context} {u} directive.SystemFile first names w =
+    steps_then {a = w} {b = record w { is_system = true }} (record { on = λ e. e; kept = λ e h. h }) (fit_ends first _)
+
+begun_by_steps : {limits : Limits} {context : Context} {u : Out} (d : Directive) (w : Compilation)
+    → Steps limits context u w (code_begun_by limits d w)
+begun_by_steps directive.Switches w = stays w
+begun_by_steps directive.Include w = begun_steps w
+begun_by_steps directive.Message w = begun_steps w
+begun_by_steps directive.End w = begun_steps w
+begun_by_steps directive.Constant w = begun_steps w
+begun_by_steps directive.Replace w = begun_steps w
+begun_by_steps directive.Stub w = begun_steps w
+begun_by_steps directive.SystemFile w = begun_steps w
+begun_by_steps directive.Default w = begun_steps w
+begun_by_steps directive.Attribute w = begun_steps w
+begun_by_steps directive.Property w = begun_steps w
+begun_by_steps directive.Global w = begun_steps w
+begun_by_steps directive.FakeAction w = begun_steps w
+begun_by_steps directive.Lowstring w = begun_steps w
+begun_by_steps directive.Release w = begun_steps w
+begun_by_steps directive.Serial w = begun_steps w
+
+names_steps : {limits : Limits} {context : Context} {u : Out} (first : Place) (names : List Name) (w : Compilation)
+    → Steps limits context u w (directive_of_names limits context first names w)
+names_steps first [] w = passed_steps true w
+names_steps {limits} {context} {u} first (word ∷ names) w =
+    let d = directive_of (directive_word w.unit.tokens) in
+    steps_then (begun_by_steps d w) (carried_steps d first names (code_begun_by limits d w))
+
+directive_steps : {limits : Limits} {context : Context} {u : Out} (place : Place) (w : Compilation)
+    → Steps limits context u w (directive_end limits context place w)
+directive_steps place w = names_steps (first_place w.unit.tokens place) (names_in w.unit.tokens) w
+
+-- Headers
+
+class_named_steps : {limits : Limits} {context : Context} {u : Out} (first : Place) (names : List Name) (w : Compilation)
+    → Steps limits context u w (class_named limits context first names w)
+class_named_steps first [] w = passed_steps false w
+class_named_steps first (name ∷ names) w = class_steps first name w
+
+as_steps : {limits : Limits} {context : Context} {u : Out} (h : Heading) (first : Place) (names : List Name) (w : Compilation)
+    → Steps limits context u w (header_as limits h context first names w)
+as_steps heading.Array first names w = array_steps first names w
+as_steps heading.Class first names w = class_named_steps first names w
+as_steps heading.Object first names w = object_steps first w
+as_steps heading.Verb first names w = verb_steps first w
+as_steps heading.Extend first names w = extend_steps first w
+as_steps heading.Abbreviate first names w = abbreviate_steps first w
+
+heading_steps : {limits : Limits} {context : Context} {u : Out} (first : Place) (names : List Name) (w : Compilation)
+    → Steps limits context u w (directive_header limits context first names w)
+heading_steps first [] w = passed_steps false w
+heading_steps first (word ∷ names) w = as_steps (heading_of (directive_word w.unit.tokens)) first names w
+
+header_ended_steps : {limits : Limits} {context : Context} {u : Out} (place : Place) (w : Compilation)
+    → Steps limits context u w (header_ended limits context place w)
+header_ended_steps {limits} {context} {u} place w =
+    steps_then (begun_steps w) (heading_steps (first_place w.unit.tokens place) (names_in w.unit.tokens) (code_begun limits w))
+
+-- Notes
+
+note_steps : {limits : Limits} {context : Context} {u : Out} (n : Note) (w : Compilation) → Steps limits context u w (noted_of context n w)
+note_steps {limits} {context} {u} n w =
+    let v = record w { unit = unit_noted n w.unit } in
+    steps_then (unit_steps w (unit_noted n w.unit)) (steps_if (makes_sure n) (sized_steps v) (stays v))
+
+noted_steps : {limits : Limits} {context : Context} {u : Out} (n : Note) (w : Compilation)
+    → Steps limits context u w (noted limits context n w)
+noted_steps {limits} {context} {u} n w =
+    steps_if (is_text n && is_crowded limits w) (unit_steps w _)
+    (steps_if (is_arrow n && is_tall context w) (unit_steps w _)
+    (steps_if (ends_outer n && is_full w.unit) (record { on = λ e. e; kept = λ e h. h })
+    (steps_if (ends_token n && is_long context w) (record { on = λ e. e; kept = λ e h. h })
+    (steps_if (ends_value n && is_crowded limits w)
+    (steps_then (note_steps n w) (record { on = λ e. e; kept = λ e h. h }))
+    (steps_if (is_verb_word n && is_wordy context w) (record { on = λ e. e; kept = λ e h. h })
+    (note_steps n w))))))
+
+-- Actions
+
+ended_steps : {limits : Limits} {context : Context} {u : Out} (place : Place) (e : Ending) (w : Compilation)
+    → Steps limits context u w (ended limits context place e w)
+ended_steps place ending.Locals w = header_steps place w
+ended_steps place ending.Embedded w = embedded_read_steps place w
+ended_steps place ending.Routine w = close_steps place w
+ended_steps place ending.Directive w = directive_steps place w
+ended_steps place ending.Header w = header_ended_steps place w
+ended_steps place ending.Body w = body_steps w
+ended_steps place ending.Class w = class_read_steps place w
+ended_steps place ending.Attribute w = attribute_read_steps place w
+ended_steps place ending.Property w = property_read_steps place w
+ended_steps place ending.Value w = value_read_steps place w
+ended_steps place ending.Line w = line_steps place w
+ended_steps place ending.Abbreviation w = abbreviation_steps place w
+ended_steps place ending.Entry w = entry_steps place false w
+ended_steps place ending.Alone w = entry_steps place true w
+ended_steps place ending.Statement w = part_steps place (part.Statement (statement_at w)) w
+ended_steps place ending.Condition w = part_steps place part.Condition w
+ended_steps place ending.Start w = part_steps place part.Start w
+ended_steps place ending.Step w = part_steps place part.Step w
+ended_steps place ending.Loop w = part_steps place part.Loop w
+ended_steps place ending.Switched w = part_steps place part.Switched w
+ended_steps place ending.Case w = part_steps place part.Case w
+
+played_steps : {limits : Limits} {context : Context} {u : Out} (place : Place) (r : Role) (w : Compilation)
+    → Steps limits context u w (played limits context place r w)
+played_steps place (role.Gather s) w = unit_steps w (stepped s w.unit)
+played_steps place (role.Note n) w = noted_steps n w
+played_steps place (role.End e) w = ended_steps place e w
+played_steps place (role.Open o) w = opening_steps place (kind_of o) w
+played_steps place role.Join w = joining_steps w
+played_steps place role.Close w = closing_steps w
+played_steps place role.Deeper w = nested_steps place (is_deep w 1) w
+played_steps place role.MaybeDeeper w = record { on = λ e. e; kept = λ e h. h }
+played_steps place role.Nothing w = stays w
+
+pub act_steps : {limits : Limits} {context : Context} {u : Out} (place : Place) (a : Action) (w : Compilation)
+    → Steps limits context u w (act limits context place a w)
+act_steps place a w = played_steps place (role_of a) w
+
+acted_steps : {limits : Limits} {context : Context} {u : Out} (place : Place) (actions : List Action) (w : Compilation)
+    → Steps limits context u w (acted limits context place actions w)
+acted_steps place [] w = stays w
+acted_steps {limits} {context} {u} place (a ∷ actions) w =
+    steps_then (act_steps place a w) (acted_steps place actions (act limits context place a w))
+
+pub all_acted_steps : {limits : Limits} {context : Context} {u : Out} (place : Place) (actions : List Action) (w : Compilation)
+    → Steps limits context u w (all_acted limits context place actions w)
+all_acted_steps {limits} {context} {u} place actions w =
+    steps_then {a = w} {b = record w { opening = None }} (record { on = λ e. e; kept = λ e h. h })
+    (acted_steps place actions (record w { opening = None }))
+
+-- Tokens
+
+pub took_steps : {limits : Limits} {context : Context} {u : Out} (t : SourceToken) (w : Compilation)
+    → Steps limits context u w (took context t w)
+took_steps {limits} {context} {u} t w =
+    let v = record w { unit = unit_taken t w.unit } in
+    steps_then (unit_steps w (unit_taken t w.unit))
+    (steps_then (sized_steps v) (nested_steps t.place (opens t.kind && is_deep (sized context v) 0) (sized context v)))
+
+-- Bad tokens
+
+checked_steps : {limits : Limits} {context : Context} {u : Out} (opening : Option Place) (w : Compilation)
+    → Steps limits context u w (opening_checked_at opening context w)
+checked_steps None w = stays w
+checked_steps (Some place) w = nested_steps place (is_deep w 1) w
+
+cut_steps : {limits : Limits} {context : Context} {u : Out} (w : Compilation) → Steps limits context u w (cut context w)
+cut_steps {limits} {context} {u} w =
+    let sure = record w { unit = record w.unit { is_sure = true } } in
+    let v = given_up (body_ended sure) in
+    steps_then (unit_steps w (record w.unit { is_sure = true }))
+    (steps_then (body_steps sure) (steps_then (given_up_steps (body_ended sure))
+    (steps_then (sized_steps v) (checked_steps (sized context v).opening (sized context v)))))
+
+held_steps : {limits : Limits} {context : Context} {u : Out} (held : Option ℕ) (place : Place) (w : Compilation)
+    → Steps limits context u w (held_ended held limits context place w)
+held_steps None place w = stays w
+held_steps (Some count) place w = entry_steps place false w
+
+pub cut_at_steps : {limits : Limits} {context : Context} {u : Out} (place : Place) (w : Compilation)
+    → Steps limits context u w (cut_at limits context place w)
+cut_at_steps {limits} {context} {u} place w =
+    steps_then (held_steps w.unit.held place w) (cut_steps (held_ended w.unit.held limits context place w))

@@ -1,0 +1,343 @@
+-- The code of statements that hold others keeps targets, and so do their steps.
+use Rattle.std.proofs.Common.{◌≡◌, ℕ, zero, suc, List, [], ◌∷◌, ◌++◌, Bool, true, false, Option, Some, None, refl, sym, subst}
+use Rattle.std.specs.Prelude.{if◌then◌else◌, unwrap_or}
+use Rattle.inf_settings.specs.Bounds.{Limits}
+use Rattle.inf_area.specs.declared.targets.SystemConstant.TheVariants as constant
+use Rattle.inf_area.specs.declared.targets.Target.TheVariants as target
+use Rattle.inf_opcode.specs.declared.instructions.Label.{Label}
+use Rattle.inf_opcode.specs.declared.opcodes.Opcode.TheVariants as opcode
+use Rattle.inf_expressions.specs.Questions.{children_of, range_of}
+use Rattle.inf_expressions.specs.Rooted.{Rooted}
+use Rattle.inf_expressions.specs.Trees.{Tree}
+use Rattle.inf_output.specs.Output.{Out, behind, items_of, laid_all, marked, to, ◌▸◌}
+use Rattle.inf_output.specs.declared.items.Item.{Item}
+use Rattle.inf_output.specs.declared.operands.Simple.{Simple}
+use Rattle.inf_output.specs.declared.operands.Simple.TheVariants.{Known, Later, Variable}
+use Rattle.inf_templates.specs.Meaning.{Meaning, meaning, part}
+use Rattle.inf_constructs.specs.Cases.{case_code, case_tested, group_tested, grouped, is_empty, is_open, laid_before, operand_in}
+use Rattle.inf_constructs.specs.Cases.{range_tested, SWITCHED, beside, group_behind, value_grouped, value_laid, within}
+use Rattle.inf_constructs.specs.Constructs.{Laying, all_ended, begun, between, case_closed, case_entered, cases_begun, changed, closed}
+use Rattle.inf_constructs.specs.Constructs.{ended, ending, entered, entered_by, front, joint, looped, looped_by, looped_on, looped_over}
+use Rattle.inf_constructs.specs.Constructs.{opened, over_all, over_children, tested_over, with_labels}
+use Rattle.inf_constructs.specs.declared.constructs.Case.{Case}
+use Rattle.inf_constructs.specs.declared.constructs.Case.TheVariants as case
+use Rattle.inf_constructs.specs.declared.constructs.Construct.{Construct}
+use Rattle.inf_constructs.specs.declared.constructs.Kind.{Kind}
+use Rattle.inf_constructs.specs.declared.constructs.Kind.TheVariants as kind
+use Rattle.inf_constructs.specs.declared.constructs.Over.{Over}
+use Rattle.inf_constructs.specs.declared.constructs.Over.TheVariants as over
+use Rattle.inf_target_laws.specs.Lists.{ItemsStand, StepsStand}
+use Rattle.inf_target_laws.proofs.Outputs.{GoesIf, Sound, if_nowhere, items_keep}
+use Rattle.inf_target_laws.proofs.Pieces.{by_stands, sound_if, sound_instruction, sound_jump, sound_label, sound_mark, sound_naming}
+use Rattle.inf_target_laws.proofs.Pieces.{sound_nothing, sound_then, worked_sound}
+use Rattle.inf_target_laws.proofs.Premises.{RootsStand, SimpleStands, SimplesStand, TreeStands, TreesStand}
+use Rattle.inf_target_laws.proofs.Templates.{MeaningSound, meaning_sound}
+use Rattle.inf_target_laws.proofs.Statements.{Gives, gives_code, tree_sound}
+use Rattle.inf_target_laws.proofs.Trees.{ChildStands, EndsStand, child_stands, range_stands}
+
+-- Cases
+
+operand_stands : (u : Out) (P : Type 0) (limits : Limits) (e : Tree) → TreeStands u P e → SimpleStands u P (operand_in limits e)
+operand_stands u P limits e h = by_stands u P (meaning limits e).operand (meaning_sound {u = u} {P = P} limits e h).operand
+
+group_sound : {u : Out} {P : Type 0} (limits : Limits) (group : List Simple) (sense : Bool) (label : Label) → SimplesStand u P group
+    → Sound limits u P (group_tested limits group sense label)
+unfolding group_tested
+group_sound {u} {P} limits [] sense label h = sound_nothing
+group_sound {u} {P} limits (a ∷ others) sense label h =
+    sound_instruction opcode.Je (Variable SWITCHED ∷ a ∷ others) None (to sense label) (tt, h)
+
+beside_sound : {u : Out} {P : Type 0} (limits : Limits) (a b : Simple) (next : Label) → SimpleStands u P a → SimpleStands u P b
+    → Sound limits u P (beside limits a b next)
+beside_sound {u} {P} limits a b next h k =
+    sound_then (sound_instruction opcode.Jl (Variable SWITCHED ∷ a ∷ []) None (to true next) (tt, (h, tt)))
+    (sound_instruction opcode.Jg (Variable SWITCHED ∷ b ∷ []) None (to true next) (tt, (k, tt)))
+
+within_sound : {u : Out} {P : Type 0} (limits : Limits) (a b : Simple) (here : Label) → SimpleStands u P a → SimpleStands u P b
+    → Sound limits u P (within limits a b here)
+within_sound {u} {P} limits a b here h k =
+    sound_label _ (λ beyond. sound_then
+    (sound_instruction opcode.Jl (Variable SWITCHED ∷ a ∷ []) None (to true beyond) (tt, (h, tt)))
+    (sound_then (sound_instruction opcode.Jg (Variable SWITCHED ∷ b ∷ []) None (to false here) (tt, (k, tt))) (sound_mark beyond)))
+
+range_sound : {u : Out} {P : Type 0} (limits : Limits) (is_last : Bool) (a b : Simple) (here next : Label) → SimpleStands u P a
+    → SimpleStands u P b → Sound limits u P (range_tested limits is_last a b here next)
+unfolding range_tested
+range_sound {u} {P} limits is_last a b here next h k =
+    sound_if is_last (beside_sound limits a b next h k) (within_sound limits a b here h k)
+
+before_sound : {u : Out} {P : Type 0} (limits : Limits) (range : Option (Tree × Tree)) (is_last : Bool) (group : List Simple)
+    (here next : Label)
+    → EndsStand u P range → SimplesStand u P group → Sound limits u P (laid_before limits range is_last group here next)
+before_sound {u} {P} limits (Some ends) is_last group here next k h =
+    sound_then (group_sound limits group true here h)
+    (range_sound limits is_last (operand_in limits ends.0) (operand_in limits ends.1) here next (operand_stands u P limits ends.0 k.0)
+    (operand_stands u P limits ends.1 k.1))
+before_sound {u} {P} limits None is_last group here next k h = sound_if (is_open group) sound_nothing (group_sound limits group true here h)
+
+value_sound : {u : Out} {P : Type 0} (limits : Limits) (v : Tree) (is_last : Bool) (group : List Simple) (here next : Label)
+    → TreeStands u P v → SimplesStand u P group → Sound limits u P (value_laid limits v is_last group here next)
+unfolding value_laid
+value_sound {u} {P} limits v is_last group here next k h =
+    before_sound limits (range_of v) is_last group here next (range_stands u P v k) h
+
+simples_join : (u : Out) (P : Type 0) (a b : List Simple) → SimplesStand u P a → SimplesStand u P b → SimplesStand u P (a ++ b)
+simples_join u P [] b h k = k
+simples_join u P (s ∷ a) b h k = (h.0, simples_join u P a b h.1 k)
+
+group_stands : (u : Out) (P : Type 0) (range : Option (Tree × Tree)) (a : Simple) (group : List Simple) → SimpleStands u P a
+    → SimplesStand u P group → SimplesStand u P (group_behind range a group)
+group_stands u P (Some ends) a group h k = tt
+group_stands u P None a group h k = go (is_open group)
+  where
+    go : (b : Bool) → SimplesStand u P (if b then group ++ a ∷ [] else a ∷ [])
+    go true = simples_join u P group (a ∷ []) k (h, tt)
+    go false = (h, tt)
+
+grouped_stand : (u : Out) (P : Type 0) (limits : Limits) (v : Tree) (group : List Simple) → TreeStands u P v → SimplesStand u P group
+    → SimplesStand u P (value_grouped limits v group)
+unfolding value_grouped
+grouped_stand u P limits v group h k = group_stands u P (range_of v) (operand_in limits v) group (operand_stands u P limits v h) k
+
+grouped_sound : {u : Out} {P : Type 0} (limits : Limits) (group : List Simple) (values : List Tree) (here next : Label)
+    → SimplesStand u P group → TreesStand u P values → Sound limits u P (grouped limits group values here next)
+grouped_sound {u} {P} limits group [] here next h k = group_sound limits group false next h
+grouped_sound {u} {P} limits group (v ∷ values) here next h k =
+    sound_then (value_sound limits v (is_empty values) group here next k.0 h)
+    (grouped_sound limits (value_grouped limits v group) values here next (grouped_stand u P limits v group k.0 h) k.1)
+
+tests_sound : {u : Out} {P : Type 0} (limits : Limits) (values : List Tree) (next : Label) → TreesStand u P values
+    → Sound limits u P (case_tested limits values next)
+tests_sound {u} {P} limits values next h =
+    sound_label (λ here. grouped limits [] values here next ▸ marked limits here)
+    (λ here. sound_then (grouped_sound limits [] values here next tt h) (sound_mark here))
+
+pub case_sound : {u : Out} {P : Type 0} (limits : Limits) (next : Option Label) (values : List Tree) → TreesStand u P values
+    → Sound limits u P (case_code limits next values)
+unfolding case_code
+case_sound {u} {P} limits None values h = sound_nothing
+case_sound {u} {P} limits (Some next) values h = tests_sound limits values next h
+
+-- Statements that hold others
+
+front_sound : {u : Out} {P : Type 0} (limits : Limits) (k : Kind) (c : Construct) → Sound limits u P (front limits k c)
+front_sound {u} {P} limits kind.While c = sound_mark c.next
+front_sound {u} {P} limits kind.Do c = sound_mark c.top
+front_sound {u} {P} limits kind.If c = sound_nothing
+front_sound {u} {P} limits kind.Else c = sound_nothing
+front_sound {u} {P} limits kind.For c = sound_nothing
+front_sound {u} {P} limits (kind.Objects how v) c = sound_nothing
+front_sound {u} {P} limits (kind.Switch old had_default) c = sound_nothing
+front_sound {u} {P} limits (kind.Cases old had_default) c = sound_nothing
+
+opened_gives : {u : Out} {P : Type 0} (limits : Limits) (k : Kind) → Gives limits u P (opened limits k)
+unfolding opened
+opened_gives {u} {P} limits k = record { keeps = λ o. let c = with_labels k o in (front_sound limits k c.0).keeps c.1 }
+
+joint_sound : {u : Out} {P : Type 0} (limits : Limits) (c : Construct) (k : Kind) → Sound limits u P (joint limits c k)
+joint_sound {u} {P} limits c kind.If = sound_then (sound_jump c.end) (sound_mark c.next)
+joint_sound {u} {P} limits c kind.Do = sound_mark c.next
+joint_sound {u} {P} limits c kind.For = sound_mark c.top
+joint_sound {u} {P} limits c (kind.Objects over.Nothing v) = sound_mark c.top
+joint_sound {u} {P} limits c (kind.Objects over.Children v) = sound_nothing
+joint_sound {u} {P} limits c (kind.Objects over.All v) = sound_nothing
+joint_sound {u} {P} limits c kind.Else = sound_nothing
+joint_sound {u} {P} limits c kind.While = sound_nothing
+joint_sound {u} {P} limits c (kind.Switch old had_default) = sound_nothing
+joint_sound {u} {P} limits c (kind.Cases old had_default) = sound_nothing
+
+pub between_gives : {u : Out} {P : Type 0} (limits : Limits) (c : Construct) → Gives limits u P (between limits c)
+unfolding between
+between_gives {u} {P} limits c = record { keeps = λ o. (joint_sound limits c c.kind).keeps o }
+
+children_sound : {u : Out} {P : Type 0} (limits : Limits) (e : Tree) (v : ℕ) (c : Construct) → TreeStands u P e
+    → Sound limits u P (over_children limits e v c)
+children_sound {u} {P} limits e v c h =
+    sound_then (worked_sound limits opcode.GetChild (part (meaning limits e) ∷ []) (Some v) (to false c.end) (tree_sound limits e h, tt))
+    (sound_mark c.top)
+
+over_sound : {u : Out} {P : Type 0} (limits : Limits) (x : Option Simple) (e : Meaning) (next : Label) → MeaningSound limits u P e
+    → Sound limits u P (tested_over x e next)
+over_sound {u} {P} limits (Some operand) e next h = sound_nothing
+over_sound {u} {P} limits None e next h = h.branch false next
+
+all_sound : {u : Out} {P : Type 0} (limits : Limits) (e : Tree) (v : ℕ) (c : Construct) → TreeStands u P e
+    → Sound limits u P (over_all limits (meaning limits e) v c)
+all_sound {u} {P} limits e v c h =
+    sound_then (sound_naming opcode.Store v (Known 5 ∷ []) None None (tt, tt)) (sound_then (sound_mark c.top)
+    (over_sound limits (meaning limits e).operand (meaning limits e) c.next (meaning_sound limits e h)))
+
+looped_by_gives : {u : Out} {P : Type 0} (limits : Limits) (parent : Option Tree) (e : Tree) (v : ℕ) (c : Construct)
+    → ChildStands u P parent → TreeStands u P e → Gives limits u P (looped_by limits parent e v c)
+looped_by_gives {u} {P} limits (Some parent) e v c k h = gives_code _ (children_sound limits parent v c k)
+looped_by_gives {u} {P} limits None e v c k h = gives_code _ (all_sound limits e v c h)
+
+looped_gives : {u : Out} {P : Type 0} (limits : Limits) (r : Rooted) → TreeStands u P r.tree → (c : Construct)
+    → Gives limits u P (looped limits r c)
+unfolding looped
+looped_gives {u} {P} limits r h c =
+    looped_by_gives limits (children_of r.tree) r.tree (unwrap_or r.origin.lead.variable 0) c (child_stands u P r.tree h) h
+
+on_sound : {u : Out} {P : Type 0} (limits : Limits) (how : Over) (v : ℕ) (top : Label) → Sound limits u P (looped_on limits how v top)
+on_sound {u} {P} limits over.Nothing v top = sound_nothing
+on_sound {u} {P} limits over.Children v top = sound_instruction opcode.GetSibling (Variable v ∷ []) (Some v) (to true top) (tt, tt)
+on_sound {u} {P} limits over.All v top =
+    sound_naming opcode.IncChk v (Later (target.System constant.HighestObjectNumber) ∷ []) None (to false top) ((λ p. tt), tt)
+
+case_closed_sound : {u : Out} {P : Type 0} (limits : Limits) (c : Case) (end : Label) → Sound limits u P (case_closed limits c end)
+case_closed_sound {u} {P} limits case.Nothing end = sound_nothing
+case_closed_sound {u} {P} limits (case.Values next) end = sound_then (sound_jump end) (sound_mark next)
+case_closed_sound {u} {P} limits case.Default end = sound_jump end
+
+step_sound : {u : Out} {P : Type 0} (limits : Limits) (items : List Item) → (P → ItemsStand u items)
+    → Sound limits u P (laid_all limits items)
+step_sound {u} {P} limits items h = record { keeps = items_keep limits u P items h }
+
+ending_sound : {u : Out} {P : Type 0} (limits : Limits) (c : Construct) → (P → ItemsStand u (items_of c.step)) → (k : Kind)
+    → Sound limits u P (ending limits c k)
+ending_sound {u} {P} limits c h kind.If = sound_mark c.next
+ending_sound {u} {P} limits c h kind.Else = sound_mark c.end
+ending_sound {u} {P} limits c h kind.While = sound_then (sound_jump c.next) (sound_mark c.end)
+ending_sound {u} {P} limits c h kind.Do = sound_mark c.end
+ending_sound {u} {P} limits c h kind.For =
+    sound_then (sound_mark c.next) (sound_then (step_sound limits (items_of c.step) h)
+    (sound_then (sound_jump c.top) (sound_mark c.end)))
+ending_sound {u} {P} limits c h (kind.Objects how v) =
+    sound_then (sound_mark c.next) (sound_then (on_sound limits how v c.top) (sound_mark c.end))
+ending_sound {u} {P} limits c h (kind.Switch old had_default) = sound_then (case_closed_sound limits old c.end) (sound_mark c.end)
+ending_sound {u} {P} limits c h (kind.Cases old had_default) = sound_then (case_closed_sound limits old c.end) (sound_mark c.end)
+
+closed_sound : {u : Out} {P : Type 0} (limits : Limits) (c : Construct) → (P → ItemsStand u (items_of c.step))
+    → Sound limits u P (closed limits c)
+unfolding closed
+closed_sound {u} {P} limits c h = ending_sound limits c h c.kind
+
+case_entered_gives : {u : Out} {P : Type 0} (limits : Limits) (are_own is_default : Bool) (old : Case) (had_default : Bool) (c : Construct)
+    → Gives limits u P (case_entered limits are_own is_default old had_default c)
+case_entered_gives {u} {P} limits are_own true old had_default c = record { keeps = λ o. (case_closed_sound limits old c.end).keeps o }
+case_entered_gives {u} {P} limits are_own false old had_default c = record {
+  keeps = λ o. (case_closed_sound limits old c.end).keeps (record o { next = behind o.next });
+}
+
+entered_by_gives : {u : Out} {P : Type 0} (limits : Limits) (k : Kind) (is_default : Bool) (c : Construct)
+    → Gives limits u P (entered_by limits k is_default c)
+entered_by_gives {u} {P} limits (kind.Switch old had_default) is_default c =
+    record { keeps = λ o. (case_entered_gives limits false is_default old had_default c).keeps o }
+entered_by_gives {u} {P} limits (kind.Cases old had_default) is_default c =
+    record { keeps = λ o. (case_entered_gives limits true is_default old had_default c).keeps o }
+entered_by_gives {u} {P} limits kind.If is_default c = record { keeps = if_nowhere u P }
+entered_by_gives {u} {P} limits kind.Else is_default c = record { keeps = if_nowhere u P }
+entered_by_gives {u} {P} limits kind.While is_default c = record { keeps = if_nowhere u P }
+entered_by_gives {u} {P} limits kind.Do is_default c = record { keeps = if_nowhere u P }
+entered_by_gives {u} {P} limits kind.For is_default c = record { keeps = if_nowhere u P }
+entered_by_gives {u} {P} limits (kind.Objects how v) is_default c = record { keeps = if_nowhere u P }
+
+pub entered_gives : {u : Out} {P : Type 0} (limits : Limits) (is_default : Bool) (c : Construct)
+    → Gives limits u P (entered limits is_default c)
+unfolding entered
+entered_gives {u} {P} limits is_default c = record { keeps = λ o. (entered_by_gives limits c.kind is_default c).keeps o }
+
+-- Open statements: with a change of these their steps stand, too.
+pub record Moves (limits : Limits) (u : Out) (P : Type 0) (constructs : List Construct) (laying : Laying (List Construct)) : Type 0 where
+  pub keeps : (o : Out) → GoesIf (P × StepsStand u constructs) u o (laying o).1
+  pub steps : StepsStand u constructs → (o : Out) → StepsStand u (laying o).0
+
+-- a change of the innermost statement leaves its step as it is
+abbrev pub LeavesStep : (Construct → Laying Construct) → Type 0
+LeavesStep change = (c : Construct) (o : Out) → (change c o).0.step ≡ c.step
+
+pub between_leaves : (limits : Limits) → LeavesStep (between limits)
+unfolding between
+between_leaves limits c o = refl
+
+entered_step : (limits : Limits) (k : Kind) (is_default : Bool) (c : Construct) (o : Out)
+    → (entered_by limits k is_default c o).0.step ≡ c.step
+entered_step limits (kind.Switch old had_default) true c o = refl
+entered_step limits (kind.Switch old had_default) false c o = refl
+entered_step limits (kind.Cases old had_default) true c o = refl
+entered_step limits (kind.Cases old had_default) false c o = refl
+entered_step limits kind.If is_default c o = refl
+entered_step limits kind.Else is_default c o = refl
+entered_step limits kind.While is_default c o = refl
+entered_step limits kind.Do is_default c o = refl
+entered_step limits kind.For is_default c o = refl
+entered_step limits (kind.Objects how v) is_default c o = refl
+
+pub entered_leaves : (limits : Limits) (is_default : Bool) → LeavesStep (entered limits is_default)
+unfolding entered
+entered_leaves limits is_default c o = entered_step limits c.kind is_default c o
+
+looped_step : (limits : Limits) (parent : Option Tree) (e : Tree) (v : ℕ) (c : Construct) (o : Out)
+    → (looped_by limits parent e v c o).0.step ≡ c.step
+looped_step limits None e v c o = refl
+looped_step limits (Some parent) e v c o = refl
+
+looped_leaves : (limits : Limits) (r : Rooted) → LeavesStep (looped limits r)
+unfolding looped
+looped_leaves limits r c o = looped_step limits (children_of r.tree) r.tree (unwrap_or r.origin.lead.variable 0) c o
+
+opened_step : (limits : Limits) (k : Kind) (o : Out) → (opened limits k o).0.step ≡ None
+unfolding opened
+opened_step limits k o = refl
+
+step_stands : (u : Out) (a b : Option (List Item)) → a ≡ b → ItemsStand u (items_of b) → ItemsStand u (items_of a)
+step_stands u a b same h = subst (λ (s : Option (List Item)). ItemsStand u (items_of s)) (sym same) h
+
+pub begun_moves : {u : Out} {P : Type 0} (limits : Limits) (k : Kind) (constructs : List Construct)
+    → Moves limits u P constructs (begun limits k constructs)
+begun_moves {u} {P} limits k constructs = record {
+  keeps = λ o. let g = (opened_gives {u = u} {P = P} limits k).keeps o in (g.0, (λ p. g.1 p.0));
+  steps = λ h o. (step_stands u (opened limits k o).0.step None (opened_step limits k o) tt, h);
+}
+
+pub changed_moves : {u : Out} {P : Type 0} (limits : Limits) (change : Construct → Laying Construct)
+    → ((c : Construct) → Gives limits u P (change c)) → LeavesStep change → (constructs : List Construct)
+    → Moves limits u P constructs (changed change constructs)
+changed_moves {u} {P} limits change each leaves [] = record { keeps = λ o. ((λ e. e), (λ p e h. h)); steps = λ h o. tt }
+changed_moves {u} {P} limits change each leaves (c ∷ constructs) = record {
+  keeps = λ o. let g = (each c).keeps o in (g.0, (λ p. g.1 p.0));
+  steps = λ h o. (step_stands u (change c o).0.step c.step (leaves c o) h.0, h.1);
+}
+
+pub cases_moves : {u : Out} {P : Type 0} (limits : Limits) (constructs : List Construct)
+    → Moves limits u P constructs (cases_begun limits constructs)
+cases_moves {u} {P} limits [] =
+    let m : Moves limits u P [] (begun limits (kind.Cases case.Nothing false) []) = begun_moves limits (kind.Cases case.Nothing false) [] in
+    record { keeps = m.keeps; steps = m.steps }
+cases_moves {u} {P} limits (c ∷ constructs) = record { keeps = λ o. ((λ e. e), (λ p e h. h)); steps = λ h o. h }
+
+closed_keeps : (limits : Limits) (u : Out) (P : Type 0) (c : Construct) (constructs : List Construct) (o : Out)
+    → GoesIf (P × StepsStand u (c ∷ constructs)) u o (closed limits c o)
+closed_keeps limits u P c constructs o =
+    let s : Sound limits u (P × StepsStand u (c ∷ constructs)) (closed limits c) = closed_sound limits c (λ p. p.1.0) in s.keeps o
+
+pub ended_moves : {u : Out} {P : Type 0} (limits : Limits) (constructs : List Construct)
+    → Moves limits u P constructs (ended limits constructs)
+ended_moves {u} {P} limits [] = record { keeps = λ o. ((λ e. e), (λ p e h. h)); steps = λ h o. tt }
+ended_moves {u} {P} limits (c ∷ constructs) = record { keeps = closed_keeps limits u P c constructs; steps = λ h o. h.1 }
+
+pub all_ended_goes : (limits : Limits) (u : Out) (n : ℕ) (constructs : List Construct) (o : Out)
+    → GoesIf (StepsStand u constructs) u o (all_ended limits n constructs o).1
+all_ended_goes limits u zero constructs o = ((λ e. e), (λ p e h. h))
+all_ended_goes limits u (suc n) constructs o =
+    let m : Moves limits u (Unit {0}) constructs (ended limits constructs) = ended_moves limits constructs in
+    let next = ended limits constructs o in
+    let f = m.keeps o in
+    let g = all_ended_goes limits u n next.0 next.1 in
+    ((λ e. f.0 (g.0 e)), (λ p e h. g.1 (m.steps p o) e (f.1 (tt, p) (g.0 e) h)))
+
+pub all_ended_steps : (limits : Limits) (u : Out) (n : ℕ) (constructs : List Construct) (o : Out) → StepsStand u constructs
+    → StepsStand u (all_ended limits n constructs o).0
+all_ended_steps limits u zero constructs o h = h
+all_ended_steps limits u (suc n) constructs o h =
+    let m : Moves limits u (Unit {0}) constructs (ended limits constructs) = ended_moves limits constructs in
+    let next = ended limits constructs o in
+    all_ended_steps limits u n next.0 next.1 (m.steps h o)
+
+pub looped_over_moves : {u : Out} {P : Type 0} (limits : Limits) (trees : List Rooted) → RootsStand u P trees
+    → (constructs : List Construct) → Moves limits u P constructs (looped_over limits trees constructs)
+looped_over_moves {u} {P} limits [] k constructs = record { keeps = λ o. ((λ e. e), (λ p e h. h)); steps = λ h o. h }
+looped_over_moves {u} {P} limits (r ∷ trees) k constructs =
+    let m : Moves limits u P constructs (changed (looped limits r) constructs) =
+    changed_moves limits (looped limits r) (looped_gives limits r k.0) (looped_leaves limits r) constructs in
+    record { keeps = m.keeps; steps = m.steps }

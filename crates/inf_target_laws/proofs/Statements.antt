@@ -1,0 +1,456 @@
+-- The code of statements keeps targets, where their trees stand.
+use Rattle.std.proofs.Common.{ℕ, List, [], ◌∷◌, Bool, true, false, Option, Some, None}
+use Rattle.std.specs.Prelude.{◌==◌, codes, if◌then◌else◌, unwrap_or}
+use Rattle.std.specs.Str.{str_eq_ignore_ascii_case}
+use Rattle.inf_settings.specs.Bounds.{Limits}
+use Rattle.inf_area.specs.declared.targets.Target.{Target}
+use Rattle.inf_characters.specs.declared.characters.CharSet.{CharSet}
+use Rattle.inf_characters.specs.declared.texts.TextItem.{TextItem}
+use Rattle.inf_text.specs.Packing.{packed}
+use Rattle.inf_opcode.specs.Instructions.{bare}
+use Rattle.inf_opcode.specs.Opcodes.{row_of}
+use Rattle.inf_opcode.specs.declared.instructions.Branch.{Branch}
+use Rattle.inf_opcode.specs.declared.instructions.Destination.TheVariants as destination
+use Rattle.inf_opcode.specs.declared.instructions.Label.{Label}
+use Rattle.inf_opcode.specs.declared.opcodes.Opcode.{Opcode}
+use Rattle.inf_opcode.specs.declared.opcodes.Opcode.TheVariants as opcode
+use Rattle.inf_expressions.specs.Trees.{Tree}
+use Rattle.inf_names.specs.Locals.{Local}
+use Rattle.inf_output.specs.Output.{Code, Out, behind, low_string_at, with_low_text}
+use Rattle.inf_output.specs.Texts.{used_in}
+use Rattle.inf_output.specs.declared.items.Item.TheVariants.{Instruction}
+use Rattle.inf_output.specs.declared.operands.Simple.{Simple}
+use Rattle.inf_output.specs.declared.operands.Simple.TheVariants.{Known, Later, Variable}
+use Rattle.inf_output.specs.declared.veneer.Veneer.{Veneer}
+use Rattle.inf_output.specs.declared.veneer.Veneer.TheVariants as veneer
+use Rattle.inf_templates.specs.Meaning.{Meaning, meaning, part}
+use Rattle.inf_templates.specs.Parts.{Part, SP, TEMP, is}
+use Rattle.inf_unit.specs.Opcodes.{opcode_of}
+use Rattle.inf_unit.specs.Tokens.{SourceToken}
+use Rattle.inf_unit.specs.Units.{bytes_at}
+use Rattle.inf_unit.specs.declared.items.Item.{Item}
+use Rattle.inf_unit.specs.declared.items.Item.TheVariants as item
+use Rattle.inf_unit.specs.declared.items.PrintRule.{PrintRule}
+use Rattle.inf_unit.specs.declared.items.PrintRule.TheVariants as rule
+use Rattle.inf_constructs.specs.Constructs.{Laying, left_to}
+use Rattle.inf_constructs.specs.Labels.{NamedLabel}
+use Rattle.inf_statements.specs.Assembly.{branch_to, branched, branched_to, ends_of, fits, instructed, jumped_on, labelled, line_instructed}
+use Rattle.inf_statements.specs.Assembly.{line_laid, line_laid_as, line_laid_by, named_first, operands_in, placed, printing_of}
+use Rattle.inf_statements.specs.Assembly.{some_printed, store_of, text_printed, variable_of}
+use Rattle.inf_statements.specs.Effects.{Site, jump_laid, last_text, name_behind, place_laid, statement_code, statement_laid}
+use Rattle.inf_statements.specs.Printing.{called_with, ended, ends_behind, item_code, items_printed, rule_code, text_at, text_opcode}
+use Rattle.inf_statements.specs.Printing.{rest_behind, trees_behind, veneer_called}
+use Rattle.inf_statements.specs.Statements.{abbreviations, action_laid, action_on, alone, are_several, attribute_code, attribute_opcode}
+use Rattle.inf_statements.specs.Statements.{attributes_changed, attributes_given, given_by, jumped_to, moved, one_worked, plain, printed}
+use Rattle.inf_statements.specs.Statements.{rest, returned, returned_by, returned_number, spaced, string_changed, string_set, style_of}
+use Rattle.inf_statements.specs.Statements.{styled_by, switched, tested, text_packed, unless}
+use Rattle.inf_statements.specs.declared.assembly.Ends.{Ends}
+use Rattle.inf_statements.specs.declared.statements.Statement.{Statement}
+use Rattle.inf_statements.specs.declared.statements.Statement.TheVariants as statement
+use Rattle.inf_target_laws.proofs.Outputs.{GoesIf, Sound, if_nowhere, if_then, item_keeps, low_text_keeps}
+use Rattle.inf_target_laws.proofs.Pieces.{PartSound, ask_sound, by_stands, call_sound, is_sound, sound_if, sound_instruction, sound_jump}
+use Rattle.inf_target_laws.proofs.Pieces.{sound_mark, sound_naming, sound_nothing, sound_then, worked_sound}
+use Rattle.inf_target_laws.proofs.Premises.{MaybeStands, SimpleStands, SimplesStand, TreeStands, TreesStand}
+use Rattle.inf_target_laws.proofs.Templates.{MeaningSound, meaning_sound, part_sound}
+
+-- Operands
+
+pub tree_sound : {u : Out} {P : Type 0} (limits : Limits) (e : Tree) → TreeStands u P e → PartSound limits u P (part (meaning limits e))
+tree_sound {u} {P} limits e h = part_sound limits (meaning limits e) (meaning_sound limits e h)
+
+plain_sound : {u : Out} {P : Type 0} (limits : Limits) (op : Opcode) → Sound limits u P (plain limits op)
+plain_sound {u} {P} limits op = sound_instruction op [] None None tt
+
+printed_sound : {u : Out} {P : Type 0} (limits : Limits) (op : Opcode) (text : Option (List TextItem))
+    → Sound limits u P (printed limits op text)
+printed_sound {u} {P} limits op None = sound_nothing
+printed_sound {u} {P} limits op (Some text) = record {
+  keeps = λ o.
+      item_keeps limits u P (Instruction (record (bare op) { text = packed text (used_in o.texts) })) (λ p. tt) (text_packed o);
+}
+
+one_sound : {u : Out} {P : Type 0} (limits : Limits) (op : Opcode) (trees : List Tree) → TreesStand u P trees
+    → Sound limits u P (one_worked limits op trees)
+one_sound {u} {P} limits op [] h = sound_nothing
+one_sound {u} {P} limits op (e ∷ trees) h = worked_sound limits op (part (meaning limits e) ∷ []) None None (tree_sound limits e h.0, tt)
+
+-- Printing
+
+ended_sound : {u : Out} {P : Type 0} (limits : Limits) (ends : Bool) → Sound limits u P (ended limits ends)
+ended_sound {u} {P} limits true = sound_then (plain_sound limits opcode.NewLine) (plain_sound limits opcode.Rtrue)
+ended_sound {u} {P} limits false = sound_nothing
+
+called_sound : {u : Out} {P : Type 0} (limits : Limits) (trees : List Tree) → TreesStand u P trees
+    → Sound limits u P (called_with limits trees)
+called_sound {u} {P} limits [] h = sound_nothing
+called_sound {u} {P} limits (f ∷ []) h = sound_nothing
+called_sound {u} {P} limits (f ∷ e ∷ trees) h =
+    call_sound limits (part (meaning limits f)) (part (meaning limits e) ∷ []) None (tree_sound limits f h.0)
+    (tree_sound limits e h.1.0, tt)
+
+veneer_sound : {u : Out} {P : Type 0} (limits : Limits) (v : Veneer) (trees : List Tree) → TreesStand u P trees
+    → Sound limits u P (veneer_called limits v trees)
+veneer_sound {u} {P} limits v [] h = sound_nothing
+veneer_sound {u} {P} limits v (e ∷ trees) h = ask_sound limits v (part (meaning limits e) ∷ []) None (tree_sound limits e h.0, tt)
+
+rule_sound : {u : Out} {P : Type 0} (limits : Limits) (r : PrintRule) (trees : List Tree) → TreesStand u P trees
+    → Sound limits u P (rule_code limits r trees)
+unfolding rule_code
+rule_sound {u} {P} limits rule.Character trees h = one_sound limits opcode.PrintChar trees h
+rule_sound {u} {P} limits rule.String trees h = one_sound limits opcode.PrintPaddr trees h
+rule_sound {u} {P} limits rule.Address trees h = one_sound limits opcode.PrintAddr trees h
+rule_sound {u} {P} limits rule.Object trees h = one_sound limits opcode.PrintObj trees h
+rule_sound {u} {P} limits rule.ShortName trees h = veneer_sound limits veneer.ShortName trees h
+rule_sound {u} {P} limits rule.DefiniteArticle trees h = veneer_sound limits veneer.DefiniteArticle trees h
+rule_sound {u} {P} limits rule.CapitalArticle trees h = veneer_sound limits veneer.CapitalArticle trees h
+rule_sound {u} {P} limits rule.IndefiniteArticle trees h = veneer_sound limits veneer.IndefiniteArticle trees h
+rule_sound {u} {P} limits rule.EnglishNumber trees h = veneer_sound limits veneer.EnglishNumber trees h
+rule_sound {u} {P} limits rule.Routine trees h = called_sound limits trees h
+
+item_sound : {u : Out} {P : Type 0} (limits : Limits) (set : CharSet) (tokens : List SourceToken) (returns : Bool) (others : List Item)
+    (i : Item) (trees : List Tree)
+    → TreesStand u P trees → Sound limits u P (item_code limits set tokens returns others i trees)
+item_sound {u} {P} limits set tokens returns others (item.Text at) trees h =
+    printed_sound limits (text_opcode returns others) (text_at set tokens at)
+item_sound {u} {P} limits set tokens returns others item.Value trees h = one_sound limits opcode.PrintNum trees h
+item_sound {u} {P} limits set tokens returns others (item.Ruled r) trees h = rule_sound limits r trees h
+item_sound {u} {P} limits set tokens returns others item.Set trees h = sound_nothing
+item_sound {u} {P} limits set tokens returns others item.Clear trees h = sound_nothing
+item_sound {u} {P} limits set tokens returns others item.Default trees h = sound_nothing
+item_sound {u} {P} limits set tokens returns others (item.Store at) trees h = sound_nothing
+item_sound {u} {P} limits set tokens returns others (item.Branch at sense) trees h = sound_nothing
+item_sound {u} {P} limits set tokens returns others (item.Jump at) trees h = sound_nothing
+
+rest_stand : (u : Out) (P : Type 0) (trees : List Tree) → TreesStand u P trees → TreesStand u P (rest trees)
+rest_stand u P [] h = tt
+rest_stand u P (e ∷ trees) h = h.1
+
+ruled_stand : (u : Out) (P : Type 0) (r : PrintRule) (trees : List Tree) → TreesStand u P trees → TreesStand u P (rest_behind r trees)
+ruled_stand u P rule.Routine trees h = rest_stand u P (rest trees) (rest_stand u P trees h)
+ruled_stand u P rule.Character trees h = rest_stand u P trees h
+ruled_stand u P rule.String trees h = rest_stand u P trees h
+ruled_stand u P rule.Address trees h = rest_stand u P trees h
+ruled_stand u P rule.Object trees h = rest_stand u P trees h
+ruled_stand u P rule.ShortName trees h = rest_stand u P trees h
+ruled_stand u P rule.DefiniteArticle trees h = rest_stand u P trees h
+ruled_stand u P rule.CapitalArticle trees h = rest_stand u P trees h
+ruled_stand u P rule.IndefiniteArticle trees h = rest_stand u P trees h
+ruled_stand u P rule.EnglishNumber trees h = rest_stand u P trees h
+
+behind_stand : (u : Out) (P : Type 0) (i : Item) (trees : List Tree) → TreesStand u P trees → TreesStand u P (trees_behind i trees)
+behind_stand u P item.Value trees h = rest_stand u P trees h
+behind_stand u P (item.Ruled r) trees h = ruled_stand u P r trees h
+behind_stand u P (item.Text at) trees h = h
+behind_stand u P item.Set trees h = h
+behind_stand u P item.Clear trees h = h
+behind_stand u P item.Default trees h = h
+behind_stand u P (item.Store at) trees h = h
+behind_stand u P (item.Branch at sense) trees h = h
+behind_stand u P (item.Jump at) trees h = h
+
+items_sound : {u : Out} {P : Type 0} (limits : Limits) (set : CharSet) (tokens : List SourceToken) (returns ends : Bool) (items : List Item)
+    (trees : List Tree) → TreesStand u P trees → Sound limits u P (items_printed limits set tokens returns ends items trees)
+items_sound {u} {P} limits set tokens returns ends [] trees h = ended_sound limits ends
+items_sound {u} {P} limits set tokens returns ends (i ∷ items) trees h =
+    sound_then (item_sound limits set tokens returns items i trees h)
+    (items_sound limits set tokens returns (ends_behind i returns) items (trees_behind i trees) (behind_stand u P i trees h))
+
+-- Single statements
+
+number_sound : {u : Out} {P : Type 0} (limits : Limits) (n : ℕ) → Sound limits u P (returned_number limits n)
+number_sound {u} {P} limits n =
+    sound_if (n == 1) (plain_sound limits opcode.Rtrue)
+    (sound_if (n == 0) (plain_sound limits opcode.Rfalse) (sound_instruction opcode.Ret (Known n ∷ []) None None (tt, tt)))
+
+returned_by_sound : {u : Out} {P : Type 0} (limits : Limits) (x : Option Simple) (m : Meaning) → MaybeStands u P x
+    → MeaningSound limits u P m → Sound limits u P (returned_by limits x m)
+returned_by_sound {u} {P} limits (Some (Known n)) m s h = number_sound limits n
+returned_by_sound {u} {P} limits (Some (Variable v)) m s h = sound_instruction opcode.Ret (Variable v ∷ []) None None (tt, tt)
+returned_by_sound {u} {P} limits (Some (Later t)) m s h = sound_instruction opcode.Ret (Later t ∷ []) None None (s, tt)
+returned_by_sound {u} {P} limits None m s h = sound_then (h.value SP) (plain_sound limits opcode.RetPopped)
+
+returned_sound : {u : Out} {P : Type 0} (limits : Limits) (trees : List Tree) → TreesStand u P trees
+    → Sound limits u P (returned limits trees)
+returned_sound {u} {P} limits [] h = plain_sound limits opcode.Rtrue
+returned_sound {u} {P} limits (e ∷ trees) h =
+    let m = meaning_sound limits e h.0 in returned_by_sound limits (meaning limits e).operand (meaning limits e) m.operand m
+
+pub alone_sound : {u : Out} {P : Type 0} (limits : Limits) (trees : List Tree) → TreesStand u P trees
+    → Sound limits u P (alone limits trees)
+alone_sound {u} {P} limits [] h = sound_nothing
+alone_sound {u} {P} limits (e ∷ trees) h = (meaning_sound limits e h.0).alone
+
+moved_sound : {u : Out} {P : Type 0} (limits : Limits) (trees : List Tree) → TreesStand u P trees → Sound limits u P (moved limits trees)
+moved_sound {u} {P} limits [] h = sound_nothing
+moved_sound {u} {P} limits (a ∷ []) h = sound_nothing
+moved_sound {u} {P} limits (a ∷ b ∷ trees) h =
+    worked_sound limits opcode.InsertObj (part (meaning limits a) ∷ part (meaning limits b) ∷ []) None None
+    (tree_sound limits a h.0, (tree_sound limits b h.1.0, tt))
+
+spaced_sound : {u : Out} {P : Type 0} (limits : Limits) (trees : List Tree) → TreesStand u P trees → Sound limits u P (spaced limits trees)
+spaced_sound {u} {P} limits [] h = sound_nothing
+spaced_sound {u} {P} limits (e ∷ trees) h = ask_sound limits veneer.Spaces (part (meaning limits e) ∷ []) None (tree_sound limits e h.0, tt)
+
+set_sound : {u : Out} {P : Type 0} (limits : Limits) (low : Target) → SimpleStands u P (Later low) → (trees : List Tree)
+    → TreesStand u P trees → Sound limits u P (string_set limits low trees)
+set_sound {u} {P} limits low s [] h = sound_nothing
+set_sound {u} {P} limits low s (e ∷ trees) h =
+    worked_sound limits opcode.Storew (is (Later abbreviations) ∷ part (meaning limits e) ∷ is (Later low) ∷ []) None None
+    (is_sound limits (Later abbreviations) (λ p. tt), (tree_sound limits e h.0, (is_sound limits (Later low) s, tt)))
+
+changed_sound : {u : Out} {P : Type 0} (limits : Limits) (text : Option (List TextItem)) (trees : List Tree) → TreesStand u P trees
+    → Sound limits u P (string_changed limits text trees)
+changed_sound {u} {P} limits None trees h = sound_nothing
+changed_sound {u} {P} limits (Some text) trees h = record {
+  keeps = λ o.
+      let p = text_packed o in
+      let v = with_low_text limits (packed text []) p in
+      let g = low_text_keeps limits u (packed text []) p in
+      if_then u P p v (string_set limits (low_string_at p) trees v) (g.0, (λ x. g.1))
+      ((set_sound limits (low_string_at p) (λ x. tt) trees h).keeps v);
+}
+
+on_sound : {u : Out} {P : Type 0} (limits : Limits) (action : Part) → PartSound limits u P action → (trees : List Tree)
+    → TreesStand u P trees → Sound limits u P (action_on limits action trees)
+on_sound {u} {P} limits action s [] h = ask_sound limits veneer.Process (action ∷ []) None (s, tt)
+on_sound {u} {P} limits action s (a ∷ []) h =
+    ask_sound limits veneer.Process (action ∷ part (meaning limits a) ∷ []) None (s, (tree_sound limits a h.0, tt))
+on_sound {u} {P} limits action s (a ∷ b ∷ trees) h =
+    ask_sound limits veneer.Process (action ∷ part (meaning limits a) ∷ part (meaning limits b) ∷ []) None
+    (s, (tree_sound limits a h.0, (tree_sound limits b h.1.0, tt)))
+
+action_sound : {u : Out} {P : Type 0} (limits : Limits) (trees : List Tree) → TreesStand u P trees
+    → Sound limits u P (action_laid limits trees)
+action_sound {u} {P} limits [] h = sound_nothing
+action_sound {u} {P} limits (e ∷ trees) h = on_sound limits (part (meaning limits e)) (tree_sound limits e h.0) trees h.1
+
+unless_sound : {u : Out} {P : Type 0} (limits : Limits) (trees : List Tree) (label : Label) → TreesStand u P trees
+    → Sound limits u P (unless limits trees label)
+unless_sound {u} {P} limits [] label h = sound_nothing
+unless_sound {u} {P} limits (e ∷ trees) label h = (meaning_sound limits e h.0).branch false label
+
+pub tested_sound : {u : Out} {P : Type 0} (limits : Limits) (label : Option Label) (trees : List Tree) → TreesStand u P trees
+    → Sound limits u P (tested limits label trees)
+tested_sound {u} {P} limits None trees h = sound_nothing
+tested_sound {u} {P} limits (Some label) trees h = unless_sound limits trees label h
+
+pub switched_sound : {u : Out} {P : Type 0} (limits : Limits) (trees : List Tree) → TreesStand u P trees
+    → Sound limits u P (switched limits trees)
+switched_sound {u} {P} limits [] h = sound_nothing
+switched_sound {u} {P} limits (e ∷ trees) h = (meaning_sound limits e h.0).value _
+
+attribute_sound : {u : Out} {P : Type 0} (limits : Limits) (op : Opcode) (object : Part) → PartSound limits u P object → (trees : List Tree)
+    → TreesStand u P trees → Sound limits u P (attribute_code limits op object trees)
+attribute_sound {u} {P} limits op object s [] h = sound_nothing
+attribute_sound {u} {P} limits op object s (a ∷ attributes) h =
+    worked_sound limits op (object ∷ part (meaning limits a) ∷ []) None None (s, (tree_sound limits a h.0, tt))
+
+attributes_sound : {u : Out} {P : Type 0} (limits : Limits) (object : Part) → PartSound limits u P object
+    → (items : List Item) (attributes : List Tree) → TreesStand u P attributes
+    → Sound limits u P (attributes_given limits object items attributes)
+attributes_sound {u} {P} limits object s [] attributes h = sound_nothing
+attributes_sound {u} {P} limits object s (i ∷ items) attributes h =
+    sound_then (attribute_sound limits (attribute_opcode i) object s attributes h)
+    (attributes_sound limits object s items (rest attributes) (rest_stand u P attributes h))
+
+given_sound : {u : Out} {P : Type 0} (limits : Limits) (several : Bool) (x : Option Simple) (m : Meaning) → MeaningSound limits u P m
+    → (items : List Item) (attributes : List Tree) → TreesStand u P attributes
+    → Sound limits u P (given_by limits several x m items attributes)
+given_sound {u} {P} limits true None m s items attributes h =
+    sound_then (s.value TEMP) (attributes_sound limits (is (Variable TEMP)) (is_sound limits (Variable TEMP) tt) items attributes h)
+given_sound {u} {P} limits true (Some x) m s items attributes h =
+    attributes_sound limits (part m) (part_sound limits m s) items attributes h
+given_sound {u} {P} limits false None m s items attributes h = attributes_sound limits (part m) (part_sound limits m s) items attributes h
+given_sound {u} {P} limits false (Some x) m s items attributes h =
+    attributes_sound limits (part m) (part_sound limits m s) items attributes h
+
+give_sound : {u : Out} {P : Type 0} (limits : Limits) (items : List Item) (trees : List Tree) → TreesStand u P trees
+    → Sound limits u P (attributes_changed limits items trees)
+give_sound {u} {P} limits items [] h = sound_nothing
+give_sound {u} {P} limits items (e ∷ trees) h =
+    given_sound limits (are_several items) (meaning limits e).operand (meaning limits e) (meaning_sound limits e h.0) items trees h.1
+
+styled_sound : {u : Out} {P : Type 0} (limits : Limits) (style : Option ℕ) → Sound limits u P (styled_by limits style)
+styled_sound {u} {P} limits None = sound_nothing
+styled_sound {u} {P} limits (Some style) = sound_instruction opcode.SetTextStyle (Known style ∷ []) None None (tt, tt)
+
+to_sound : {u : Out} {P : Type 0} (limits : Limits) (label : Option Label) → Sound limits u P (jumped_to limits label)
+to_sound {u} {P} limits None = sound_nothing
+to_sound {u} {P} limits (Some label) = sound_jump label
+
+code_sound : {u : Out} {P : Type 0} (limits : Limits) (s : Site) (trees : List Tree) (st : Statement) → TreesStand u P trees
+    → Sound limits u P (statement_code limits s trees st)
+code_sound {u} {P} limits s trees statement.Empty h = sound_nothing
+code_sound {u} {P} limits s trees statement.Expression h = alone_sound limits trees h
+code_sound {u} {P} limits s trees statement.Print h = items_sound limits s.set s.tokens false false s.items trees h
+code_sound {u} {P} limits s trees statement.PrintReturn h = items_sound limits s.set s.tokens true false s.items trees h
+code_sound {u} {P} limits s trees statement.Return h = returned_sound limits trees h
+code_sound {u} {P} limits s trees statement.NewLine h = plain_sound limits opcode.NewLine
+code_sound {u} {P} limits s trees statement.Quit h = plain_sound limits opcode.Quit
+code_sound {u} {P} limits s trees statement.ReturnTrue h = plain_sound limits opcode.Rtrue
+code_sound {u} {P} limits s trees statement.ReturnFalse h = plain_sound limits opcode.Rfalse
+code_sound {u} {P} limits s trees statement.Break h = to_sound limits (left_to false s.constructs)
+code_sound {u} {P} limits s trees statement.Continue h = to_sound limits (left_to true s.constructs)
+code_sound {u} {P} limits s trees statement.Give h = give_sound limits s.items trees h
+code_sound {u} {P} limits s trees statement.String h = changed_sound limits (last_text s) trees h
+code_sound {u} {P} limits s trees statement.Move h = moved_sound limits trees h
+code_sound {u} {P} limits s trees statement.Action h = action_sound limits trees h
+code_sound {u} {P} limits s trees statement.ActionReturn h = sound_then (action_sound limits trees h) (plain_sound limits opcode.Rtrue)
+code_sound {u} {P} limits s trees statement.Remove h = one_sound limits opcode.RemoveObj trees h
+code_sound {u} {P} limits s trees statement.Spaces h = spaced_sound limits trees h
+code_sound {u} {P} limits s trees statement.Style h = styled_sound limits (style_of (name_behind s))
+code_sound {u} {P} limits s trees statement.Place h = sound_nothing
+code_sound {u} {P} limits s trees statement.Jump h = sound_nothing
+code_sound {u} {P} limits s trees statement.Assembly h = sound_nothing
+
+-- Assembly lines
+
+-- Code with a result keeps targets.
+pub record Gives {A : Type 0} (limits : Limits) (u : Out) (P : Type 0) (laying : Laying A) : Type 0 where
+  pub keeps : (o : Out) → GoesIf P u o (laying o).1
+
+pub gives_code : {A : Type 0} {limits : Limits} {u : Out} {P : Type 0} {c : Code} (a : A) → Sound limits u P c
+    → Gives limits u P (λ o. (a, c o))
+gives_code {A} {limits} {u} {P} {c} a h = record { keeps = h.keeps }
+
+one_of : {A : Type 0} (u : Out) (P : Type 0) (o : Out) (a b : Bool) (x y z : A)
+    → GoesIf P u o (if◌then◌else◌ {A = A × Out} a (x, o) (if◌then◌else◌ {A = A × Out} b (y, o) (z, record o { next = behind o.next }))).1
+one_of u P o true b x y z = if_nowhere u P o
+one_of u P o false true x y z = if_nowhere u P o
+one_of u P o false false x y z = if_nowhere u P o
+
+branched_gives : {u : Out} {P : Type 0} (limits : Limits) (name : List ℕ) (sense : Bool) (labels : List NamedLabel)
+    → Gives limits u P (branched_to name sense labels)
+branched_gives {u} {P} limits name sense labels = record {
+  keeps = λ o.
+      let l = labelled name labels o in
+      one_of u P o (str_eq_ignore_ascii_case name (codes "rtrue")) (str_eq_ignore_ascii_case name (codes "rfalse"))
+      (branch_to sense destination.ReturnTrue, labels) (branch_to sense destination.ReturnFalse, labels)
+      (branch_to sense (destination.To l.0.0), l.0.1);
+}
+
+branch_gives : {u : Out} {P : Type 0} (limits : Limits) (tokens : List SourceToken) (b : Option (ℕ × Bool)) (labels : List NamedLabel)
+    → Gives limits u P (branched tokens b labels)
+unfolding branched
+branch_gives {u} {P} limits tokens None labels = record { keeps = if_nowhere u P }
+branch_gives {u} {P} limits tokens (Some b) labels = branched_gives limits (bytes_at tokens b.0) b.1 labels
+
+jumped_gives : {u : Out} {P : Type 0} (limits : Limits) (tokens : List SourceToken) (at : Option ℕ) (labels : List NamedLabel)
+    → Gives limits u P (jumped_on limits tokens at labels)
+jumped_gives {u} {P} limits tokens None labels = record { keeps = if_nowhere u P }
+jumped_gives {u} {P} limits tokens (Some at) labels = record {
+  keeps = λ o. let l = labelled (bytes_at tokens at) labels o in (sound_jump {limits = limits} {u = u} {P = P} l.0.0).keeps l.1;
+}
+
+simples_stand : (u : Out) (P : Type 0) (limits : Limits) (trees : List Tree) → TreesStand u P trees
+    → SimplesStand u P (operands_in limits trees)
+simples_stand u P limits [] h = tt
+simples_stand u P limits (e ∷ trees) h =
+    (by_stands u P (meaning limits e).operand (meaning_sound {u = u} {P = P} limits e h.0).operand, simples_stand u P limits trees h.1)
+
+first_sound : {u : Out} {P : Type 0} (limits : Limits) (op : Opcode) (trees : List Tree) (store : Option ℕ) (branch : Option Branch)
+    → TreesStand u P trees → Sound limits u P (named_first limits op trees store branch)
+first_sound {u} {P} limits op [] store branch h = sound_nothing
+first_sound {u} {P} limits op (e ∷ trees) store branch h = record {
+  keeps = λ o.
+      (sound_naming {limits =
+      limits} {u = u} {P = P} op (unwrap_or (variable_of (meaning limits e).operand) 0) (operands_in limits trees) store
+      branch (simples_stand u P limits trees h.1)).keeps o;
+}
+
+instructed_sound : {u : Out} {P : Type 0} (limits : Limits) (names : Bool) (op : Opcode) (trees : List Tree) (store : Option ℕ)
+    (branch : Option Branch)
+    → TreesStand u P trees → Sound limits u P (instructed limits names op trees store branch)
+unfolding instructed
+instructed_sound {u} {P} limits true op trees store branch h = first_sound limits op trees store branch h
+instructed_sound {u} {P} limits false op trees store branch h =
+    sound_instruction op (operands_in limits trees) store branch (simples_stand u P limits trees h)
+
+instructed_gives : {u : Out} {P : Type 0} (limits : Limits) (locals : List Local) (tokens : List SourceToken) (op : Opcode) (e : Ends)
+    (trees : List Tree)
+    → TreesStand u P trees → (labels : List NamedLabel) → Gives limits u P (line_instructed limits locals tokens op e trees labels)
+instructed_gives {u} {P} limits locals tokens op e trees h labels = record {
+  keeps = λ o.
+      let b = branched tokens e.branch labels o in
+      let store = store_of locals b.1.names tokens e.store in
+      if_then u P o b.1 (instructed limits (row_of op).names_variable op trees store b.0.0 b.1)
+      ((branch_gives limits tokens e.branch labels).keeps o)
+      ((instructed_sound limits (row_of op).names_variable op trees store b.0.0 h).keeps b.1);
+}
+
+text_sound : {u : Out} {P : Type 0} (limits : Limits) (set : CharSet) (tokens : List SourceToken) (op : Option Opcode) (at : ℕ)
+    → Sound limits u P (text_printed limits set tokens op at)
+text_sound {u} {P} limits set tokens None at = sound_nothing
+text_sound {u} {P} limits set tokens (Some op) at = printed_sound limits op (text_at set tokens at)
+
+some_sound : {u : Out} {P : Type 0} (limits : Limits) (set : CharSet) (tokens : List SourceToken) (op : Opcode) (at : Option ℕ)
+    → Sound limits u P (some_printed limits set tokens op at)
+some_sound {u} {P} limits set tokens op None = sound_nothing
+some_sound {u} {P} limits set tokens op (Some at) = text_sound limits set tokens (printing_of op) at
+
+by_gives : {u : Out} {P : Type 0} (limits : Limits) (jumps has_text : Bool) (set : CharSet) (locals : List Local)
+    (tokens : List SourceToken) (op : Opcode) (e : Ends) (trees : List Tree)
+    → TreesStand u P trees → (labels : List NamedLabel)
+    → Gives limits u P (line_laid_by limits jumps has_text set locals tokens op e trees labels)
+by_gives {u} {P} limits true has_text set locals tokens op e trees h labels = jumped_gives limits tokens e.jump labels
+by_gives {u} {P} limits false true set locals tokens op e trees h labels = gives_code labels (some_sound limits set tokens op e.text)
+by_gives {u} {P} limits false false set locals tokens op e trees h labels = instructed_gives limits locals tokens op e trees h labels
+
+as_gives : {u : Out} {P : Type 0} (limits : Limits) (fits : Bool) (set : CharSet) (locals : List Local) (tokens : List SourceToken)
+    (op : Opcode) (e : Ends) (trees : List Tree)
+    → TreesStand u P trees → (labels : List NamedLabel) → Gives limits u P (line_laid_as limits fits set locals tokens op e trees labels)
+as_gives {u} {P} limits true set locals tokens op e trees h labels =
+    by_gives limits (row_of op).jumps (row_of op).has_text set locals tokens op e trees h labels
+as_gives {u} {P} limits false set locals tokens op e trees h labels = gives_code labels sound_nothing
+
+line_gives : {u : Out} {P : Type 0} (limits : Limits) (set : CharSet) (locals : List Local) (tokens : List SourceToken)
+    (op : Option Opcode) (e : Ends) (trees : List Tree)
+    → TreesStand u P trees → (labels : List NamedLabel) → Gives limits u P (line_laid limits set locals tokens op e trees labels)
+unfolding line_laid
+line_gives {u} {P} limits set locals tokens None e trees h labels = record { keeps = if_nowhere u P }
+line_gives {u} {P} limits set locals tokens (Some op) e trees h labels =
+    record { keeps = λ o. (as_gives limits (fits limits op trees e) set locals tokens op e trees h labels).keeps o }
+
+jump_gives : {u : Out} {P : Type 0} (limits : Limits) (name : List ℕ) (labels : List NamedLabel)
+    → Gives limits u P (jump_laid limits name labels)
+jump_gives {u} {P} limits name labels = record {
+  keeps = λ o. let l = labelled name labels o in (sound_jump {limits = limits} {u = u} {P = P} l.0.0).keeps l.1;
+}
+
+place_gives : {u : Out} {P : Type 0} (limits : Limits) (name : List ℕ) (labels : List NamedLabel)
+    → Gives limits u P (place_laid limits name labels)
+place_gives {u} {P} limits name labels = record {
+  keeps = λ o. let l = placed name labels o in (sound_mark {limits = limits} {u = u} {P = P} l.0.0).keeps l.1;
+}
+
+-- Any statement
+
+pub statement_gives : {u : Out} {P : Type 0} (limits : Limits) (s : Site) (st : Statement) (trees : List Tree) → TreesStand u P trees
+    → (labels : List NamedLabel) → Gives limits u P (statement_laid limits s st trees labels)
+unfolding statement_laid
+statement_gives {u} {P} limits s statement.Jump trees h labels = jump_gives limits (name_behind s) labels
+statement_gives {u} {P} limits s statement.Place trees h labels = place_gives limits (name_behind s) labels
+statement_gives {u} {P} limits s statement.Assembly trees h labels =
+    line_gives limits s.set s.locals s.tokens (opcode_of (name_behind s)) (ends_of s.items) trees h labels
+statement_gives {u} {P} limits s statement.Empty trees h labels = gives_code labels (code_sound limits s trees statement.Empty h)
+statement_gives {u} {P} limits s statement.Expression trees h labels = gives_code labels (code_sound limits s trees statement.Expression h)
+statement_gives {u} {P} limits s statement.Print trees h labels = gives_code labels (code_sound limits s trees statement.Print h)
+statement_gives {u} {P} limits s statement.PrintReturn trees h labels =
+    gives_code labels (code_sound limits s trees statement.PrintReturn h)
+statement_gives {u} {P} limits s statement.Return trees h labels = gives_code labels (code_sound limits s trees statement.Return h)
+statement_gives {u} {P} limits s statement.NewLine trees h labels = gives_code labels (code_sound limits s trees statement.NewLine h)
+statement_gives {u} {P} limits s statement.Quit trees h labels = gives_code labels (code_sound limits s trees statement.Quit h)
+statement_gives {u} {P} limits s statement.ReturnTrue trees h labels = gives_code labels (code_sound limits s trees statement.ReturnTrue h)
+statement_gives {u} {P} limits s statement.ReturnFalse trees h labels =
+    gives_code labels (code_sound limits s trees statement.ReturnFalse h)
+statement_gives {u} {P} limits s statement.Break trees h labels = gives_code labels (code_sound limits s trees statement.Break h)
+statement_gives {u} {P} limits s statement.Continue trees h labels = gives_code labels (code_sound limits s trees statement.Continue h)
+statement_gives {u} {P} limits s statement.Give trees h labels = gives_code labels (code_sound limits s trees statement.Give h)
+statement_gives {u} {P} limits s statement.Move trees h labels = gives_code labels (code_sound limits s trees statement.Move h)
+statement_gives {u} {P} limits s statement.Remove trees h labels = gives_code labels (code_sound limits s trees statement.Remove h)
+statement_gives {u} {P} limits s statement.Spaces trees h labels = gives_code labels (code_sound limits s trees statement.Spaces h)
+statement_gives {u} {P} limits s statement.String trees h labels = gives_code labels (code_sound limits s trees statement.String h)
+statement_gives {u} {P} limits s statement.Style trees h labels = gives_code labels (code_sound limits s trees statement.Style h)
+statement_gives {u} {P} limits s statement.Action trees h labels = gives_code labels (code_sound limits s trees statement.Action h)
+statement_gives {u} {P} limits s statement.ActionReturn trees h labels =
+    gives_code labels (code_sound limits s trees statement.ActionReturn h)

@@ -1,0 +1,5 @@
+use Rattle.inf_target_laws.proofs.Whole.{targets_stand}
+use Rattle.inf_target_laws.proofs.laws.targets_stand.Goals as goal
+
+pub returns : goal.returns
+returns c = targets_stand

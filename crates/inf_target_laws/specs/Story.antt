@@ -1,0 +1,82 @@
+-- Targets in the areas of a story are found.
+use Rattle.std.specs.Prelude.{◌≡◌, ℕ, List, [], ◌∷◌, true, is_some, slice_get, Some}
+use Rattle.inf_settings.specs.Bounds.{limits_of}
+use Rattle.inf_area.specs.declared.cells.Cell.{Cell}
+use Rattle.inf_area.specs.declared.cells.Cell.TheVariants as cell
+use Rattle.inf_area.specs.declared.targets.Target.{Target}
+use Rattle.inf_area.specs.declared.targets.Target.TheVariants as target
+use Rattle.inf_area.specs.declared.targets.Value.{Value}
+use Rattle.inf_area.specs.declared.targets.Value.TheVariants as value
+use Rattle.inf_devices.specs.Files.{Sources}
+use Rattle.inf_dictionary.specs.Texts.{Text}
+use Rattle.inf_dictionary.specs.Words.{word_of}
+use Rattle.inf_dictionary.specs.declared.uses.Word.{Word}
+use Rattle.inf_link.specs.declared.areas.Areas.{Areas}
+use Rattle.inf_link.specs.Targets.{Lookup, part_of}
+use Rattle.inf_output.specs.Output.{Out}
+use Rattle.inf_story.specs.Names.{values_of}
+use Rattle.inf_story.specs.Tables.{areas, looked_up}
+use Rattle.inf_compilation.specs.Actions.{begun_at}
+use Rattle.inf_session.specs.Choices.{Choices}
+use Rattle.inf_session.specs.Ending.{finished}
+use Rattle.inf_session.specs.Session.{State, first_place}
+use Rattle.inf_word_laws.specs.Values.{AllDirect}
+use Rattle.inf_limit_laws.specs.Reached.{IsReached}
+
+-- Tells whether a target is found: a name by its number, a part by its own, and a word in the dictionary.
+abbrev pub IsFound : Lookup → List (Text × Word) → Target → Type 0
+IsFound targets words (target.Name number) = is_some (slice_get targets.names number) ≡ true
+IsFound targets words (target.Word text) = is_some (word_of text words) ≡ true
+IsFound targets words (target.Part area part) = is_some (slice_get (part_of targets area) part) ≡ true
+IsFound targets words _ = Unit {0}
+
+abbrev pub CellIsFound : Lookup → List (Text × Word) → Cell → Type 0
+CellIsFound targets words (cell.Byte byte) = Unit {0}
+CellIsFound targets words (cell.Later t) = IsFound targets words t
+
+abbrev pub AllFound : Lookup → List (Text × Word) → List Cell → Type 0
+AllFound targets words [] = Unit {0}
+AllFound targets words (c ∷ cells) = CellIsFound targets words c × AllFound targets words cells
+
+abbrev pub ValueIsFound : Lookup → List (Text × Word) → Value → Type 0
+ValueIsFound targets words (value.Known number) = Unit {0}
+ValueIsFound targets words (value.Later t) = IsFound targets words t
+
+abbrev pub ValuesFound : Lookup → List (Text × Word) → List Value → Type 0
+ValuesFound targets words [] = Unit {0}
+ValuesFound targets words (v ∷ values) = ValueIsFound targets words v × ValuesFound targets words values
+
+-- All targets in the areas of a story are found.
+pub record AreasFound (targets : Lookup) (words : List (Text × Word)) (a : Areas (List Cell)) : Type 0 where
+  pub low_strings : AllFound targets words a.low_strings
+  pub abbreviations : AllFound targets words a.abbreviations
+  pub property_defaults : AllFound targets words a.property_defaults
+  pub objects : AllFound targets words a.objects
+  pub property_tables : AllFound targets words a.property_tables
+  pub class_numbers : AllFound targets words a.class_numbers
+  pub individual_tables : AllFound targets words a.individual_tables
+  pub globals : AllFound targets words a.globals
+  pub arrays : AllFound targets words a.arrays
+  pub grammar : AllFound targets words a.grammar
+  pub actions : AllFound targets words a.actions
+  pub parsing_routines : AllFound targets words a.parsing_routines
+  pub dictionary : AllFound targets words a.dictionary
+  pub code : AllFound targets words a.code
+  pub strings : AllFound targets words a.strings
+
+-- All names of a source have values, none of which refers to a name; and all targets of these and of the areas, whatever routine is called
+-- first, are found.
+pub record StoryIsWhole (u : Out) : Type 0 where
+  pub names : List Value
+  pub are : values_of u.names.names ≡ Some names
+  pub direct : AllDirect names
+  pub values : ValuesFound (looked_up names u.tables) u.tables.dictionary.list names
+  pub in_areas : (main : ℕ)
+      → AreasFound (looked_up names u.tables) u.tables.dictionary.list (areas main u.code.finished u.strings.bytes u.tables)
+
+-- Where a reading ends with a story, in whatever state to which it comes, all targets of the story are found.
+abbrev pub StoriesAreWhole : Sources → Choices → Type 0
+StoriesAreWhole sources o =
+    (name : List ℕ) (s : State) → IsReached sources o name s → (date bytes : List ℕ)
+    → (finished (limits_of o.settings) date s.nesting.names s.work).story ≡ Some bytes
+    → StoryIsWhole (begun_at (limits_of o.settings) s.nesting.names first_place s.work).output
