@@ -73,8 +73,8 @@ def profile(program, words, folder):
 
 
 def named(function):
-    """The name of a function without its types and without the paths of the library's files."""
-    return f"`{re.sub(r'::<.*', '', function).split(':__')[-1]}`"
+    """The name of a function with the type or module that it stands in, without types that it is made for."""
+    return f"`{'::'.join(re.sub(r'::<.*', '', function).split('::')[-2:])}`"
 
 
 def row_of(kind, program):
@@ -92,9 +92,13 @@ def row_of(kind, program):
 
 
 def ending(run):
-    """How a run ended: its last message without its place, or its status where that is none of a compilation."""
+    """How a run ended: with a story, with errors, with the fatal error that its last message tells, or with a status that is none of these."""
     *_, last, status = run
-    return re.sub(r"^\S+\(\d+\): ", "", last)[:60] if status in (0, 1) else f"status {status}: {last[:60]}"
+    if status not in (0, 1):
+        return f"status {status}: {last[:60]}"
+    if told := re.match(r"\S+\(\d+\): Fatal error: (MAX_\w+|.*)", last):
+        return f"`{told[1]}`" if told[1].startswith("MAX_") else told[1].lower()
+    return "errors" if status else "a story"
 
 
 def profiled(kind, program, words):
