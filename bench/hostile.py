@@ -1,5 +1,5 @@
 #!/usr/bin/env python3
-"""Compiles hostile sources, and prints the table of bench/HOSTILE.md.
+"""Compiles hostile sources, and prints a row for each; bench/HOSTILE.md has those that take most.
 
     bench/hostile.py PROGRAM
 
@@ -7,7 +7,7 @@ Each source has 16,777,216 bytes, the most that one may have, and is compiled by
 ones. A row tells how often the source repeats its part, how the run ends, the processor time with that of the system, and the most memory,
 by both. Where one of them is over 0.5 s or 64 MB, a source of a sixteenth of the size is compiled by callgrind, by the settings that took
 longer, and the row tells the instructions for each part and the functions that take most of them. A run that takes less memory than Python
-itself, some 12 MB, is told with as much as that.
+itself, some 16 MB, is told with as much as that.
 
 It needs `valgrind` (apt-get install valgrind). With `--only KIND` there is one row.
 """
