@@ -2,6 +2,10 @@
 
 System_file;
 
+Ifndef LIBRARY;
+Message fatalerror "This is a part of the library. Include library in its place, by one line of the game.";
+Endif;
+
 ! Puts all things into scope.
 [ AnyThing  thing;
     switch (scope_stage) {
@@ -13,8 +17,104 @@ System_file;
     }
 ];
 
-[ TraceOnSub; tracing = true; print "[Lines of grammar and actions are told.]^"; ];
-[ TraceOffSub; tracing = false; print "[Lines of grammar and actions are not told any more.]^"; ];
+[ TraceOnSub; tracing = 3; print "[Lines of grammar and actions are told.]^"; ];
+[ TraceOffSub; tracing = 0; print "[Lines of grammar and actions are not told any more.]^"; ];
+[ ActionsOnSub; tracing = 1; print "[Actions are told.]^"; ];
+
+! Tells a line of grammar that is tried.
+[ TraceLine at  token;
+    print "[", (address) verb_word;
+    for (token = at + 2 : token->0 ~= LAST_TOKEN : token = token + 3) {
+        if ((token->0) & 16) print "/";
+        else print " ";
+        TokenName((token->0) & 15, (token + 1)-->0);
+    }
+    print " -> ", (ActionName) at-->0 & 1023;
+    if (at-->0 & 1024) print " reverse";
+    print "]^";
+];
+
+[ TokenName type value;
+    switch (type) {
+        1: KindName(value);
+        PREPOSITION_TOKEN: print "'", (address) value, "'";
+        FILTER_TOKEN: print "noun=a routine";
+        ATTRIBUTE_TOKEN: AttributeName(value);
+        SCOPE_TOKEN: print "scope=a routine";
+        default: print "a routine";
+    }
+];
+
+! Tells where that line does not fit, and the best reason up to now.
+[ TraceFault;
+    print "[does not fit";
+    if (word_at <= command_end) print " from ~", (PrintWord) word_at, "~ on";
+    print "; ", (FaultName) fault, "]^";
+];
+
+! Tells an action before its rules are run.
+[ TraceAction;
+    print "[", (ActionName) action;
+    if (actor ~= player) print " by ", (name) actor;
+    if (noun) TraceNoun(noun, noun_is_value);
+    if (second) TraceNoun(second, second_is_value);
+    print "]^";
+];
+
+[ TraceNoun thing is_value;
+    print ", ";
+    switch (is_value) {
+        NUMBER_VALUE: print thing;
+        WORD_VALUE: print "'", (address) thing, "'";
+        default: print (name) thing, " (", thing, ")";
+    }
+];
+
+! Prints a value of a property as far as it can be told what it is.
+[ PrintValue value;
+    if (IsWord(value)) { print "'", (address) value, "'"; return; }
+    switch (Z__Region(value)) {
+        1: print (name) value, " (", value, ")";
+        2: print "a routine";
+        3: print "~", (string) value, "~";
+        default: print value;
+    }
+];
+
+! Tells the timers and daemons that run.
+[ DebugTimersSub  i thing;
+    for (i = 0 : i < MOST_TIMERS : i++) {
+        thing = timers-->i;
+        if (thing > 0) print "[time_out of ", (name) thing, " after ", thing.time_left, " turns]^";
+        if (thing < 0) print "[daemon of ", (name) (-thing), "]^";
+    }
+    print "[There is room for ", MOST_TIMERS, " timers and daemons.]^";
+];
+
+! Tells the attributes and the values of the properties of a thing.
+[ DebugShowSub  i at;
+    if (IsNoObject()) return;
+    PrintBranch(noun, 0);
+    for (i = 0 : i < 48 : i++) if (noun has i) print "  has ", (AttributeName) i, "^";
+    for (i = name : i < 64 : i++) {
+        if (i == 2 or 3) continue;
+        @get_prop_addr noun i -> at;
+        if (at) ShowValues(i, at, noun.#i / 2);
+    }
+    @get_prop_addr noun 3 -> at;
+    if (at == 0) return;
+    for (at = at-->0 : at-->0 : at = at + 3 + at->2) ShowValues(at-->0, at + 3, (at->2) / 2);
+];
+
+[ ShowValues rule at count  i;
+    print "  with ", (PropertyName) rule, " ";
+    for (i = 0 : i < count : i++) {
+        if (i > 0) print ", ";
+        if (rule == capacity or time_left or number) print at-->i;
+        else PrintValue(at-->i);
+    }
+    new_line;
+];
 
 [ DebugTakeSub;
     move noun to player;
@@ -27,14 +127,24 @@ System_file;
     print "[", (The) noun, " ", (Is) noun, " in ", (the) second, ".]^";
 ];
 
+! Whether the noun is no object, which is told: where a number was typed, that is the one of an object.
+[ IsNoObject;
+    if (Z__Region(noun) == 1) rfalse;
+    print_ret "[No object has the number ", noun, ".]";
+];
+
 [ DebugGoSub  room;
+    if (IsNoObject()) return;
     for (room = noun : parent(room) : room = parent(room)) ;
     PlayerTo(room);
 ];
 
 ! Prints an object's place in the tree with its number, and all that is in it.
 [ DebugTreeSub  thing;
-    if (noun) { PrintBranch(noun, 0); return; }
+    if (noun || noun_is_value) {
+        if (~~IsNoObject()) PrintBranch(noun, 0);
+        return;
+    }
     objectloop (thing) if (parent(thing) == 0 && thing > 4) PrintBranch(thing, 0);
 ];
 
@@ -50,49 +160,12 @@ System_file;
 
 [ DebugScopeSub; LookThroughScope(TO_LIST); ];
 
-! Tells what is wrong with a thing.
-[ Complain thing text;
-    print "[", (name) thing, " (", thing, ") ", (string) text, "]^";
-];
-
-! Whether the library looks at what a thing's printed_name prints to find its article.
-[ LooksForArticle thing;
-    return thing provides printed_name && ~~(thing provides article || thing has proper || thing has several);
-];
-
-! How many letters the name of a thing has.
-Array name_text -> 1000;
-
-[ LengthOfName thing;
-    @output_stream 3 name_text;
-    PrintShortName(thing);
-    @output_stream (-3);
-    return name_text-->0;
-];
-
-! Looks at each object for what can hardly be meant.
-[ CheckWorld  thing;
-    objectloop (thing) {
-        if (thing < 5 || parent(thing) == Class || thing == game or compass) continue;
-        if (thing has door && ~~thing provides door_to && (~~thing provides found_in || thing.#found_in ~= 4))
-            Complain(thing, "is a door without door_to, and not found in two rooms");
-        if (thing has container && thing has supporter) Complain(thing, "is a container and a supporter");
-        if (thing has lockable && thing hasnt openable) Complain(thing, "is lockable and not openable");
-        if (thing has locked && thing hasnt lockable) Complain(thing, "is locked and not lockable");
-        if (thing has locked && thing has open) Complain(thing, "is locked and open");
-        if (thing has worn && thing hasnt clothing) Complain(thing, "is worn and no clothing");
-        if (thing has on && thing hasnt switchable) Complain(thing, "is on and not switchable");
-        if (thing provides time_out && ~~thing provides time_left) Complain(thing, "has time_out and no time_left");
-        if (parent(thing) && thing hasnt concealed && ~~(thing provides name || thing provides parse_name))
-            Complain(thing, "has no name that can be typed");
-        if (LooksForArticle(thing) && LengthOfName(thing) > LINE_LENGTH)
-            Complain(thing, "has a printed_name of more letters than LINE_LENGTH, and no article");
-    }
-];
-
 Verb meta 'trace' * -> TraceOn * 'on' -> TraceOn * 'off' -> TraceOff;
+Verb meta 'actions' * -> ActionsOn * 'on' -> ActionsOn * 'off' -> TraceOff;
+Verb meta 'showobj' * scope=AnyThing -> DebugShow * number -> DebugShow;
+Verb meta 'timers' * -> DebugTimers;
 Verb meta 'purloin' * scope=AnyThing -> DebugTake;
 Verb meta 'abstract' * scope=AnyThing 'to' scope=AnyThing -> DebugMove;
-Verb meta 'goto' * scope=AnyThing -> DebugGo;
-Verb meta 'tree' * -> DebugTree * scope=AnyThing -> DebugTree;
+Verb meta 'goto' 'gonear' * scope=AnyThing -> DebugGo * number -> DebugGo;
+Verb meta 'tree' * -> DebugTree * scope=AnyThing -> DebugTree * number -> DebugTree;
 Verb meta 'scope' * -> DebugScope;

@@ -2,6 +2,10 @@
 
 System_file;
 
+Ifndef LIBRARY;
+Message fatalerror "This is a part of the library. Include library in its place, by one line of the game.";
+Endif;
+
 ! What a thing is.
 Attribute animate;          ! alive
 Attribute clothing;         ! can be worn
@@ -64,6 +68,7 @@ Property cannot_go;
 Property printed_name;
 Property article;
 Property plural;
+Property list_together;
 
 ! Objects and numbers.
 Property found_in;
@@ -103,7 +108,7 @@ Global action;
 Global actor;
 Global noun;
 Global second;
-Global noun_is_value;       ! the noun is a number or a word, and not an object
+Global noun_is_value;       ! the noun is no object: NUMBER_VALUE, WORD_VALUE, or 0 where it is one
 Global second_is_value;
 Global is_meta;             ! the verb is one about the game, which takes no time
 
@@ -115,7 +120,10 @@ Global score;
 Global told_score;
 Global turns;
 Global ending;              ! 0 while the game is played, 1 lost, 2 won, or what the game makes of it
-Global look_mode;           ! 0 brief, 1 verbose
+Global things_score;        ! the points for things, and those for rooms
+Global rooms_score;
+Global look_mode;           ! 0 brief, 1 verbose, 2 superbrief
+Global inventory_is_wide;   ! what one has is told in a sentence
 Global notifies;
 Global can_undo;
 
@@ -123,7 +131,9 @@ Global can_undo;
 Global word_at;             ! the next word, counted from 1
 Global command_at;          ! the first word
 Global command_end;         ! the last one
-Global next_command;        ! the first word of the command behind it
+Global next_command;        ! the first word of the command behind it, THE_REST or 0
+Global rest_at;             ! where in the line that begins what stands behind a full stop
+Global spoken_to;           ! who is spoken to in a sentence, of which there may be several commands
 Global verb_at;
 Global verb_word;
 Global verb_lines;
@@ -144,6 +154,9 @@ Global line_ahead;          ! the second noun, where a line is read twice to kno
 Global list_is_full;        ! more things were meant than MOST_OBJECTS
 Global phrase_all;
 Global phrase_plural;
+Global phrase_number;
+Global is_choice;           ! of several things one was taken that is worth more
+Global chosen_thing;        ! that one, which is told
 Global fault;               ! the message of the best failure, the word at which it came, and what it is about
 Global fault_at;
 Global fault_thing;
@@ -167,25 +180,30 @@ Global match_words;
 Global all_kind;
 
 Global details;
+Global group;               ! the value of `list_together` of the things that are listed
 Global invent_stage;
-Global tracing;
+Global tracing;             ! 1 where actions are told, 3 with the lines of grammar, 0 else
 
-! The line of the commands that are done, the text of the last command, the words of a line, and the line that is read. Some
-! interpreters write more letters into that than it has room for, and a name may be longer than it, whose article is looked for
-! there: behind it stands what is made anew for each command.
+! The line of the commands that are done, the text of the last command, and the line that is read. Some interpreters write more
+! letters into that than it has room for, and a name may be longer than it, whose article is looked for there: behind it stands what
+! is made anew for each command, and then the words, which are made anew for each line.
 Array line -> (LINE_LENGTH + 3);
 Array saved -> (LINE_LENGTH + 3);
 Array multiple --> (MOST_OBJECTS + 1);
 Array timers --> MOST_TIMERS;
-Array words -> (4 * MOST_WORDS + 2);
 Array first_letters --> 1;
 Array answer -> (LINE_LENGTH + 3);
 Array matches --> (MOST_OBJECTS + 1);
 Array gathered --> (MOST_OBJECTS + 1);
 Array values --> 3;
 Array value_kinds -> 3;
+Array words -> (4 * MOST_WORDS + 2);
+
+Constant NUMBER_VALUE = 1;
+Constant WORD_VALUE = 2;
 
 Constant END_OF_COMMAND = -1;
+Constant THE_REST = -1;     ! the next command stands behind a full stop
 
 ! What a routine among the tokens of a line answers, if it is not an object.
 Constant NOT_PARSED = -1;
@@ -220,6 +238,7 @@ Constant TO_COLLECT = 1;
 Constant TO_SEEK = 2;
 Constant TO_RUN = 3;
 Constant TO_LIST = 4;
+Constant TO_MEET = 5;
 
 Fake_action Receive;        ! something is put into it or onto it
 Fake_action LetGo;          ! something is taken from it

@@ -9,15 +9,16 @@
 !
 ! Each setting of the compiler may be as it stands without a word of the command. A game of one room is compiled with these, also
 ! with the word -D, without a warning; other rooms, things and verbs add to them:
-!     MAX_SYMBOLS 670, MAX_DICT_ENTRIES 162, MAX_OBJECTS 21, MAX_VERBS 81, MAX_ACTIONS 92, MAX_LINESPACE 1,200,
-!     MAX_PROP_TABLE_SIZE 320, MAX_STATIC_DATA 1,510, MAX_LOW_STRINGS 2, MAX_CODE 19,800, MAX_STATIC_STRINGS 328,
-!     MAX_REFS 1,440, MAX_LABELS 470, MAX_EXPRESSION_NODES 62, MAX_QTEXT_SIZE 70
+!     MAX_SYMBOLS 780, MAX_DICT_ENTRIES 230, MAX_OBJECTS 21, MAX_VERBS 96, MAX_ACTIONS 106, MAX_LINESPACE 1,600,
+!     MAX_PROP_TABLE_SIZE 320, MAX_STATIC_DATA 1,700, MAX_LOW_STRINGS 2, MAX_CODE 28,400, MAX_STATIC_STRINGS 400,
+!     MAX_REFS 1,800, MAX_LABELS 490, MAX_EXPRESSION_NODES 62, MAX_QTEXT_SIZE 70
 !
 ! Constants that a game may declare before the line, with the numbers that they have otherwise:
-!     LINE_LENGTH 70, MOST_WORDS 16, MOST_OBJECTS 32, MOST_TIMERS 8    the sizes of what the parser and the timers keep
+!     LINE_LENGTH 100, MOST_WORDS 30, MOST_OBJECTS 32, MOST_TIMERS 8    the sizes of what the parser and the timers keep
 !     MOST_CARRIED 100, MOST_SCORE 0, OBJECT_SCORE 4, ROOM_SCORE 5     the rules of the game
 !
-! `Replace R;` before the line has a game's own routine R stand in place of the library's.
+! `Replace R;` before the line has a game's own routine R stand in place of the library's. Two more files may be included: `more` behind
+! this one, for more words, and `names` behind all objects, for warnings of names that mean nothing here.
 
 System_file;
 
@@ -33,8 +34,8 @@ Endif;
 
 Constant LIBRARY = 1;
 
-Default LINE_LENGTH 70;
-Default MOST_WORDS 16;
+Default LINE_LENGTH 100;
+Default MOST_WORDS 30;
 Default MOST_OBJECTS 32;
 Default MOST_TIMERS 8;
 Default MOST_CARRIED 100;
@@ -69,6 +70,8 @@ Include ">things";
 Include ">people";
 Include ">session";
 Ifdef DEBUG;
+Include ">debugnames";
+Include ">checks";
 Include ">debugging";
 Endif;
 Include ">grammar";

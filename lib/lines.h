@@ -2,22 +2,56 @@
 
 System_file;
 
+Ifndef LIBRARY;
+Message fatalerror "This is a part of the library. Include library in its place, by one line of the game.";
+Endif;
+
 ! Reads a line into `answer`, and cuts it into words. False where there are none, or too many, which is told.
 [ ReadLine  key;
     DrawStatus();
     answer->0 = LINE_LENGTH;
     answer->1 = 0;
-    words->0 = MOST_WORDS;
-    @aread answer words -> key;
+    @aread answer 0 -> key;
     if (answer->1 > LINE_LENGTH) { Tell(LINE_TOO_LONG); rfalse; }
-    if (words->1 == 0) { Tell(LINE_EMPTY); rfalse; }
-    if (words->1 == MOST_WORDS && PlaceOf(MOST_WORDS) + LengthOf(MOST_WORDS) < answer->1 + 2) { Tell(LINE_TOO_LONG); rfalse; }
-    return key;
+    TrimAnswer();
+    if (answer->1 == 0) { Tell(LINE_EMPTY); rfalse; }
+    return Cut(answer);
 ];
 
-[ CutLine;
+! Makes blanks of double quotes in the line that was read, and takes blanks and full stops from both its ends.
+[ TrimAnswer  n;
+    for (::) {
+        n = answer + 2;
+        @scan_table '"' n LINE_LENGTH $01 -> n ?~NoQuote;
+        n->0 = ' ';
+    }
+    .NoQuote;
+    n = 0;
+    while (answer->1 && answer->(answer->1 + 1) == '.' or ' ') answer->1 = answer->1 - 1;
+    while (n < answer->1 && answer->(n + 2) == '.' or ' ') n++;
+    if (n == 0) return;
+    answer->1 = answer->1 - n;
+    CopyBytes(answer + 2 + n, answer + 2, answer->1);
+];
+
+! Cuts a text into words, up to its first full stop; `rest_at` is the place of what comes behind that, or 0. False where there are
+! too many words, which is told.
+[ Cut text  end at;
+    end = text->1;
+    rest_at = 0;
+    at = text + 2;
+    @scan_table '.' at end $01 -> at ?~NoStop;
+    text->1 = at - text - 2;
+    rest_at = text->1 + 3;
+    .NoStop;
     words->0 = MOST_WORDS;
-    @tokenise line words;
+    @tokenise text words;
+    at = text->1 + 2;
+    text->1 = end;
+    if (words->1 < MOST_WORDS || PlaceOf(MOST_WORDS) + LengthOf(MOST_WORDS) >= at) rtrue;
+    Tell(LINE_TOO_LONG);
+    next_command = 0;
+    rfalse;
 ];
 
 ! The word of a number: its place in the dictionary, 0 where it is not there, END_OF_COMMAND behind the command.
@@ -43,17 +77,16 @@ System_file;
 ];
 
 ! Takes characters out of `line`.
-[ RemoveText place count  i end;
-    end = 2 + line->1;
-    for (i = place + count : i < end : i++) line->(i - count) = line->i;
+[ RemoveText place count;
     line->1 = line->1 - count;
+    CopyBytes(line + place + count, line + place, 2 + line->1 - place);
 ];
 
 ! Puts characters into `line`, as far as there is room for all of them.
-[ InsertText place text count  i;
+[ InsertText place text count;
     if (line->1 + count > LINE_LENGTH) rfalse;
-    for (i = 1 + line->1 : i >= place : i--) line->(i + count) = line->i;
-    for (i = 0 : i < count : i++) line->(place + i) = text->i;
+    CopyBytes(line + place, line + place + count, 2 + line->1 - place);
+    CopyBytes(text, line + place, count);
     line->1 = line->1 + count;
     rtrue;
 ];
@@ -63,12 +96,13 @@ System_file;
     CopyBytes(answer, line, LINE_LENGTH + 3);
     command_at = 1;
     next_command = 0;
+    spoken_to = 0;
 ];
 
-! A word that separates commands: at the word of a number, in a line of which words->1 are there.
+! A word that separates commands, as a full stop does: at the word of a number, in a line of which words->1 are there.
 [ IsSeparator n  word;
     word = words-->(2 * n - 1);
-    if (word == './/' or 'then') rtrue;
+    if (word == 'then') rtrue;
     if (word == 'and' && n < words->1) {
         word = words-->(2 * n + 1);
         return word && (word->6) & 129 == 1;
@@ -80,6 +114,7 @@ System_file;
 [ FindEnd;
     for (command_end = command_at : command_end <= words->1 : command_end++) if (IsSeparator(command_end)) break;
     next_command = 0;
+    if (rest_at) next_command = THE_REST;
     if (command_end < words->1) next_command = command_end + 1;
     command_end--;
 ];
@@ -100,14 +135,23 @@ System_file;
 ! `undo` ask for.
 [ NextCommand  word;
     for (::) {
-        if (next_command) {
-            command_at = next_command;
-        } else {
-            print "^>";
-            if (~~ReadCommands()) continue;
+        command_at = next_command;
+        if (command_at <= 0) {
+            if (command_at == THE_REST) {
+                RemoveText(2, rest_at - 2);
+                spoken_to = 0;
+                command_at = 1;
+                if (~~Cut(line)) continue;
+            } else {
+                print "^>";
+                if (~~ReadCommands()) continue;
+            }
         }
         FindEnd();
-        if (command_end < command_at) continue;
+        if (command_end < command_at) {
+            if (next_command == 0) Tell(LINE_EMPTY);
+            continue;
+        }
         word = WordOf(command_at);
         if ((word == 'again' or 'g//') && command_end == command_at) {
             if (~~Repeat()) continue;
@@ -122,7 +166,7 @@ System_file;
     place = PlaceOf(command_at);
     RemoveText(place, LengthOf(command_at));
     if (~~InsertText(place, saved + 2, saved->1)) { Tell(LINE_TOO_LONG); next_command = 0; rfalse; }
-    CutLine();
+    if (~~Cut(line)) rfalse;
     FindEnd();
     rtrue;
 ];
@@ -166,7 +210,6 @@ System_file;
     RemoveText(oops_place, oops_length);
     if (~~InsertText(oops_place, answer + from, count)) { Tell(LINE_TOO_LONG); rfalse; }
     oops_place = 0;
-    CutLine();
     command_at = oops_command;
-    rtrue;
+    return Cut(line);
 ];

@@ -2,6 +2,10 @@
 
 System_file;
 
+Ifndef LIBRARY;
+Message fatalerror "This is a part of the library. Include library in its place, by one line of the game.";
+Endif;
+
 ! Adds a thing to a list, unless it is there or the list is full.
 [ AddTo list thing  i;
     for (i = list-->0 : i > 0 : i--) if (list-->i == thing) return;
@@ -79,6 +83,26 @@ System_file;
 ! The routine of a token, of which the grammar has the number.
 [ RoutineOf n; return #preactions_table-->n; ];
 
+! Whether a thing is one that a verb is for.
+[ Suits thing;
+    if (line_count) {
+        switch (line_action) {
+            ##PutIn: return thing has container;
+            ##PutOn: return thing has supporter;
+        }
+        rfalse;
+    }
+    switch (line_action) {
+        ##Open, ##Close: return thing has openable;
+        ##Lock, ##Unlock: return thing has lockable;
+        ##SwitchOn, ##SwitchOff: return thing has switchable;
+        ##Wear, ##Disrobe: return thing has clothing;
+        ##Eat: return thing has edible;
+        ##Enter, ##Exit: return thing has enterable || thing has door;
+    }
+    rfalse;
+];
+
 ! How well a thing that has the right name is what a command means.
 [ Worth kind thing  n;
     switch (kind) {
@@ -88,6 +112,7 @@ System_file;
         default: if (line_action == ##Take && ~~IsWithin(thing, actor)) n = 8;
     }
     if (kind == MULTI_KIND && (thing has scenery || thing has static)) n = n - 4;
+    if (Suits(thing)) n = n + 12;
     if (thing has concealed) n = n - 2;
     if (line_count && value_kinds->0 == 0 && values-->0 == thing) n = n - 4;
     if (game provides choose) n = n + 16 * Chosen(kind, thing);
@@ -104,16 +129,21 @@ System_file;
     return kind;
 ];
 
-! Takes from the matches what a token does not ask for, and then all that are worth less than others.
-[ Narrow kind filter  i best n thing;
+! Takes from the matches what a token does not ask for. False where none is left.
+[ Sieve kind filter  i thing;
     for (i = matches-->0 : i > 0 : i--) {
         thing = matches-->i;
         if (~~Fits(kind, filter, thing)) RemoveFrom(matches, thing);
     }
-    if (matches-->0 == 0) {
-        if (kind == CREATURE_KIND) return Fail(PARSE_NOT_ALIVE);
-        return Fail(PARSE_NOT_THAT);
-    }
+    if (matches-->0) rtrue;
+    if (kind == CREATURE_KIND) return Fail(PARSE_NOT_ALIVE);
+    return Fail(PARSE_NOT_THAT);
+];
+
+! Takes from the matches what a token does not ask for, and then all that are worth less than others.
+[ Narrow kind filter  i best n thing;
+    if (~~Sieve(kind, filter)) rfalse;
+    is_choice = matches-->0 > 1 && ~~AllAlike();
     if (matches-->0 == 1) rtrue;
     best = -32767;
     for (i = 1 : i <= matches-->0 : i++) {
@@ -124,17 +154,32 @@ System_file;
         thing = matches-->i;
         if (Worth(kind, thing) < best) RemoveFrom(matches, thing);
     }
+    if (matches-->0 > 1) is_choice = false;
+    if (best >= 8 && kind == HELD_KIND or MULTIHELD_KIND or MULTIEXCEPT_KIND or MULTIINSIDE_KIND) is_choice = false;
     rtrue;
 ];
 
 ! Whether two things have the same names, so that no words tell them apart.
 [ AreAlike thing other  at names length n;
-    if (thing provides parse_name || other provides parse_name) rfalse;
+    if (FirstValue(thing, parse_name) ~= FirstValue(other, parse_name)) rfalse;
+    if (thing provides parse_name && ~~HaveOneName(thing, other)) rfalse;
     at = thing.&name;
     names = other.&name;
     length = thing.#name;
     if (length ~= other.#name) rfalse;
     for (n = 0 : n < length / 2 : n++) if (at-->n ~= names-->n) rfalse;
+    rtrue;
+];
+
+! Whether two things print the same text as their name.
+[ HaveOneName thing other  at text;
+    at = FirstValue(thing, printed_name);
+    if (at ~= FirstValue(other, printed_name)) rfalse;
+    if (at) return Z__Region(at) == 3;
+    at = (0-->5 + 14 * thing + 124)-->0;
+    text = (0-->5 + 14 * other + 124)-->0;
+    if (at->0 ~= text->0) rfalse;
+    for (other = 1 : other <= 2 * at->0 : other++) if (at->other ~= text->other) rfalse;
     rtrue;
 ];
 
@@ -161,17 +206,52 @@ System_file;
     return thing hasnt container || thing has open;
 ];
 
-! Reads the words `all`, `the` and the like in front of a phrase.
+! Reads the words `all`, `the` and the like in front of a phrase, and a number of things.
 [ ReadArticles  word;
     for (:: word_at++) {
         word = WordOf(word_at);
         switch (word) {
-            'all', 'every', 'everything': phrase_all = true;
+            'all', 'every', 'everything', 'both': phrase_all = true;
             'the', 'a//', 'an', 'some', 'my': ;
-            'of': if (~~phrase_all) return;
+            'of': if (~~(phrase_all || phrase_number)) return;
+            'one':
+                word_at++;
+                if (IsPhraseOver()) { word_at--; return; }
+                word_at--;
+            0:
+                if (phrase_number) return;
+                phrase_number = ReadCount();
+                if (phrase_number == 0) return;
+                word_at--;
             default: return;
         }
     }
+];
+
+! Reads a number that the dictionary has not, in digits or as a word up to twenty; 0 where there is none.
+[ ReadCount  n old;
+    old = parsed_number;
+    if (ReadNumber()) {
+        n = parsed_number;
+        parsed_number = old;
+        return n;
+    }
+    if (line->PlaceOf(word_at) ~= 't' or 'f' or 's' or 'e' or 'n') rfalse;
+    for (n = 2 : n < 21 : n++) {
+        @output_stream 3 answer;
+        EnglishNumber(n);
+        @output_stream (-3);
+        if (IsTyped(answer + 2, answer-->0)) { word_at++; return n; }
+    }
+    rfalse;
+];
+
+! Whether letters are those of the next word.
+[ IsTyped letters count  at;
+    if (count ~= LengthOf(word_at)) rfalse;
+    at = line + PlaceOf(word_at);
+    for (count-- : count >= 0 : count--) if (letters->count ~= at->count) rfalse;
+    rtrue;
 ];
 
 ! Whether nothing more of a phrase stands at the next word.
@@ -181,16 +261,30 @@ System_file;
     return word && (word->6) & 8;
 ];
 
-! Reads `it`, `him`, `her` or `them`, and answers whether one stands there. `matches` is then what it means, or empty.
+! Whether a pronoun is one for somebody.
+[ IsCalled thing pronoun;
+    if (thing == player || thing hasnt animate) rfalse;
+    if (pronoun == 'her') return thing has female;
+    return thing has male || (thing has proper && thing hasnt female);
+];
+
+! Reads `it`, `him`, `her` or `them`, and answers whether one stands there. `matches` is then what it means, or empty. Of people it
+! may be the only one in view of whom it is said.
 [ ReadPronoun  thing i;
-    switch (WordOf(word_at)) {
+    matches-->0 = 0;
+    i = WordOf(word_at);
+    switch (i) {
         'it': thing = it_thing;
         'him': thing = him_thing;
         'her': thing = her_thing;
         'them': thing = them_thing;
         default: rfalse;
     }
-    matches-->0 = 0;
+    if (i == 'him' or 'her' && ~~(thing && IsInScope(thing))) {
+        LookThroughScope(TO_MEET, i);
+        if (matches-->0 == 1) thing = matches-->1;
+        matches-->0 = 0;
+    }
     if (thing == 0) { Fail(PARSE_PRONOUN); rtrue; }
     if (thing == -1) {
         phrase_plural = true;
@@ -209,6 +303,8 @@ System_file;
     matches-->0 = 0;
     phrase_plural = false;
     phrase_all = false;
+    phrase_number = 0;
+    is_choice = false;
     ReadArticles();
     from = word_at;
     if (ReadPronoun()) {
@@ -221,12 +317,18 @@ System_file;
         objectloop (i in compass) MatchThing(i);
     }
     if (match_words == 0) {
-        if (phrase_all && IsPhraseOver()) return CollectAll(kind);
+        if (phrase_all && IsPhraseOver()) return CollectAll(kind, filter);
         return Fail(PARSE_NOT_SEEN);
     }
     for (i = match_words : i > 0 : i--) if ((NextWord()->6) & 4) phrase_plural = true;
     if (~~Narrow(kind, filter)) rfalse;
-    if (matches-->0 > 1 && ~~(phrase_all || phrase_plural)) {
+    if (phrase_number > 1) {
+        if (matches-->0 < phrase_number) return Fail(PARSE_FEW, matches-->0);
+        matches-->0 = phrase_number;
+        phrase_plural = true;
+    }
+    if (phrase_all || phrase_plural) is_choice = false;
+    else if (matches-->0 > 1) {
         if (unclear_at == 0 && ~~AllAlike()) {
             unclear_at = from;
             unclear_kind = kind;
@@ -240,12 +342,12 @@ System_file;
 ];
 
 ! All that a token asks for.
-[ CollectAll kind;
+[ CollectAll kind filter;
     all_kind = kind;
     matches-->0 = 0;
     LookThroughScope(TO_COLLECT);
     if (matches-->0 == 0 && WordOf(word_at) ~= 'except' or 'but') return Fail(PARSE_NOTHING);
-    rtrue;
+    return matches-->0 == 0 || Sieve(kind, filter);
 ];
 
 ! Reads phrases between `and` and commas, with what stands behind `except`, into `gathered`.

@@ -2,6 +2,10 @@
 
 System_file;
 
+Ifndef LIBRARY;
+Message fatalerror "This is a part of the library. Include library in its place, by one line of the game.";
+Endif;
+
 ! What comes of trying a command.
 Constant TRY_AGAIN = 2;
 Constant TRY_NEXT = 3;
@@ -12,7 +16,10 @@ Constant TRY_NEXT = 3;
         NextCommand();
         do {
             result = TryCommand();
-            if (result == TRY_AGAIN) { CutLine(); FindEnd(); }
+            if (result == TRY_AGAIN) {
+                if (Cut(line)) FindEnd();
+                else result = 0;
+            }
         } until (result ~= TRY_AGAIN);
         if (result == TRY_NEXT) continue;
         if (result == 0) next_command = 0;
@@ -27,16 +34,20 @@ Constant TRY_NEXT = 3;
     fault_at = 0;
     missing_line = 0;
     unclear_at = 0;
+    chosen_thing = 0;
     line_action = 0;
     line_count = 0;
     is_meta = false;
+    DropEnd();
     if (~~ReadActor()) { Report(); rfalse; }
+    if (unclear_at) { actor = player; return AskWhich(); }
     if (ReadDirection()) return Finish();
     verb_word = WordOf(verb_at);
     word_at = verb_at;
-    if (verb_word == 0 || (verb_word->6) & 1 == 0) {
+    if (verb_word == 0 or END_OF_COMMAND || (verb_word->6) & 1 == 0) {
         if (actor ~= player) return Address();
-        Fail(PARSE_NO_VERB);
+        if (DirectionOf(verb_at)) { word_at++; Fail(PARSE_STUCK); }
+        else Fail(PARSE_NO_VERB);
         Report();
         rfalse;
     }
@@ -46,9 +57,16 @@ Constant TRY_NEXT = 3;
         return Finish();
     }
     if (actor ~= player && missing_line == 0) return Address();
-    if (missing_line && fault ~= PARSE_NOTHING) return AskMissing();
+    if (missing_line && fault ~= PARSE_NOTHING or PARSE_FEW) return AskMissing();
     Report();
     rfalse;
+];
+
+! Leaves out a comma and `the` at the end of a command that begins with a verb.
+[ DropEnd  word;
+    word = WordOf(command_at);
+    if (word == 0 || (word->6) & 1 == 0) return;
+    while (command_end > command_at && WordOf(command_end) == 'the' or ',//') command_end--;
 ];
 
 ! Looks for a line of the verb that fits the command: first among those of which all prepositions stand in it.
@@ -96,9 +114,10 @@ Constant TRY_NEXT = 3;
     line_count = 0;
     line_multiple = -1;
     list_is_full = false;
+    chosen_thing = 0;
     word_at = verb_at + 1;
     #Ifdef DEBUG;
-    if (tracing) print "[line for action ", line_action, "]^";
+    if (tracing & 2) TraceLine(at);
     #Endif;
     for (token = at + 2 : token->0 ~= LAST_TOKEN : token = token + 3) {
         type = (token->0) & 15;
@@ -113,7 +132,7 @@ Constant TRY_NEXT = 3;
         if (word_at > command_end && type ~= ROUTINE_TOKEN) return Miss(at, token);
         if (~~ReadToken(type, (token + 1)-->0, token + 3)) {
             #Ifdef DEBUG;
-            if (tracing) print "[fails at word ", word_at, " with message ", fault, "]^";
+            if (tracing & 2) TraceFault();
             #Endif;
             rfalse;
         }
@@ -167,11 +186,11 @@ Constant TRY_NEXT = 3;
             switch (value) {
                 NUMBER_KIND:
                     if (~~ReadNumber()) return Fail(PARSE_NO_NUMBER);
-                    AddValue(parsed_number, 1);
+                    AddValue(parsed_number, NUMBER_VALUE);
                     rtrue;
                 SPECIAL_KIND:
-                    if (ReadNumber()) AddValue(parsed_number, 1);
-                    else AddValue(NextWord(), 1);
+                    if (ReadNumber()) AddValue(parsed_number, NUMBER_VALUE);
+                    else AddValue(NextWord(), WORD_VALUE);
                     rtrue;
                 TOPIC_KIND: return ReadTopic(behind);
             }
@@ -198,20 +217,24 @@ Constant TRY_NEXT = 3;
             word_at = from;
             return Fail(PARSE_STUCK);
         PARSED_AS_WORDS: rtrue;
-        PARSED_AS_NUMBER: AddValue(parsed_number, 1);
+        PARSED_AS_NUMBER: AddValue(parsed_number, NUMBER_VALUE);
         default: AddValue(value, 0);
     }
     rtrue;
 ];
 
-! Reads what a noun token asks for: one thing, or a list where the token takes one.
+! Reads what a noun token asks for: one thing, or a list where the token takes one. Of several that could be meant the one that is
+! taken is remembered, to be told.
 [ ReadNoun kind filter routine  i;
     if (~~ReadPhrases(kind, filter, routine)) rfalse;
     if (phrase_plural && kind >= MULTI_KIND && kind <= MULTIINSIDE_KIND) {
         for (i = 0 : i <= gathered-->0 : i++) multiple-->i = gathered-->i;
         line_multiple = line_count;
     }
-    else if (gathered-->0 > 1) return Fail(PARSE_MANY);
+    else {
+        if (gathered-->0 > 1) return Fail(PARSE_MANY);
+        if (is_choice) chosen_thing = gathered-->1;
+    }
     AddValue(gathered-->1, 0);
     rtrue;
 ];
@@ -239,46 +262,78 @@ Constant TRY_NEXT = 3;
         word_at++;
     }
     topic_words = word_at - topic_from;
-    AddValue(WordOf(topic_from), 1);
+    AddValue(WordOf(topic_from), WORD_VALUE);
     rtrue;
 ];
 
-! Reads who is spoken to, in front of a comma. False where nobody of the name is there.
+! Reads who is spoken to, in front of a comma or behind `ask` and `tell`. False where nobody of the name is there.
 [ ReadActor  word comma;
     actor = player;
     verb_at = command_at;
-    for (comma = command_at + 1 : comma < command_end : comma++) if (WordOf(comma) == ',//') break;
-    if (comma >= command_end) rtrue;
     word = WordOf(command_at);
-    if (word && (word->6) & 1 && comma > command_at + 1) rtrue;
-    word_at = command_at;
-    if (ReadPhrase(CREATURE_KIND) && word_at == comma) {
-        actor = matches-->1;
-        verb_at = comma + 1;
-        unclear_at = 0;
+    if (word == 'ask' or 'tell') {
+        word_at = command_at + 1;
+        if (ReadPhrase(CREATURE_KIND) && NextWord() == 'to' && IsVerb(word_at)) return SpeakTo(word_at);
+        return ForgetFault();
+    }
+    for (comma = command_at + 1 : comma <= command_end : comma++) if (WordOf(comma) == ',//') break;
+    if (comma > command_end) {
+        if (spoken_to) actor = spoken_to;
         rtrue;
     }
-    if (word && (word->6) & 1) { fault = 0; fault_at = 0; rtrue; }
+    if (IsVerb(command_at) && comma > command_at + 1) rtrue;
+    word_at = command_at;
+    if (ReadPhrase(CREATURE_KIND) && word_at == comma) return SpeakTo(comma + 1);
+    if (IsVerb(command_at)) return ForgetFault();
     if (fault == 0) Fail(PARSE_STUCK);
     rfalse;
 ];
 
-! Whether the command is a direction alone. Then it is one to go there.
+! Whether the word of a number is a verb.
+[ IsVerb n;
+    n = WordOf(n);
+    return n ~= 0 or END_OF_COMMAND && (n->6) & 1;
+];
+
+! Has the command that begins at a word done by who was found.
+[ SpeakTo word;
+    actor = matches-->1;
+    if (actor ~= player) spoken_to = actor;
+    verb_at = word;
+    rtrue;
+];
+
+! Forgets what was found out in vain. It is true.
+[ ForgetFault;
+    fault = 0;
+    fault_at = 0;
+    unclear_at = 0;
+    rtrue;
+];
+
+! Whether the command is a direction alone. Then it is one to go there. Behind `and` comes the next command.
 [ ReadDirection  direction;
-    if (verb_at ~= command_end) rfalse;
-    direction = WordOf(verb_at);
-    if (direction == 0 || (direction->6) & 1) rfalse;
-    word_at = verb_at;
-    objectloop (direction in compass) {
-        if (WordsOf(direction)) {
-            line_action = ##Go;
-            line_count = 0;
-            line_multiple = -1;
-            list_is_full = false;
-            AddValue(direction, 0);
-            rtrue;
-        }
+    if (verb_at ~= command_end && (verb_at > command_end - 2 || WordOf(verb_at + 1) ~= 'and')) rfalse;
+    direction = DirectionOf(verb_at);
+    if (direction == 0) rfalse;
+    if (verb_at < command_end) {
+        next_command = verb_at + 2;
+        command_end = verb_at;
     }
+    line_action = ##Go;
+    line_count = 0;
+    line_multiple = -1;
+    list_is_full = false;
+    AddValue(direction, 0);
+    rtrue;
+];
+
+! The direction that the word of a number means, if it is none of a verb.
+[ DirectionOf n  direction;
+    direction = WordOf(n);
+    if (direction == 0 || (direction->6) & 1) rfalse;
+    word_at = n;
+    objectloop (direction in compass) if (WordsOf(direction)) return direction;
     rfalse;
 ];
 
@@ -289,7 +344,8 @@ Constant TRY_NEXT = 3;
     line_multiple = -1;
     topic_from = verb_at;
     topic_words = command_end - verb_at + 1;
-    AddValue(WordOf(verb_at), 1);
+    AddValue(0, WORD_VALUE);
+    if (topic_words) values-->0 = WordOf(verb_at);
     AddValue(actor, 0);
     actor = player;
     return Finish();
@@ -307,13 +363,16 @@ Constant TRY_NEXT = 3;
     if (line_count > 1) { second = values-->1; second_is_value = value_kinds->1; }
     KeepCommand();
     SetPronouns();
+    if (chosen_thing) Tell(THING_CHOSEN, chosen_thing);
     rtrue;
 ];
 
+! Sets what pronouns mean: who is spoken to, the second thing and then the first one.
 [ SetPronouns;
+    if (actor ~= player) Notice(actor);
+    if (line_count > 1 && second_is_value == 0 && line_multiple ~= 1) Notice(second);
     if (line_multiple >= 0) { them_thing = -1; return; }
-    if (line_count == 0) return;
-    if (noun_is_value == 0) Notice(noun);
+    if (line_count && noun_is_value == 0) Notice(noun);
 ];
 
 ! Makes a thing the one that `it`, `him`, `her` or `them` means.
@@ -364,6 +423,13 @@ Constant TRY_NEXT = 3;
     }
 ];
 
+! Leaves one of the matches that no words tell apart.
+[ DropAlike  i j;
+    for (i = matches-->0 : i > 1 : i--) {
+        for (j = 1 : j < i : j++) if (AreAlike(matches-->i, matches-->j)) { RemoveFrom(matches, matches-->i); break; }
+    }
+];
+
 ! Asks which of several things is meant, and puts the answer before the words that were unclear.
 [ AskWhich  place i word;
     word_at = unclear_at;
@@ -373,9 +439,10 @@ Constant TRY_NEXT = 3;
     LookThroughScope(TO_MATCH, 0, unclear_routine);
     if (match_words == 0) { fault = PARSE_NOT_SEEN; fault_at = unclear_at; Report(); rfalse; }
     Narrow(unclear_kind, unclear_filter);
+    DropAlike();
     place = PlaceOf(unclear_at);
     Tell(ASK_WHICH, matches-->1);
-    i = ReadReply();
+    i = ReadReply(true);
     if (i ~= 1) return i;
     for (i = 1 : i <= words->1 : i++) {
         word = words-->(2 * i - 1);
@@ -391,6 +458,7 @@ Constant TRY_NEXT = 3;
 ! Asks for what a line misses, and puts the answer at the end of the command.
 [ AskMissing  place count word;
     FitLine(missing_line);
+    if (unclear_at) return AskWhich();
     place = PlaceOf(command_end) + LengthOf(command_end);
     Tell(ASK_MISSING, MissesSomebody());
     if ((missing_token->0) & 15 == PREPOSITION_TOKEN) {
@@ -424,6 +492,8 @@ Constant TRY_NEXT = 3;
             continue;
         }
         if (is_missing) return;
+        ! a routine may have passed words without a value
+        if (n >= line_count) continue;
         print " ";
         if (n == line_multiple) print "those things";
         else {
@@ -441,15 +511,20 @@ Constant TRY_NEXT = 3;
     return token->0 == 1 && (token + 1)-->0 == CREATURE_KIND;
 ];
 
-! Reads a reply: 1 where it is one, 0 where it is empty, TRY_NEXT where it is a command of its own.
-[ ReadReply  word;
+! Reads a reply: 1 where it is one, 0 where it is empty, TRY_NEXT where it is a command of its own. Where it may be one of the
+! matches, their names are none.
+[ ReadReply is_match  word i;
     print "^>";
     if (~~ReadLine()) rfalse;
     word = words-->1;
-    if (word == 'oops' or 'o//' or 'undo' or 'again' or 'g//') return NewLine();
-    if (word && (word->6) & 1 && ((word->6) & 128 == 0 || (word->6) & 2 || words->1 > 1)) return NewLine();
     command_end = words->1;
     verb_at = 1;
+    if (is_match) {
+        word_at = 1;
+        for (i = matches-->0 : i > 0 : i--) if (WordsOf(matches-->i)) return 1;
+    }
+    if (word == 'oops' or 'o//' or 'undo' or 'again' or 'g//') return NewLine();
+    if (word && (word->6) & 1 && ((word->6) & 128 == 0 || (word->6) & 2 || words->1 > 1)) return NewLine();
     if (words->1 == 1 && ReadDirection()) return NewLine();
     return 1;
 ];

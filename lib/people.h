@@ -2,6 +2,10 @@
 
 System_file;
 
+Ifndef LIBRARY;
+Message fatalerror "This is a part of the library. Include library in its place, by one line of the game.";
+Endif;
+
 [ AskSub; Speak(noun, ##Ask, ASK_SILENT); ];
 [ AskForSub; Speak(noun, ##AskFor, ASK_FOR_SILENT); ];
 [ TellSub; Speak(noun, ##Tell, TELL_SILENT); ];
@@ -12,6 +16,12 @@ System_file;
     if (somebody == 0) { Tell(ANSWER_NOBODY); return; }
     if (RunLife(somebody, what)) return;
     Tell(message_number, somebody);
+];
+
+! Whether a word is one of the topic, as 'clock' is one of "about the old clock".
+[ TopicHas word  i;
+    for (i = 0 : i < topic_words : i++) if (WordOf(topic_from + i) == word) rtrue;
+    rfalse;
 ];
 
 [ GiveSub;

@@ -2,6 +2,10 @@
 
 System_file;
 
+Ifndef LIBRARY;
+Message fatalerror "This is a part of the library. Include library in its place, by one line of the game.";
+Endif;
+
 ! Prints the name of the place, and what the player is in or on there.
 [ PrintHeading;
     Bold();
@@ -20,13 +24,16 @@ System_file;
     }
     ceiling = CeilingOf(player);
     if (ceiling == location) {
-        if (full || look_mode == 1 || location hasnt visited) PrintOrRun(location, description);
+        if (full || look_mode == 1 || (look_mode == 0 && location hasnt visited)) PrintOrRun(location, description);
     }
     else PrintOrRun(ceiling, inside_description);
     DescribeThings(ceiling);
     if (location hasnt visited) {
         give location visited;
-        if (location has scored) score = score + ROOM_SCORE;
+        if (location has scored) {
+            score = score + ROOM_SCORE;
+            rooms_score = rooms_score + ROOM_SCORE;
+        }
     }
 ];
 
@@ -129,21 +136,20 @@ System_file;
 
 [ GoSub  way next;
     if (actor ~= player) { Tell(ORDER_REFUSED, actor); return; }
-    if (parent(player) ~= location) {
-        if (noun == the_outside) { <Exit>; return; }
-        Tell(GO_FIRST, parent(player));
-        return;
-    }
+    if (parent(player) ~= location && noun == the_outside) { <Exit>; return; }
     way = FirstValue(noun, door_direction);
+    if (way && FirstValue(location, way) == 0 or NULL) { GoNowhere(); return; }
+    if (~~IsOut()) return;
     if (way == 0) { GoThroughDoor(noun); return; }
     next = GoesTo(way);
     if (next == 1) return;
-    if (next == 0) {
-        if (~~PrintOrRun(location, cannot_go)) Tell(GO_NOWHERE);
-        return;
-    }
+    if (next == 0) { GoNowhere(); return; }
     if (next has door) { GoThroughDoor(next); return; }
     Arrive(next);
+];
+
+[ GoNowhere;
+    if (~~PrintOrRun(location, cannot_go)) Tell(GO_NOWHERE);
 ];
 
 ! Where a way leads: a room, a door, nothing, or 1 where a text or a routine told all.
@@ -155,7 +161,8 @@ System_file;
 
 [ GoThroughDoor gate  next;
     if (gate has concealed) { Tell(GO_NOWHERE); return; }
-    if (gate hasnt open) { Tell(GO_CLOSED, gate); return; }
+    if (gate hasnt open && (gate hasnt openable || gate has locked)) { Tell(GO_CLOSED, gate); return; }
+    if (~~IsOpened(gate)) return;
     next = OtherSide(gate);
     if (next == 1) return;
     if (next == 0) { Tell(GO_NOWHERE); return; }
@@ -177,8 +184,8 @@ System_file;
     if (noun hasnt enterable) { Tell(ENTER_REFUSED, noun); return; }
     if (player in noun) { Tell(ENTER_ALREADY, noun); return; }
     if (IsWithin(noun, player)) { Tell(ENTER_HELD, noun); return; }
-    if (parent(player) ~= location && noun notin parent(player)) { Tell(GO_FIRST, parent(player)); return; }
-    if (noun has container && noun hasnt open) { Tell(IS_CLOSED, noun); return; }
+    if (~~IsOut(noun)) return;
+    if (noun has container && ~~IsOpened(noun)) return;
     move player to noun;
     is_lit = HasLight();
     if (RunAfter()) return;
@@ -200,10 +207,10 @@ System_file;
         return;
     }
     if (noun && noun ~= above) { Tell(EXIT_NOT_IN, noun); return; }
-    if (above has container && above hasnt open) { Tell(IS_CLOSED, above); return; }
+    if (above has container && ~~IsOpened(above)) return;
     noun = above;
     move player to parent(above);
     is_lit = HasLight();
     if (RunAfter()) return;
-    Tell(EXIT_DONE, above);
+    TellDone(EXIT_DONE, above);
 ];

@@ -2,6 +2,10 @@
 
 System_file;
 
+Ifndef LIBRARY;
+Message fatalerror "This is a part of the library. Include library in its place, by one line of the game.";
+Endif;
+
 ! Has what follows printed in bold letters, where the interpreter has them.
 [ Bold;
     if ((0->1) & 4) style bold;
@@ -168,14 +172,20 @@ System_file;
     return n;
 ];
 
-! Whether a thing stands in a list: in one of what has the attribute `listed`, or of all that is shown.
+! Whether a thing stands in a list: in one of what has the attribute `listed`, or of all that is shown; in that of a group only with
+! the property `list_together` of the group.
 [ IsInList thing only_listed;
+    if (group && FirstValue(thing, list_together) ~= group) rfalse;
     if (only_listed) return thing has listed;
     return IsShown(thing);
 ];
 
-! Whether two things are counted together, as "three coins".
-[ AreCounted thing other;
+! Whether two things are counted together, as "three coins" or, in a list of groups, as "two fruits".
+[ AreCounted thing other  at;
+    if (group == 0) {
+        @get_prop_addr thing list_together -> at;
+        if (at) return FirstValue(other, list_together) == at-->0;
+    }
     if (~~thing provides plural || ~~other provides plural) rfalse;
     if (thing has worn || other has worn || child(thing) || child(other)) rfalse;
     return AreAlike(thing, other);
@@ -183,7 +193,10 @@ System_file;
 
 ! How many things of a list are counted together with one of them; 0 where an earlier one speaks for it.
 [ CountAlike thing only_listed  other n;
-    if (~~thing provides plural) return 1;
+    @get_prop_addr thing plural -> n;
+    if (n == 0 && group == 0) @get_prop_addr thing list_together -> n;
+    if (n == 0) return 1;
+    n = 0;
     objectloop (other in parent(thing)) {
         if (other == thing) n++;
         else {
@@ -203,18 +216,26 @@ System_file;
         if (~~IsInList(thing, only_listed)) continue;
         alike = CountAlike(thing, only_listed);
         if (alike == 0) continue;
-        WriteThing(thing, alike);
+        WriteThing(thing, alike, only_listed);
         n--;
         if (n == 1) print " and ";
         if (n > 1) print ", ";
     }
 ];
 
-! Prints a thing with its article and what is to be said of it, or how many of its kind there are.
-[ WriteThing thing alike;
+! Prints a thing with its article and what is to be said of it, or how many of its kind or group there are.
+[ WriteThing thing alike only_listed;
     if (alike > 1) {
         print (number) alike, " ";
-        PrintOrRun(thing, plural, true);
+        if (group == 0 && thing provides list_together) {
+            PrintOrRun(thing, list_together, true);
+            print " (";
+            group = FirstValue(thing, list_together);
+            WriteList(parent(thing), only_listed);
+            group = 0;
+            print ")";
+        }
+        else PrintOrRun(thing, plural, true);
         return;
     }
     InDefArt(thing);
@@ -254,7 +275,10 @@ System_file;
     objectloop (thing in above) if (IsShown(thing)) break;
     if (CountShown(above) > 1) print "are ";
     else { Is(thing); print " "; }
+    thing = group;
+    group = 0;
     WriteList(above);
+    group = thing;
 ];
 
 ! Prints what is in a thing in lines, of which those of a thing in another one begin further right.
@@ -274,7 +298,7 @@ System_file;
                 new_line;
             }
         }
-        if (thing hasnt animate && ShowsContents(thing)) WriteLines(thing, depth + 1);
+        if (alike == 1 && thing hasnt animate && ShowsContents(thing)) WriteLines(thing, depth + 1);
     }
 ];
 

@@ -2,6 +2,10 @@
 
 System_file;
 
+Ifndef LIBRARY;
+Message fatalerror "This is a part of the library. Include library in its place, by one line of the game.";
+Endif;
+
 ! Does an action: for the statements <Action noun second> and <<Action noun second>>.
 [ R_Process what first other  old_action old_noun old_second old_is_noun old_is_second old_meta;
     old_action = action;
@@ -28,7 +32,7 @@ System_file;
 ! Does the present action: the rules before it, what it needs, and its routine.
 [ PerformAction;
     #Ifdef DEBUG;
-    if (tracing) print "[action ", action, " noun ", noun, " second ", second, "]^";
+    if (tracing) TraceAction();
     #Endif;
     if (~~is_meta) {
         if (RunBefore()) return;

@@ -2,6 +2,10 @@
 
 System_file;
 
+Ifndef LIBRARY;
+Message fatalerror "This is a part of the library. Include library in its place, by one line of the game.";
+Endif;
+
 ! Whether what is in a thing can be seen by what is outside of it, and the other way round.
 [ IsOpenToView thing;
     return ShowsContents(thing) || (thing has enterable && thing hasnt container);
@@ -80,6 +84,7 @@ System_file;
         TO_SEEK: if (thing == scope_thing) scope_found = true;
         TO_RUN: if (Run(thing, scope_thing)) scope_found = true;
         TO_LIST: print (name) thing, " (", thing, ")^";
+        TO_MEET: if (IsCalled(thing, scope_thing)) AddTo(matches, thing);
     }
     ConsiderAdded(thing);
 ];

@@ -2,6 +2,10 @@
 
 System_file;
 
+Ifndef LIBRARY;
+Message fatalerror "This is a part of the library. Include library in its place, by one line of the game.";
+Endif;
+
 ! Whether a question is answered with yes.
 [ AgreesTo message_number;
     Tell(message_number);
@@ -9,7 +13,11 @@ System_file;
         print "> ";
         if (~~ReadLine()) continue;
         if (words-->1 == 'yes' or 'y//') rtrue;
-        if (words-->1 == 'no' or 'n//') rfalse;
+        if (words-->1 == 'no' or 'n//') {
+            ! the words are those of the commands again, of which more may stand in the line
+            Cut(line);
+            rfalse;
+        }
         Tell(ASK_YES_NO);
     }
 ];
@@ -42,8 +50,59 @@ System_file;
 ];
 
 [ ScoreSub; Tell(SCORE_TOLD); ];
+
+[ FullScoreSub;
+    ScoreSub();
+    Tell(FULL_SCORE_TOLD);
+];
+
+! Lists the rooms that the player was in.
+[ PlacesSub  room;
+    Tell(PLACES_LIST);
+    objectloop (room has visited) print "  ", (name) room, "^";
+];
+
+! Lists the things that the player had in hand, and where they are.
+[ ObjectsSub  thing;
+    Tell(OBJECTS_LIST);
+    objectloop (thing has moved) {
+        print "  ", (the) thing, " (";
+        Where(thing);
+        print ")^";
+    }
+];
+
+! Prints where a thing is.
+[ Where thing;
+    thing = parent(thing);
+    if (thing == 0) { print "nowhere"; return; }
+    if (thing == player) { print "in hand"; return; }
+    if (parent(thing) == 0) { print (name) thing; return; }
+    if (thing has animate) print "with ", (the) thing;
+    else InOrOn(thing);
+];
+
+! Prints the thing that a pronoun means.
+[ Meaning thing;
+    if (thing) DefArt(thing);
+    else print "nothing yet";
+];
+
+! Lists what the pronouns mean.
+[ PronounsSub  i;
+    Tell(PRONOUNS_LIST);
+    print "  it: ", (Meaning) it_thing, "^  him: ", (Meaning) him_thing, "^  her: ", (Meaning) her_thing, "^  them: ";
+    if (them_thing ~= -1) { Meaning(them_thing); new_line; return; }
+    for (i = 1 : i <= multiple-->0 : i++) {
+        if (i > 1) print ", ";
+        DefArt(multiple-->i);
+    }
+    new_line;
+];
+
 [ VerboseSub; look_mode = 1; Tell(VERBOSE_DONE); ];
 [ BriefSub; look_mode = 0; Tell(BRIEF_DONE); ];
+[ SuperbriefSub; look_mode = 2; Tell(SUPERBRIEF_DONE); ];
 [ NotifyOnSub; notifies = true; Tell(NOTIFY_ON_DONE); ];
 [ NotifyOffSub; notifies = false; Tell(NOTIFY_OFF_DONE); ];
 [ VersionSub;

@@ -2,13 +2,18 @@
 
 System_file;
 
+Ifndef LIBRARY;
+Message fatalerror "This is a part of the library. Include library in its place, by one line of the game.";
+Endif;
+
 Global is_quiet;            ! an action that another one needs says nothing where it is done
 
 ! Does an action that the present one needs first.
-[ DoFirst what thing;
+[ DoFirst what thing  old;
+    old = is_quiet;
     is_quiet = true;
     R_Process(what, thing);
-    is_quiet = false;
+    is_quiet = old;
 ];
 
 ! Tells that an action was done, unless it was done for another one.
@@ -24,6 +29,26 @@ Global is_quiet;            ! an action that another one needs says nothing wher
     Tell(TAKE_FIRST, thing);
     DoFirst(##Take, thing);
     return thing in actor;
+];
+
+! Whether a container or a door is open, or is opened first.
+[ IsOpened thing;
+    if (thing has open) rtrue;
+    if (thing hasnt openable || thing has locked) { Tell(IS_CLOSED, thing); rfalse; }
+    Tell(OPEN_FIRST, thing);
+    DoFirst(##Open, thing);
+    return thing has open;
+];
+
+! Whether the player is in nothing, or in what a thing is in, or gets out first.
+[ IsOut thing  above;
+    for (::) {
+        above = parent(player);
+        if (above == location || (thing && thing in above)) rtrue;
+        Tell(EXIT_FIRST, above);
+        DoFirst(##Exit);
+        if (player in above) rfalse;
+    }
 ];
 
 ! Whether a thing is not worn, or is taken off first.
@@ -54,7 +79,10 @@ Global is_quiet;            ! an action that another one needs says nothing wher
     }
     if (Carries(actor) >= MOST_CARRIED) { Tell(TAKE_FULL); return; }
     move noun to actor;
-    if (noun hasnt moved && noun has scored && actor == player) score = score + OBJECT_SCORE;
+    if (noun hasnt moved && noun has scored && actor == player) {
+        score = score + OBJECT_SCORE;
+        things_score = things_score + OBJECT_SCORE;
+    }
     give noun moved ~concealed;
     if (parent(above) && RunOther(above, ##LetGo, after)) return;
     if (RunAfter()) return;
@@ -69,7 +97,8 @@ Global is_quiet;            ! an action that another one needs says nothing wher
 ];
 
 [ DropSub;
-    if (noun notin actor) { Tell(HAVE_NOT, noun); return; }
+    if (noun in parent(actor)) { Tell(HAVE_NOT, noun); return; }
+    if (~~GetsHold(noun)) return;
     if (~~IsOff(noun)) return;
     move noun to parent(actor);
     if (RunAfter()) return;
@@ -86,7 +115,7 @@ Global is_quiet;            ! an action that another one needs says nothing wher
 [ PutInSub;
     if (CannotPut()) return;
     if (second hasnt container) { Tell(PUT_NOT_IN, second); return; }
-    if (second hasnt open) { Tell(IS_CLOSED, second); return; }
+    if (~~IsOpened(second)) return;
     Put(PUT_IN_DONE);
 ];
 
@@ -108,7 +137,7 @@ Global is_quiet;            ! an action that another one needs says nothing wher
 
 [ EmptySub  thing next;
     if (noun hasnt container && noun hasnt supporter) { Tell(EMPTY_REFUSED, noun); return; }
-    if (~~ShowsContents(noun) || (noun has container && noun hasnt open)) { Tell(IS_CLOSED, noun); return; }
+    if (noun has container && ~~IsOpened(noun)) return;
     if (child(noun) == 0) { Tell(EMPTY_ALREADY, noun); return; }
     for (thing = child(noun) : thing : thing = next) {
         next = sibling(thing);
@@ -123,7 +152,7 @@ Global is_quiet;            ! an action that another one needs says nothing wher
     if (noun has open) { Tell(OPEN_ALREADY, noun); return; }
     give noun open;
     if (RunAfter()) return;
-    Tell(OPEN_DONE, noun);
+    TellDone(OPEN_DONE, noun);
     UpdateLight();
 ];
 
@@ -204,10 +233,16 @@ Global is_quiet;            ! an action that another one needs says nothing wher
 
 [ InventorySub;
     if (CountShown(actor) == 0) { Tell(INVENTORY_EMPTY); return; }
-    Tell(INVENTORY_LIST);
-    WriteLines(actor, 1);
+    if (inventory_is_wide) Tell(INVENTORY_WIDE);
+    else {
+        Tell(INVENTORY_LIST);
+        WriteLines(actor, 1);
+    }
     RunAfter();
 ];
+
+[ InventoryWideSub; inventory_is_wide = true; <Inventory>; ];
+[ InventoryTallSub; inventory_is_wide = false; <Inventory>; ];
 
 [ ExamineSub;
     if (parent(noun) == compass) { Tell(EXAMINE_DIRECTION, noun); return; }

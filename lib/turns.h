@@ -2,6 +2,10 @@
 
 System_file;
 
+Ifndef LIBRARY;
+Message fatalerror "This is a part of the library. Include library in its place, by one line of the game.";
+Endif;
+
 [ Main;
     player = yourself;
     actor = player;
@@ -15,6 +19,7 @@ System_file;
     CheckWorld();
     #Endif;
     move player to location;
+    ShareGroups();
     PutFound();
     is_lit = HasLight();
     PrintOrRun(game, opening);
@@ -27,6 +32,33 @@ System_file;
         while (ending == 0) Turn();
         AfterEnding();
     }
+];
+
+! Gives one text to all things of which `list_together` says the same, since a group is known by it: in a source each text is
+! one of its own.
+[ ShareGroups  thing other text at;
+    objectloop (thing) {
+        @get_prop_addr thing list_together -> at;
+        if (at == 0 || Z__Region(at-->0) ~= 3) continue;
+        text = at-->0;
+        @output_stream 3 line;
+        print (string) text;
+        @output_stream (-3);
+        for (other = thing + 1 : other <= #highest_object_number : other++) {
+            @get_prop_addr other list_together -> at;
+            if (at && at-->0 ~= text && IsText(at-->0)) at-->0 = text;
+        }
+    }
+];
+
+! Whether a value is a text of the letters in `line`.
+[ IsText value  i;
+    if (Z__Region(value) ~= 3) rfalse;
+    @output_stream 3 answer;
+    print (string) value;
+    @output_stream (-3);
+    for (i = answer-->0 + 1 : i >= 0 : i--) if (answer->i ~= line->i) rfalse;
+    rtrue;
 ];
 
 ! The room that the player is in.
