@@ -1,0 +1,4 @@
+pub mod Integers
+pub mod Known
+pub mod Whole
+pub mod Written

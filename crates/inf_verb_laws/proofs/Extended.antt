@@ -1,0 +1,23 @@
+-- The lines of a verb behind an `Extend`
+use Rattle.std.proofs.Common.{◌≡◌, List, [], ◌∷◌, ◌++◌, refl, ◌∙◌, ap, sym, append_assoc, append-nil}
+use Rattle.std.specs.List.{fold}
+use Rattle.inf_verbs.specs.Lines.{LineOf}
+use Rattle.inf_verbs.specs.Verbs.{VerbOf, begun_first, lines_of, no_lines, with_first, with_last}
+use Rattle.inf_verbs.specs.declared.verbs.LinePlace.TheVariants as place
+use Rattle.inf_verb_laws.specs.Laws.{ExtendAgrees}
+
+firsts : (new : List LineOf) (v : VerbOf) → lines_of (fold (λ v l. with_first l v) v new) ≡ v.first ++ (new ++ v.rest)
+firsts [] v = refl
+firsts (l ∷ new) v = firsts new (with_first l v) ∙ append_assoc v.first (l ∷ []) (new ++ v.rest)
+
+lasts : (new : List LineOf) (v : VerbOf) → lines_of (fold (λ v l. with_last l v) v new) ≡ lines_of v ++ new
+lasts [] v = sym (append-nil (lines_of v))
+lasts (l ∷ new) v =
+    lasts new (with_last l v)
+    ∙ ap (λ x. x ++ new) (sym (append_assoc v.first v.rest (l ∷ [])))
+    ∙ append_assoc (v.first ++ v.rest) (l ∷ []) new
+
+pub extend_agrees : ExtendAgrees
+extend_agrees place.First new v = firsts new (begun_first v)
+extend_agrees place.Last new v = lasts new v
+extend_agrees place.Replace new v = lasts new no_lines

@@ -1,0 +1,5 @@
+pub mod Extended
+pub mod First
+pub mod Flags
+pub mod Lines
+pub mod Rows

@@ -1,0 +1,7 @@
+-- Lemmas are the answers.
+use Rattle.inf_world_laws.proofs.Siblings.{sibling_agrees}
+use Rattle.inf_world_laws.proofs.Tree.{child_agrees, children_agree, latest_agree}
+use Rattle.inf_world_laws.proofs.laws.trees_agree.Goals as goal
+
+pub returns : goal.returns
+returns c = record { latest = latest_agree; children = children_agree; child = child_agrees; sibling = sibling_agrees }

@@ -1,0 +1,5 @@
+pub mod Things
+pub mod Families
+pub mod Declaring
+pub mod Laws
+pub mod Rows
