@@ -11,7 +11,8 @@ use Rattle.inf_devices.specs.declared.memory_files.Opened.{Opened}
 use Rattle.inf_devices.specs.Files.{Opening, Sources, names_from, with_name}
 use Rattle.inf_devices.specs.MemoryFiles.{given_more, opening_of}
 
-any_in : (test : List ℕ → Bool) (keys : List (String Global)) →
+-- a test of names passes one of these strings
+pub any_in : (test : List ℕ → Bool) (keys : List (String Global)) →
     list_any (λ k. test (string_bytes k)) keys ≡ list_any test (map string_bytes keys)
 any_in test [] = refl
 any_in test (k ∷ keys) = ap (λ b. test (string_bytes k) || b) (any_in test keys)
@@ -33,6 +34,14 @@ added_to keys name = by (list_any (string_eq name) keys) (list_any (bytes_eq (st
     by false false e = map_behind keys name
     by true false e = cc
     by false true e = cc
+
+-- a name that is there is not added
+pub with_known : (name : List ℕ) (names : List (List ℕ)) → list_any (bytes_eq name) names ≡ true → names ≡ with_name name names
+with_known name names is = by (list_any (bytes_eq name) names) is
+  where
+    by : (b : Bool) → b ≡ true → names ≡ cond b names (names ++ name ∷ [])
+    by true e = refl
+    by false e = cc
 
 pub of_ok : {T E : Type 0} (r : Result T E) (P : Type 0) → IsOk r → OnOk r P → P
 of_ok (Ok x) P is p = p

@@ -1,4 +1,6 @@
 ghost use Rattle.std.specs.Prelude.{◌≡◌, [], length, OnOk, OnErr};
+ghost use Rattle.std.specs.List.{list_any};
+ghost use Rattle.std.specs.Str.{bytes_eq};
 ghost use Rattle.inf_devices.specs.Files.{with_name};
 
 use indexmap::IndexSet;
@@ -32,11 +34,21 @@ impl OpenedNames {
         }
     }
 
+    /// Returns whether the name `name` is among them.
+    pub fn has(&self, name: &str) -> bool
+        ensures { result ≡ list_any (bytes_eq name.now) self.now }
+    {
+        self.names.contains(name)
+    }
+
     /// Adds the name `name` behind the others, unless it is among them.
     pub fn add(&mut self, name: &str) -> Result<(), AllocError>
         ensures ok { OnOk result (self.new ≡ with_name name.now self.old) }
         ensures err { OnErr result (self.new ≡ self.old) }
     {
+        if self.has(name) {
+            return Ok(());
+        }
         self.names.reserve(1)?;
         let name = String::from_str(self.alloc, name)?;
         let _ = self.names.insert(name);

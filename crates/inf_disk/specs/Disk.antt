@@ -1,5 +1,9 @@
 -- Devices of the system: the answers of their calls, by the answers of the system.
 use Rattle.std.specs.Prelude.{◌≡◌, ◌⊎◌, ⊤, ℕ, ◌-◌, length, slice_get, slice_set, List, [], ◌∷◌, ◌++◌, Option, Some, None, Result, Ok, Err}
+use Rattle.std.specs.Prelude.{Bool, true, ◌==◌, ◌||◌, codes}
+use Rattle.std.specs.List.{ends_with}
+use Rattle.std.specs.Fs.{new_options, with_write, with_create, with_truncate, with_create_new}
+use Rattle.std.specs.declared.fs.options.OpenOptions.{OpenOptions}
 use Rattle.std.specs.Io.KnownBytes.{ReadConsumes, WriteAppends}
 use Rattle.std.specs.declared.io.ErrorKind.{ErrorKind}
 use Rattle.std.specs.declared.io.ErrorKind.TheVariants as kind
@@ -14,6 +18,16 @@ fault_of_kind kind.InvalidInput = fault.Absent
 fault_of_kind kind.InvalidFilename = fault.Absent
 fault_of_kind kind.OutOfMemory = fault.Memory
 fault_of_kind _ = fault.Device
+
+-- A file is taken for a source by the end of its name: `.inf` or `.h`.
+abbrev pub is_named_as_source : List ℕ → Bool
+is_named_as_source name = ends_with (◌==◌) name (codes ".inf") || ends_with (◌==◌) name (codes ".h")
+
+-- The story's file is written from its front, made where there is none, and cut to nothing where there is one; one that is named as a source
+-- is made anew or not at all.
+abbrev pub story_options : List ℕ → OpenOptions
+story_options name =
+    with_create_new (with_truncate (with_create (with_write new_options true) true) true) (is_named_as_source name)
 
 -- An opening that succeeds adds a file behind the open ones. Any other leaves them as they were, and has its fault by
 -- the system's reason, which is kept; but for want of memory it may fail with no reason of the system, and then the reason

@@ -1,12 +1,11 @@
 ghost use Rattle.std.specs.Prelude.{◌≡◌, ◌==◌, ◌&&◌, IsTrue, ◌+◌, ◌<◌, ◌≤◌, [], ◌∷◌, ◌++◌, None, Some, Ok, Err};
 ghost use Rattle.std.specs.Prelude.{true, false, IsErr, IsOk, IsSome, IsErrOf, IfOk, OnOk, OnErr};
 ghost use Rattle.std.specs.Prelude.{is_ok, length, min, if◌then◌else◌};
-ghost use Rattle.std.specs.Fs.{new_options, with_write, with_create, with_truncate};
 ghost use Rattle.std.specs.Io.KnownBytes.{ReadConsumes, WriteAppends};
 ghost use Rattle.std.specs.IoError.{error_kind, raw_os_error};
 ghost use Rattle.inf_devices.specs.Files.{Rose, counts_closed, counts_given, counts_opened, last_count, nothing_given, tells_failure};
 ghost use Rattle.inf_devices.specs.Files.{with_name};
-ghost use Rattle.inf_disk.specs.Disk.{fault_of_kind, OpensFile, ReadsLast, WritesMade};
+ghost use Rattle.inf_disk.specs.Disk.{fault_of_kind, is_named_as_source, story_options, OpensFile, ReadsLast, WritesMade};
 
 use inf_devices::failures::Failures;
 use inf_devices::files::{Files, OpenFault, ReadFault};
@@ -135,6 +134,19 @@ impl FileNumbers {
 pub struct StoryPlace<'r> {
     name: &'r str,
     is_source: Cell<bool>,
+    /// The outcome of the first look at the file of this name that had one.
+    found: Cell<Look>,
+}
+
+/// The outcome of a look at the file that has the story's name.
+#[derive(Clone, Copy, Debug)]
+enum Look {
+    /// No look told whether there is one.
+    Unknown,
+    /// There is none.
+    Absent,
+    /// There is one, with these numbers.
+    File(FileNumbers),
 }
 
 impl<'r> StoryPlace<'r> {
@@ -145,7 +157,24 @@ impl<'r> StoryPlace<'r> {
         StoryPlace {
             name,
             is_source: Cell::new(false),
+            found: Cell::new(Look::Unknown),
         }
+    }
+
+    /// Looks at the file of this name, unless an earlier look told what it is, and returns the outcome. A look that the system refuses for
+    /// another reason than that there is no such file tells nothing, and the next call looks again.
+    fn look<R: rt::Files>(&self, system: &R) -> Look {
+        if let Look::Unknown = self.found.get() {
+            match fs::metadata(system, self.name) {
+                Ok(story) => self.found.set(Look::File(FileNumbers::of(&story))),
+                Err(error) => {
+                    if let OpenFault::Absent = open_fault(error.kind()) {
+                        self.found.set(Look::Absent);
+                    }
+                }
+            }
+        }
+        self.found.get()
     }
 
     /// Returns whether a source that was opened is the file of this name. The contents of a cell are not stated.
@@ -156,22 +185,37 @@ impl<'r> StoryPlace<'r> {
     /// Notes whether a file that was opened as a source is the file of this name, also where it was
     /// opened by another name.
     fn look_at<R: rt::Files>(&self, system: &R, source: &R::File) {
-        let (Ok(source), Ok(story)) = (source.metadata(), fs::metadata(system, self.name)) else {
+        let Look::File(story) = self.look(system) else {
             return;
         };
-        if FileNumbers::of(&source).is_one(FileNumbers::of(&story)) {
+        let Ok(source) = source.metadata() else {
+            return;
+        };
+        if FileNumbers::of(&source).is_one(story) {
             self.is_source.set(true);
         }
     }
 }
 
-/// Returns the way in which the story's file is opened: it is made where there is none, and no byte of an older one
-/// stays.
-fn story_options() -> OpenOptions
-    ensures { result ≡ with_truncate (with_create (with_write new_options true) true) true }
+/// Returns whether a file of this name is taken for a source, as its end tells: `.inf` or `.h`.
+fn is_named_as_source(name: &str) -> bool
+    ensures { result ≡ is_named_as_source name.now }
+{
+    let name = name.as_bytes();
+    name.ends_with(b".inf") || name.ends_with(b".h")
+}
+
+/// Returns the way in which the story's file with this `name` is opened: it is made where there is none, and no byte of an older one
+/// stays; but one that is named as a source is only made, and none that is there is opened.
+fn story_options(name: &str) -> OpenOptions
+    ensures { result ≡ story_options name.now }
 {
     let mut options = OpenOptions::new();
-    options.write(true).create(true).truncate(true);
+    options
+        .write(true)
+        .create(true)
+        .truncate(true)
+        .create_new(is_named_as_source(name));
     options
 }
 
@@ -287,6 +331,7 @@ impl<R: rt::Files> Files for DiskFiles<'_, R> {
     {
         self.open_files.reserve(1)?;
         self.given.open()?;
+        let is_new = !self.names.has(name);
         match fs::open(self.system, name) {
             Ok(file) => {
                 if self.names.add(name).is_err() {
@@ -294,7 +339,9 @@ impl<R: rt::Files> Files for DiskFiles<'_, R> {
                     return Err(OpenFault::Memory);
                 }
                 self.trouble.reason = None;
-                self.story.look_at(self.system, &file);
+                if is_new {
+                    self.story.look_at(self.system, &file);
+                }
                 self.open_files.push_reserved(file);
                 Ok(())
             }
@@ -474,12 +521,47 @@ impl<'r, R: rt::Files> StorySink<'r, R> {
             self.trouble.add(ErrorKind::ResourceBusy);
             return Err(SinkFault::Device);
         }
-        match story_options().open(self.system, self.place.name) {
+        match story_options(self.place.name).open(self.system, self.place.name) {
             Ok(file) => {
                 self.file = Some(file);
                 Ok(())
             }
             Err(error) => {
+                self.trouble.add_error(&error);
+                Err(SinkFault::Device)
+            }
+        }
+    }
+}
+
+impl<R: rt::Files> StorySink<'_, R> {
+    /// Returns whether the file is a regular one, as far as the system says so: a device that is no file can't be told to keep its bytes.
+    fn is_regular(file: &R::File) -> bool {
+        match file.metadata() {
+            Ok(metadata) => metadata.is_file(),
+            Err(_) => true,
+        }
+    }
+
+    /// Has the system keep the bytes of the file, if one was made that is a regular one, and returns the failure of the device if it can't:
+    /// a disk that is full or broken may say so only now. The failure is counted, and its reason kept.
+    pub fn settle(&mut self) -> Result<(), SinkFault>
+        ensures file { self.new.file ≡ self.old.file }
+        ensures kept { OnOk result (self.new.trouble ≡ self.old.trouble) }
+        ensures nothing { self.old.file ≡ None → IsOk result }
+        ensures failed { IsErr result → Rose self.old.trouble.failures self.new.trouble.failures }
+        ensures reason { IsErr result → IsSome self.new.trouble.reason }
+    {
+        let Some(file) = &self.file else {
+            return Ok(());
+        };
+        if !StorySink::<R>::is_regular(file) {
+            return Ok(());
+        }
+        match file.sync_all() {
+            Ok(()) => Ok(()),
+            Err(error) => {
+                // the bytes may be lost
                 self.trouble.add_error(&error);
                 Err(SinkFault::Device)
             }

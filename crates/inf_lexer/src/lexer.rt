@@ -192,6 +192,23 @@ impl Lexer {
         })
     }
 
+    /// Returns a lexer at the front of the source with the number `file`, as `new` returns it, in the memory of this lexer, whose own
+    /// source is done with.
+    pub(crate) fn over(mut self, set: CharSet, limit: u32, file: u16) -> Lexer
+        ensures { result ≡ at_front set limit file }
+    {
+        self.choose(set, limit);
+        self.file = file;
+        self.window.restart();
+        self.seen.lines = Lines {
+            line: 1,
+            after_return: false,
+        };
+        self.seen.begin();
+        self.has_failed = false;
+        self
+    }
+
     /// Reads the next token and returns it; at the source's end that is the end, again and again. The lexer's source is the one
     /// that was opened last and is not closed.
     ///

@@ -6,6 +6,7 @@ ghost use Rattle.std.specs.String.{string_bytes};
 ghost use Rattle.inf_devices.specs.Files.{Rose, Closes, counts_closed, counts_opened};
 ghost use Rattle.inf_lexer.specs.Names.{can_name, candidates, innermost_name, left, name_in, number_of};
 ghost use Rattle.inf_lexer.specs.Entering.{Enters, Leaves, OpensOn, WasTooMany, is_absent, is_of_opening, tells_failure};
+ghost use Rattle.inf_lexer.specs.Readers.{at_front};
 
 use crate::enter_faults::EnterFault;
 use crate::include_names::{fit_name, name_beside, name_in, without_sign};
@@ -14,7 +15,7 @@ use arrayvec::ArrayVec;
 use indexmap::IndexSet;
 use inf_devices::files::{Files, OpenFault};
 use inf_text::CharSet;
-use std::alloc::Global;
+use std::alloc::{AllocError, Global};
 use std::marker::Model;
 
 /// Number of files that may be open.
@@ -30,6 +31,23 @@ fn is_absent(answer: &Result<Lexer, EnterFault>) -> bool
     matches!(answer, Err(EnterFault::Absent))
 }
 
+/// Returns a lexer at the front of the source with the number `file`, as `Lexer::new` returns it. Where there is a spare lexer, its memory is
+/// taken, and none is asked for.
+fn lexer_of(
+    spare: &mut Option<Lexer>,
+    alloc: Global,
+    set: CharSet,
+    limit: u32,
+    file: u16,
+) -> Result<Lexer, AllocError>
+    ensures { IfOk result (λ lexer. lexer ≡ at_front set limit file) }
+{
+    match spare.take() {
+        Some(lexer) => Ok(lexer.over(set, limit, file)),
+        None => Lexer::new(alloc, set, limit, file),
+    }
+}
+
 /// The names of the files that were entered, each with its number, and which of them are open.
 #[derive(Drop)]
 pub struct Stack {
@@ -38,6 +56,8 @@ pub struct Stack {
     limit: u32,
     names: IndexSet<String>,
     open_files: ArrayVec<u16, 16>,
+    /// A lexer whose source is done with, and whose memory the next one takes.
+    spare: Option<Lexer>,
 }
 
 impl Model for Stack {
@@ -66,6 +86,7 @@ impl Stack {
             limit,
             names: IndexSet::new(alloc),
             open_files: ArrayVec::new(),
+            spare: None,
         }
     }
 
@@ -250,10 +271,13 @@ impl Stack {
         let number = self.number_of(name.as_str());
         self.names.reserve(1)?;
         let file = number.min(MOST_NAMES) as u16;
-        let lexer = Lexer::new(self.alloc, self.set, self.limit, file)?;
+        let lexer = lexer_of(&mut self.spare, self.alloc, self.set, self.limit, file)?;
         match files.open(name.as_str()) {
             Ok(()) => {}
-            Err(OpenFault::Absent) => return Err(EnterFault::Absent),
+            Err(OpenFault::Absent) => {
+                self.keep(lexer);
+                return Err(EnterFault::Absent);
+            }
             Err(OpenFault::Device) => return Err(EnterFault::Device),
             Err(OpenFault::Memory) => return Err(EnterFault::Memory),
         }
@@ -264,6 +288,13 @@ impl Stack {
         let _ = self.names.insert(name);
         self.open_files.push(file);
         Ok(lexer)
+    }
+
+    /// Keeps a lexer whose source is done with. The next file that is entered is read in its memory.
+    pub fn keep(&mut self, lexer: Lexer)
+        ensures { self.new ≡ self.old }
+    {
+        self.spare = Some(lexer);
     }
 
     /// Returns the number of the name `name`: how many names came before it.

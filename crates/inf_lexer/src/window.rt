@@ -52,6 +52,16 @@ impl Window {
         })
     }
 
+    /// Becomes a window of another source, of which nothing was given yet, in the same memory.
+    pub(crate) fn restart(&mut self)
+        ensures { self.new ≡ record { left = []; given = 0; is_over = false } }
+    {
+        self.next = 0;
+        self.end = 0;
+        self.given = 0;
+        self.is_over = false;
+    }
+
     /// Reads once from the source where nothing is in view, unless the end was read. Fails with `Read` where the source cannot
     /// be read or has more bytes than it may have.
     pub(crate) fn refill<F: Files>(&mut self, files: &mut F) -> Result<(), LexFault>

@@ -356,7 +356,8 @@ impl OpenFiles {
             is_system,
         } = self.outer.pop()?;
         self.names.leave(files);
-        self.lexer = lexer;
+        let left = mem::replace(&mut self.lexer, lexer);
+        self.names.keep(left);
         Some((conditionals, is_system))
     }
 

@@ -154,7 +154,7 @@ fn compile_files<R: Clock + Files + Print + Eprint + AllocGlobal>(
         &mut story,
     );
     match answer {
-        Ok(Status::Success) => Ok(ExitCode::SUCCESS),
+        Ok(Status::Success) => settle(rt, limits, story_name, story),
         Ok(Status::Errors) => Ok(ExitCode::from(1)),
         Err(Fault::Memory) => Err(Failure::Memory),
         Err(Fault::Read(name)) => Err(tell_source(rt, limits, name.as_str(), &files)),
@@ -164,9 +164,30 @@ fn compile_files<R: Clock + Files + Print + Eprint + AllocGlobal>(
         ))),
         Err(Fault::Story(count)) => {
             let reason = Reason::of_trouble(story.is_full, &story.sink.trouble);
+            // The file of the story may have the number of an output that was closed, where the reason must not go.
+            drop(story);
             Err(tell_story(rt, limits, story_name, count, place.is_source(), reason))
         }
     }
+}
+
+/// Has the system keep the bytes of the story, which is whole, and returns the status of success. Where it can't, shows the reason, and
+/// returns the failure of the run.
+fn settle<R: Files + Eprint>(
+    rt: &R,
+    limits: Limits,
+    name: &str,
+    mut story: Limited<StorySink<'_, R>>,
+) -> Result<ExitCode, Failure> {
+    if story.sink.settle().is_ok() {
+        return Ok(ExitCode::SUCCESS);
+    }
+    let reason = Reason::of_trouble(false, &story.sink.trouble);
+    drop(story);
+    if may_tell(rt, limits, name) {
+        let _ = rt.eprintln(format_args!("{name}: {reason}; the story may be lost"));
+    }
+    Err(Failure::Told)
 }
 
 /// The greatest number of bytes of a source.
@@ -214,6 +235,10 @@ fn tell_story<R: Files + Eprint>(
     }
     let _ = if is_source {
         rt.eprintln(format_args!("{name}: is a source of this story; nothing was written"))
+    } else if reason.is_there_already() {
+        rt.eprintln(format_args!(
+            "{name}: is named as a source and is there already; nothing was written"
+        ))
     } else {
         rt.eprintln(format_args!("{name}: {reason}; {count} bytes were written"))
     };

@@ -35,6 +35,11 @@ impl Reason {
             number: trouble.number,
         }
     }
+
+    /// Returns whether a file was to be made that is there already.
+    pub fn is_there_already(self) -> bool {
+        matches!(self.kind, ErrorKind::AlreadyExists)
+    }
 }
 
 impl Display for Reason {

@@ -1,11 +1,12 @@
-use Rattle.std.proofs.Common.{◌≡◌, List, length, refl, arith, ap, subst, sym, ◌∙◌}
+use Rattle.std.proofs.Common.{◌≡◌, List, [], ◌∷◌, ◌++◌, length, arith, ap, subst, sym, ◌∙◌}
 use Rattle.inf_devices.specs.Files.{Opening}
 use Rattle.inf_sources.specs.Inclusions.{closed}
 use Rattle.inf_lexer.specs.Names.{Nest}
+use Rattle.inf_lexer.specs.Readers.{Reader}
 use Rattle.inf_sources.specs.Calls.{Went}
 use Rattle.inf_sources.proofs.Calls.{went_out}
-use Rattle.inf_sources.specs.Open.{AllWait, Each, Fits, IsNested, Open, lexers_of, nesting}
-use Rattle.inf_sources.proofs.Entered.{left_fits, left_none, lexers_more, waits_last}
+use Rattle.inf_sources.specs.Open.{AllWait, Each, Fits, IsNested, Open, lexers_of, nesting, waits}
+use Rattle.inf_sources.proofs.Entered.{Fits as FitsAhead, left_fits, left_none, lexers_more, waits_last}
 use Rattle.inf_sources.proofs.Nestings.{left_nesting}
 use Rattle.inf_sources.proofs.open_files.OpenFiles.leave.Goals as goal
 
@@ -27,16 +28,19 @@ invariant_of-self-2 g c =
     let inv = c.self.invariant in
     let f = c.in_ok-lexer.field-0 in
     let items = c.in_ok-lexer.ensures.items in
-    left_fits c.self.inside.names c.leave.new.self (lexers_of c.self.inside.outer.items) (lexers_of c.pop.new.self.items)
+    subst (λ (r : Reader). FitsAhead c.keep.new.self r (lexers_of c.pop.new.self.items)) (sym c.replace-left.ensures.after)
+    (left_fits c.self.inside.names c.keep.new.self (lexers_of c.self.inside.outer.items) (lexers_of c.pop.new.self.items)
     c.self.inside.lexer.file f.lexer inv.0 inv.1.1.1 (ap lexers_of items ∙ lexers_more c.pop.new.self.items f)
-    c.leave.ensures.left
+    (c.keep.ensures ∙ c.leave.ensures.left))
 
 pub returns-clause-left : goal.returns-clause-left
 returns-clause-left g c =
     let f = c.in_ok-lexer.field-0 in
     let items = c.in_ok-lexer.ensures.items in (
-      sym (ap (λ (o : Open). o.outer) c.self.view_is) ∙ items,
-      (waits_last c.self.inside.names.set c.self.inside.names.limit (lexers_of c.pop.new.self.items) f.lexer
+      sym (ap (λ (o : Open). o.outer) c.self.view_is) ∙ items
+          ∙ ap (λ (r : Reader). c.pop.new.self.items ++ waits r f.conditionals f.is_system ∷ []) (sym c.replace-left.ensures.after),
+      ap (λ (r : Reader). r.has_failed) c.replace-left.ensures.after
+          ∙ (waits_last c.self.inside.names.set c.self.inside.names.limit (lexers_of c.pop.new.self.items) f.lexer
           (subst (λ readers. AllWait c.self.inside.names.set c.self.inside.names.limit readers)
           (ap lexers_of items ∙ lexers_more c.pop.new.self.items f) c.self.invariant.1.1.1)).goes,
     )
@@ -50,9 +54,10 @@ returns-clause-nesting g c = λ honest start nested.
     let f = c.in_ok-lexer.field-0 in
     let items = c.in_ok-lexer.ensures.items in
     let before : Open = record { nest = c.self.inside.names; lexer = c.self.inside.lexer; outer = c.self.inside.outer.items } in
-    let after : Open = record { nest = c.leave.new.self; lexer = f.lexer; outer = c.pop.new.self.items } in
+    let after : Open = record { nest = c.keep.new.self; lexer = c.replace-left.new.dest; outer = c.pop.new.self.items } in
     subst (λ (o : Open). IsNested start old o → nesting s start new after ≡ closed (nesting s start old o)) c.self.view_is
-    (λ n. left_nesting s start old new before after f n (c.leave.ensures.closes honest) items refl c.leave.ensures.left) nested
+    (λ n. left_nesting s start old new before after f n (c.leave.ensures.closes honest) items c.replace-left.ensures.after
+    (c.keep.ensures ∙ c.leave.ensures.left)) nested
 
 pub returns-clause-went : goal.returns-clause-went
 returns-clause-went g c =
@@ -61,11 +66,11 @@ returns-clause-went g c =
     let f = c.in_ok-lexer.field-0 in
     let items = c.in_ok-lexer.ensures.items in
     let before : Open = record { nest = c.self.inside.names; lexer = c.self.inside.lexer; outer = c.self.inside.outer.items } in
-    let after : Open = record { nest = c.leave.new.self; lexer = f.lexer; outer = c.pop.new.self.items } in
+    let after : Open = record { nest = c.keep.new.self; lexer = c.replace-left.new.dest; outer = c.pop.new.self.items } in
     subst (λ (o : Open). Went files c.args.files.now c.leave.new.files o after) c.self.view_is
     (went_out files c.args.files.now c.leave.new.files before after leave.sources leave.honesty leave.faults leave.depth leave.counts
-    leave.opened f refl items
-    (ap (λ (n : Nest). n.names) leave.left) leave.closes)
+    leave.opened f c.replace-left.ensures.after items
+    (ap (λ (n : Nest). n.names) (c.keep.ensures ∙ leave.left)) leave.closes)
 
 pub returns-clause-fits : goal.returns-clause-fits
 returns-clause-fits g c = λ honest start nested given fit.
