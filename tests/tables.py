@@ -1,5 +1,5 @@
 #!/usr/bin/env python3
-"""Makes the script of `inf_tables_tests` and the answers to it, by plain lists: `stdin` and `stdout` of that crate.
+"""Makes the rows of tables of `inf_row_tests` and the answers to them, by plain lists: a part of `stdin` and of `stdout` of that crate.
 
 usage: tests/tables.py          compares both with what stands there
        tests/tables.py write    writes them
@@ -17,11 +17,13 @@ sys.dont_write_bytecode = True
 from tables_plain import KINDS, NOUNS, World, answered  # noqa: E402
 from tables_rows import ROWS  # noqa: E402
 
-FOLDER = Path(__file__).resolve().parent.parent / "crates" / "inf_tables_tests"
+FOLDER = Path(__file__).resolve().parent.parent / "crates" / "inf_row_tests"
 COUNT = 500                     # random lines of each table, of which some are kept
 # The numbers of random lines that are kept, too: with these the script finds each change of one number, comparison or test in
 # `tables_plain.py` that all random lines find.
 KEPT_TOO = {180, 1047, 1145, 1247, 1457, 2722}
+# The titles in front of the rows of tables, and behind them
+FRONT, BEHIND = "! Tables\n", "! Stories\n"
 NUMBER = re.compile(r"\b[0-9a-f]{2,}\b|\d+")
 
 
@@ -162,11 +164,17 @@ def script():
     return tuple("".join(text + "\n" for text in texts) for texts in zip(*rows))
 
 
+def placed(text, made):
+    """Returns a text with these rows of tables between their titles."""
+    return text.partition(FRONT)[0] + FRONT + made + BEHIND + text.partition(BEHIND)[2]
+
+
 def main():
     for name, made in zip(("stdin", "stdout"), script()):
+        file = FOLDER / name
         if sys.argv[1:] == ["write"]:
-            (FOLDER / name).write_text(made)
-        elif (FOLDER / name).read_text() != made:
+            file.write_text(placed(file.read_text(), made))
+        elif file.read_text() != placed(file.read_text(), made):
             sys.exit(f"{name} differs from what {Path(__file__).name} makes")
 
 

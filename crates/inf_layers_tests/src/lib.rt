@@ -1,21 +1,11 @@
-//! Tests of the layers below the compiler, and of its words and dates.
+//! Tests of the system's files, of sinks that take little, and of dates.
 #![tactic(auto)]
 
-#[cfg(test)]
-mod cells;
-#[cfg(test)]
-mod code;
-#[cfg(test)]
-mod command_line;
 #[cfg(test)]
 mod dates;
 #[cfg(test)]
 mod disk;
 #[cfg(test)]
 mod expecting;
-#[cfg(test)]
-mod heads;
-#[cfg(test)]
-mod memory_files;
 #[cfg(test)]
 mod sinks;

@@ -20,7 +20,6 @@
 
 mod metered;
 mod session;
-mod words;
 
 use crate::session::Session;
 use std::io::{self, BufRead, BufReader};

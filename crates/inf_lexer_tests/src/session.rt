@@ -1,9 +1,10 @@
 //! The commands of a line, and their answers.
 use crate::metered::{Metered, Pace};
-use crate::words::{bytes_of, number, word};
 use inf_devices::memory_files::MemoryFiles;
 use inf_lexer::{EnterFault, LexFault, Lexer, Stack, Token, TokenKind};
+use inf_test_lines::{number_at, word};
 use inf_text::CharSet;
+use percent_encoding::percent_decode;
 use std::alloc::{AllocError, Global};
 use std::collections::BTreeMap;
 use std::str;
@@ -25,11 +26,18 @@ const AT_ONCE: Pace = Pace {
     is_endless: false,
 };
 
+/// Returns the bytes of a word, in which `%` and two digits are one byte.
+fn bytes_of(alloc: Global, word: &str) -> Result<Vec<u8>, AllocError> {
+    let mut bytes = Vec::new(alloc);
+    percent_decode(word.as_bytes()).append_to(&mut bytes)?;
+    Ok(bytes)
+}
+
 /// Returns the pace that a command asks for.
 fn pace_of(command: &str) -> Pace {
     Pace {
-        most: [number(command, 3), number(command, 4)],
-        reads: number(command, 5),
+        most: [number_at(command, 3), number_at(command, 4)],
+        reads: number_at(command, 5),
         is_endless: word(command, 6) == "endless",
     }
 }
@@ -90,11 +98,11 @@ impl Session {
             "source" => self.add_source(word(command, 1), 0, "", word(command, 2))?,
             "long" => self.add_source(
                 word(command, 1),
-                number(command, 2),
+                number_at(command, 2),
                 word(command, 3),
                 word(command, 4),
             )?,
-            "numbers" => self.add_numbers(number(command, 1))?,
+            "numbers" => self.add_numbers(number_at(command, 1))?,
             "new" => self.begin(word(command, 1), word(command, 2), pace_of(command))?,
             "leave" => self.leave(),
             _ => return self.told(name, command),
@@ -111,7 +119,7 @@ impl Session {
             "rest" => self.rest(),
             "tokens" => self.tokens(command),
             "ahead" => self.ahead(command),
-            "many" => self.enter_many(number(command, 1)),
+            "many" => self.enter_many(number_at(command, 1)),
             "name" => self.name(word(command, 1)),
             "opened" => self.number(self.files.opened),
             "reads" => self.number(self.files.reads),
@@ -273,9 +281,9 @@ impl Session {
     /// Reads names of one length, and returns whether no more bytes than the command allows are
     /// ever given ahead.
     fn ahead(&mut self, command: &str) -> Result<String, AllocError> {
-        let (length, most) = (number(command, 2), number(command, 3));
+        let (length, most) = (number_at(command, 2), number_at(command, 3));
         let mut end: usize = 0;
-        for _ in 0..number(command, 1) {
+        for _ in 0..number_at(command, 1) {
             let is_name = matches!(self.token(), Ok(token) if token.kind == TokenKind::Name);
             end = end.saturating_add(length);
             let given = self.files.given;

@@ -1,9 +1,7 @@
-//! Tests of the settings and of the messages: worked lines, limits, and sinks that fail.
+//! Tests of the messages: worked lines, and sinks that fail.
 #![tactic(auto)]
 
 #[cfg(test)]
 mod expecting;
 #[cfg(test)]
 mod lines;
-#[cfg(test)]
-mod settings;
