@@ -1,8 +1,9 @@
 //! The number of bytes of each source that were given behind each step of a session.
 ghost use Rattle.inf_settings.specs.Bounds.{AreSet};
-ghost use Rattle.std.specs.Prelude.{◌≡◌, ◌<◌, IfOk, None, OnOk, [], false, length};
+ghost use Rattle.std.specs.Prelude.{◌≡◌, ◌<◌, IfOk, OnOk, [], false, true, length};
 ghost use Rattle.inf_session.specs.Standing.{IsSet};
 ghost use Rattle.inf_devices.specs.Files.{names_from};
+ghost use Rattle.inf_devices.specs.MemoryFiles.{sources_of};
 
 use inf_compile::NameHashing;
 use inf_devices::failures::Failures;
@@ -53,11 +54,11 @@ impl Files for Counted {
 
     ghost counts = { λ f. f.files.counts };
 
-    ghost is_honest = { λ _. false };
+    ghost is_honest = { λ _. true };
 
-    ghost sources = { λ _ _. None };
+    ghost sources = { λ f. sources_of f.files.kept };
 
-    ghost openings = { λ _. record { all = []; open_places = [] } };
+    ghost openings = { λ f. f.files.openings };
 
     ghost depth = { λ f. length f.files.openings.open_places };
 

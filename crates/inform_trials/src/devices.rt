@@ -1,6 +1,7 @@
 //! Devices for tests: a sink that takes little, and a reader that gives little.
-ghost use Rattle.std.specs.Prelude.{◌≡◌, ◌+◌, None, [], ◌∷◌, false, length, min, if◌then◌else◌};
+ghost use Rattle.std.specs.Prelude.{◌≡◌, ◌+◌, None, Some, [], ◌∷◌, false, true, length, min, if◌then◌else◌};
 ghost use Rattle.inf_devices.specs.Files.{is_too_long, last_count, names_from, too_long_given};
+ghost use Rattle.inf_devices.specs.MemoryFiles.{sources_of};
 
 use inf_devices::failures::Failures;
 use inf_devices::files::{Files, OpenFault, ReadFault};
@@ -12,7 +13,7 @@ use std::alloc::Global;
 use std::collections::BTreeMap;
 use std::test::Fail;
 
-/// A sink that takes at most `most` bytes a write, and fails once it took `room` bytes in all.
+/// A sink that takes at most `most` bytes a write, states them, and fails once it took `room` bytes in all.
 #[derive(Drop)]
 pub struct Narrow {
     pub whole: MemorySink,
@@ -34,18 +35,26 @@ impl Narrow {
 }
 
 impl Sink for Narrow {
-    ghost taken = { λ _. None };
+    ghost taken = { λ s. Some s.whole.bytes };
 
     ghost failures = { λ s. s.failures };
 
     fn write(&mut self, bytes: &[u8]) -> Result<usize, SinkFault> {
         let count = bytes.len().min(self.most).min(self.room);
-        if count == 0 || self.whole.write(&bytes[..count]).is_err() {
+        if count == 0 {
             self.failures.add();
             return Err(SinkFault::Device);
         }
-        self.room -= count;
-        Ok(count)
+        match self.whole.write(&bytes[..count]) {
+            Ok(taken) if taken > 0 => {
+                self.room = self.room.saturating_sub(taken);
+                Ok(taken)
+            }
+            _ => {
+                self.failures.add();
+                Err(SinkFault::Device)
+            }
+        }
     }
 }
 
@@ -179,7 +188,7 @@ impl Files for Slow<'_> {
     }
 }
 
-/// The files of a folder, of which one cannot be opened.
+/// The files of a folder, of which one cannot be opened. They are honest: a failure is no source that is absent, and no end of one.
 #[derive(Drop)]
 pub struct Locked<'a> {
     pub files: MemoryFiles,
@@ -203,11 +212,11 @@ impl Files for Locked<'_> {
 
     ghost counts = { λ f. f.files.counts };
 
-    ghost is_honest = { λ _. false };
+    ghost is_honest = { λ _. true };
 
-    ghost sources = { λ _ _. None };
+    ghost sources = { λ f. sources_of f.files.kept };
 
-    ghost openings = { λ _. record { all = []; open_places = [] } };
+    ghost openings = { λ f. f.files.openings };
 
     ghost depth = { λ f. length f.files.openings.open_places };
 
@@ -230,7 +239,7 @@ impl Files for Locked<'_> {
     }
 }
 
-/// The files of a folder, of which one call of `open` or `read` fails.
+/// The files of a folder, of which one call of `open` or `read` fails. They are honest, as those of a `Locked` are.
 #[derive(Drop)]
 pub struct Fused {
     files: MemoryFiles,
@@ -264,11 +273,11 @@ impl Files for Fused {
 
     ghost counts = { λ f. f.files.counts };
 
-    ghost is_honest = { λ _. false };
+    ghost is_honest = { λ _. true };
 
-    ghost sources = { λ _ _. None };
+    ghost sources = { λ f. sources_of f.files.kept };
 
-    ghost openings = { λ _. record { all = []; open_places = [] } };
+    ghost openings = { λ f. f.files.openings };
 
     ghost depth = { λ f. length f.files.openings.open_places };
 
