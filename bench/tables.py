@@ -3,7 +3,7 @@
 
 usage: bench/tables.py PROGRAM
 
-PROGRAM is that of the crate `inf_tables_tests`, `crates/inf_tables_tests/out/inf_tables_tests`. For each kind of table and each size the
+PROGRAM is that of the crate `inf_row_tests`, `crates/inf_row_tests/out/inf_row_tests`. For each kind of table and each size the
 least processor time of five runs is told, with reading the line of commands and telling all bytes of the table.
 """
 

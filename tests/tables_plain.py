@@ -1,4 +1,4 @@
-"""The tables of a story by plain lists, and what a line of the script of `inf_tables_tests` is answered by them."""
+"""The tables of a story by plain lists, and what a row of tables of `inf_row_tests` is answered by them."""
 
 NOUNS = "noun held multi multiheld multiexcept multiinside creature special number topic".split()
 KINDS = {"bytes": (1, 0), "words": (2, 0), "string": (1, 1), "table": (2, 2)}

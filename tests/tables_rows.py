@@ -1,4 +1,4 @@
-"""Rows by hand of the script of `inf_tables_tests`: lines, and what the rules say of each. A title has no answer."""
+"""Rows by hand of the tables of `inf_row_tests`: lines, and what the rules say of each. A title has no answer."""
 
 # The texts of words: `take`, `off`, `up`; `a`, `b`, `c`; `xa`, `xb`, `xc`
 TAKE, OFF, UP = "64d028a594a5", "516b14a594a5", "6aa514a594a5"

@@ -7,12 +7,13 @@ RT is the toolchain's command. FOLDER has a crates.txt and the crates that it na
 Its gate (`rt ci`) proves crates that do not stand on each other side by side, as many as processors and memory allow. A toolchain
 that keeps what it proved takes that over (but with --anew): then a build that was interrupted goes on where it was.
 
-tools/checks.tsv has a line for each crate that was measured: its name, how many functions the prover names in it, and how many
-seconds of a processor their proof takes from nothing, with tabs between them. What is not there, or left empty, is guessed from the
-crate's sources. The time of the whole is that of a plan by these times, as much slower or faster as the crates that are proved so
+tools/checks.tsv has a line for each crate that was measured: its name, how many functions the prover names in it, how many seconds of a
+processor their proof takes from nothing, with that of its tests, and how many its edits take, with tabs between them. What is not there, or
+left empty, is guessed from the crate's sources. The time of the whole is that of a plan by these times, as much slower or faster as the crates that are proved so
 far were.
 """
 
+import contextlib
 import os
 import re
 import subprocess
@@ -37,10 +38,20 @@ class Crate:
             self.seconds = 20 + sum(text.count("\n") for text in texts) // 25
 
 
+def rows():
+    """The rows of the table: a crate's name, its functions, the seconds of its proof and those of its edits; None stands for what was not measured."""
+    lines = [line.split("\t") for line in TABLE.read_text(encoding="utf-8").splitlines()[1:]]
+    return [(name, *(int(it) if it else None for it in numbers)) for name, *numbers in lines]
+
+
 def measured():
-    """The functions and the seconds of each crate in the table, by its name; None stands for what was not measured."""
-    rows = [line.split("\t") for line in TABLE.read_text(encoding="utf-8").splitlines()[1:]]
-    return {name: tuple(int(it) if it else None for it in numbers) for name, *numbers in rows}
+    """The functions and the seconds of each crate in the table, by its name."""
+    return {name: (functions, seconds) for name, functions, seconds, _ in rows()}
+
+
+def measured_edits():
+    """The seconds that the edits of each crate take that has some, by its name."""
+    return {name: seconds for name, _, _, seconds in rows() if seconds}
 
 
 def crates_of(folder):
@@ -136,7 +147,8 @@ def follow(build, log, progress):
             if is_terminal:
                 print(file=sys.stderr)
             return build.returncode
-        time.sleep(1)
+        with contextlib.suppress(subprocess.TimeoutExpired):
+            build.wait(1)
 
 
 def main(rt, folder, path, *words):

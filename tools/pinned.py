@@ -196,7 +196,7 @@ def stale(edits, crate):
 def main(words):
     edits = edits_module()
     every = edits.crates()
-    chosen = [every[it] for it in words if not it.startswith("-")] or [it for it in every.values() if not it.name.endswith(("_tests", "_trials"))]
+    chosen = [every[it] for it in words if not it.startswith("-")] or [it for it in every.values() if not it.name.endswith(("_tests", "_trials", "_test_lines"))]
     traits = clauses_of_traits(every.values())
     partial = partial_views(every.values())
     found = [it for crate in chosen for it in judged(edits, crate, traits, partial)]

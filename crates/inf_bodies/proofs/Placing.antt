@@ -6,11 +6,11 @@ use Rattle.inf_expressions.specs.Findings.{least_of_both}
 use Rattle.inf_expressions.specs.declared.findings.Finding.{Finding}
 use Rattle.inf_expressions.specs.declared.units.Wanted.TheVariants as wanted
 use Rattle.inf_output.specs.Output.{Out}
-use Rattle.inf_statements.specs.Uses.{LeavesStay}
+use Rattle.inf_operands.specs.Uses.{LeavesStay}
 use Rattle.inf_compilation.specs.Actions.{Compilation, finding_at, operands_of}
 use Rattle.inf_compilation.specs.Context.{Context}
-use Rattle.inf_declarations.proofs.Staying.{output_stays, value_stays}
-use Rattle.inf_declarations.specs.Arrays.{looked_value}
+use Rattle.inf_named_values.proofs.ValuesStay.{output_stays, value_stays}
+use Rattle.inf_named_values.specs.Values.{looked_value}
 use Rattle.inf_bodies.specs.Bodies.{place_finding, placed, placed_finding}
 use Rattle.inf_bodies.specs.Values.{expression_finding, expression_placed, settled_finding, settled_placed, settled_work, value_by}
 use Rattle.inf_bodies.specs.Values.{value_finding_by}

@@ -21,7 +21,7 @@ use Rattle.inf_tables.specs.declared.faults.WorldFault.{WorldFault}
 use Rattle.inf_tables.specs.World.{further_value_fault, given_property_fault, individual_fault, set_attribute_fault, with_further_value}
 use Rattle.inf_tables.specs.World.{with_given_property, with_individual, with_lost_property, with_set_attribute}
 use Rattle.inf_compilation.specs.Actions.{Compilation}
-use Rattle.inf_declarations.specs.Declarations.{name_declared, with_world}
+use Rattle.inf_named_values.specs.Declarations.{name_declared, with_world}
 use Rattle.inf_bodies.specs.Objects.{class_of, entry_told, found_at, joined_fault, joined_some, noted, refused_finding}
 
 -- the place of the last token

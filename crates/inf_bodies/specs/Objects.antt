@@ -35,9 +35,9 @@ use Rattle.inf_tables.specs.Objects.{class_count, parent_of}
 use Rattle.inf_tables.specs.World.{class_header_fault, class_of_fault, lost_header_fault, object_header_fault, with_class_header}
 use Rattle.inf_tables.specs.World.{with_class_of, with_lost_header, with_object_header}
 use Rattle.inf_compilation.specs.Actions.{Compilation, unit_ended}
-use Rattle.inf_declarations.specs.Declarations.{declared_ended, name_declared, plainly_known, with_world}
+use Rattle.inf_named_values.specs.Declarations.{declared_ended, name_declared, plainly_known, with_world}
 use Rattle.inf_compilation.specs.Findings.{found_alone, many_finding}
-use Rattle.inf_declarations.specs.declared.declarations.Declared.{Declared}
+use Rattle.inf_named_values.specs.declared.declarations.Declared.{Declared}
 use Rattle.inf_bodies.specs.declared.headers.Header.{Header}
 use Rattle.inf_bodies.specs.ShortNames.{bracketed, name_packed, packed_name, short_text}
 

@@ -9,8 +9,8 @@ use Rattle.inf_output.specs.Output.{Code}
 use Rattle.inf_output.specs.Texts.{Packing, used_in}
 use Rattle.inf_text.specs.Packing.{packed}
 use Rattle.inf_unit.specs.Texts.{fit_characters}
-use Rattle.inf_statements.specs.Printing.{text_at}
-use Rattle.inf_statements.specs.Statements.{text_packed}
+use Rattle.inf_operands.specs.Texts.{text_at}
+use Rattle.inf_operands.specs.Texts.{text_packed}
 use Rattle.inf_compilation.specs.Context.{Context}
 use Rattle.inf_compilation.specs.Actions.{Compilation}
 use Rattle.inf_bodies.specs.declared.headers.Header.{Header}

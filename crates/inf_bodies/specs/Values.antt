@@ -21,7 +21,7 @@ use Rattle.inf_output.specs.Output.{with_word}
 use Rattle.inf_scanner.specs.declared.tokens.Mark.TheVariants as mark
 use Rattle.inf_scanner.specs.declared.tokens.Place.{Place}
 use Rattle.inf_scanner.specs.declared.tokens.TokenKind.{TokenKind}
-use Rattle.inf_statements.specs.Printing.{text_at}
+use Rattle.inf_operands.specs.Texts.{text_at}
 use Rattle.inf_report.specs.declared.messages.FixedLimit.{FixedLimit}
 use Rattle.inf_report.specs.declared.messages.FixedLimit.TheVariants as countable
 use Rattle.inf_names.specs.Locals.{Headed, no_locals}
@@ -31,9 +31,9 @@ use Rattle.inf_unit.specs.Texts.{fit_characters}
 use Rattle.inf_unit.specs.Tokens.{SourceToken, is_mark}
 use Rattle.inf_unit.specs.Units.{first_place, order}
 use Rattle.inf_compilation.specs.Actions.{Compilation, finding_at, opened_with, settled_of}
-use Rattle.inf_declarations.specs.Arrays.{looked_value, variables_from}
+use Rattle.inf_named_values.specs.Values.{looked_value, variables_from}
 use Rattle.inf_bodies.specs.Bodies.{is_words, last_at, place_finding, placed, placed_finding, property_of}
-use Rattle.inf_declarations.specs.Declarations.{value_of}
+use Rattle.inf_named_values.specs.Values.{value_of}
 use Rattle.inf_compilation.specs.Findings.{Findings, header_findings}
 use Rattle.inf_bodies.specs.Objects.{entry_told, found_at}
 

@@ -6,7 +6,7 @@ ghost use Rattle.inf_bodies.specs.Objects.{lost_begun, noted, object_begun, obje
 ghost use Rattle.inf_bodies.specs.Objects.{setting_of};
 ghost use Rattle.inf_tables.specs.World.{class_of_fault};
 
-use inf_declarations::declarations::declare;
+use inf_named_values::declarations::declare;
 use inf_names::meanings::Meaning;
 use inf_names::spellings::Name;
 use inf_output::Output;

@@ -10,7 +10,7 @@ ghost use Rattle.inf_compilation.specs.Works.{work};
 use crate::headers::Header;
 use inf_compilation::compilation::Compilation;
 use inf_compilation::context::Context;
-use inf_declarations::values::text_at;
+use inf_named_values::values::text_at;
 use inf_names::spellings::Name;
 use inf_output::Output;
 use inf_settings::bounds::Bounds;

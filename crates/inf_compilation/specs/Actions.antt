@@ -62,7 +62,7 @@ use Rattle.inf_verbs.specs.declared.verbs.LinePlace.TheVariants as line_place
 use Rattle.inf_constructs.specs.Constructs.{depth, ended}
 use Rattle.inf_constructs.specs.declared.constructs.Construct.{Construct}
 use Rattle.inf_constructs.specs.Labels.{NamedLabel, missing}
-use Rattle.inf_statements.specs.Operands.{Settled, all_looked, leaf_added, leaves_named, settled, stores_named}
+use Rattle.inf_operands.specs.Operands.{Settled, all_looked, leaf_added, leaves_named, settled, stores_named}
 use Rattle.inf_constructs.specs.Roots.{tree_in}
 use Rattle.inf_tables.specs.declared.faults.WorldFault.{WorldFault}
 use Rattle.inf_tables.specs.World.{WorldOf, no_body_fault, with_end}

@@ -31,7 +31,7 @@ use Rattle.inf_scanner.specs.declared.tokens.Place.{Place}
 use Rattle.inf_settings.specs.Settings.{number_of as setting_number}
 use Rattle.inf_settings.specs.declared.setting.Setting.TheVariants as setting
 use Rattle.inf_settings.specs.declared.settings.Settings.{Settings}
-use Rattle.inf_statements.specs.Operands.{leaves_named, looked_leaf}
+use Rattle.inf_operands.specs.Operands.{leaves_named, looked_leaf}
 use Rattle.inf_unit.specs.Crowds.{Crowd}
 use Rattle.inf_unit.specs.LongLines.{LongLine, name_added, word_added}
 use Rattle.inf_unit.specs.Tokens.{SourceToken}

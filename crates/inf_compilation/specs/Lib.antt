@@ -3,6 +3,6 @@ pub mod Words
 pub mod Findings
 pub mod Actions
 pub mod Crowds
-pub mod Parts
+pub mod Nesting
 pub mod Works
 pub mod Meant

@@ -56,15 +56,15 @@ pub struct Compilation<B: Bounds> {
     /// The place of the last token, if it is the word of a compound statement where a case may stand, too.
     pub opening: Option<Place>,
     /// The labels with names of the routine that was opened last.
-    pub(crate) labels: Labels,
+    pub labels: Labels,
     /// The locals of the open routine.
     pub locals: Locals,
     pub output: Output<B>,
     /// The rest of a tree that is still to be laid: nothing, between the calls that lay.
-    pub(crate) tasks: Tasks,
+    pub tasks: Tasks,
     /// Memory for the operands and the trees of the next unit of a routine.
-    pub(crate) operands: Vec<Operand>,
-    pub(crate) forest: Option<Forest>,
+    pub operands: Vec<Operand>,
+    pub forest: Option<Forest>,
     pub report: Diagnostics,
     /// The request to the reading of the directive that was finished last.
     pub asked: Request,
@@ -174,7 +174,7 @@ impl<B: Bounds> Compilation<B> {
     ghost use Rattle.inf_compilation.specs.Actions.{finding_told, unit_ended};
     ghost use Rattle.inf_compilation.specs.Findings.{found_alone, nothing_found};
     ghost use Rattle.inf_compilation.specs.Meant.{found_as};
-    ghost use Rattle.inf_compilation.specs.Parts.{closed_ahead, construct_closed};
+    ghost use Rattle.inf_compilation.specs.Nesting.{closed_ahead, construct_closed};
     ghost use Rattle.inf_compilation.specs.Works.{work};
 
     /// Returns the output and the messages.
@@ -492,7 +492,7 @@ impl<B: Bounds> Compilation<B> {
 
     /// Ends a unit in which nothing is wrong, that begins at `first` and whose last token is still to come if `has_last`: the first
     /// limit that was passed is told.
-    pub(crate) fn end_clean(
+    pub fn end_clean(
         &mut self,
         context: &Context<'_>,
         first: Place,

@@ -1,12 +1,12 @@
 //! Expressions that have to be constants: each is judged and made into trees by one walk, in memory that is kept.
 ghost use Rattle.std.specs.Prelude.{IfOk, OnOk, true, ◌≡◌};
 ghost use Rattle.inf_expressions.specs.Forests.{trees_in as rooted_in};
-ghost use Rattle.inf_statements.specs.Uses.{LeavesStay};
+ghost use Rattle.inf_operands.specs.Uses.{LeavesStay};
 
 use crate::compilation::Compilation;
 use inf_expressions::{Finding, Forest, Wanted, judge_whole};
+use inf_operands::looking::look_all;
 use inf_settings::bounds::Bounds;
-use inf_statements::looking::look_all;
 use std::alloc::AllocError;
 
 /// An expression that has to be a constant, whose names are only looked up.

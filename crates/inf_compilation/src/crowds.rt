@@ -3,7 +3,7 @@ ghost use Rattle.std.specs.Prelude.{IfOk, OnOk, false, length, true, ◌≡◌, 
 ghost use Rattle.inf_names.specs.LocalList.{listed};
 ghost use Rattle.inf_unit.specs.AtHand.{unit as unit_of};
 ghost use Rattle.inf_unit.specs.Crowds.{crowd as crowd_of};
-ghost use Rattle.inf_statements.specs.Operands.{looked_leaf};
+ghost use Rattle.inf_operands.specs.Operands.{looked_leaf};
 ghost use Rattle.inf_compilation.specs.Context.{handed};
 ghost use Rattle.inf_compilation.specs.Crowds.{are_in_memory, are_plain, is_entry, is_in_memory, is_loud, is_loud_function, is_new};
 ghost use Rattle.inf_compilation.specs.Crowds.{is_new_by, is_plain, is_plain_one, is_plain_two, is_unknown, item_brought};
@@ -20,12 +20,12 @@ use inf_expressions::{
 use inf_gathering::gathering::{Gathering, Leaf, behind};
 use inf_names::locals::Locals;
 use inf_names::symbols::{Found, Symbols};
+use inf_operands::operands::{looked_leaf, name_locals};
 use inf_output::{Output, Veneer};
 use inf_scanner::Place;
 use inf_settings::bounds::Bounds;
 use inf_settings::setting::Setting;
 use inf_settings::settings::Settings;
-use inf_statements::operands::{looked_leaf, name_locals};
 use inf_unit::crowds::Crowd;
 use inf_unit::items::{Item, PrintRule};
 use inf_unit::unit::{Unit, order};

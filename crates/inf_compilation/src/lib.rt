@@ -6,5 +6,5 @@ pub mod constants;
 pub mod context;
 pub mod crowds;
 pub mod findings;
-pub mod parts;
 pub mod routines;
+pub mod units;

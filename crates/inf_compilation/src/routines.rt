@@ -1,6 +1,6 @@
 //! The beginnings and ends of routines.
 ghost use Rattle.inf_compilation.specs.Context.{handed};
-ghost use Rattle.std.specs.Prelude.{IfOk, None, OnErr, OnOk, is_some, option_map, ◌≡◌};
+ghost use Rattle.std.specs.Prelude.{IfOk, None, OnErr, OnOk, ◌≡◌};
 ghost use Rattle.inf_names.specs.Symbols.{declare_fault};
 ghost use Rattle.inf_names.specs.LocalList.{headed as as_headed, listed};
 ghost use Rattle.inf_names.specs.Locals.{no_locals};

@@ -19,17 +19,19 @@ use Rattle.inf_unit.specs.Messages.{FileNames}
 use Rattle.inf_reader.specs.Reading.{ReaderState}
 use Rattle.inf_reader.specs.Standing.{standing}
 use Rattle.inf_session.specs.Choices.{Choices}
-use Rattle.inf_session.specs.Delivered.{Delivers, TakesFront}
-use Rattle.inf_session.specs.Ending.{Outcome, finished, missing}
-use Rattle.inf_session.specs.Faults.{Caused, IfRead}
-use Rattle.inf_session.specs.Leading.{CutsShort, IsFront, Writes}
+use Rattle.inf_ending.specs.Delivered.{Delivers, TakesFront}
+use Rattle.inf_ending.specs.Ending.{Outcome, finished, missing}
+use Rattle.inf_ending.specs.Faults.{Caused, IfRead}
+use Rattle.inf_session.specs.Leading.{CutsShort, Writes}
+use Rattle.inf_ending.specs.Delivered.{IsFront}
 use Rattle.inf_session.specs.Session.{IsRead, State, begun_with, first_state, has_ended, run, start}
 use Rattle.inf_session.specs.Standing.{state}
-use Rattle.inf_session.specs.declared.compiled.Compiled.{Compiled}
-use Rattle.inf_session.specs.declared.faults.Fault.{Fault}
-use Rattle.inf_session.specs.declared.faults.Fault.TheVariants as fault
+use Rattle.inf_ending.specs.declared.compiled.Compiled.{Compiled}
+use Rattle.inf_ending.specs.declared.faults.Fault.{Fault}
+use Rattle.inf_ending.specs.declared.faults.Fault.TheVariants as fault
 use Rattle.inf_session.specs.declared.session.Session.{Session}
-use Rattle.inf_session.proofs.Leadings.{end_begins, front_more, front_then, same_end, takes_none, takes_then}
+use Rattle.inf_session.proofs.Leadings.{end_begins, front_more, front_then, same_end}
+use Rattle.inf_ending.proofs.Delivering.{takes_none, takes_then}
 use Rattle.inf_session.proofs.Supplying.{supplied_begins}
 use Rattle.inf_session.specs.Veneer.{supplied}
 use Rattle.inf_compile.specs.Comes.{AreAt, AreNear, Begins, BreaksOff, BreaksOffAll, Comes, Concludes, Ends, EndsAll, OpenedBy, Stops}

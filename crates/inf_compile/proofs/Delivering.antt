@@ -6,18 +6,18 @@ use Rattle.std.proofs.Math.Dec.{eqb-suc-zero}
 use Rattle.inf_devices.specs.Files.{Openings, Sources}
 use Rattle.inf_session.specs.Choices.{Choices}
 use Rattle.inf_compile.specs.Comes.{Begins, Comes, OpenedBy, OpenedPart}
-use Rattle.inf_session.specs.Leading.{IsFront}
-use Rattle.inf_session.specs.Ending.{Outcome, missing}
+use Rattle.inf_ending.specs.Delivered.{IsFront}
+use Rattle.inf_ending.specs.Ending.{Outcome, missing}
 use Rattle.inf_session.specs.Session.{State}
 use Rattle.inf_session.proofs.Leadings.{front_same}
 use Rattle.inf_compile.proofs.OutcomeLaws.{outcomes_are_unique}
-use Rattle.inf_session.specs.declared.compiled.Compiled.{Compiled}
-use Rattle.inf_session.specs.declared.compiled.Status.{Status}
-use Rattle.inf_session.specs.declared.compiled.Status.TheVariants as status
-use Rattle.inf_session.specs.declared.faults.Fault.{Fault}
-use Rattle.inf_session.specs.declared.faults.Fault.TheVariants as fault
-use Rattle.inf_session.specs.Delivered.{EndsClean, SucceedsClean, TakesFront, story_in}
-use Rattle.inf_session.specs.Faults.{Caused, IfRead, IfStory, UnlessStory}
+use Rattle.inf_ending.specs.declared.compiled.Compiled.{Compiled}
+use Rattle.inf_ending.specs.declared.compiled.Status.{Status}
+use Rattle.inf_ending.specs.declared.compiled.Status.TheVariants as status
+use Rattle.inf_ending.specs.declared.faults.Fault.{Fault}
+use Rattle.inf_ending.specs.declared.faults.Fault.TheVariants as fault
+use Rattle.inf_ending.specs.Delivered.{EndsClean, SucceedsClean, TakesFront, story_in}
+use Rattle.inf_ending.specs.Faults.{Caused, IfRead, IfStory, UnlessStory}
 use Rattle.inf_compile.specs.Compiling.{Compiles, DeliversPart, HasCause, OnlyStory, TakesClean, TakesPart, TakesStory, named_by}
 use Rattle.inf_compile.specs.Compiling.{no_sources}
 use Rattle.inf_devices.specs.Sinks.{Takes}

@@ -41,7 +41,7 @@ use Rattle.inf_statements.specs.Effects as effects
 use Rattle.inf_statements.specs.Statements as statements
 use Rattle.inf_unit.specs.Messages as messages
 use Rattle.inf_unit.specs.Units as units
-use Rattle.inf_compilation.specs.Parts as work_parts
+use Rattle.inf_parts.specs.Parts as work_parts
 
 pub no_source : NoSource
 unfolding digits more

@@ -19,11 +19,12 @@ use Rattle.inf_sources.specs.Open.{opened_since}
 use Rattle.inf_sources.specs.declared.open_file.OpenFile.{OpenFile}
 use Rattle.inf_sources.proofs.Places.{innermost_of, last_of}
 use Rattle.inf_session.specs.Choices.{Choices}
-use Rattle.inf_session.specs.Faults.{IfRead}
+use Rattle.inf_ending.specs.Faults.{IfRead}
 use Rattle.inf_session.specs.Leading.{GivenUp, OpensAll, StopsAtInclusion, StopsFor, StopsInToken}
 use Rattle.inf_session.specs.Session.{State, has_ended, run, start, stepped}
-use Rattle.inf_session.specs.declared.faults.Fault.{Fault}
-use Rattle.inf_session.proofs.Leadings.{stops_more, takes_none}
+use Rattle.inf_ending.specs.declared.faults.Fault.{Fault}
+use Rattle.inf_session.proofs.Leadings.{stops_more}
+use Rattle.inf_ending.proofs.Delivering.{takes_none}
 use Rattle.inf_session.proofs.Standings.{if_read_more}
 use Rattle.inf_compile.specs.Comes.{AreAt, GivenUpFrom, Heard, IsUnread, OpenedSome, StopsReading, main_front, numbers_of}
 use Rattle.inf_compile.proofs.Heading.{heard_in_head}

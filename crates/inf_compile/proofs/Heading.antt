@@ -27,7 +27,7 @@ use Rattle.inf_sources.specs.Open.{AllGiven, AreNested, AreTracked, IsCounted, I
 use Rattle.inf_sources.specs.Open.{opened_since}
 use Rattle.inf_sources.specs.declared.open_file.OpenFile.{OpenFile}
 use Rattle.inf_sources.proofs.Places.{files_are, innermost_of, last_of}
-use Rattle.inf_session.proofs.Leadings.{takes_none}
+use Rattle.inf_ending.proofs.Delivering.{takes_none}
 use Rattle.inf_compile.specs.Chosen.{by_words, chosen_at, read_as}
 use Rattle.inf_compile.specs.Comes.{GivenUpInHead, HeardInHead, main_front}
 use Rattle.inf_command.specs.Heads.{HeadWords, head_from, head_of, no_head, take_head_word, with_head}

@@ -4,7 +4,7 @@ use Rattle.inf_settings.specs.Bounds.{limits_of}
 use Rattle.inf_devices.specs.Files.{Sources}
 use Rattle.inf_session.specs.Choices.{Choices}
 use Rattle.inf_compile.specs.OutcomeLaws.{OutcomesAreUnique}
-use Rattle.inf_session.specs.Ending.{Outcome}
+use Rattle.inf_ending.specs.Ending.{Outcome}
 use Rattle.inf_compile.specs.Outcome.{IsCompiled, IsOutcomeOf, ending_of}
 use Rattle.inf_session.specs.Session.{State, has_ended, start}
 use Rattle.inf_session.proofs.Leadings.{same_end}

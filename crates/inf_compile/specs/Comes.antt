@@ -9,18 +9,19 @@ use Rattle.inf_lexer.specs.declared.head.HeadPlace.TheVariants.{Line}
 use Rattle.inf_scanner.specs.Lines.{first_line}
 use Rattle.inf_session.specs.Choices.{Choices}
 use Rattle.inf_lexer.specs.Unread.{unread, unread_of}
-use Rattle.inf_session.specs.Leading.{CutsShort, GivenUp, IsFront, StopsAtInclusion, Writes}
+use Rattle.inf_session.specs.Leading.{CutsShort, GivenUp, StopsAtInclusion, Writes}
+use Rattle.inf_ending.specs.Delivered.{IsFront}
 use Rattle.inf_sources.specs.Cursors.{Cursor, Unfinished}
 use Rattle.inf_sources.specs.Heading.{HeadAt, StopsInHead, head_front}
 use Rattle.inf_sources.specs.Inclusions.{Nesting, cursors, innermost_name}
 use Rattle.inf_sources.specs.Open.{Each, IsFrontOf, IsGiven, IsNested, Open, files_of, lexers, nesting, opened_since}
-use Rattle.inf_session.specs.Delivered.{Delivers}
-use Rattle.inf_session.specs.Ending.{Outcome}
+use Rattle.inf_ending.specs.Delivered.{Delivers}
+use Rattle.inf_ending.specs.Ending.{Outcome}
 use Rattle.inf_compile.specs.Outcome.{IsOutcome, ending_of}
 use Rattle.inf_session.specs.Session.{IsRead, State, has_ended, run, start, stepped}
 use Rattle.inf_session.specs.Standing.{state}
 use Rattle.inf_session.specs.Veneer.{supplied}
-use Rattle.inf_session.specs.declared.compiled.Compiled.{Compiled}
+use Rattle.inf_ending.specs.declared.compiled.Compiled.{Compiled}
 use Rattle.inf_session.specs.declared.session.Session.{Session}
 
 -- The files that are open, the inner ones first, are those of openings behind the first `n`, each under the name of its number; and each

@@ -5,13 +5,13 @@ use Rattle.inf_devices.specs.Sinks.{Takes}
 use Rattle.inf_command.specs.FileNames.{source_name}
 use Rattle.inf_command.specs.Words.{Choice}
 use Rattle.inf_session.specs.Choices.{Choices}
-use Rattle.inf_session.specs.Delivered.{EndsClean}
-use Rattle.inf_session.specs.Ending.{Outcome}
+use Rattle.inf_ending.specs.Delivered.{EndsClean}
+use Rattle.inf_ending.specs.Ending.{Outcome}
 use Rattle.inf_compile.specs.Chosen.{chosen_for}
 use Rattle.inf_compile.specs.Outcome.{IsOutcome}
-use Rattle.inf_session.specs.declared.faults.Fault.{Fault}
-use Rattle.inf_session.specs.declared.faults.Fault.TheVariants as fault
-use Rattle.inf_session.specs.declared.compiled.Status.{Status}
+use Rattle.inf_ending.specs.declared.faults.Fault.{Fault}
+use Rattle.inf_ending.specs.declared.faults.Fault.TheVariants as fault
+use Rattle.inf_ending.specs.declared.compiled.Status.{Status}
 
 -- the choices of a reading, by the words of a command: with them the head of the source that they name, among these sources, decides
 -- each matter that they leave open

@@ -8,7 +8,7 @@ use Rattle.inf_settings.specs.Settings.{defaults}
 use Rattle.inf_devices.specs.Files.{Sources}
 use Rattle.inf_session.specs.Choices.{Choices}
 use Rattle.inf_compile.specs.Outcome.{IsOutcome}
-use Rattle.inf_session.specs.declared.compiled.Status.TheVariants as status
+use Rattle.inf_ending.specs.declared.compiled.Status.TheVariants as status
 
 abbrev pub name : List ℕ
 name = codes "t.inf"

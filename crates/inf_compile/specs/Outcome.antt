@@ -3,7 +3,7 @@ use Rattle.std.specs.Prelude.{◌≡◌, ℕ, List, ◌++◌, Option, Some, None
 use Rattle.inf_settings.specs.Bounds.{limits_of, Limits}
 use Rattle.inf_devices.specs.Files.{Sources}
 use Rattle.inf_session.specs.Choices.{Choices}
-use Rattle.inf_session.specs.Ending.{Outcome, finished, missing}
+use Rattle.inf_ending.specs.Ending.{Outcome, finished, missing}
 use Rattle.inf_session.specs.Session.{IsRead, State, start}
 use Rattle.inf_session.specs.Veneer.{supplied}
 

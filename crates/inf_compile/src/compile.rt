@@ -3,9 +3,9 @@ ghost use Rattle.inf_devices.specs.Sinks.{Takes};
 ghost use Rattle.inf_devices.specs.Files.{Rose};
 ghost use Rattle.inf_command.specs.FileNames.{source_name};
 ghost use Rattle.inf_compile.specs.Comes.{Begins, Heard, IsUnread, OpenedBy, OpenedPart};
-ghost use Rattle.inf_session.specs.Delivered.{TakesFront, story_in};
-ghost use Rattle.inf_session.specs.Ending.{missing};
-ghost use Rattle.inf_session.specs.Faults.{HidesNoFailure, IfRead, IfStory, UnlessStory};
+ghost use Rattle.inf_ending.specs.Delivered.{TakesFront, story_in};
+ghost use Rattle.inf_ending.specs.Ending.{missing};
+ghost use Rattle.inf_ending.specs.Faults.{HidesNoFailure, IfRead, IfStory, UnlessStory};
 ghost use Rattle.inf_compile.specs.Compiling.{Compiles, DeliversPart, HasCause, OnlyStory, TakesClean, TakesPart, TakesStory};
 ghost use Rattle.inf_compile.specs.Compiling.{chosen_by, named_by};
 
@@ -13,10 +13,10 @@ use crate::translation::translate;
 use inf_command::command_line::{Options, source_name};
 use inf_devices::files::Files;
 use inf_devices::sinks::{Sink, write_whole};
+use inf_ending::compiled::{Compiled, Status, written};
+use inf_ending::ending::no_file;
+use inf_ending::faults::Fault;
 use inf_names::hashing::NameHashing;
-use inf_session::compiled::{Compiled, Status, written};
-use inf_session::ending::no_file;
-use inf_session::faults::Fault;
 use std::alloc::Global;
 
 /// Writes a story, where there is one.

@@ -8,7 +8,7 @@ pub mod heads;
 mod laws;
 pub mod translation;
 
+pub use inf_ending::compiled::Status;
+pub use inf_ending::faults::Fault;
 pub use inf_names::hashing::NameHashing;
-pub use inf_session::compiled::Status;
-pub use inf_session::faults::Fault;
 pub use laws::{outcomes_are_unique, sources_have_outcomes, sources_have_these_outcomes};

@@ -11,7 +11,7 @@ use Rattle.inf_gathering.specs.declared.gathering.Leaf.TheVariants as leaf
 use Rattle.inf_names.specs.Symbols.{Table, declared_before, found_in, no_names}
 use Rattle.inf_output.specs.Actions.{action_of}
 use Rattle.inf_output.specs.Output.{Code, Out}
-use Rattle.inf_statements.specs.Operands.{found_operand, looked_action, system_operand}
+use Rattle.inf_operands.specs.Operands.{found_operand, looked_action, system_operand}
 use Rattle.inf_names.specs.Spellings.{Name}
 use Rattle.inf_unit.specs.Tokens.{SourceToken}
 use Rattle.inf_unit.specs.Units.{bytes_at, name_at}

@@ -8,10 +8,10 @@ use inf_area::{Scale, Target};
 use inf_expressions::Operand;
 use inf_gathering::gathering::Leaf;
 use inf_names::symbols::Symbols;
+use inf_operands::operands::{found_operand, looked_action, system_operand};
 use inf_output::Output;
 use inf_scanner::Place;
 use inf_settings::bounds::{Bounds, Unbounded};
-use inf_statements::operands::{found_operand, looked_action, system_operand};
 use inf_unit::unit_tokens::{NameToken, UnitTokens};
 use std::alloc::{AllocError, Global};
 

@@ -24,10 +24,11 @@ use Rattle.inf_constructs.specs.declared.constructs.Construct.{Construct}
 use Rattle.inf_constructs.specs.declared.constructs.Kind.TheVariants as kind
 use Rattle.inf_compilation.specs.Context.{Context}
 use Rattle.inf_compilation.specs.Actions.{Compilation, named, passed, settled_of, trees_at}
-use Rattle.inf_compilation.specs.Parts.{actions_named, constructs_laid, found_in, has_last, is_default, part_begun, part_carried}
-use Rattle.inf_compilation.specs.Parts.{part_effect, part_finished, part_prepared, place_of, site_of, statement_at}
-use Rattle.inf_compilation.specs.declared.parts.Part.{Part}
-use Rattle.inf_compilation.specs.declared.parts.Part.TheVariants as part
+use Rattle.inf_parts.specs.Parts.{actions_named, found_in, has_last, is_default, part_begun, part_carried}
+use Rattle.inf_compilation.specs.Nesting.{constructs_laid}
+use Rattle.inf_parts.specs.Parts.{part_effect, part_finished, part_prepared, place_of, site_of, statement_at}
+use Rattle.inf_parts.specs.declared.parts.Part.{Part}
+use Rattle.inf_parts.specs.declared.parts.Part.TheVariants as part
 use Rattle.inf_statements.specs.Effects.{Site, statement_code, statement_laid}
 use Rattle.inf_statements.specs.Statements.{alone, switched, tested}
 use Rattle.inf_statements.specs.declared.statements.Statement.{Statement}

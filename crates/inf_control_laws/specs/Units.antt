@@ -18,9 +18,9 @@ use Rattle.inf_constructs.specs.declared.constructs.Construct.{Construct}
 use Rattle.inf_constructs.specs.declared.constructs.Kind.TheVariants as kind
 use Rattle.inf_compilation.specs.Context.{Context}
 use Rattle.inf_compilation.specs.Actions.{Compilation, named, settled_of, trees_at}
-use Rattle.inf_compilation.specs.Parts.{case_prepared, found_in, is_default, order_of, part_begun, part_prepared, statement_at, wanted_of}
-use Rattle.inf_compilation.specs.declared.parts.Part.{Part}
-use Rattle.inf_compilation.specs.declared.parts.Part.TheVariants as part
+use Rattle.inf_parts.specs.Parts.{case_prepared, found_in, is_default, order_of, part_begun, part_prepared, statement_at, wanted_of}
+use Rattle.inf_parts.specs.declared.parts.Part.{Part}
+use Rattle.inf_parts.specs.declared.parts.Part.TheVariants as part
 use Rattle.inf_reader.specs.Acting.{act}
 use Rattle.inf_output.specs.declared.items.Item.{Item}
 use Rattle.inf_interpreter.specs.Machine.{World, ◌then◌, with_variable}

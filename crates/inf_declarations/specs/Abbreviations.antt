@@ -26,12 +26,12 @@ use Rattle.inf_output.specs.Output.{Code, Out, passed_table, with_low_text}
 use Rattle.inf_report.specs.declared.messages.FixedLimit.TheVariants as countable
 use Rattle.inf_unit.specs.Tokens.{SourceToken}
 use Rattle.inf_unit.specs.Units.{first_place, name_order, quoted_in}
-use Rattle.inf_statements.specs.Statements.{text_packed}
+use Rattle.inf_operands.specs.Texts.{text_packed}
 use Rattle.inf_compilation.specs.Context.{Context}
 use Rattle.inf_compilation.specs.Actions.{Compilation, passed, unit_ended}
 use Rattle.inf_compilation.specs.Findings.{Findings, found_alone}
-use Rattle.inf_declarations.specs.Declarations.{declaration_ended, name_declared, plainly_known}
-use Rattle.inf_declarations.specs.declared.declarations.Declared.{Declared}
+use Rattle.inf_named_values.specs.Declarations.{declaration_ended, name_declared, plainly_known}
+use Rattle.inf_named_values.specs.declared.declarations.Declared.{Declared}
 
 -- the error of a fault in a text, where no definition answers the fault `Memory`
 abbrev pub fault_error : TextFault → UnitError

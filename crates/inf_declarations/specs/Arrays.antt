@@ -1,5 +1,5 @@
 -- The directive `Array`: its header, and its entries one by one. Designer's Manual, fourth edition, section 2.4.
-use Rattle.std.specs.Prelude.{ℕ, ◌+◌, ◌==◌, List, [], ◌∷◌, length, map, codes, Bool, true, false, not, ◌&&◌, ◌||◌, if◌then◌else◌, Option}
+use Rattle.std.specs.Prelude.{ℕ, ◌+◌, ◌==◌, List, [], ◌∷◌, length, map, codes, Bool, true, false, not, ◌&&◌, if◌then◌else◌, Option}
 use Rattle.std.specs.Prelude.{Some, None}
 use Rattle.std.specs.Str.{str_eq_ignore_ascii_case}
 use Rattle.inf_settings.specs.Bounds.{Limits, unbounded}
@@ -26,16 +26,17 @@ use Rattle.inf_scanner.specs.declared.tokens.Place.{Place}
 use Rattle.inf_scanner.specs.declared.tokens.TokenKind.{TokenKind}
 use Rattle.inf_scanner.specs.declared.tokens.TokenKind.TheVariants as kind
 use Rattle.inf_settings.specs.declared.setting.Setting.TheVariants as setting
-use Rattle.inf_statements.specs.Printing.{text_at}
-use Rattle.inf_constructs.specs.Roots.{tree_in}
+use Rattle.inf_operands.specs.Texts.{text_at}
 use Rattle.inf_names.specs.Spellings.{Name}
 use Rattle.inf_compilation.specs.Context.{Context}
 use Rattle.inf_unit.specs.Tokens.{SourceToken}
 use Rattle.inf_unit.specs.Units.{bytes_at, first_place, kind_at, name_order}
-use Rattle.inf_compilation.specs.Actions.{Compilation, finding_at, operands_of, passed, settled_of, trees_at, unit_ended}
-use Rattle.inf_declarations.specs.Declarations.{declared_ended, name_declared, plainly_known, value_in, value_of}
+use Rattle.inf_compilation.specs.Actions.{Compilation, finding_at, passed, settled_of, unit_ended}
+use Rattle.inf_named_values.specs.Declarations.{declared_ended, name_declared, plainly_known}
+use Rattle.inf_named_values.specs.Values.{value_of}
 use Rattle.inf_compilation.specs.Findings.{found_alone, nothing_found}
-use Rattle.inf_declarations.specs.declared.declarations.Declared.{Declared}
+use Rattle.inf_named_values.specs.declared.declarations.Declared.{Declared}
+use Rattle.inf_named_values.specs.Values.{looked_value, variables_from}
 
 -- The header
 
@@ -113,14 +114,6 @@ abbrev pub bare_text : Bool → Compilation → Option ℕ
 bare_text alone w = if alone && (length w.unit.gathering.symbols == 1) then bare_leaf w.unit.gathering.leaves else None
 
 -- the codes of characters, of which none may be that of a string variable
-abbrev pub is_variable : TextItem → Bool
-is_variable (text_item.Variable n) = true
-is_variable (text_item.Character z) = false
-
-abbrev pub variables_from : List TextItem → Bool → Bool
-variables_from [] found = found
-variables_from (i ∷ items) found = variables_from items (found || is_variable i)
-
 abbrev pub code_of : TextItem → ℕ
 code_of (text_item.Variable n) = 0
 code_of (text_item.Character z) = z
@@ -153,10 +146,6 @@ abbrev pub adding : Bool → Value → Adding
 adding true (value.Known count) = Zeros count
 adding true v = One v
 adding false v = One v
-
--- the value of the unit's expression, where its names are only looked up
-abbrev pub looked_value : Compilation → Value
-looked_value w = value_in (map tree_in (trees_at 0 wanted.Constant (operands_of w) w))
 
 abbrev pub own_finding : Limits → Context → Option ℕ → Bool → Compilation → Option Finding
 own_finding limits context (Some at) alone w = text_finding limits (text_at context.set w.unit.tokens at) w

@@ -9,7 +9,7 @@ use Rattle.inf_expressions.specs.declared.units.Wanted.TheVariants as wanted
 use Rattle.inf_expressions.specs.Findings.{no_constant, out_of_range}
 use Rattle.inf_expressions.specs.Trees.{Tree, Leaf}
 use Rattle.inf_constructs.specs.Roots.{tree_in}
-use Rattle.inf_statements.specs.Operands.{leaf_added}
+use Rattle.inf_operands.specs.Operands.{leaf_added}
 use Rattle.inf_unit.specs.Units.{quoted_in}
 use Rattle.inf_compilation.specs.Context.{Context}
 use Rattle.inf_compilation.specs.Actions.{Compilation, finding_at, operands_of, trees_at, unit_ended}

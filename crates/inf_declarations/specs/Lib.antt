@@ -1,4 +1,6 @@
-pub mod Declarations
+pub mod Attributes
+pub mod Properties
+pub mod Globals
 pub mod Defaults
 pub mod Switches
 pub mod Abbreviations

@@ -13,12 +13,12 @@ ghost use Rattle.inf_declarations.specs.Abbreviations.{has_most_abbreviations, l
 ghost use Rattle.inf_declarations.specs.Abbreviations.{low_string_added, low_string_with, named_nothing, or_error, refused_error};
 ghost use Rattle.inf_declarations.specs.Abbreviations.{low_unless, text_declared};
 
-use crate::declarations::{Declared, declare, end_declaration, plainly_known};
 use inf_compilation::compilation::Compilation;
 use inf_compilation::context::Context;
 use inf_compilation::findings::Findings;
 use inf_expressions::{Finding, UnitError};
 use inf_lexer::Place;
+use inf_named_values::declarations::{Declared, declare, end_declaration, plainly_known};
 use inf_names::meanings::Meaning;
 use inf_names::spellings::Name;
 use inf_output::Output;

@@ -2,15 +2,18 @@
 ghost use Rattle.inf_compilation.specs.Context.{handed};
 ghost use Rattle.std.specs.Prelude.{OnOk, map, ◌≡◌};
 ghost use Rattle.inf_names.specs.Spellings.{as_name};
-ghost use Rattle.inf_declarations.specs.Declarations.{attribute, attribute_added, attribute_ended, attribute_number, attribute_with};
-ghost use Rattle.inf_declarations.specs.Declarations.{has_most_attributes, is_alias, name_known, new_attribute};
+ghost use Rattle.inf_declarations.specs.Attributes.{attribute, attribute_added, attribute_ended, attribute_number, attribute_with};
+ghost use Rattle.inf_named_values.specs.Declarations.{is_alias, name_known};
+ghost use Rattle.inf_declarations.specs.Attributes.{has_most_attributes, new_attribute};
 ghost use Rattle.inf_compilation.specs.Works.{work};
 
-use crate::declarations::{Declared, alias, declare, end_declaration, is_alias, name_known};
 use inf_compilation::compilation::Compilation;
 use inf_compilation::context::Context;
 use inf_expressions::Finding;
 use inf_lexer::Place;
+use inf_named_values::declarations::{
+    Declared, alias, declare, end_declaration, is_alias, name_known,
+};
 use inf_names::meanings::Meaning;
 use inf_names::spellings::Name;
 use inf_report::messages::FixedLimit;

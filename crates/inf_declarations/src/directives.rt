@@ -18,7 +18,6 @@ ghost use Rattle.inf_declarations.specs.Defaults.{default};
 ghost use Rattle.inf_compilation.specs.Meant.{again_as, found_as};
 ghost use Rattle.inf_compilation.specs.Works.{work};
 
-use crate::values::add_leaf;
 use inf_area::Value;
 use inf_assembler::RoutineKind;
 use inf_compilation::compilation::Compilation;
@@ -27,6 +26,7 @@ use inf_compilation::findings::{Again, Findings, again_by, again_finding};
 use inf_expressions::{Finding, Forest, constant as constant_in, least_of_both};
 use inf_gathering::gathering::Leaf;
 use inf_lexer::Place;
+use inf_named_values::values::add_leaf;
 use inf_names::meanings::Meaning;
 use inf_names::spellings::Name;
 use inf_names::symbols::{DeclareFault, Found};

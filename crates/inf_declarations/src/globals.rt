@@ -2,17 +2,20 @@
 ghost use Rattle.inf_compilation.specs.Context.{handed};
 ghost use Rattle.std.specs.Prelude.{OnOk, map, ◌≡◌};
 ghost use Rattle.inf_names.specs.Spellings.{as_name};
-ghost use Rattle.inf_declarations.specs.Declarations.{global_added, global_ended, global_variable, global_with, has_most_globals};
-ghost use Rattle.inf_declarations.specs.Declarations.{new_global, nothing_of, valued};
+ghost use Rattle.inf_declarations.specs.Globals.{global_added, global_ended, global_variable, global_with, has_most_globals};
+ghost use Rattle.inf_named_values.specs.Declarations.{nothing_of, valued};
+ghost use Rattle.inf_declarations.specs.Globals.{new_global};
 ghost use Rattle.inf_compilation.specs.Works.{work};
 
-use crate::declarations::{Declared, FIRST_GLOBAL, declare, end_declaration, nothing_of, valued};
-use crate::values::value;
 use inf_area::Value;
 use inf_compilation::compilation::Compilation;
 use inf_compilation::context::Context;
 use inf_expressions::Finding;
 use inf_lexer::Place;
+use inf_named_values::declarations::{
+    Declared, FIRST_GLOBAL, declare, end_declaration, nothing_of, valued,
+};
+use inf_named_values::values::value;
 use inf_names::meanings::Meaning;
 use inf_names::spellings::Name;
 use inf_report::messages::FixedLimit;

@@ -8,13 +8,13 @@ ghost use Rattle.inf_compilation.specs.Works.{work};
 ghost use Rattle.inf_declarations.specs.Headers.{is_digit, known_number, release, release_ended, release_finding, release_told};
 ghost use Rattle.inf_declarations.specs.Headers.{release_with, serial, serial_by, serial_in};
 
-use crate::values::add_leaf;
 use inf_area::Value;
 use inf_compilation::compilation::Compilation;
 use inf_compilation::context::Context;
 use inf_compilation::findings::Findings;
 use inf_expressions::{Finding, Forest, constant as constant_in};
 use inf_lexer::Place;
+use inf_named_values::values::add_leaf;
 use inf_settings::bounds::Bounds;
 use std::alloc::AllocError;
 

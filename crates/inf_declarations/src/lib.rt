@@ -5,10 +5,8 @@
 pub mod abbreviations;
 pub mod arrays;
 pub mod attributes;
-pub mod declarations;
 pub mod directives;
 pub mod globals;
 pub mod headers;
 pub mod properties;
 pub mod switches;
-pub mod values;

@@ -2,20 +2,23 @@
 ghost use Rattle.inf_compilation.specs.Context.{handed};
 ghost use Rattle.std.specs.Prelude.{IfOk, OnOk, map, ◌≡◌};
 ghost use Rattle.inf_names.specs.Spellings.{as_name};
-ghost use Rattle.inf_declarations.specs.Declarations.{has_most_properties, is_additive, is_additive_word, is_alias, name_known};
-ghost use Rattle.inf_declarations.specs.Declarations.{new_property, nothing_of, property, property_added, property_ended, property_named};
-ghost use Rattle.inf_declarations.specs.Declarations.{property_names, property_number, property_order, property_with, valued};
+ghost use Rattle.inf_named_values.specs.Declarations.{is_additive, is_additive_word, is_alias, name_known};
+ghost use Rattle.inf_declarations.specs.Properties.{has_most_properties};
+ghost use Rattle.inf_named_values.specs.Declarations.{nothing_of};
+ghost use Rattle.inf_declarations.specs.Properties.{new_property, property, property_added, property_ended, property_named};
+ghost use Rattle.inf_named_values.specs.Declarations.{valued};
+ghost use Rattle.inf_declarations.specs.Properties.{property_names, property_number, property_order, property_with};
 ghost use Rattle.inf_compilation.specs.Works.{work};
 
-use crate::declarations::{
-    Declared, alias, declare, end_declaration, is_alias, nothing_of, valued,
-};
-use crate::values::value;
 use inf_area::Value;
 use inf_compilation::compilation::Compilation;
 use inf_compilation::context::Context;
 use inf_expressions::Finding;
 use inf_lexer::Place;
+use inf_named_values::declarations::{
+    Declared, alias, declare, end_declaration, is_alias, nothing_of, valued,
+};
+use inf_named_values::values::value;
 use inf_names::meanings::Meaning;
 use inf_names::spellings::Name;
 use inf_report::messages::FixedLimit;

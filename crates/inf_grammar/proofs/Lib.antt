@@ -3,3 +3,4 @@ pub mod OpenStacks
 pub mod OpenRoutines
 pub mod CodeTables
 pub mod SourceLaws
+pub mod Spaced

@@ -27,7 +27,8 @@ use Rattle.inf_language.specs.Units.{TakeAll}
 use Rattle.inf_language.proofs.ConstantsDone.{IsReadBy, constant_happenings, constants_do}
 use Rattle.inf_language.proofs.Derivations.{happenings-append, last_apart, past_action, past_read, past_token, seen_front, texts_take_all}
 use Rattle.inf_language.proofs.ExpressionsTold.{fields_stay, with_expression}
-use Rattle.inf_language.proofs.TextsActed.{rule_is_spaced, texts_do_their_actions}
+use Rattle.inf_language.proofs.TextsActed.{texts_do_their_actions}
+use Rattle.inf_grammar.proofs.Spaced.{rule_is_spaced}
 use Rattle.inf_language.proofs.TextsSplit.{assign_steps, only_steps, split}
 
 -- The steps of the machine at the word and at the sign, by evaluation

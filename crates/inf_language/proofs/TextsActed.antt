@@ -22,10 +22,7 @@ use Rattle.inf_statement_laws.specs.Readings.{token_happenings}
 use Rattle.inf_statement_laws.proofs.Laying.{run_then}
 use Rattle.inf_statement_laws.proofs.Reading.{tokens_happen}
 use Rattle.inf_language.specs.Texts.{NoneClosesAhead, TextsDoTheirActions, atoms_of, happenings_of}
-
--- a rule alone is followed by nothing that could begin as it does
-pub rule_is_spaced : (rule : ℕ) → IsSpaced grammar known (Rule rule ∷ [])
-rule_is_spaced rule = ((λ atom f. cc), tt)
+use Rattle.inf_grammar.proofs.Spaced.{rule_is_spaced}
 
 -- The happenings of the events of a text, token by token
 

@@ -8,7 +8,7 @@ use Rattle.inf_unit.specs.Tokens.{SourceToken}
 use Rattle.inf_unit.specs.Units.{bytes_at}
 use Rattle.inf_unit.specs.declared.items.Item.{Item}
 use Rattle.inf_unit.specs.declared.items.Item.TheVariants as item
-use Rattle.inf_statements.specs.Operands.{leaves_named, stores_named}
+use Rattle.inf_operands.specs.Operands.{leaves_named, stores_named}
 use Rattle.inf_language.specs.NamedLocals.{UnitsNameTheirLocals, leaves_names, stores_names}
 
 named-append : (first second : List Name) (locals : List Local)

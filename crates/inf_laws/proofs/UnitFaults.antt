@@ -20,10 +20,10 @@ use Rattle.inf_compilation.specs.Actions.{Compilation, constant_added, constant_
 use Rattle.inf_compilation.specs.Actions.{constant_of, finding_at, named, operands_of, passed, settled_of, trees_at, unit_ended}
 use Rattle.inf_compilation.specs.Context.{Context}
 use Rattle.inf_compilation.specs.Findings.{Findings, again_by, again_finding, found_alone, told_as}
-use Rattle.inf_compilation.specs.Parts.{found_in, has_last, order_of, own_finding, part_begun, part_carried}
-use Rattle.inf_compilation.specs.Parts.{part_effect, part_ended, part_finished, place_of, site_of, wanted_of}
-use Rattle.inf_compilation.specs.declared.parts.Part.{Part}
-use Rattle.inf_compilation.specs.declared.parts.Part.TheVariants as part
+use Rattle.inf_parts.specs.Parts.{found_in, has_last, order_of, own_finding, part_begun, part_carried}
+use Rattle.inf_parts.specs.Parts.{part_effect, part_ended, part_finished, place_of, site_of, wanted_of}
+use Rattle.inf_parts.specs.declared.parts.Part.{Part}
+use Rattle.inf_parts.specs.declared.parts.Part.TheVariants as part
 use Rattle.inf_laws.specs.Findings.{told_behind}
 use Rattle.inf_laws.specs.UnitFaults.{ConstantsTellTheLeast, IsLeastOf, PartsTellTheLeast, listed, own_faults, ready}
 use Rattle.inf_laws.specs.UnitFaults.{value_faults}

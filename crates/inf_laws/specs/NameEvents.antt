@@ -18,7 +18,7 @@ use Rattle.inf_unit.specs.Names.{with_all_undeclared}
 use Rattle.inf_names.specs.declared.symbols.DeclareFault.{DeclareFault}
 use Rattle.inf_names.specs.declared.symbols.DeclareFault.TheVariants as declaring
 use Rattle.inf_output.specs.Output.{Out, declared}
-use Rattle.inf_statements.specs.Operands.{settled_by}
+use Rattle.inf_operands.specs.Operands.{settled_by}
 
 -- a name is declared with a meaning, or used as it is spelled, at a place
 pub data Event : Type 0 where

@@ -16,9 +16,9 @@ use Rattle.inf_unit.specs.Units.{name_order, order}
 use Rattle.inf_compilation.specs.Actions.{Compilation, constant, constant_of, finding_at, operands_of, trees_at}
 use Rattle.inf_compilation.specs.Context.{Context}
 use Rattle.inf_compilation.specs.Findings.{Findings, again_by, again_finding, told_as}
-use Rattle.inf_compilation.specs.Parts.{case_prepared, order_of, own_finding, part_ended, part_prepared, place_of, site_of, wanted_of}
-use Rattle.inf_compilation.specs.declared.parts.Part.{Part}
-use Rattle.inf_compilation.specs.declared.parts.Part.TheVariants as part
+use Rattle.inf_parts.specs.Parts.{case_prepared, order_of, own_finding, part_ended, part_prepared, place_of, site_of, wanted_of}
+use Rattle.inf_parts.specs.declared.parts.Part.{Part}
+use Rattle.inf_parts.specs.declared.parts.Part.TheVariants as part
 use Rattle.inf_laws.specs.Findings.{told_behind}
 
 -- Nothing is found where nothing is wrong; else a finding that is one of all, before which none of these comes, by the order of their tokens

@@ -15,7 +15,8 @@ use Rattle.inf_unit.specs.Directives.{End, Include, directive_of, weight_of}
 use Rattle.inf_unit.specs.Messages.{location, with_words}
 use Rattle.inf_unit.specs.Roles.{ends_outer, ends_token, ends_value, is_arrow, is_text, is_verb_word, makes_sure, role_of}
 use Rattle.inf_unit.specs.Tokens.{SourceToken}
-use Rattle.inf_unit.specs.Units.{directive_word, first_place, is_full, names_in, noted as unit_noted, quoted_in, stepped, taken as unit_taken}
+use Rattle.inf_unit.specs.Units.{directive_word, first_place, is_full, names_in, noted as unit_noted, quoted_in, stepped}
+use Rattle.inf_unit.specs.Units.{taken as unit_taken}
 use Rattle.inf_unit.specs.declared.directives.Directive.{Directive}
 use Rattle.inf_unit.specs.declared.directives.Directive.TheVariants as directive
 use Rattle.inf_unit.specs.declared.roles.Ending.{Ending}
@@ -27,9 +28,10 @@ use Rattle.inf_compilation.specs.Actions.{Compilation, body_ended, code_begun, c
 use Rattle.inf_compilation.specs.Actions.{opens, sized, took, words_of}
 use Rattle.inf_compilation.specs.Context.{Context}
 use Rattle.inf_compilation.specs.Findings.{nothing_found}
-use Rattle.inf_compilation.specs.Parts.{statement_at}
-use Rattle.inf_compilation.specs.declared.parts.Part.TheVariants as part
-use Rattle.inf_reader.specs.Acting.{act, acted, all_acted, cut_at, ended, held_ended, is_crowded, is_long, is_tall, is_wordy, kind_of, noted, noted_of}
+use Rattle.inf_parts.specs.Parts.{statement_at}
+use Rattle.inf_parts.specs.declared.parts.Part.TheVariants as part
+use Rattle.inf_reader.specs.Acting.{act, acted, all_acted, cut_at, ended, held_ended, is_crowded, is_long, is_tall, is_wordy, kind_of}
+use Rattle.inf_reader.specs.Acting.{noted, noted_of}
 use Rattle.inf_reader.specs.Acting.{played}
 use Rattle.inf_reader.specs.Directives.{carried_out, code_begun_by, directive_end, directive_of_names, fit_ended}
 use Rattle.inf_reader.specs.Headers.{class_named, directive_header, header_as, header_ended, heading_of}
@@ -37,13 +39,15 @@ use Rattle.inf_reader.specs.declared.headers.Heading.{Heading}
 use Rattle.inf_reader.specs.declared.headers.Heading.TheVariants as heading
 use Rattle.inf_limit_laws.specs.Rooms.{Before}
 use Rattle.inf_limit_laws.specs.Within.{Ends, Steps}
-use Rattle.inf_limit_laws.proofs.Bodies.{attribute_read_steps, body_steps, class_read_steps, class_steps, embedded_read_steps, given_up_steps}
+use Rattle.inf_limit_laws.proofs.Bodies.{attribute_read_steps, body_steps, class_read_steps, class_steps, embedded_read_steps}
+use Rattle.inf_limit_laws.proofs.Bodies.{given_up_steps}
 use Rattle.inf_limit_laws.proofs.Bodies.{object_steps, property_read_steps, value_read_steps}
 use Rattle.inf_limit_laws.proofs.Declaring.{abbreviate_steps, abbreviation_steps, array_steps, attribute_steps, entry_steps, global_steps}
 use Rattle.inf_limit_laws.proofs.Declaring.{low_string_steps, property_steps, release_steps, serial_steps, switches_steps}
 use Rattle.inf_limit_laws.proofs.Leaving.{Few}
 use Rattle.inf_limit_laws.proofs.Outputs.{begin_keeps}
-use Rattle.inf_limit_laws.proofs.Units.{close_steps, closing_steps, constant_steps, default_steps, header_steps, joining_steps, opening_steps}
+use Rattle.inf_limit_laws.proofs.Units.{close_steps, closing_steps, constant_steps, default_steps, header_steps, joining_steps}
+use Rattle.inf_limit_laws.proofs.Units.{opening_steps}
 use Rattle.inf_limit_laws.proofs.Units.{part_steps, replace_steps, stub_steps}
 use Rattle.inf_limit_laws.proofs.VerbLines.{extend_steps, fake_steps, line_steps, verb_steps}
 use Rattle.inf_limit_laws.proofs.Ways.{lay_of, lays_step, nested_steps, passed_steps, report_steps, sized_steps, stays}

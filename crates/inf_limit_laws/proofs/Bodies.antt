@@ -26,24 +26,29 @@ use Rattle.inf_tables.specs.declared.kinds.Parent.{Parent}
 use Rattle.inf_unit.specs.Units.{first_place, name_at, name_order}
 use Rattle.inf_bodies.specs.Bodies.{attribute_finding, attribute_of, attribute_read, attribute_set_by, attribute_set_some}
 use Rattle.inf_bodies.specs.Bodies.{class_finding, class_read, further_added, further_added_by, further_found, further_placed, given}
-use Rattle.inf_bodies.specs.Bodies.{given_finding, given_with, individual_declared, individual_given, individual_given_by, is_given, is_words}
+use Rattle.inf_bodies.specs.Bodies.{given_finding, given_with, individual_declared, individual_given, individual_given_by, is_given}
+use Rattle.inf_bodies.specs.Bodies.{is_words}
 use Rattle.inf_bodies.specs.Bodies.{last_at, place_finding, placed, property_given, property_given_by, property_gives_by}
 use Rattle.inf_bodies.specs.Bodies.{property_lost, property_of, property_read}
-use Rattle.inf_bodies.specs.Objects.{class_begun, class_begun_by, class_declared, class_header, class_lost, class_of, class_of_word, class_opened}
+use Rattle.inf_bodies.specs.Objects.{class_begun, class_begun_by, class_declared, class_header, class_lost, class_of, class_of_word}
+use Rattle.inf_bodies.specs.Objects.{class_opened}
 use Rattle.inf_bodies.specs.Objects.{entry_told, found_at, header_in, joined_by, joined_fault, joined_some, lost_begun, lost_begun_by}
-use Rattle.inf_bodies.specs.Objects.{noted, object_begun, object_begun_by, object_declared, object_ended, object_header, object_known, object_lost}
+use Rattle.inf_bodies.specs.Objects.{noted, object_begun, object_begun_by, object_declared, object_ended, object_header, object_known}
+use Rattle.inf_bodies.specs.Objects.{object_lost}
 use Rattle.inf_bodies.specs.Objects.{object_opened, object_with, own_name, parent_in, setting_of}
 use Rattle.inf_bodies.specs.ShortNames.{bracketed, name_packed, packed_name, short_text}
 use Rattle.inf_bodies.specs.Values.{any_placed, bracket_in, embedded, embedded_read, found_embedded}
-use Rattle.inf_bodies.specs.Values.{next_routine, place_before, routine_placed, settled_work, takes_words, text_finding_by, text_placed, value_by}
+use Rattle.inf_bodies.specs.Values.{next_routine, place_before, routine_placed, settled_work, takes_words, text_finding_by, text_placed}
+use Rattle.inf_bodies.specs.Values.{value_by}
 use Rattle.inf_bodies.specs.Values.{value_finding, value_placed, value_read, word_text, word_used, wrong_if, name_place, text_value}
 use Rattle.inf_bodies.specs.declared.headers.Header.{Header}
 use Rattle.inf_compilation.specs.Actions.{Compilation, body_ended, finding_at, given_up, settled_of, world_ended_by}
 use Rattle.inf_compilation.specs.Context.{Context}
 use Rattle.inf_compilation.specs.Findings.{found_alone}
-use Rattle.inf_declarations.specs.Arrays.{looked_value, variables_from}
-use Rattle.inf_declarations.specs.Declarations.{declared_findings, plainly_known, value_of, with_world}
-use Rattle.inf_declarations.specs.declared.declarations.Declared.{Declared}
+use Rattle.inf_named_values.specs.Values.{looked_value, variables_from}
+use Rattle.inf_named_values.specs.Declarations.{declared_findings, plainly_known, with_world}
+use Rattle.inf_named_values.specs.Values.{value_of}
+use Rattle.inf_named_values.specs.declared.declarations.Declared.{Declared}
 use Rattle.inf_limit_laws.specs.Rooms.{Before, Counted, Keeps}
 use Rattle.inf_limit_laws.specs.Within.{Ends, Lays, Steps}
 use Rattle.inf_limit_laws.proofs.Outputs.{declare_keeps, none_open_keeps, table_keeps, word_keeps}

@@ -34,9 +34,11 @@ use Rattle.inf_unit.specs.Tokens.{SourceToken}
 use Rattle.inf_unit.specs.Units.{bytes_at, name_at}
 use Rattle.inf_verbs.specs.Routines.{action_fault}
 use Rattle.inf_verbs.specs.declared.routines.ActionFault.{ActionFault}
-use Rattle.inf_constructs.specs.Cases.{case_code, case_tested, group_tested, grouped, is_empty, is_open, laid_before, operand_in, range_tested}
+use Rattle.inf_constructs.specs.Cases.{case_code, case_tested, group_tested, grouped, is_empty, is_open, laid_before, operand_in}
+use Rattle.inf_constructs.specs.Cases.{range_tested}
 use Rattle.inf_constructs.specs.Cases.{SWITCHED, beside, value_grouped, value_laid, within}
-use Rattle.inf_constructs.specs.Constructs.{Laying, all_ended, begun, between, case_closed, case_entered, cases_begun, changed, closed, ended}
+use Rattle.inf_constructs.specs.Constructs.{Laying, all_ended, begun, between, case_closed, case_entered, cases_begun, changed, closed}
+use Rattle.inf_constructs.specs.Constructs.{ended}
 use Rattle.inf_constructs.specs.Constructs.{ending, entered, entered_by, front, joint, looped, looped_by, looped_on, looped_over, opened}
 use Rattle.inf_constructs.specs.Constructs.{over_all, over_children, tested_over, with_labels}
 use Rattle.inf_constructs.specs.declared.constructs.Case.{Case}
@@ -46,10 +48,10 @@ use Rattle.inf_constructs.specs.declared.constructs.Kind.{Kind}
 use Rattle.inf_constructs.specs.declared.constructs.Kind.TheVariants as kind
 use Rattle.inf_constructs.specs.declared.constructs.Over.{Over}
 use Rattle.inf_constructs.specs.declared.constructs.Over.TheVariants as over
-use Rattle.inf_statements.specs.Operands.{Settled, is_stack, leaf_added, one_added, settled, settled_action, settled_alone, settled_by}
-use Rattle.inf_statements.specs.Operands.{settled_leaf, settled_name, settled_text, with_settled}
-use Rattle.inf_statements.specs.Printing.{text_at}
-use Rattle.inf_statements.specs.Statements.{text_packed}
+use Rattle.inf_operands.specs.Operands.{Settled, is_stack, leaf_added, one_added, settled, settled_action, settled_alone, settled_by}
+use Rattle.inf_operands.specs.Operands.{settled_leaf, settled_name, settled_text, with_settled}
+use Rattle.inf_operands.specs.Texts.{text_at}
+use Rattle.inf_operands.specs.Texts.{text_packed}
 use Rattle.inf_limit_laws.specs.Rooms.{Before, Counted, Keeps, Sound}
 use Rattle.inf_limit_laws.proofs.Outputs.{declare_keeps, items_keep, refer_keeps, table_keeps, text_keeps, word_keeps}
 use Rattle.inf_limit_laws.proofs.Statements.{Gives, gives_code}

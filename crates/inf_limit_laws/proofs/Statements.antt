@@ -31,22 +31,28 @@ use Rattle.inf_unit.specs.declared.items.PrintRule.{PrintRule}
 use Rattle.inf_unit.specs.declared.items.PrintRule.TheVariants as rule
 use Rattle.inf_constructs.specs.Constructs.{Laying, left_to}
 use Rattle.inf_constructs.specs.Labels.{NamedLabel}
-use Rattle.inf_statements.specs.Assembly.{branch_to, branched, branched_to, ends_of, fits, instructed, jumped_on, labelled, line_instructed, line_laid}
-use Rattle.inf_statements.specs.Assembly.{line_laid_as, line_laid_by, named_first, placed, printing_of, some_printed, store_of, text_printed}
+use Rattle.inf_statements.specs.Assembly.{branch_to, branched, branched_to, ends_of, fits, instructed, jumped_on, labelled, line_instructed}
+use Rattle.inf_statements.specs.Assembly.{line_laid}
+use Rattle.inf_statements.specs.Assembly.{line_laid_as, line_laid_by, named_first, placed, printing_of, some_printed, store_of}
+use Rattle.inf_statements.specs.Assembly.{text_printed}
 use Rattle.inf_statements.specs.Effects.{Site, jump_laid, last_text, name_behind, place_laid, statement_code, statement_laid}
-use Rattle.inf_statements.specs.Printing.{called_with, ended, ends_behind, item_code, items_printed, rule_code, text_at, text_opcode}
+use Rattle.inf_statements.specs.Printing.{called_with, ended, ends_behind, item_code, items_printed, rule_code, text_opcode}
+use Rattle.inf_operands.specs.Texts.{text_at}
 use Rattle.inf_statements.specs.Printing.{trees_behind, veneer_called}
 use Rattle.inf_statements.specs.Statements.{abbreviations, action_laid, action_on, alone, are_several, attribute_code, attribute_opcode}
-use Rattle.inf_statements.specs.Statements.{attributes_changed, attributes_given, given_by, jumped_to, moved, one_worked, plain, printed, rest}
+use Rattle.inf_statements.specs.Statements.{attributes_changed, attributes_given, given_by, jumped_to, moved, one_worked, plain, printed}
+use Rattle.inf_statements.specs.Statements.{rest}
 use Rattle.inf_statements.specs.Statements.{returned, returned_by, returned_number, spaced, string_changed, string_set, style_of, styled_by}
-use Rattle.inf_statements.specs.Statements.{switched, tested, text_packed, unless}
+use Rattle.inf_statements.specs.Statements.{switched, tested, unless}
+use Rattle.inf_operands.specs.Texts.{text_packed}
 use Rattle.inf_statements.specs.declared.assembly.Ends.{Ends}
 use Rattle.inf_statements.specs.declared.statements.Statement.{Statement}
 use Rattle.inf_statements.specs.declared.statements.Statement.TheVariants as statement
 use Rattle.inf_limit_laws.specs.Rooms.{Before, Counted, Sound}
 use Rattle.inf_limit_laws.proofs.Outputs.{item_keeps, low_text_keeps}
 use Rattle.inf_limit_laws.proofs.Templates.{MeaningSound, PartSound, ask_sound, call_sound, is_sound, meaning_sound, sound_if}
-use Rattle.inf_limit_laws.proofs.Templates.{sound_instruction, sound_jump, sound_mark, sound_naming, sound_nothing, sound_then, worked_sound}
+use Rattle.inf_limit_laws.proofs.Templates.{sound_instruction, sound_jump, sound_mark, sound_naming, sound_nothing, sound_then}
+use Rattle.inf_limit_laws.proofs.Templates.{worked_sound}
 
 -- Operands
 

@@ -27,7 +27,7 @@ use Rattle.inf_unit.specs.Tokens.{SourceToken, atom_of, is_end}
 use Rattle.inf_unit.specs.Units.{name_at}
 use Rattle.inf_compilation.specs.Actions.{Compilation, piece_begun as work_begun}
 use Rattle.inf_compilation.specs.Context.{Context}
-use Rattle.inf_compilation.specs.Parts.{closed_ahead}
+use Rattle.inf_compilation.specs.Nesting.{closed_ahead}
 use Rattle.inf_conditionals.specs.Ends.{file_told, piece_told, with_all_lone, with_lone}
 use Rattle.inf_conditionals.specs.Judging.{Behind, judged}
 use Rattle.inf_conditionals.specs.Open.{Conditions}
@@ -39,14 +39,17 @@ use Rattle.inf_conditionals.specs.declared.filtered.Forwarded.TheVariants as han
 use Rattle.inf_conditionals.specs.declared.filtered.Sign.{Sign}
 use Rattle.inf_conditionals.specs.declared.filtered.Site.{Site}
 use Rattle.inf_reader.specs.Acting.{all_acted, cut_at}
-use Rattle.inf_reader.specs.Handing.{handed_as, hash, judged_taken, lone_told, said_told, sign_taken, site_of, token_taken, unfit_in, unit_ended}
-use Rattle.inf_reader.specs.Reading.{Reading, ReaderState, bad, is_mode_ended, judged as token_judged, piece_begun, read_at, step, step_in, took}
+use Rattle.inf_reader.specs.Handing.{handed_as, hash, judged_taken, lone_told, said_told, sign_taken, site_of, token_taken, unfit_in}
+use Rattle.inf_reader.specs.Handing.{unit_ended}
+use Rattle.inf_reader.specs.Reading.{Reading, ReaderState, bad, is_mode_ended, judged as token_judged, piece_begun, read_at, step, step_in}
+use Rattle.inf_reader.specs.Reading.{took}
 use Rattle.inf_reader.specs.Reading.{with_complaint, with_complaint_of}
 use Rattle.inf_reader.specs.Tests.{complaint_of}
 use Rattle.inf_reader.specs.declared.recovery.Recovery.{Recovery}
 use Rattle.inf_reader.specs.declared.recovery.Recovery.TheVariants as mode
 use Rattle.inf_session.specs.Choices.{Choices}
-use Rattle.inf_session.specs.Session.{State, answered, asked_nothing, carried_out, context_of, file_closed, followed, has_ended, included_by}
+use Rattle.inf_session.specs.Session.{State, answered, asked_nothing, carried_out, context_of, file_closed, followed, has_ended}
+use Rattle.inf_session.specs.Session.{included_by}
 use Rattle.inf_session.specs.Session.{is_resting, left, left_by, none_included, piece_closed, rested, stand_of, stepped, token_of, turn}
 use Rattle.inf_limit_laws.specs.Rooms.{Before, Keeps}
 use Rattle.inf_limit_laws.specs.Signs.{SignFits, is_loud}

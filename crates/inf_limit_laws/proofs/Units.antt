@@ -34,27 +34,32 @@ use Rattle.inf_constructs.specs.declared.constructs.Kind.{Kind}
 use Rattle.inf_compilation.specs.Actions.{Compilation, cases_ended, close, close_as, constant}
 use Rattle.inf_compilation.specs.Actions.{constant_added, constant_declared, constant_ended, constant_finding, constant_findings}
 use Rattle.inf_compilation.specs.Actions.{constant_of, finding_at, header_end, header_named, header_of, header_with, is_deep}
-use Rattle.inf_compilation.specs.Actions.{is_first_declared, is_to_be_replaced, kind_ended, named, nested, new_stub, opened_with, operands_of}
+use Rattle.inf_compilation.specs.Actions.{is_first_declared, is_to_be_replaced, kind_ended, named, nested, new_stub, opened_with}
+use Rattle.inf_compilation.specs.Actions.{operands_of}
 use Rattle.inf_compilation.specs.Actions.{replace, routine_declared, settled_of, stub, stub_code, stub_locals, stubbed, trees_at}
 use Rattle.inf_compilation.specs.Actions.{with_all_unused, with_routine_fault}
 use Rattle.inf_compilation.specs.Context.{Context}
 use Rattle.inf_compilation.specs.Findings.{Findings, again_by, found_alone, header_findings, nothing_found}
-use Rattle.inf_compilation.specs.Parts.{actions_named, case_prepared, closed_ahead, construct_closed, construct_ended, construct_joined}
-use Rattle.inf_compilation.specs.Parts.{construct_opened, constructs_laid, found_in, has_last, is_default, order_of}
-use Rattle.inf_compilation.specs.Parts.{part_begun, part_carried, part_effect, part_ended, part_finished, part_prepared, place_of, site_of}
-use Rattle.inf_compilation.specs.Parts.{wanted_of}
-use Rattle.inf_compilation.specs.declared.parts.Part.{Part}
-use Rattle.inf_compilation.specs.declared.parts.Part.TheVariants as part
+use Rattle.inf_parts.specs.Parts.{actions_named, case_prepared}
+use Rattle.inf_compilation.specs.Nesting.{closed_ahead, construct_closed, construct_ended, construct_joined}
+use Rattle.inf_parts.specs.Parts.{found_in, has_last, is_default, order_of}
+use Rattle.inf_compilation.specs.Nesting.{construct_opened, constructs_laid}
+use Rattle.inf_parts.specs.Parts.{part_begun, part_carried, part_effect, part_ended, part_finished, part_prepared, place_of, site_of}
+use Rattle.inf_parts.specs.Parts.{wanted_of}
+use Rattle.inf_parts.specs.declared.parts.Part.{Part}
+use Rattle.inf_parts.specs.declared.parts.Part.TheVariants as part
 use Rattle.inf_declarations.specs.Defaults.{default}
 use Rattle.inf_limit_laws.specs.Rooms.{Before, Counted}
 use Rattle.inf_limit_laws.specs.Within.{Ends, IsKept, Lays, Steps, is_over}
-use Rattle.inf_limit_laws.proofs.Constructs.{added_keeps, all_ended_keep, begun_gives, between_gives, case_sound, cases_gives, changed_gives}
+use Rattle.inf_limit_laws.proofs.Constructs.{added_keeps, all_ended_keep, begun_gives, between_gives, case_sound, cases_gives}
+use Rattle.inf_limit_laws.proofs.Constructs.{changed_gives}
 use Rattle.inf_limit_laws.proofs.Constructs.{ended_gives, entered_gives, looped_over_gives, settled_keeps}
 use Rattle.inf_limit_laws.proofs.Leaving.{Few, begun_few, ended_few, joined_few}
 use Rattle.inf_limit_laws.proofs.Outputs.{close_keeps, declare_keeps, open_keeps, refer_keeps}
 use Rattle.inf_limit_laws.proofs.Rooms.{counted_free, limit_full, rest_some}
 use Rattle.inf_limit_laws.proofs.Statements.{Gives, alone_sound, statement_gives, switched_sound, tested_sound}
-use Rattle.inf_limit_laws.proofs.Ways.{all_unused_stay, ends_if, lay_of, lays_end, lays_step, lays_then, nested_steps, none_full, output_lays}
+use Rattle.inf_limit_laws.proofs.Ways.{all_unused_stay, ends_if, lay_of, lays_end, lays_step, lays_then, nested_steps, none_full}
+use Rattle.inf_limit_laws.proofs.Ways.{output_lays}
 use Rattle.inf_limit_laws.proofs.Ways.{passed_steps, routine_fault_stays, stays, step_of, steps_if, steps_then, unit_ends, unit_steps}
 
 -- Open statements

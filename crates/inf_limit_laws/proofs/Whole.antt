@@ -18,7 +18,8 @@ use Rattle.inf_compilation.specs.Context.{Context}
 use Rattle.inf_compilation.specs.Findings.{Findings}
 use Rattle.inf_reader.specs.Reading.{begun_stand}
 use Rattle.inf_session.specs.Choices.{Choices}
-use Rattle.inf_session.specs.Session.{State, context_of, first_place, has_ended, rested, start, stepped, tables_full, turn}
+use Rattle.inf_session.specs.Session.{State, context_of, has_ended, rested, start, stepped, tables_full, turn}
+use Rattle.inf_ending.specs.Ending.{first_place}
 use Rattle.inf_session.specs.Veneer.{in_text, text_begun, text_front, text_read, text_turns, veneer_text}
 use Rattle.inf_limit_laws.specs.Laws.{CountsKeepToSettings, StepsKeepCounts}
 use Rattle.inf_limit_laws.specs.Reached.{Begins, Goes, Here, IsBehind, IsReached, IsTurned, Supplies, Turns}

@@ -14,7 +14,8 @@ use Rattle.inf_compilation.specs.Findings.{Findings}
 use Rattle.inf_reader.specs.Acting.{act, cut_at}
 use Rattle.inf_reader.specs.Handing.{site_of}
 use Rattle.inf_session.specs.Choices.{Choices}
-use Rattle.inf_session.specs.Session.{State, first_place, start, turn}
+use Rattle.inf_session.specs.Session.{State, start, turn}
+use Rattle.inf_ending.specs.Ending.{first_place}
 use Rattle.inf_session.specs.Uses.{used}
 use Rattle.inf_limit_laws.specs.Reached.{IsBehind, IsReached, IsTurned}
 use Rattle.inf_limit_laws.specs.Rooms.{Before}

@@ -11,7 +11,7 @@ use Rattle.inf_unit.specs.declared.roles.Role.{Role}
 use Rattle.inf_unit.specs.declared.roles.Role.TheVariants as role
 use Rattle.inf_compilation.specs.Context.{Context}
 use Rattle.inf_compilation.specs.Actions.{Compilation, body_ended, cut, given_up, opening_checked, opening_checked_at, sized}
-use Rattle.inf_compilation.specs.declared.parts.Part.TheVariants as part
+use Rattle.inf_parts.specs.declared.parts.Part.TheVariants as part
 use Rattle.inf_reader.specs.Acting.{act, cut_at, ended, held_ended, kind_of, played}
 use Rattle.inf_message_laws.specs.Growing.{EndsNoDirective, Grows, Keeps}
 use Rattle.inf_message_laws.proofs.Bodies.{attribute_read_keeps, class_read_keeps, property_read_keeps}

@@ -20,10 +20,10 @@ use Rattle.inf_compilation.specs.Findings.{found_alone}
 use Rattle.inf_declarations.specs.Abbreviations.{abbreviate_header, abbreviation, abbreviation_added, abbreviation_ended}
 use Rattle.inf_declarations.specs.Abbreviations.{abbreviation_error, abbreviation_findings, abbreviation_with, low_string}
 use Rattle.inf_declarations.specs.Abbreviations.{low_string_added, low_string_with, or_error}
-use Rattle.inf_declarations.specs.Declarations.{plainly_known}
+use Rattle.inf_named_values.specs.Declarations.{plainly_known}
 use Rattle.inf_declarations.specs.Headers.{known_number, release, release_ended, release_finding, release_told, release_with, serial}
 use Rattle.inf_declarations.specs.Headers.{serial_by, serial_in}
-use Rattle.inf_declarations.specs.declared.declarations.Declared.{Declared}
+use Rattle.inf_named_values.specs.declared.declarations.Declared.{Declared}
 use Rattle.inf_message_laws.specs.Growing.{Keeps}
 use Rattle.inf_message_laws.proofs.Keeping.{laid_keeps, nothing_keeps, then_keeps, with_keeps}
 use Rattle.inf_message_laws.proofs.Declaring.{declaration_keeps}

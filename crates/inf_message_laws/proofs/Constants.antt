@@ -18,7 +18,7 @@ use Rattle.inf_names.specs.declared.symbols.DeclareFault.{DeclareFault}
 use Rattle.inf_output.specs.Output.{declared, referred}
 use Rattle.inf_unit.specs.Units.{name_order}
 use Rattle.inf_constructs.specs.Roots.{tree_in}
-use Rattle.inf_statements.specs.Operands.{leaf_added}
+use Rattle.inf_operands.specs.Operands.{leaf_added}
 use Rattle.inf_compilation.specs.Context.{Context}
 use Rattle.inf_compilation.specs.Actions.{Compilation, constant, constant_added, constant_declared, constant_ended, constant_finding}
 use Rattle.inf_compilation.specs.Actions.{constant_findings, constant_meaning, constant_of, constant_with, finding_at, is_first_declared}

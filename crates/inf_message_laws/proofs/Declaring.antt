@@ -12,13 +12,19 @@ use Rattle.inf_report.specs.declared.messages.FixedLimit.TheVariants as countabl
 use Rattle.inf_unit.specs.Units.{name_order}
 use Rattle.inf_compilation.specs.Context.{Context}
 use Rattle.inf_compilation.specs.Actions.{Compilation}
-use Rattle.inf_declarations.specs.Declarations.{alias_by, alias_finding, alias_told, alias_with, aliased, attribute, attribute_added}
-use Rattle.inf_declarations.specs.Declarations.{attribute_ended, attribute_with, declaration_ended, declared_ended, declared_findings}
-use Rattle.inf_declarations.specs.Declarations.{global_added, global_ended, global_variable, global_with, has_most_attributes}
-use Rattle.inf_declarations.specs.Declarations.{has_most_globals, has_most_properties, is_additive, is_alias, last_meaning, name_known}
-use Rattle.inf_declarations.specs.Declarations.{property, property_added, property_ended, property_named, property_names, property_order}
-use Rattle.inf_declarations.specs.Declarations.{property_with, valued}
-use Rattle.inf_declarations.specs.declared.declarations.Declared.{Declared}
+use Rattle.inf_named_values.specs.Declarations.{alias_by, alias_finding, alias_told, alias_with, aliased}
+use Rattle.inf_declarations.specs.Attributes.{attribute, attribute_added}
+use Rattle.inf_named_values.specs.Declarations.{declaration_ended, declared_ended, declared_findings}
+use Rattle.inf_declarations.specs.Attributes.{attribute_ended, attribute_with}
+use Rattle.inf_declarations.specs.Globals.{global_added, global_ended, global_variable, global_with}
+use Rattle.inf_declarations.specs.Attributes.{has_most_attributes}
+use Rattle.inf_named_values.specs.Declarations.{is_additive, is_alias, last_meaning, name_known}
+use Rattle.inf_declarations.specs.Globals.{has_most_globals}
+use Rattle.inf_declarations.specs.Properties.{has_most_properties}
+use Rattle.inf_declarations.specs.Properties.{property, property_added, property_ended, property_named, property_names, property_order}
+use Rattle.inf_named_values.specs.Declarations.{valued}
+use Rattle.inf_declarations.specs.Properties.{property_with}
+use Rattle.inf_named_values.specs.declared.declarations.Declared.{Declared}
 use Rattle.inf_message_laws.specs.Growing.{Keeps}
 use Rattle.inf_message_laws.proofs.Keeping.{Rests, if_keeps, laid_keeps, then_keeps, with_keeps}
 use Rattle.inf_message_laws.proofs.Tokens.{end_keeps, passed_keeps}

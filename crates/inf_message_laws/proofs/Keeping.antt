@@ -8,7 +8,7 @@ use Rattle.inf_unit.specs.Units.{Unit}
 use Rattle.inf_constructs.specs.Constructs.{Laying}
 use Rattle.inf_constructs.specs.declared.constructs.Construct.{Construct}
 use Rattle.inf_compilation.specs.Actions.{Compilation}
-use Rattle.inf_compilation.specs.Parts.{constructs_laid}
+use Rattle.inf_compilation.specs.Nesting.{constructs_laid}
 use Rattle.inf_message_laws.specs.Growing.{Before, Grows, Keeps, told_before, with_before}
 use Rattle.inf_message_laws.proofs.Told.{Adds}
 

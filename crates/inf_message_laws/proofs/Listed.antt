@@ -11,16 +11,18 @@ use Rattle.inf_expressions.specs.declared.units.Wanted.TheVariants as wanted
 use Rattle.inf_names.specs.Spellings.{Name}
 use Rattle.inf_report.specs.declared.messages.FixedLimit.TheVariants as countable
 use Rattle.inf_unit.specs.Units.{first_place, name_order}
-use Rattle.inf_statements.specs.Printing.{text_at}
+use Rattle.inf_operands.specs.Texts.{text_at}
 use Rattle.inf_compilation.specs.Context.{Context}
 use Rattle.inf_compilation.specs.Actions.{Compilation, finding_at, settled_of, unit_ended}
 use Rattle.inf_compilation.specs.Findings.{found_alone, nothing_found}
-use Rattle.inf_declarations.specs.Declarations.{declared_ended, plainly_known, value_of}
-use Rattle.inf_declarations.specs.declared.declarations.Declared.{Declared}
+use Rattle.inf_named_values.specs.Declarations.{declared_ended, plainly_known}
+use Rattle.inf_named_values.specs.Values.{value_of}
+use Rattle.inf_named_values.specs.declared.declarations.Declared.{Declared}
 use Rattle.inf_declarations.specs.Arrays.{added, adding, array_header, array_named, bare_text, codes_of, entry_added, entry_added_by}
-use Rattle.inf_declarations.specs.Arrays.{entry_ended, entry_finding, entry_judged, entry_with, header_with, is_alone, kind_in, items_finding}
+use Rattle.inf_declarations.specs.Arrays.{entry_ended, entry_finding, entry_judged, entry_with, header_with, is_alone, kind_in}
+use Rattle.inf_declarations.specs.Arrays.{items_finding}
 use Rattle.inf_declarations.specs.Arrays.{listed, lost_added, one_more, own_finding, story_added, text_added, text_finding, value_added}
-use Rattle.inf_declarations.specs.Arrays.{variables_from}
+use Rattle.inf_named_values.specs.Values.{variables_from}
 use Rattle.inf_message_laws.specs.Growing.{Keeps}
 use Rattle.inf_message_laws.proofs.Keeping.{Rests, if_keeps, laid_keeps, nothing_keeps, then_keeps, with_keeps}
 use Rattle.inf_message_laws.proofs.Declaring.{declared_ended_keeps}

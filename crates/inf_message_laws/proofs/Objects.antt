@@ -13,8 +13,8 @@ use Rattle.inf_unit.specs.Units.{name_order, order}
 use Rattle.inf_compilation.specs.Context.{Context}
 use Rattle.inf_compilation.specs.Actions.{Compilation}
 use Rattle.inf_compilation.specs.Findings.{found_alone, many_finding}
-use Rattle.inf_declarations.specs.Declarations.{declared_ended, plainly_known}
-use Rattle.inf_declarations.specs.declared.declarations.Declared.{Declared}
+use Rattle.inf_named_values.specs.Declarations.{declared_ended, plainly_known}
+use Rattle.inf_named_values.specs.declared.declarations.Declared.{Declared}
 use Rattle.inf_bodies.specs.Objects.{above_finding, class_header, class_lost, class_of_word, class_opened, class_with, entry_told}
 use Rattle.inf_bodies.specs.Objects.{has_most_classes, headed_finding, header_in, named_parent_finding, object_begun, object_ended}
 use Rattle.inf_bodies.specs.Objects.{object_header, object_known, object_lost, object_new, object_opened, object_with, object_with_known}

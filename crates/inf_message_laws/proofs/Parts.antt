@@ -19,11 +19,12 @@ use Rattle.inf_statements.specs.declared.statements.Statement.TheVariants as sta
 use Rattle.inf_compilation.specs.Context.{Context}
 use Rattle.inf_compilation.specs.Actions.{Compilation, finding_at, named, passed, settled_of, trees_at, unit_ended}
 use Rattle.inf_compilation.specs.Findings.{found_alone, nothing_found}
-use Rattle.inf_compilation.specs.Parts.{actions_named, case_prepared, constructs_laid, found_in, has_last, is_default, order_of}
-use Rattle.inf_compilation.specs.Parts.{own_case_prepared, own_finding, part_begun, part_carried, part_effect, part_ended, part_finished}
-use Rattle.inf_compilation.specs.Parts.{part_prepared, place_of, site_of, statement_at, wanted_of}
-use Rattle.inf_compilation.specs.declared.parts.Part.{Part}
-use Rattle.inf_compilation.specs.declared.parts.Part.TheVariants as part
+use Rattle.inf_parts.specs.Parts.{actions_named, case_prepared, found_in, has_last, is_default, order_of}
+use Rattle.inf_compilation.specs.Nesting.{constructs_laid}
+use Rattle.inf_parts.specs.Parts.{own_case_prepared, own_finding, part_begun, part_carried, part_effect, part_ended, part_finished}
+use Rattle.inf_parts.specs.Parts.{part_prepared, place_of, site_of, statement_at, wanted_of}
+use Rattle.inf_parts.specs.declared.parts.Part.{Part}
+use Rattle.inf_parts.specs.declared.parts.Part.TheVariants as part
 use Rattle.inf_message_laws.specs.Growing.{Keeps, with_before}
 use Rattle.inf_message_laws.proofs.Keeping.{Rests, constructs_keep, if_keeps, laid_keeps, nothing_keeps, then_keeps, with_keeps}
 use Rattle.inf_message_laws.proofs.Tokens.{end_keeps, passed_keeps}

@@ -8,7 +8,7 @@ use Rattle.inf_constructs.specs.Constructs.{begun, between, changed, ended}
 use Rattle.inf_constructs.specs.declared.constructs.Kind.{Kind}
 use Rattle.inf_compilation.specs.Context.{Context}
 use Rattle.inf_compilation.specs.Actions.{Compilation, is_deep, nested}
-use Rattle.inf_compilation.specs.Parts.{construct_closed, construct_ended, construct_joined, construct_opened, constructs_laid}
+use Rattle.inf_compilation.specs.Nesting.{construct_closed, construct_ended, construct_joined, construct_opened, constructs_laid}
 use Rattle.inf_message_laws.specs.Growing.{Keeps}
 use Rattle.inf_message_laws.proofs.Keeping.{constructs_keep, if_keeps, then_keeps, with_keeps}
 use Rattle.inf_message_laws.proofs.Tokens.{deeper_keeps}

@@ -18,8 +18,8 @@ use Rattle.inf_unit.specs.Units.{first_place, order}
 use Rattle.inf_compilation.specs.Context.{Context}
 use Rattle.inf_compilation.specs.Actions.{Compilation, finding_at, opened_with}
 use Rattle.inf_compilation.specs.Findings.{Findings, header_findings}
-use Rattle.inf_declarations.specs.Declarations.{value_of}
-use Rattle.inf_declarations.specs.Arrays.{looked_value, variables_from}
+use Rattle.inf_named_values.specs.Values.{value_of}
+use Rattle.inf_named_values.specs.Values.{looked_value, variables_from}
 use Rattle.inf_bodies.specs.Bodies.{place_finding, placed}
 use Rattle.inf_bodies.specs.Objects.{entry_told}
 use Rattle.inf_bodies.specs.Values.{any_finding, any_placed, bracket_in, embedded, embedded_begun, embedded_findings, embedded_opened}

@@ -28,7 +28,7 @@ use Rattle.inf_reader.specs.Reading.{Reading, ReaderState, bad, judged, piece_be
 use Rattle.inf_reader.specs.declared.recovery.Recovery.{Recovery}
 use Rattle.inf_reader.specs.declared.recovery.Recovery.TheVariants as mode
 use Rattle.inf_laws.specs.KeptTokens.{Given, Kept, Unfit, token_in}
-use Rattle.inf_language.proofs.TextsActed.{rule_is_spaced}
+use Rattle.inf_grammar.proofs.Spaced.{rule_is_spaced}
 use Rattle.inf_message_laws.proofs.Happened.{messages_grow}
 use Rattle.inf_program.specs.definition.Steps.{Reads}
 use Rattle.inf_program.specs.Turns.{step_by}

@@ -5,10 +5,10 @@ use Rattle.std.specs.Prelude.{IfErr, IfOk, OnErr, Result}
 use Rattle.std.proofs.lemmas.Result.{IfErr-weaker, IfOk-weaker, on_err_weaker}
 use Rattle.inf_devices.specs.Files.{Sources}
 use Rattle.inf_session.specs.Choices.{Choices}
-use Rattle.inf_session.specs.Faults.{IfStory}
-use Rattle.inf_session.specs.declared.compiled.Status.{Status}
-use Rattle.inf_session.specs.declared.faults.Fault.{Fault}
-use Rattle.inf_session.specs.declared.faults.Fault.TheVariants as fault
+use Rattle.inf_ending.specs.Faults.{IfStory}
+use Rattle.inf_ending.specs.declared.compiled.Status.{Status}
+use Rattle.inf_ending.specs.declared.faults.Fault.{Fault}
+use Rattle.inf_ending.specs.declared.faults.Fault.TheVariants as fault
 use Rattle.inf_compile.specs.Comes.{Begins as TurnsBegin}
 use Rattle.inf_compile.specs.Compiling.{Compiles as TurnsCompile, DeliversPart as TurnsDeliverPart}
 use Rattle.inf_program.specs.Compiling.{Begins, Compiles, DeliversPart}

@@ -16,10 +16,11 @@ use Rattle.inf_unit.specs.Messages.{FileNames, Reported, location, with_error, w
 use Rattle.inf_unit.specs.Names.{main_of, with_all_undeclared, with_undeclared}
 use Rattle.inf_compilation.specs.Actions.{Compilation, begun_at}
 use Rattle.inf_session.specs.Choices.{Choices}
-use Rattle.inf_session.specs.Ending.{Outcome, begun as outcome_begun, finished, first_line, laid, refused, told_of}
-use Rattle.inf_session.specs.Session.{State, first_place, has_ended, start, told_out}
+use Rattle.inf_ending.specs.Ending.{Outcome, begun as outcome_begun, finished, first_line, laid, refused, told_of}
+use Rattle.inf_session.specs.Session.{State, has_ended, start, told_out}
+use Rattle.inf_ending.specs.Ending.{first_place}
 use Rattle.inf_session.specs.Veneer.{is_wanted, most_texts, supplied_by, text_read}
-use Rattle.inf_session.specs.declared.compiled.Status.TheVariants as status
+use Rattle.inf_ending.specs.declared.compiled.Status.TheVariants as status
 use Rattle.inf_compile.specs.Outcome.{ending_of}
 
 -- A report that is over

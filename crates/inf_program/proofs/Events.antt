@@ -14,7 +14,7 @@ use Rattle.inf_grammar.specs.Routines.{closings}
 use Rattle.inf_unit.specs.Tokens.{SourceToken, atom_of}
 use Rattle.inf_compilation.specs.Actions.{Compilation, took as work_took}
 use Rattle.inf_compilation.specs.Context.{Context}
-use Rattle.inf_compilation.specs.Parts.{closed_ahead}
+use Rattle.inf_compilation.specs.Nesting.{closed_ahead}
 use Rattle.inf_reader.specs.Acting.{all_acted}
 use Rattle.inf_reader.specs.Reading.{Reading, ReaderState, took}
 use Rattle.inf_laws.specs.KeptTokens.{Kept, Unfit}
@@ -25,7 +25,8 @@ use Rattle.inf_program.specs.definition.Steps.{Ends, Passes, Reads, Step}
 use Rattle.inf_program.specs.Turns.{IsFit, step_by, steps_by}
 use Rattle.inf_program.proofs.Chosen.{only}
 use Rattle.inf_program.proofs.Grouping.{closed_once, step_fit}
-use Rattle.inf_program.specs.definition.Fronts.{Course, Derives, Progress, actions_first, done_by, ends_in, events_behind, first_ends, kept_atoms}
+use Rattle.inf_program.specs.definition.Fronts.{Course, Derives, Progress, actions_first, done_by, ends_in, events_behind, first_ends}
+use Rattle.inf_program.specs.definition.Fronts.{kept_atoms}
 use Rattle.inf_program.specs.definition.Fronts.{later_ends, taken_by}
 use Rattle.inf_program.proofs.Stacks.{IsRest, fits_some, rest_left}
 

@@ -4,7 +4,7 @@ use Rattle.std.specs.Prelude.{◌↔◌}
 use Rattle.inf_settings.specs.Bounds.{Limits, limits_of}
 use Rattle.inf_devices.specs.Files.{Sources}
 use Rattle.inf_session.specs.Choices.{Choices}
-use Rattle.inf_session.specs.Ending.{Outcome}
+use Rattle.inf_ending.specs.Ending.{Outcome}
 use Rattle.inf_session.specs.Session.{State as TurnState, has_ended, run, start}
 use Rattle.inf_compile.specs.Outcome.{IsCompiled, IsOutcome, IsOutcomeOf}
 use Rattle.inf_compile.proofs.OutcomeLaws.{outcomes_are_unique}

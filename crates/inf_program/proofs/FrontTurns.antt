@@ -18,14 +18,16 @@ use Rattle.inf_session.specs.Choices.{Choices}
 use Rattle.inf_laws.specs.KeptTokens.{Given, IsBad, Kept, Unfit, token_in}
 use Rattle.inf_laws.proofs.KeptTokens.{At, no_token, stops}
 use Rattle.inf_statement_laws.specs.Happenings.{Between}
-use Rattle.inf_language.proofs.TextsActed.{rule_is_spaced}
+use Rattle.inf_grammar.proofs.Spaced.{rule_is_spaced}
 use Rattle.inf_program.specs.definition.Steps.{AllKept}
 use Rattle.inf_program.specs.definition.Steps.{Passes, Reads, Step}
 use Rattle.inf_program.specs.Turns.{AllFit, steps_by}
 use Rattle.inf_program.specs.definition.NextToken.{afresh, at_front, steps_at, within}
-use Rattle.inf_program.specs.definition.Fronts.{Course, Derives, FirstKept, Front, IsOpen, PieceState, Progress, begun_piece, done_by, fresh_progress}
+use Rattle.inf_program.specs.definition.Fronts.{Course, Derives, FirstKept, Front, IsOpen, PieceState, Progress, begun_piece, done_by}
+use Rattle.inf_program.specs.definition.Fronts.{fresh_progress}
 use Rattle.inf_program.specs.definition.Fronts.{kept_atoms, progress_of, reached}
-use Rattle.inf_program.specs.definition.BadPieces.{AllSkipped, Alone, BadAlone, BadFirst, BadPiece, Behind, First, HandsOnBad, IsNoEnd, cut_of}
+use Rattle.inf_program.specs.definition.BadPieces.{AllSkipped, Alone, BadAlone, BadFirst, BadPiece, Behind, First, HandsOnBad, IsNoEnd}
+use Rattle.inf_program.specs.definition.BadPieces.{cut_of}
 use Rattle.inf_program.specs.definition.BadPieces.{lands, skip_from}
 use Rattle.inf_program.specs.definition.Program.{BrokenOff, Next, Piece}
 use Rattle.inf_program.proofs.Events.{Agrees, course_of, steps_agree}

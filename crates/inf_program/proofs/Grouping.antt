@@ -12,7 +12,7 @@ use Rattle.inf_grammar.specs.Routines.{closings}
 use Rattle.inf_unit.specs.Tokens.{SourceToken, atom_of, is_end}
 use Rattle.inf_compilation.specs.Context.{Context}
 use Rattle.inf_compilation.specs.Actions.{Compilation, piece_begun as work_begun}
-use Rattle.inf_compilation.specs.Parts.{closed_ahead, constructs_laid}
+use Rattle.inf_compilation.specs.Nesting.{closed_ahead, constructs_laid}
 use Rattle.inf_constructs.specs.Constructs.{all_ended}
 use Rattle.inf_reader.specs.Handing.{is_empty, skips, unfit_in}
 use Rattle.inf_reader.specs.Reading.{Reading, ReaderState, bad, between, judged, piece_begun, piece_rule, read_at, step, step_in, took}

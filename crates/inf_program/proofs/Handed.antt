@@ -15,7 +15,7 @@ use Rattle.inf_unit.specs.Messages.{FileNames, location, with_full}
 use Rattle.inf_unit.specs.Tokens.{SourceToken}
 use Rattle.inf_compilation.specs.Context.{Context}
 use Rattle.inf_compilation.specs.Actions.{Compilation, begun_at, is_class}
-use Rattle.inf_compilation.specs.Parts.{closed_ahead}
+use Rattle.inf_compilation.specs.Nesting.{closed_ahead}
 use Rattle.inf_conditionals.specs.Judging.{judged}
 use Rattle.inf_conditionals.specs.Open.{Conditions}
 use Rattle.inf_conditionals.specs.Said.{Deep, Long, Right, Said, Wrong, with_right, with_said}

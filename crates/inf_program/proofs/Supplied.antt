@@ -1,5 +1,6 @@
 -- The supplied routines: each text is a program, and behind all of them the ending is the one that turns give.
-use Rattle.std.proofs.Common.{◌≡◌, ℕ, zero, suc, ◌-◌, ◌<◌, ◌≤◌, max, List, [], ◌++◌, length, true, false, Option, Some, None, refl, sym, ◌∙◌}
+use Rattle.std.proofs.Common.{◌≡◌, ℕ, zero, suc, ◌-◌, ◌<◌, ◌≤◌, max, List, [], ◌++◌, length, true, false, Option, Some, None, refl, sym}
+use Rattle.std.proofs.Common.{◌∙◌}
 use Rattle.std.proofs.Common.{ap, append-nil, arith, subst}
 use Rattle.inf_settings.specs.Bounds.{Limits}
 use Rattle.inf_devices.specs.Files.{Sources}
@@ -11,7 +12,7 @@ use Rattle.inf_conditional_sides.proofs.Same.{sides_are_judged}
 use Rattle.inf_reader.specs.Reading.{between}
 use Rattle.inf_reader.specs.declared.recovery.Recovery.TheVariants as mode
 use Rattle.inf_session.specs.Choices.{Choices, most_quoted}
-use Rattle.inf_session.specs.Ending.{Outcome, finished}
+use Rattle.inf_ending.specs.Ending.{Outcome, finished}
 use Rattle.inf_session.specs.Session.{State as TurnState, has_ended as turn_has_ended, told_out}
 use Rattle.inf_session.specs.Veneer.{in_text, most_texts, next_text, supplied, supplied_at, text_begun, text_front, text_read}
 use Rattle.inf_session.specs.Veneer.{text_turns, veneer_text}

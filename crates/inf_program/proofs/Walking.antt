@@ -17,12 +17,13 @@ use Rattle.inf_laws.specs.KeptTokens.{Kept}
 use Rattle.inf_laws.proofs.KeptTokens.{no_token}
 use Rattle.inf_statement_laws.specs.Happenings.{Between}
 use Rattle.inf_statement_laws.specs.Laid.{passed}
-use Rattle.inf_language.proofs.TextsActed.{rule_is_spaced}
+use Rattle.inf_grammar.proofs.Spaced.{rule_is_spaced}
 use Rattle.inf_program.specs.definition.Steps.{AllKept}
 use Rattle.inf_program.specs.definition.Steps.{Passes, Reads, Step}
 use Rattle.inf_program.specs.Turns.{piece_first, step_by, steps_by}
 use Rattle.inf_program.specs.definition.NextToken.{Position, afresh, at_front, steps_at, within}
-use Rattle.inf_program.specs.definition.Fronts.{AllGoOn, Course, Derives, FirstKept, Front, IsOpen, PieceState, Progress, atoms_from, begun_piece}
+use Rattle.inf_program.specs.definition.Fronts.{AllGoOn, Course, Derives, FirstKept, Front, IsOpen, PieceState, Progress, atoms_from}
+use Rattle.inf_program.specs.definition.Fronts.{begun_piece}
 use Rattle.inf_program.specs.definition.Fronts.{done_by, fresh_progress, kept_atoms, moved, piece_behind, reached, walked}
 use Rattle.inf_program.proofs.Events.{Agrees, InPiece, steps_agree}
 use Rattle.inf_program.proofs.Stacks.{none_left, piece_is_rest, some_left}

@@ -4,7 +4,7 @@ use Rattle.std.specs.Prelude.{◌↔◌}
 use Rattle.inf_settings.specs.Bounds.{Limits, limits_of}
 use Rattle.inf_devices.specs.Files.{Sources}
 use Rattle.inf_session.specs.Choices.{Choices}
-use Rattle.inf_session.specs.Ending.{Outcome}
+use Rattle.inf_ending.specs.Ending.{Outcome}
 use Rattle.inf_session.specs.Session.{State as TurnState, start as turn_start, told_out}
 use Rattle.inf_session.proofs.Leadings.{run_ended}
 use Rattle.inf_compile.specs.Outcome.{IsCompiled, IsOutcome, IsOutcomeOf, ending_of}

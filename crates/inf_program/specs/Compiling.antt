@@ -3,9 +3,9 @@ use Rattle.std.specs.Prelude.{◌≡◌, ℕ, List, Option}
 use Rattle.inf_devices.specs.Files.{Sources}
 use Rattle.inf_devices.specs.Sinks.{Takes}
 use Rattle.inf_session.specs.Choices.{Choices}
-use Rattle.inf_session.specs.Ending.{Outcome}
-use Rattle.inf_session.specs.Leading.{IsFront}
-use Rattle.inf_session.specs.declared.compiled.Status.{Status}
+use Rattle.inf_ending.specs.Ending.{Outcome}
+use Rattle.inf_ending.specs.Delivered.{IsFront}
+use Rattle.inf_ending.specs.declared.compiled.Status.{Status}
 use Rattle.inf_compile.specs.Compiling.{TakesPart, TakesStory}
 use Rattle.inf_program.specs.definition.Written.{IsWritten}
 

@@ -13,7 +13,7 @@ use Rattle.inf_unit.specs.Messages.{FileNames}
 use Rattle.inf_unit.specs.Tokens.{SourceToken, atom_of, is_end}
 use Rattle.inf_compilation.specs.Actions.{Compilation, piece_begun as work_begun}
 use Rattle.inf_compilation.specs.Context.{Context}
-use Rattle.inf_compilation.specs.Parts.{closed_ahead}
+use Rattle.inf_compilation.specs.Nesting.{closed_ahead}
 use Rattle.inf_conditionals.specs.Judging.{judged}
 use Rattle.inf_conditionals.specs.Said.{Said}
 use Rattle.inf_conditionals.specs.declared.filtered.Filtered.{Filtered}

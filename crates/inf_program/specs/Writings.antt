@@ -2,7 +2,7 @@
 use Rattle.std.specs.Prelude.{◌≡◌, ◌↔◌, ℕ, List}
 use Rattle.inf_devices.specs.Files.{Sources}
 use Rattle.inf_session.specs.Choices.{Choices}
-use Rattle.inf_session.specs.Ending.{Outcome}
+use Rattle.inf_ending.specs.Ending.{Outcome}
 use Rattle.inf_compile.specs.Outcome.{IsOutcome}
 use Rattle.inf_program.specs.definition.Written.{IsWritten}
 

@@ -2,7 +2,7 @@ ghost use Rattle.std.specs.Prelude.{◌≡◌, IsTrue, IfOk, IfErr, MatchResult,
 ghost use Rattle.inf_devices.specs.Files.{Rose};
 ghost use Rattle.inf_devices.specs.Sinks.{Takes};
 ghost use Rattle.inf_command.specs.FileNames.{source_name};
-ghost use Rattle.inf_session.specs.Faults.{HidesNoFailure, IfRead, IfStory, UnlessStory};
+ghost use Rattle.inf_ending.specs.Faults.{HidesNoFailure, IfRead, IfStory, UnlessStory};
 ghost use Rattle.inf_compile.specs.Comes.{Heard, IsUnread, OpenedBy, OpenedPart};
 ghost use Rattle.inf_compile.specs.Compiling.{HasCause, TakesClean, TakesPart, chosen_by, named_by};
 ghost use Rattle.inf_program.specs.Compiling.{Begins, Compiles, DeliversPart};

@@ -15,7 +15,7 @@ use Rattle.inf_unit.specs.declared.roles.Opening.TheVariants as opening
 use Rattle.inf_unit.specs.declared.roles.Role.{Role}
 use Rattle.inf_unit.specs.declared.roles.Role.TheVariants as role
 use Rattle.inf_unit.specs.Units.{is_full, last_leaf, last_passed, noted as unit_noted, operands_passed, order, stepped, text_passed}
-use Rattle.inf_statements.specs.Operands.{leaves_named}
+use Rattle.inf_operands.specs.Operands.{leaves_named}
 use Rattle.inf_expressions.specs.declared.units.Wanted.TheVariants as wanted
 use Rattle.inf_constructs.specs.declared.constructs.Case.TheVariants as case
 use Rattle.inf_constructs.specs.declared.constructs.Kind.{Kind}
@@ -29,9 +29,10 @@ use Rattle.inf_declarations.specs.Arrays.{entry_ended}
 use Rattle.inf_reader.specs.Headers.{header_ended}
 use Rattle.inf_bodies.specs.Bodies.{attribute_read, class_read, property_read}
 use Rattle.inf_bodies.specs.Values.{embedded_read, value_read}
-use Rattle.inf_compilation.specs.Parts.{construct_closed, construct_joined, construct_opened, part_ended, statement_at}
+use Rattle.inf_parts.specs.Parts.{part_ended, statement_at}
+use Rattle.inf_compilation.specs.Nesting.{construct_closed, construct_joined, construct_opened}
 use Rattle.inf_verb_lines.specs.Verbs.{line_ended, token_sifted, word_sifted}
-use Rattle.inf_compilation.specs.declared.parts.Part.TheVariants as part
+use Rattle.inf_parts.specs.declared.parts.Part.TheVariants as part
 
 -- Whether the unit at hand prints or gives more than code may have bytes for, by the least number of bytes of the code of each item. Its
 -- code then passes that setting, whatever else it prints or gives.

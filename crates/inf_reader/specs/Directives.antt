@@ -11,7 +11,9 @@ use Rattle.inf_compilation.specs.Context.{Context}
 use Rattle.inf_unit.specs.Units.{directive_word, first_place, names_in, quoted_in}
 use Rattle.inf_compilation.specs.Actions.{Compilation, code_begun, constant, passed, replace, stub, unit_ended, words_of}
 use Rattle.inf_compilation.specs.Findings.{nothing_found}
-use Rattle.inf_declarations.specs.Declarations.{attribute, global_variable, property}
+use Rattle.inf_declarations.specs.Globals.{global_variable}
+use Rattle.inf_declarations.specs.Properties.{property}
+use Rattle.inf_declarations.specs.Attributes.{attribute}
 use Rattle.inf_verb_lines.specs.Verbs.{fake_action}
 use Rattle.inf_declarations.specs.Defaults.{default}
 use Rattle.inf_declarations.specs.Switches.{switches}

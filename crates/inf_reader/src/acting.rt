@@ -13,15 +13,15 @@ use inf_bodies::bodies::{attribute_of_body, class_of_body, end_body, property_of
 use inf_bodies::values::{routine_of_body, value_of_body};
 use inf_compilation::compilation::Compilation;
 use inf_compilation::context::Context;
-use inf_compilation::parts::Part;
 use inf_constructs::constructs::{Case, Kind, Over};
 use inf_declarations::abbreviations::abbreviation;
 use inf_declarations::arrays::end_entry;
 use inf_expressions::Wanted;
 use inf_lexer::Place;
+use inf_operands::operands::name_locals;
+use inf_parts::parts::{Part, end_part, end_statement};
 use inf_settings::bounds::Bounds;
 use inf_settings::setting::Setting;
-use inf_statements::operands::name_locals;
 use inf_syntax::Action;
 use inf_unit::roles::{
     Ending, Note, Opening, Role, ends_outer, ends_token, ends_value, is_arrow, is_text,
@@ -268,12 +268,12 @@ fn end<B: Bounds>(
         Ending::Abbreviation => abbreviation(compilation, context, place),
         Ending::Entry => end_entry(compilation, context, place, false),
         Ending::Alone => end_entry(compilation, context, place, true),
-        Ending::Statement => compilation.end_statement(context, place),
-        Ending::Condition => compilation.end_part(context, place, Part::Condition),
-        Ending::Start => compilation.end_part(context, place, Part::Start),
-        Ending::Step => compilation.end_part(context, place, Part::Step),
-        Ending::Loop => compilation.end_part(context, place, Part::Loop),
-        Ending::Switched => compilation.end_part(context, place, Part::Switched),
-        Ending::Case => compilation.end_part(context, place, Part::Case),
+        Ending::Statement => end_statement(compilation, context, place),
+        Ending::Condition => end_part(compilation, context, place, Part::Condition),
+        Ending::Start => end_part(compilation, context, place, Part::Start),
+        Ending::Step => end_part(compilation, context, place, Part::Step),
+        Ending::Loop => end_part(compilation, context, place, Part::Loop),
+        Ending::Switched => end_part(compilation, context, place, Part::Switched),
+        Ending::Case => end_part(compilation, context, place, Part::Case),
     }
 }

@@ -32,11 +32,12 @@ use Rattle.inf_statements.specs.Statements.{alone, switched, tested}
 use Rattle.inf_verb_lines.specs.Verbs.{token_sifted, word_sifted}
 use Rattle.inf_compilation.specs.Actions.{Compilation, finding_at, is_deep, named, nested, opens, passed, settled_of, sized, stopped, took}
 use Rattle.inf_compilation.specs.Actions.{trees_at}
-use Rattle.inf_compilation.specs.Parts.{actions_named, case_prepared, constructs_laid, found_in, has_last, is_default, order_of}
-use Rattle.inf_compilation.specs.Parts.{own_finding}
-use Rattle.inf_compilation.specs.Parts.{part_begun, part_carried, part_effect, part_ended, part_finished, part_prepared, place_of, site_of}
-use Rattle.inf_compilation.specs.Parts.{statement_at, wanted_of}
-use Rattle.inf_compilation.specs.declared.parts.Part.TheVariants as part
+use Rattle.inf_parts.specs.Parts.{actions_named, case_prepared, found_in, has_last, is_default, order_of}
+use Rattle.inf_compilation.specs.Nesting.{constructs_laid}
+use Rattle.inf_parts.specs.Parts.{own_finding}
+use Rattle.inf_parts.specs.Parts.{part_begun, part_carried, part_effect, part_ended, part_finished, part_prepared, place_of, site_of}
+use Rattle.inf_parts.specs.Parts.{statement_at, wanted_of}
+use Rattle.inf_parts.specs.declared.parts.Part.TheVariants as part
 use Rattle.inf_reader.specs.Acting.{act, ended as ended_as, is_crowded, is_long, is_tall, is_wordy, noted, noted_of, operands_named, played}
 use Rattle.inf_reader.specs.Acting.{value_noted}
 use Rattle.inf_statement_laws.specs.Happenings.{Acts, Happening, Takes, happen_quietly, happens_quietly, is_quiet_end}

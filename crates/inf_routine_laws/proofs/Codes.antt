@@ -31,12 +31,14 @@ use Rattle.inf_unit.specs.declared.items.PrintRule.{PrintRule}
 use Rattle.inf_unit.specs.declared.items.PrintRule.TheVariants as rule
 use Rattle.inf_constructs.specs.Cases.{SWITCHED, beside, case_code, case_tested, group_tested, grouped, is_empty, is_open, laid_before}
 use Rattle.inf_constructs.specs.Cases.{operand_in, range_tested, value_grouped, value_laid, within}
-use Rattle.inf_statements.specs.Printing.{called_with, ends_behind, ended, item_code, items_printed, rule_code, text_at, text_opcode}
+use Rattle.inf_statements.specs.Printing.{called_with, ends_behind, ended, item_code, items_printed, rule_code, text_opcode}
+use Rattle.inf_operands.specs.Texts.{text_at}
 use Rattle.inf_statements.specs.Printing.{trees_behind, veneer_called}
 use Rattle.inf_statements.specs.Statements.{abbreviations, action_laid, action_on, alone, are_several, attribute_code, attribute_opcode}
 use Rattle.inf_statements.specs.Statements.{attributes_changed, attributes_given, given_by, jumped_to, moved, one_worked, plain, printed}
 use Rattle.inf_statements.specs.Statements.{rest, returned, returned_by, returned_number, spaced, string_changed, string_set}
-use Rattle.inf_statements.specs.Statements.{styled_by, switched, tested, text_packed, unless}
+use Rattle.inf_statements.specs.Statements.{styled_by, switched, tested, unless}
+use Rattle.inf_operands.specs.Texts.{text_packed}
 use Rattle.inf_label_laws.specs.Labels.{times}
 use Rattle.inf_label_laws.specs.Programs.{branch_labels, marks, operand_labels, uses}
 use Rattle.inf_label_laws.proofs.Owning.{Owned, Owns, Settles, has_first, has_later, owned_at, owned_before, owned_behind, owned_free}

@@ -31,10 +31,10 @@ use Rattle.inf_output.specs.Actions.{seen_by}
 use Rattle.inf_output.specs.Output.{Out, referred, referred_as, referred_by, with_text, with_text_by, with_word, with_word_by}
 use Rattle.inf_output.specs.Strings.{fits}
 use Rattle.inf_output.specs.Texts.{used_in}
-use Rattle.inf_statements.specs.Operands.{Settled, is_stack, settled, settled_action, settled_alone, settled_by, settled_leaf, settled_name}
-use Rattle.inf_statements.specs.Operands.{settled_text, with_settled}
-use Rattle.inf_statements.specs.Printing.{text_at}
-use Rattle.inf_statements.specs.Statements.{text_packed}
+use Rattle.inf_operands.specs.Operands.{Settled, is_stack, settled, settled_action, settled_alone, settled_by, settled_leaf, settled_name}
+use Rattle.inf_operands.specs.Operands.{settled_text, with_settled}
+use Rattle.inf_operands.specs.Texts.{text_at}
+use Rattle.inf_operands.specs.Texts.{text_packed}
 use Rattle.inf_routine_laws.proofs.Codes.{Idle, idle_then}
 
 passed : {A B : Type 0} {a : A} → Some a ≡ None → B

@@ -32,7 +32,8 @@ use Rattle.inf_statements.specs.Assembly.{line_laid, line_laid_as, line_laid_by,
 use Rattle.inf_statements.specs.Assembly.{store_of}
 use Rattle.inf_statements.specs.Assembly.{text_printed, variable_of}
 use Rattle.inf_statements.specs.Effects.{Site, last_text, name_behind, statement_laid}
-use Rattle.inf_statements.specs.Printing.{items_printed, text_at}
+use Rattle.inf_statements.specs.Printing.{items_printed}
+use Rattle.inf_operands.specs.Texts.{text_at}
 use Rattle.inf_statements.specs.Statements.{action_laid, alone, attributes_changed, jumped_to, moved, one_worked, plain, returned, spaced}
 use Rattle.inf_statements.specs.Statements.{string_changed, style_of, styled}
 use Rattle.inf_label_laws.specs.Labels.{times}

@@ -13,9 +13,10 @@ use Rattle.inf_output.specs.declared.items.Item.{Item}
 use Rattle.inf_output.specs.Output.{Code, Out, apart, items_of, together}
 use Rattle.inf_compilation.specs.Context.{Context}
 use Rattle.inf_compilation.specs.Actions.{Compilation, named, passed, settled_of, trees_at}
-use Rattle.inf_compilation.specs.Parts.{actions_named, case_prepared, constructs_laid, found_in, has_last, is_default, order_of, part_begun}
-use Rattle.inf_compilation.specs.Parts.{part_carried, part_effect, part_finished, part_prepared, place_of, wanted_of}
-use Rattle.inf_compilation.specs.declared.parts.Part.TheVariants as part
+use Rattle.inf_parts.specs.Parts.{actions_named, case_prepared, found_in, has_last, is_default, order_of, part_begun}
+use Rattle.inf_compilation.specs.Nesting.{constructs_laid}
+use Rattle.inf_parts.specs.Parts.{part_carried, part_effect, part_finished, part_prepared, place_of, wanted_of}
+use Rattle.inf_parts.specs.declared.parts.Part.TheVariants as part
 use Rattle.inf_constructs.specs.declared.constructs.Case.TheVariants as case
 use Rattle.inf_constructs.specs.declared.constructs.Construct.{Construct}
 use Rattle.inf_constructs.specs.declared.constructs.Kind.{Kind}

@@ -27,7 +27,7 @@ use Rattle.inf_grammar.specs.Language.{grammar}
 use Rattle.inf_unit.proofs.Cases.{of_both}
 use Rattle.inf_compilation.specs.Context.{Context}
 use Rattle.inf_compilation.specs.Actions.{Compilation}
-use Rattle.inf_compilation.specs.Parts.{construct_closed, construct_ended}
+use Rattle.inf_compilation.specs.Nesting.{construct_closed, construct_ended}
 use Rattle.inf_reader.specs.Acting.{act}
 use Rattle.inf_trees.proofs.RuleRows.{is_among, keeps, passes}
 use Rattle.inf_routine_trees.specs.Bodies.{is_close}

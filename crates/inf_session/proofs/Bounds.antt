@@ -1,6 +1,7 @@
 -- The amounts that the settings bound stay under them.
 use Rattle.std.specs.Prelude.{min, nat_lt, is_none, ◌||◌}
-use Rattle.std.proofs.Common.{◌≡◌, ℕ, ◌≤◌, Bool, true, false, cond, List, [], ◌∷◌, length, Option, Some, None, refl, sym, ap, subst, ◌∙◌, arith}
+use Rattle.std.proofs.Common.{◌≡◌, ℕ, ◌≤◌, Bool, true, false, cond, List, [], ◌∷◌, length, Option, Some, None, refl, sym, ap, subst, ◌∙◌}
+use Rattle.std.proofs.Common.{arith}
 use Rattle.std.proofs.Math.Nat.{min-eq_left}
 use Rattle.std.proofs.lemmas.Bool.{ltb-false}
 use Rattle.inf_sources.specs.Quoted.{is_quoted_kind}
@@ -21,7 +22,8 @@ use Rattle.inf_reader.specs.Reading.{ReaderState, has_ended_at}
 use Rattle.inf_reader.specs.Standing.{standing}
 use Rattle.inf_reader.specs.declared.progress.Progress.{Progress}
 use Rattle.inf_session.specs.Choices.{Choices, chosen, most_quoted}
-use Rattle.inf_session.specs.Session.{begun_with, first_place, tables_full}
+use Rattle.inf_session.specs.Session.{begun_with, tables_full}
+use Rattle.inf_ending.specs.Ending.{first_place}
 use Rattle.inf_session.specs.Taking.{quoted_behind, quoted_bytes, quoted_of_kind}
 use Rattle.inf_session.specs.Standing.{AreWithin, HasObjects, IsBounded, ended, held, told_count, told_counts, used_by}
 use Rattle.inf_session.specs.Uses.{is_compared_later}

@@ -1,5 +1,5 @@
 -- Where turns lead: an end stays, turns follow one another, and lines are only added to those that were written.
-use Rattle.std.proofs.Common.{◌≡◌, ◌⊎◌, inl, inr, ℕ, suc, zero, ◌+◌, ◌<◌, ◌||◌, List, [], ◌∷◌, ◌++◌, Bool, true, false, Option, Some, None}
+use Rattle.std.proofs.Common.{◌≡◌, ◌⊎◌, inl, inr, ℕ, suc, zero, ◌+◌, ◌<◌, ◌||◌, List, [], ◌∷◌, ◌++◌, Bool, true, false, Option}
 use Rattle.std.proofs.Common.{cond, refl, sym, ap, subst, ◌∙◌, append_assoc, append-nil, arith}
 use Rattle.inf_settings.specs.Bounds.{Limits}
 use Rattle.inf_devices.specs.Files.{Openings, Sources}
@@ -13,10 +13,12 @@ use Rattle.inf_unit.specs.Directives.{Request, Nothing, Include, End, Characters
 use Rattle.inf_reader.specs.Reading.{is_mode_ended}
 use Rattle.inf_scanner.specs.declared.tokens.Place.{Place}
 use Rattle.inf_session.specs.Choices.{Choices}
-use Rattle.inf_session.specs.Leading.{CutsShort, GivenUp, IsFront, NotTried, OpensAll, OpensWithin, StopsFor, StopsAtInclusion, Writes}
+use Rattle.inf_session.specs.Leading.{CutsShort, GivenUp, NotTried, OpensAll, OpensWithin, StopsFor, StopsAtInclusion, Writes}
+use Rattle.inf_ending.specs.Delivered.{IsFront}
 use Rattle.inf_session.specs.Leading.{WroteAll}
 use Rattle.inf_session.specs.Session.{State, answered, asked_nothing, file_closed, followed, has_ended, carried_out, included_by, is_parted}
 use Rattle.inf_session.specs.Session.{is_resting, left, left_by, none_included, part, piece_closed, rested, run, stepped, turn}
+use Rattle.inf_ending.proofs.Delivering.{takes_none, takes_then}
 
 -- Fronts
 
@@ -173,17 +175,6 @@ same_end limits sources o (suc m) (suc n) s e f =
     same_by limits sources o m n s (has_ended s) refl (λ x y. same_end limits sources o m n (turn limits sources o s) x y) e f
 
 -- The lines that a sink took
-
-pub takes_then : (old mid new : Option (List ℕ)) (xs ys : List ℕ) → Takes old mid xs → Takes mid new ys → Takes old new (xs ++ ys)
-takes_then None mid new xs ys a b = subst (λ m. Takes m new ys) a b
-takes_then (Some before) mid new xs ys a b = by_mid (subst (λ m. Takes m new ys) a b)
-  where
-    by_mid : new ≡ Some ((before ++ xs) ++ ys) → new ≡ Some (before ++ (xs ++ ys))
-    by_mid e = e ∙ ap (λ l. Some l) (append_assoc before xs ys)
-
-pub takes_none : (old : Option (List ℕ)) → Takes old old []
-takes_none None = refl
-takes_none (Some before) = ap (λ l. Some l) (sym (append-nil before))
 
 -- no turns write nothing
 pub writes_none : (limits : Limits) (sources : Sources) (o : Choices) (s : List ℕ → State) (old : Option (List ℕ)) →

@@ -1,4 +1,3 @@
-pub mod Endings
 pub mod Leadings
 pub mod Opening
 pub mod Turning
@@ -8,9 +7,7 @@ pub mod Standings
 pub mod Stepping
 pub mod Taking
 pub mod Bounds
-pub mod Delivering
 pub mod Supplying
 pub mod TextTurns
 pub mod Parting
-pub mod Quiet
 pub mod Passing

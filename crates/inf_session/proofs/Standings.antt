@@ -14,14 +14,14 @@ use Rattle.inf_conditionals.specs.Open.{Conditions}
 use Rattle.inf_unit.specs.Messages.{Reported, flushed}
 use Rattle.inf_reader.specs.declared.recovery.Recovery.TheVariants as mode
 use Rattle.inf_session.specs.Choices.{Choices}
-use Rattle.inf_session.specs.Faults.{Caused, IfRead, fault_of}
+use Rattle.inf_ending.specs.Faults.{Caused, IfRead, fault_of}
 use Rattle.inf_session.specs.Leading.{CutsShort, Writes}
 use Rattle.inf_session.specs.Session.{State, file_closed, followed, left, left_by, stepped, told_out, turn}
 use Rattle.inf_session.specs.Standing.{state}
-use Rattle.inf_session.specs.declared.faults.Fault.{Fault}
-use Rattle.inf_session.specs.declared.faults.Halt.{Halt}
+use Rattle.inf_ending.specs.declared.faults.Fault.{Fault}
+use Rattle.inf_ending.specs.declared.faults.Halt.{Halt}
 use Rattle.inf_session.specs.declared.session.Session.{Session}
-use Rattle.inf_session.specs.declared.faults.Fault.TheVariants as fault
+use Rattle.inf_ending.specs.declared.faults.Fault.TheVariants as fault
 
 -- Files that wait
 

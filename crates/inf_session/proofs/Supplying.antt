@@ -21,11 +21,13 @@ use Rattle.inf_session.specs.declared.session.Session.{Session}
 use Rattle.inf_unit.proofs.Cases.{of_both}
 use Rattle.inf_veneer.specs.Texts.{all_names, all_texts, name_of, numbered, text_of}
 use Rattle.inf_session.specs.Choices.{Choices, most_quoted}
-use Rattle.inf_session.specs.Leading.{CutsShort, IsFront, Writes}
+use Rattle.inf_session.specs.Leading.{CutsShort, Writes}
+use Rattle.inf_ending.specs.Delivered.{IsFront}
 use Rattle.inf_session.specs.Session.{State, has_ended, rested, stepped, told_out}
 use Rattle.inf_session.specs.Veneer.{first_wanted, in_text, is_wanted, most_texts, next_supplied, next_text, supplied, supplied_at}
 use Rattle.inf_session.specs.Veneer.{supplied_by, text_begun, text_front, text_read, text_turns, veneer_text}
-use Rattle.inf_session.proofs.Leadings.{front_same, front_then, rested_told, takes_none, takes_then}
+use Rattle.inf_session.proofs.Leadings.{front_same, front_then, rested_told}
+use Rattle.inf_ending.proofs.Delivering.{takes_none, takes_then}
 use Rattle.inf_session.proofs.Standings.{emptied}
 
 -- Names and texts are short

@@ -13,11 +13,7 @@ use Rattle.inf_devices.specs.Sinks.{Takes}
 use Rattle.inf_reader.specs.Reading.{is_mode_ended}
 use Rattle.inf_session.specs.Choices.{Choices}
 use Rattle.inf_session.specs.Session.{State, has_ended, run, stepped}
-
--- The first list is a front of the second.
-pub record IsFront (front whole : List ℕ) : Type 0 where
-  pub rest : List ℕ
-  pub is_cut : whole ≡ front ++ rest
+use Rattle.inf_ending.specs.Delivered.{IsFront}
 
 -- One step of reading leads from the state before to the state now, whatever was written before, and wrote these lines.
 pub record Writes (step : State → State) (was now : List ℕ → State) (old new : Option (List ℕ)) : Type 0 where

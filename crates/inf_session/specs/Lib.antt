@@ -1,11 +1,8 @@
 pub mod Choices
-pub mod Faults
 pub mod Taking
 pub mod Session
 pub mod Veneer
 pub mod Uses
 pub mod Standing
 pub mod Leading
-pub mod Ending
-pub mod Delivered
 pub mod Weights

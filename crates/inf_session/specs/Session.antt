@@ -32,6 +32,7 @@ use Rattle.inf_reader.specs.Reading.{Reading, ReaderState, begun_stand, has_ende
 use Rattle.inf_reader.specs.declared.recovery.Recovery.TheVariants as mode
 use Rattle.inf_session.specs.Choices.{Choices, most_quoted}
 use Rattle.inf_session.specs.Taking.{token_at, token_taken}
+use Rattle.inf_ending.specs.Ending.{first_place}
 
 -- The files that are open, each with the bytes that are still to come of it; the conditionals; how the next token is read; the
 -- compiled work, with the messages that are not written yet; the messages that are written; whether all reading has ended but for
@@ -45,10 +46,6 @@ pub record State : Type 0 where
   pub is_over : Bool
   pub quoted : ℕ
   pub passed : ℕ
-
--- The place of messages about a whole source: its first line.
-abbrev pub first_place : Place
-first_place = record { file = 0; line = 1 }
 
 -- The setting that the first objects or the first low string alone would pass, which is told before the first token. Each story has
 -- four objects, whose property tables have 30 bytes and their addresses four references, and a low string of two bytes.

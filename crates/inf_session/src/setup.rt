@@ -5,7 +5,7 @@ ghost use Rattle.inf_reader.specs.Standing.{standing};
 ghost use Rattle.inf_session.specs.Choices.{chosen};
 ghost use Rattle.inf_session.specs.Session.{begun_with, tables_full};
 
-use crate::ending::FIRST_LINE;
+use inf_ending::ending::FIRST_LINE;
 use inf_letters::Letters;
 use inf_lexer::Stack;
 use inf_names::hashing::NameHashing;

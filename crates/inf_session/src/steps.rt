@@ -4,18 +4,18 @@ ghost use Rattle.inf_devices.specs.Files.{Openings, Rose, Sources};
 ghost use Rattle.inf_sources.specs.Calls.{Honestly, IsUnreadable, StaysFit, Went};
 ghost use Rattle.inf_sources.specs.Open.{opened_since};
 ghost use Rattle.inf_session.specs.Choices.{chosen};
-ghost use Rattle.inf_session.specs.Delivered.{Appends};
-ghost use Rattle.inf_session.specs.Faults.{Caused, HidesNoFailure, IfRead};
+ghost use Rattle.inf_ending.specs.Delivered.{Appends};
+ghost use Rattle.inf_ending.specs.Faults.{Caused, HidesNoFailure, IfRead};
 ghost use Rattle.inf_session.specs.Leading.{CutsShort, GivenUp, OpensAll, Writes};
 ghost use Rattle.inf_session.specs.Session.{part, run};
 ghost use Rattle.inf_session.specs.Standing.{IsBounded, IsSet, came_to, ended, is_done, parted, state};
 ghost use Rattle.inf_session.specs.Veneer.{next_supplied};
 ghost use Rattle.inf_session.specs.Weights.{steps_left};
 
-use crate::faults::Fault;
 use crate::session::{Session, Step};
 use inf_devices::files::Files;
 use inf_devices::sinks::Sink;
+use inf_ending::faults::Fault;
 use inf_settings::bounds::Bounds;
 
 impl<'a, B: Bounds> Session<'a, B> {

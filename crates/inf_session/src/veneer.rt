@@ -3,20 +3,20 @@ ghost use Rattle.std.specs.Prelude.{◌≡◌, ℕ, ◌≤◌, ◌<◌, ◌⊎�
 ghost use Rattle.std.specs.Prelude.{OnOk, false, is_none, is_some, length, true};
 ghost use Rattle.inf_devices.specs.Files.{Openings, Rose, Sources};
 ghost use Rattle.inf_session.specs.Choices.{chosen, most_quoted};
-ghost use Rattle.inf_session.specs.Delivered.{Appends};
-ghost use Rattle.inf_session.specs.Faults.{Caused, HidesNoFailure};
+ghost use Rattle.inf_ending.specs.Delivered.{Appends};
+ghost use Rattle.inf_ending.specs.Faults.{Caused, HidesNoFailure};
 ghost use Rattle.inf_session.specs.Leading.{CutsShort, Writes};
 ghost use Rattle.inf_session.specs.Session.{rested, stepped};
 ghost use Rattle.inf_session.specs.Standing.{came_to, ended, next_of, state};
 ghost use Rattle.inf_session.specs.Veneer.{in_text, is_wanted, most_texts, next_supplied, supplied, text_begun, text_read, text_turns};
 ghost use Rattle.inf_session.specs.Veneer.{veneer_text};
 
-use crate::faults::Fault;
 use crate::session::{Session, Step};
 use crate::tokens::take;
 use inf_compilation::context::Context;
 use inf_conditionals::conditionals::Conditionals;
 use inf_devices::sinks::Sink;
+use inf_ending::faults::Fault;
 use inf_names::symbols::Found;
 use inf_reader::reader::Reader;
 use inf_settings::bounds::Bounds;
@@ -183,14 +183,17 @@ impl<'a, B: Bounds> Session<'a, B> {
         ensures setup { self.new.setup ≡ self.old.setup }
         ensures quoted { self.new.quoted ≡ self.old.quoted }
     {
-        let work = &mut self.progress.work;
-        let mut conditionals = Conditionals::new(self.alloc);
-        let declared = work.output.names.declared();
-        conditionals.end_piece(declared, self.open_files.names(), &mut work.report)?;
-        work.most_tokens = work.most_tokens.max(self.conditionals.most_tokens);
-        work.is_system = false;
+        let most = self.conditionals.most_tokens;
+        let declared = self.progress.work.output.names.declared();
+        self.conditionals = Conditionals::new(self.alloc);
+        self.conditionals.end_piece(
+            declared,
+            self.open_files.names(),
+            &mut self.progress.work.report,
+        )?;
+        self.progress.work.most_tokens = self.progress.work.most_tokens.max(most);
+        self.progress.work.is_system = false;
         self.progress.reader = Reader::new(self.alloc);
-        self.conditionals = conditionals;
         self.is_over = false;
         Ok(())
     }

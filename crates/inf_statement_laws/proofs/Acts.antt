@@ -7,9 +7,10 @@ use Rattle.inf_unit.specs.Units.{first_place, is_full, last_passed, last_place, 
 use Rattle.inf_unit.specs.Units.{text_passed}
 use Rattle.inf_compilation.specs.Actions.{Compilation, close, close_open, header_of, header_with, is_deep, is_to_be_replaced, named, nested}
 use Rattle.inf_compilation.specs.Actions.{opens, passed, settled_of, sized, stopped, took, trees_at}
-use Rattle.inf_compilation.specs.Parts.{actions_named, case_prepared, construct_closed, construct_ended, construct_opened, constructs_laid}
-use Rattle.inf_compilation.specs.Parts.{found_in, has_last, is_default, order_of, part_begun, part_carried, part_effect, part_ended}
-use Rattle.inf_compilation.specs.Parts.{part_finished, part_prepared, place_of, statement_at, wanted_of}
+use Rattle.inf_parts.specs.Parts.{actions_named, case_prepared}
+use Rattle.inf_compilation.specs.Nesting.{construct_closed, construct_ended, construct_opened, constructs_laid}
+use Rattle.inf_parts.specs.Parts.{found_in, has_last, is_default, order_of, part_begun, part_carried, part_effect, part_ended}
+use Rattle.inf_parts.specs.Parts.{part_finished, part_prepared, place_of, statement_at, wanted_of}
 use Rattle.std.proofs.lemmas.Bool.{and_parts}
 use Rattle.inf_scanner.specs.declared.tokens.Place.{Place}
 use Rattle.inf_expressions.specs.declared.findings.Finding.{Finding}
@@ -38,8 +39,8 @@ use Rattle.inf_constructs.specs.declared.constructs.Kind.{Kind}
 use Rattle.inf_constructs.specs.declared.constructs.Kind.TheVariants as kind
 use Rattle.inf_reader.specs.Acting.{act, ended as ended_as, is_crowded, is_long, is_tall, is_wordy, kind_of, noted, noted_of}
 use Rattle.inf_reader.specs.Acting.{operands_named, played, value_noted}
-use Rattle.inf_compilation.specs.declared.parts.Part.{Part}
-use Rattle.inf_compilation.specs.declared.parts.Part.TheVariants as part
+use Rattle.inf_parts.specs.declared.parts.Part.{Part}
+use Rattle.inf_parts.specs.declared.parts.Part.TheVariants as part
 use Rattle.inf_statement_laws.specs.Happenings.{Acts, Happening, Takes, happen_quietly, happens_quietly, is_quiet, is_quiet_end}
 use Rattle.inf_statement_laws.specs.Happenings.{is_quiet_role}
 use Rattle.inf_statement_laws.specs.Laid.{happens, run}

@@ -21,8 +21,8 @@ use Rattle.inf_constructs.specs.declared.constructs.Kind.TheVariants as kind
 use Rattle.inf_constructs.specs.declared.constructs.Over.TheVariants as over
 use Rattle.inf_reader.specs.Acting.{act}
 use Rattle.inf_compilation.specs.Actions.{Compilation, is_deep, nested}
-use Rattle.inf_compilation.specs.Parts.{closed_ahead, construct_closed, construct_ended, construct_joined, construct_opened}
-use Rattle.inf_compilation.specs.Parts.{constructs_laid}
+use Rattle.inf_compilation.specs.Nesting.{closed_ahead, construct_closed, construct_ended, construct_joined, construct_opened}
+use Rattle.inf_compilation.specs.Nesting.{constructs_laid}
 use Rattle.inf_statement_laws.specs.Happenings.{Acts, Between, Happening, IsRead, Moment, Quiet, bodies, rests}
 use Rattle.inf_statement_laws.specs.Nested.{Case, Do, For, If, IfElse, Nested, NoStep, Objectloop, Plain, Step, StepEnds, Switch, Then}
 use Rattle.inf_statement_laws.specs.Nested.{While, happenings, step_happenings}

@@ -22,7 +22,7 @@ use Rattle.inf_unit.specs.Tokens.{SourceToken}
 use Rattle.inf_unit.specs.Units.{first_place, names_in}
 use Rattle.inf_reader.specs.Acting.{act, acted}
 use Rattle.inf_compilation.specs.Actions.{Compilation, took}
-use Rattle.inf_compilation.specs.Parts.{closed_ahead, construct_ended}
+use Rattle.inf_compilation.specs.Nesting.{closed_ahead, construct_ended}
 use Rattle.inf_statement_laws.specs.Happenings.{Acts, AreOf, Between, Happening, Quiet, Takes, happen_quietly, is_quiet}
 use Rattle.inf_statement_laws.specs.Laid.{happens, next_comes, passed, run}
 use Rattle.inf_statement_laws.specs.Laws.{AreRoutine, RoutinesAreReadWhole, TokensHappen}

@@ -18,7 +18,7 @@ use Rattle.inf_constructs.specs.Constructs.{depth}
 use Rattle.inf_constructs.specs.declared.constructs.Construct.{Construct}
 use Rattle.inf_reader.specs.Acting.{act, all_acted}
 use Rattle.inf_compilation.specs.Actions.{Compilation, begun_at, took}
-use Rattle.inf_compilation.specs.Parts.{closed_ahead}
+use Rattle.inf_compilation.specs.Nesting.{closed_ahead}
 use Rattle.inf_statement_laws.specs.Happenings.{Acts, AreOf, Between, Happening, IsRead, bodies, rests}
 use Rattle.inf_statement_laws.specs.Nested.{Nested, happenings, rest_of}
 use Rattle.inf_statement_laws.specs.Laid.{laid, next_comes, passed, run, with_kind_in, with_step_in}

@@ -16,7 +16,7 @@ use Rattle.inf_compilation.specs.Context.{Context}
 use Rattle.inf_unit.specs.Tokens.{SourceToken}
 use Rattle.inf_reader.specs.Acting.{all_acted}
 use Rattle.inf_compilation.specs.Actions.{Compilation, took}
-use Rattle.inf_compilation.specs.Parts.{closed_ahead}
+use Rattle.inf_compilation.specs.Nesting.{closed_ahead}
 use Rattle.inf_statement_laws.specs.Happenings.{Acts, Between, Happening, Moment, Quiet, Takes}
 use Rattle.inf_statement_laws.specs.Laid.{happens, laid, passed, run}
 use Rattle.inf_statement_laws.specs.Nested.{Nested, happenings}

@@ -1,4 +1,3 @@
 pub mod Firsts
 pub mod Fitting
-pub mod Noting
-pub mod Staying
+pub mod LinesNoted

@@ -32,8 +32,8 @@ use Rattle.inf_unit.specs.declared.items.Item.TheVariants as item
 use Rattle.inf_constructs.specs.Cases.{operand_in}
 use Rattle.inf_constructs.specs.Constructs.{Laying, giving}
 use Rattle.inf_constructs.specs.Labels.{NamedLabel, given, label_of, wanted}
-use Rattle.inf_statements.specs.Operands.{is_stack, looked_name}
-use Rattle.inf_statements.specs.Printing.{text_at}
+use Rattle.inf_operands.specs.Operands.{is_stack, looked_name}
+use Rattle.inf_operands.specs.Texts.{text_at}
 use Rattle.inf_statements.specs.Statements.{printed}
 use Rattle.inf_statements.specs.declared.assembly.Ends.{Ends}
 

@@ -22,7 +22,8 @@ use Rattle.inf_unit.specs.declared.items.Item.TheVariants as item
 use Rattle.inf_statements.specs.Assembly.{ends_of, labelled, line_finding, line_laid, placed}
 use Rattle.inf_constructs.specs.Constructs.{Laying, giving, left_to}
 use Rattle.inf_constructs.specs.Labels.{NamedLabel, is_given}
-use Rattle.inf_statements.specs.Printing.{items_printed, text_at}
+use Rattle.inf_statements.specs.Printing.{items_printed}
+use Rattle.inf_operands.specs.Texts.{text_at}
 use Rattle.inf_statements.specs.Statements.{action_laid, alone, attributes_changed, jumped_to, moved, one_worked, plain, returned, spaced}
 use Rattle.inf_statements.specs.Statements.{string_changed, style_of, styled}
 use Rattle.inf_constructs.specs.declared.constructs.Construct.{Construct}

@@ -1,6 +1,3 @@
-pub mod Operands
-pub mod OperandLists
-pub mod Uses
 pub mod Statements
 pub mod Printing
 pub mod Assembly

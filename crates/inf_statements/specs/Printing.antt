@@ -1,8 +1,7 @@
 -- The code of statements that print.
-use Rattle.std.specs.Prelude.{ℕ, List, [], ◌∷◌, Bool, true, false, slice_get, Option, Some, None}
+use Rattle.std.specs.Prelude.{List, [], ◌∷◌, Bool, true, false, None}
 use Rattle.inf_settings.specs.Bounds.{Limits}
 use Rattle.inf_characters.specs.declared.characters.CharSet.{CharSet}
-use Rattle.inf_characters.specs.declared.texts.TextItem.{TextItem}
 use Rattle.inf_opcode.specs.declared.opcodes.Opcode.{Opcode}
 use Rattle.inf_opcode.specs.declared.opcodes.Opcode.TheVariants as opcode
 use Rattle.inf_expressions.specs.Trees.{Tree}
@@ -11,26 +10,19 @@ use Rattle.inf_output.specs.declared.veneer.Veneer.TheVariants as veneer
 use Rattle.inf_output.specs.Output.{Code, nothing, ◌▸◌}
 use Rattle.inf_templates.specs.Meaning.{meaning, part}
 use Rattle.inf_templates.specs.Parts.{call, call_routine}
-use Rattle.inf_unit.specs.Texts.{read_of}
 use Rattle.inf_unit.specs.Tokens.{SourceToken}
 use Rattle.inf_unit.specs.declared.items.Item.{Item}
 use Rattle.inf_unit.specs.declared.items.Item.TheVariants as item
 use Rattle.inf_unit.specs.declared.items.PrintRule.{PrintRule}
 use Rattle.inf_unit.specs.declared.items.PrintRule.TheVariants as rule
 use Rattle.inf_statements.specs.Statements.{one_worked, plain, printed, rest}
+use Rattle.inf_operands.specs.Texts.{text_at}
 
 -- The items of a statement are printed in order. The last text of `print_ret` is an instruction of its own; behind any other last item a
 -- new line comes, and 1 is returned.
 abbrev pub text_opcode : Bool → List Item → Opcode
 text_opcode true [] = opcode.PrintRet
 text_opcode _ _ = opcode.Print
-
-abbrev pub text_by : CharSet → Option SourceToken → Option (List TextItem)
-text_by set None = None
-text_by set (Some t) = read_of set t
-
-abbrev pub text_at : CharSet → List SourceToken → ℕ → Option (List TextItem)
-text_at set tokens at = text_by set (slice_get tokens at)
 
 abbrev pub ended : Limits → Bool → Code
 ended limits true = plain limits opcode.NewLine ▸ plain limits opcode.Rtrue

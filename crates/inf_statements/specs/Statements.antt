@@ -1,5 +1,5 @@
 -- Statements and their code.
-use Rattle.std.specs.Prelude.{◌≡◌, ℕ, ◌==◌, List, [], ◌∷◌, codes, map, Bool, true, false, slice_get, if◌then◌else◌, Option, Some, None}
+use Rattle.std.specs.Prelude.{◌≡◌, ℕ, ◌==◌, List, [], ◌∷◌, codes, Bool, true, false, slice_get, if◌then◌else◌, Option, Some, None}
 use Rattle.std.specs.Str.{str_eq_ignore_ascii_case}
 use Rattle.inf_settings.specs.Bounds.{Limits}
 use Rattle.inf_area.specs.declared.targets.AreaName.TheVariants as area
@@ -16,16 +16,13 @@ use Rattle.inf_opcode.specs.declared.opcodes.Opcode.TheVariants as opcode
 use Rattle.inf_opcode.specs.Instructions.{bare}
 use Rattle.inf_opcode.specs.Opcodes.{row_of}
 use Rattle.inf_opcode.specs.declared.instructions.Label.{Label}
-use Rattle.inf_expressions.specs.declared.trees.Root.{Root}
-use Rattle.inf_expressions.specs.Nodes.{rooted_at}
-use Rattle.inf_expressions.specs.Rooted.{Rooted}
 use Rattle.inf_expressions.specs.Trees.{Tree}
 use Rattle.inf_output.specs.declared.items.Item.TheVariants.{Instruction}
 use Rattle.inf_output.specs.declared.operands.Simple.{Simple}
 use Rattle.inf_output.specs.declared.operands.Simple.TheVariants.{Known, Later, Variable}
 use Rattle.inf_output.specs.declared.veneer.Veneer.TheVariants as veneer
 use Rattle.inf_output.specs.Output.{Code, instruction, jumped, laid, low_string_at, nothing, with_low_text, ◌▸◌}
-use Rattle.inf_output.specs.Texts.{late, used_in}
+use Rattle.inf_output.specs.Texts.{used_in}
 use Rattle.inf_templates.specs.Meaning.{Meaning, meaning, part}
 use Rattle.inf_templates.specs.Parts.{Part, SP, TEMP, call_routine, is, worked}
 use Rattle.inf_unit.specs.Tokens.{SourceToken, keyword}
@@ -36,6 +33,7 @@ use Rattle.inf_unit.specs.declared.items.Item.TheVariants as item
 use Rattle.inf_constructs.specs.Cases.{SWITCHED}
 use Rattle.inf_statements.specs.declared.statements.Statement.{Statement}
 use Rattle.inf_statements.specs.declared.statements.Statement.TheVariants as statement
+use Rattle.inf_operands.specs.Texts.{text_packed}
 
 -- The statement that begins with this word of the grammar, or with a mark. Designer's Manual, fourth edition, sections 1.4 to 1.12.
 abbrev pub word_statement : Option Keyword → Statement
@@ -86,10 +84,6 @@ statement_in tokens begun items = statement_by (slice_get tokens begun) items
 -- an instruction of an opcode alone
 abbrev pub plain : Limits → Opcode → Code
 plain limits op = instruction limits op [] None None
-
--- a text was packed, and it is too late now to declare an abbreviation
-abbrev pub text_packed : Code
-text_packed o = record o { texts = late o.texts }
 
 -- the instruction that prints a text: Z-Machine Standard 1.1, sections 4.8 and 14
 abbrev pub printed : Limits → Opcode → Option (List TextItem) → Code

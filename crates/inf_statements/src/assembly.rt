@@ -13,7 +13,6 @@ ghost use Rattle.inf_statements.specs.Statements.{PrintsText};
 ghost use Rattle.inf_unit.specs.Opcodes.{opcode_of};
 ghost use Rattle.inf_unit.specs.Units.{bytes_at, next_place};
 
-use crate::operands::{is_stack, looked_name};
 use crate::printing::print_text;
 use arrayvec::ArrayVec;
 use inf_constructs::labels::Labels;
@@ -21,6 +20,7 @@ use inf_expressions::{Finding, Nodes, Operand, Root, UnitError, least_of_both};
 use inf_names::locals::Locals;
 use inf_names::symbols::Symbols;
 use inf_opcode::{Branch, Destination, Label, MOST_OPERANDS, Opcode, OpcodeRow};
+use inf_operands::operands::{is_stack, looked_name};
 use inf_output::{Output, Simple};
 use inf_scanner::Place;
 use inf_settings::bounds::Bounds;

@@ -8,10 +8,6 @@
 
 mod assembly;
 pub mod effects;
-pub mod looking;
-pub mod naming;
-pub mod operand_lists;
-pub mod operands;
 mod printing;
 pub mod statements;
 

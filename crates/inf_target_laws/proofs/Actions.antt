@@ -23,8 +23,8 @@ use Rattle.inf_compilation.specs.Actions.{Compilation, body_ended, code_begun, c
 use Rattle.inf_compilation.specs.Actions.{took, words_of}
 use Rattle.inf_compilation.specs.Context.{Context}
 use Rattle.inf_compilation.specs.Findings.{nothing_found}
-use Rattle.inf_compilation.specs.Parts.{statement_at}
-use Rattle.inf_compilation.specs.declared.parts.Part.TheVariants as part
+use Rattle.inf_parts.specs.Parts.{statement_at}
+use Rattle.inf_parts.specs.declared.parts.Part.TheVariants as part
 use Rattle.inf_reader.specs.Acting.{act, acted, all_acted, cut_at, ended, held_ended, is_crowded, is_long, is_tall, is_wordy, kind_of}
 use Rattle.inf_reader.specs.Acting.{noted, noted_of, played}
 use Rattle.inf_reader.specs.Directives.{carried_out, code_begun_by, directive_end, directive_of_names, fit_ended}

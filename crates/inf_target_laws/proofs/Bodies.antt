@@ -39,9 +39,10 @@ use Rattle.inf_bodies.specs.declared.headers.Header.{Header}
 use Rattle.inf_compilation.specs.Actions.{Compilation, body_ended, finding_at, given_up, settled_of, world_ended, world_ended_by}
 use Rattle.inf_compilation.specs.Context.{Context}
 use Rattle.inf_compilation.specs.Findings.{found_alone}
-use Rattle.inf_declarations.specs.Arrays.{looked_value, variables_from}
-use Rattle.inf_declarations.specs.Declarations.{declared_findings, plainly_known, value_of, with_world}
-use Rattle.inf_declarations.specs.declared.declarations.Declared.{Declared}
+use Rattle.inf_named_values.specs.Values.{looked_value, variables_from}
+use Rattle.inf_named_values.specs.Declarations.{declared_findings, plainly_known, with_world}
+use Rattle.inf_named_values.specs.Values.{value_of}
+use Rattle.inf_named_values.specs.declared.declarations.Declared.{Declared}
 use Rattle.inf_constructs.specs.declared.constructs.Construct.{Construct}
 use Rattle.inf_output.specs.Output.{Out}
 use Rattle.inf_word_laws.specs.Standing.{has_word}

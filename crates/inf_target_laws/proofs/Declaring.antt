@@ -38,8 +38,8 @@ use Rattle.inf_tables.specs.World.{attribute_fault, property_fault, with_propert
 use Rattle.inf_tables.specs.declared.faults.WorldFault.{WorldFault}
 use Rattle.inf_unit.specs.Units.{bytes_at, first_place, name_order, quoted_in}
 use Rattle.inf_constructs.specs.Roots.{tree_in}
-use Rattle.inf_statements.specs.Printing.{text_at}
-use Rattle.inf_statements.specs.Statements.{text_packed}
+use Rattle.inf_operands.specs.Texts.{text_at}
+use Rattle.inf_operands.specs.Texts.{text_packed}
 use Rattle.inf_compilation.specs.Actions.{Compilation, finding_at, operands_of, settled_of, trees_at}
 use Rattle.inf_compilation.specs.Context.{Context}
 use Rattle.inf_compilation.specs.Findings.{found_alone, nothing_found}
@@ -49,17 +49,28 @@ use Rattle.inf_declarations.specs.Abbreviations.{low_string, low_string_added, l
 use Rattle.inf_declarations.specs.Arrays.{added, adding, array_named, array_opened, array_opened_by, bare_text, codes_of, entry_added}
 use Rattle.inf_declarations.specs.Arrays.{entry_added_by, entry_ended, entry_finding, entry_with, is_alone, kind_in, listed, one_more}
 use Rattle.inf_declarations.specs.Arrays.{story_added, text_added, value_added, with_arrays}
-use Rattle.inf_declarations.specs.Declarations.{alias_finding, alias_meaning, alias_told, aliased, attribute_found, attribute_meaning}
-use Rattle.inf_declarations.specs.Declarations.{last_meaning, property_found, property_meaning, attribute, attribute_added}
-use Rattle.inf_declarations.specs.Declarations.{attribute_number, attribute_with, declared_ended, declared_findings, global_added}
-use Rattle.inf_declarations.specs.Declarations.{global_variable, global_with, has_most_attributes, has_most_globals, has_most_properties}
-use Rattle.inf_declarations.specs.Declarations.{is_additive, is_alias, name_declared, name_known, new_attribute, new_attribute_by}
-use Rattle.inf_declarations.specs.Declarations.{new_global, new_property, new_property_by, nothing_of, plainly_known, property}
-use Rattle.inf_declarations.specs.Declarations.{property_added, property_named, property_names, property_number, property_order}
-use Rattle.inf_declarations.specs.Declarations.{property_with, value_in, value_of, value_or, valued, with_variable}
+use Rattle.inf_named_values.specs.Declarations.{alias_finding, alias_meaning, alias_told, aliased, attribute_found, attribute_meaning}
+use Rattle.inf_named_values.specs.Declarations.{last_meaning, property_found, property_meaning}
+use Rattle.inf_declarations.specs.Attributes.{attribute, attribute_added}
+use Rattle.inf_named_values.specs.Declarations.{declared_ended, declared_findings}
+use Rattle.inf_declarations.specs.Globals.{global_added}
+use Rattle.inf_declarations.specs.Attributes.{attribute_number, attribute_with}
+use Rattle.inf_declarations.specs.Globals.{global_variable, global_with, has_most_globals}
+use Rattle.inf_declarations.specs.Properties.{has_most_properties}
+use Rattle.inf_declarations.specs.Attributes.{has_most_attributes}
+use Rattle.inf_named_values.specs.Declarations.{is_additive, is_alias, name_declared, name_known}
+use Rattle.inf_declarations.specs.Attributes.{new_attribute, new_attribute_by}
+use Rattle.inf_named_values.specs.Declarations.{nothing_of, plainly_known}
+use Rattle.inf_declarations.specs.Globals.{new_global}
+use Rattle.inf_declarations.specs.Properties.{new_property, new_property_by, property}
+use Rattle.inf_declarations.specs.Properties.{property_added, property_named, property_names, property_number, property_order}
+use Rattle.inf_named_values.specs.Declarations.{valued}
+use Rattle.inf_named_values.specs.Values.{value_in, value_of, value_or}
+use Rattle.inf_declarations.specs.Globals.{with_variable}
+use Rattle.inf_declarations.specs.Properties.{property_with}
 use Rattle.inf_declarations.specs.Headers.{known_number, release, release_finding, release_told, serial, serial_by, serial_in}
 use Rattle.inf_declarations.specs.Switches.{has_code, letters_behind, misplaced, switched, switches, switches_by}
-use Rattle.inf_declarations.specs.declared.declarations.Declared.{Declared}
+use Rattle.inf_named_values.specs.declared.declarations.Declared.{Declared}
 use Rattle.inf_target_laws.specs.Lists.{ArraysStand}
 use Rattle.inf_target_laws.specs.Standing.{Before, MeaningStands, ValueStands}
 use Rattle.inf_target_laws.proofs.Lists.{values_join}

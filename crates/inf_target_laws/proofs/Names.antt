@@ -16,7 +16,7 @@ use Rattle.inf_names.specs.declared.symbols.ReferFault.{ReferFault}
 use Rattle.inf_output.specs.Output.{Out, found_simple, referred_as_by, referred_by, routine_by, simple_by, standing_simple, used_by}
 use Rattle.inf_output.specs.Actions.{routine_of}
 use Rattle.inf_verbs.specs.Routines.{is_among, with_routine}
-use Rattle.inf_statements.specs.Operands.{found_operand, operand_by, settled_as, standing}
+use Rattle.inf_operands.specs.Operands.{found_operand, operand_by, settled_as, standing}
 use Rattle.inf_target_laws.specs.Lists.{NamesStand, RoutinesStand}
 use Rattle.inf_target_laws.specs.Standing.{Before, MeaningStands, StandingStands}
 use Rattle.inf_target_laws.proofs.Premises.{OperandStands, SimpleStands}

@@ -29,11 +29,11 @@ use Rattle.inf_unit.specs.Tokens.{SourceToken}
 use Rattle.inf_unit.specs.Units.{bytes_at, name_at}
 use Rattle.inf_verbs.specs.Routines.{action_fault}
 use Rattle.inf_verbs.specs.declared.routines.ActionFault.{ActionFault}
-use Rattle.inf_statements.specs.Operands.{Settled, is_stack, leaf_added, one_added, settled, settled_action, settled_alone, settled_by}
-use Rattle.inf_statements.specs.Operands.{settled_leaf, settled_name, settled_text, system_by, system_constant, system_operand}
-use Rattle.inf_statements.specs.Operands.{with_settled}
-use Rattle.inf_statements.specs.Printing.{text_at}
-use Rattle.inf_statements.specs.Statements.{text_packed}
+use Rattle.inf_operands.specs.Operands.{Settled, is_stack, leaf_added, one_added, settled, settled_action, settled_alone, settled_by}
+use Rattle.inf_operands.specs.Operands.{settled_leaf, settled_name, settled_text, system_by, system_constant, system_operand}
+use Rattle.inf_operands.specs.Operands.{with_settled}
+use Rattle.inf_operands.specs.Texts.{text_at}
+use Rattle.inf_operands.specs.Texts.{text_packed}
 use Rattle.inf_target_laws.specs.Standing.{Before}
 use Rattle.inf_target_laws.proofs.Names.{IsWithin, referred_stands, referred_within, routine_among}
 use Rattle.inf_target_laws.proofs.Outputs.{Goes, GoesIf, Keeps, declare_keeps, goes_given, goes_nowhere, goes_then, refer_keeps}

@@ -38,12 +38,14 @@ use Rattle.inf_statements.specs.Assembly.{branch_to, branched, branched_to, ends
 use Rattle.inf_statements.specs.Assembly.{line_laid, line_laid_as, line_laid_by, named_first, operands_in, placed, printing_of}
 use Rattle.inf_statements.specs.Assembly.{some_printed, store_of, text_printed, variable_of}
 use Rattle.inf_statements.specs.Effects.{Site, jump_laid, last_text, name_behind, place_laid, statement_code, statement_laid}
-use Rattle.inf_statements.specs.Printing.{called_with, ended, ends_behind, item_code, items_printed, rule_code, text_at, text_opcode}
+use Rattle.inf_statements.specs.Printing.{called_with, ended, ends_behind, item_code, items_printed, rule_code, text_opcode}
+use Rattle.inf_operands.specs.Texts.{text_at}
 use Rattle.inf_statements.specs.Printing.{rest_behind, trees_behind, veneer_called}
 use Rattle.inf_statements.specs.Statements.{abbreviations, action_laid, action_on, alone, are_several, attribute_code, attribute_opcode}
 use Rattle.inf_statements.specs.Statements.{attributes_changed, attributes_given, given_by, jumped_to, moved, one_worked, plain, printed}
 use Rattle.inf_statements.specs.Statements.{rest, returned, returned_by, returned_number, spaced, string_changed, string_set, style_of}
-use Rattle.inf_statements.specs.Statements.{styled_by, switched, tested, text_packed, unless}
+use Rattle.inf_statements.specs.Statements.{styled_by, switched, tested, unless}
+use Rattle.inf_operands.specs.Texts.{text_packed}
 use Rattle.inf_statements.specs.declared.assembly.Ends.{Ends}
 use Rattle.inf_statements.specs.declared.statements.Statement.{Statement}
 use Rattle.inf_statements.specs.declared.statements.Statement.TheVariants as statement

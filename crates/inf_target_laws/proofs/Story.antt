@@ -36,8 +36,8 @@ use Rattle.inf_unit.specs.Names.{main_of, with_all_undeclared, with_undeclared}
 use Rattle.inf_verbs.specs.Verbs.{address_cells, parts_cells}
 use Rattle.inf_compilation.specs.Actions.{Compilation, begun_at}
 use Rattle.inf_session.specs.Choices.{Choices}
-use Rattle.inf_session.specs.Ending.{begun, begun_from, is_clean, laid, named, refused, told_of}
-use Rattle.inf_session.specs.Session.{first_place}
+use Rattle.inf_ending.specs.Ending.{begun, begun_from, is_clean, laid, named, refused, told_of}
+use Rattle.inf_ending.specs.Ending.{first_place}
 use Rattle.inf_limit_laws.proofs.Ways.{Remains, none_full, with_error_stays}
 use Rattle.inf_word_laws.proofs.Values.{names_are_found}
 use Rattle.inf_target_laws.specs.Lists.{DefaultsStand, NamesStand, ObjectsStand, ValuesStand}

@@ -23,7 +23,7 @@ use Rattle.inf_names.specs.declared.symbols.Found.TheVariants as found
 use Rattle.inf_dictionary.specs.declared.uses.WordUse.TheVariants as word_use
 use Rattle.inf_gathering.specs.declared.gathering.Leaf.{Leaf}
 use Rattle.inf_gathering.specs.declared.gathering.Leaf.TheVariants as leaf
-use Rattle.inf_statements.specs.Operands.{leaf_added}
+use Rattle.inf_operands.specs.Operands.{leaf_added}
 use Rattle.inf_statements.specs.Statements.{alone}
 use Rattle.inf_output.specs.Output.{Out, apart, declared, opened, with_word}
 use Rattle.inf_unit.specs.Units.{first_place, last_place, name_order, names_in}
@@ -40,11 +40,13 @@ use Rattle.inf_compilation.specs.Actions.{routine_declared, settled_of, stub, st
 use Rattle.inf_compilation.specs.Actions.{named_leaf}
 use Rattle.inf_compilation.specs.Context.{Context}
 use Rattle.inf_compilation.specs.Findings.{Findings, again_by, found_alone, header_findings, nothing_found}
-use Rattle.inf_compilation.specs.Parts.{actions_named, case_prepared, closed_ahead, construct_closed, construct_ended, construct_joined}
-use Rattle.inf_compilation.specs.Parts.{construct_opened, constructs_laid, found_in, has_last, is_default, order_of, part_begun}
-use Rattle.inf_compilation.specs.Parts.{part_carried, part_effect, part_ended, part_finished, part_prepared, place_of, site_of, wanted_of}
-use Rattle.inf_compilation.specs.declared.parts.Part.{Part}
-use Rattle.inf_compilation.specs.declared.parts.Part.TheVariants as part
+use Rattle.inf_parts.specs.Parts.{actions_named, case_prepared}
+use Rattle.inf_compilation.specs.Nesting.{closed_ahead, construct_closed, construct_ended, construct_joined}
+use Rattle.inf_parts.specs.Parts.{found_in, has_last, is_default, order_of, part_begun}
+use Rattle.inf_compilation.specs.Nesting.{construct_opened, constructs_laid}
+use Rattle.inf_parts.specs.Parts.{part_carried, part_effect, part_ended, part_finished, part_prepared, place_of, site_of, wanted_of}
+use Rattle.inf_parts.specs.declared.parts.Part.{Part}
+use Rattle.inf_parts.specs.declared.parts.Part.TheVariants as part
 use Rattle.inf_declarations.specs.Defaults.{default}
 use Rattle.inf_target_laws.specs.Lists.{NamesStand, StepsStand}
 use Rattle.inf_target_laws.specs.Outputs.{Holds}

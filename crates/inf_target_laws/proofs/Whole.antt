@@ -7,7 +7,8 @@ use Rattle.inf_output.specs.Output.{Out}
 use Rattle.inf_compilation.specs.Actions.{Compilation, begun_at}
 use Rattle.inf_compilation.specs.Context.{Context}
 use Rattle.inf_session.specs.Choices.{Choices}
-use Rattle.inf_session.specs.Session.{State, context_of, first_place, has_ended, rested, start, stepped, turn}
+use Rattle.inf_session.specs.Session.{State, context_of, has_ended, rested, start, stepped, turn}
+use Rattle.inf_ending.specs.Ending.{first_place}
 use Rattle.inf_session.specs.Veneer.{in_text, text_begun, text_front, text_read, text_turns, veneer_text}
 use Rattle.inf_limit_laws.specs.Reached.{Here, IsBehind, IsReached, Supplies, Turns}
 use Rattle.inf_target_laws.specs.Laws.{StepsKeepTargets, TargetsStand}

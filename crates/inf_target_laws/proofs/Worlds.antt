@@ -25,7 +25,7 @@ use Rattle.inf_target_laws.specs.Lists.{ArraysStand, DefaultsStand, ListedStand,
 use Rattle.inf_target_laws.specs.Lists.{ValuesStand}
 use Rattle.inf_target_laws.specs.Outputs.{WorldStands}
 use Rattle.inf_target_laws.specs.Standing.{ValueStands}
-use Rattle.inf_declarations.specs.Declarations.{with_world}
+use Rattle.inf_named_values.specs.Declarations.{with_world}
 use Rattle.inf_target_laws.proofs.Outputs.{Goes}
 use Rattle.inf_target_laws.proofs.Lists.{listed_join, objects_join, properties_join, values_join}
 

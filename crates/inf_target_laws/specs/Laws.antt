@@ -11,7 +11,8 @@ use Rattle.inf_compilation.specs.Actions.{Compilation, begun_at, took}
 use Rattle.inf_compilation.specs.Context.{Context}
 use Rattle.inf_reader.specs.Acting.{act, cut_at}
 use Rattle.inf_session.specs.Choices.{Choices}
-use Rattle.inf_session.specs.Session.{State, first_place}
+use Rattle.inf_session.specs.Session.{State}
+use Rattle.inf_ending.specs.Ending.{first_place}
 use Rattle.inf_limit_laws.specs.Reached.{IsReached}
 use Rattle.inf_target_laws.specs.Compilations.{Held, Leads}
 use Rattle.inf_target_laws.specs.Standing.{is_short}

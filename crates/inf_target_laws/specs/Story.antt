@@ -18,8 +18,9 @@ use Rattle.inf_story.specs.Names.{values_of}
 use Rattle.inf_story.specs.Tables.{areas, looked_up}
 use Rattle.inf_compilation.specs.Actions.{begun_at}
 use Rattle.inf_session.specs.Choices.{Choices}
-use Rattle.inf_session.specs.Ending.{finished}
-use Rattle.inf_session.specs.Session.{State, first_place}
+use Rattle.inf_ending.specs.Ending.{finished}
+use Rattle.inf_session.specs.Session.{State}
+use Rattle.inf_ending.specs.Ending.{first_place}
 use Rattle.inf_word_laws.specs.Values.{AllDirect}
 use Rattle.inf_limit_laws.specs.Reached.{IsReached}
 

@@ -26,8 +26,11 @@ use Rattle.inf_compilation.specs.Actions.{new_stub, operands_of, replace, routin
 use Rattle.inf_compilation.specs.Actions.{unit_ended}
 use Rattle.inf_compilation.specs.Findings.{again_by, found_alone, nothing_found}
 use Rattle.inf_declarations.specs.Abbreviations.{low_string}
-use Rattle.inf_declarations.specs.Declarations.{alias_told, attribute, attribute_with, global_variable, is_additive, is_alias, property}
-use Rattle.inf_declarations.specs.Declarations.{property_named, property_names, property_order, property_with}
+use Rattle.inf_named_values.specs.Declarations.{alias_told, is_additive, is_alias}
+use Rattle.inf_declarations.specs.Globals.{global_variable}
+use Rattle.inf_declarations.specs.Properties.{property}
+use Rattle.inf_declarations.specs.Attributes.{attribute, attribute_with}
+use Rattle.inf_declarations.specs.Properties.{property_named, property_names, property_order, property_with}
 use Rattle.inf_declarations.specs.Defaults.{default}
 use Rattle.inf_declarations.specs.Headers.{known_number, release, release_finding, release_told, serial_by, serial_in}
 use Rattle.inf_declarations.specs.Switches.{has_code, letters_behind, switches, switches_by}

@@ -19,7 +19,7 @@ use Rattle.inf_syntax.specs.declared.actions.Action.{Action}
 use Rattle.inf_grammar.specs.Evaluated.{language_is_decided}
 use Rattle.inf_grammar.specs.Language.{grammar, known}
 use Rattle.inf_statement_laws.proofs.Rules.{number}
-use Rattle.inf_language.proofs.TextsActed.{rule_is_spaced}
+use Rattle.inf_grammar.proofs.Spaced.{rule_is_spaced}
 use Rattle.inf_trees.specs.Directives.{begins_directive, is_word, words}
 use Rattle.inf_trees.proofs.RuleRows.{of_rows}
 use Rattle.inf_trees.proofs.UnitTexts.{NoNotes, is_flat, is_unit}

@@ -9,8 +9,8 @@ use Rattle.inf_unit.proofs.Cases.{of_both}
 use Rattle.inf_statements.specs.declared.statements.Statement.{Statement}
 use Rattle.inf_compilation.specs.Context.{Context}
 use Rattle.inf_compilation.specs.Actions.{Compilation, named, passed, settled_of, trees_at}
-use Rattle.inf_compilation.specs.Parts.{found_in, order_of, part_carried, part_effect, part_ended, part_finished, part_prepared, wanted_of}
-use Rattle.inf_compilation.specs.declared.parts.Part.TheVariants as part
+use Rattle.inf_parts.specs.Parts.{found_in, order_of, part_carried, part_effect, part_ended, part_finished, part_prepared, wanted_of}
+use Rattle.inf_parts.specs.declared.parts.Part.TheVariants as part
 
 effect_unit : (limits : Limits) (context : Context) (s : Statement) (trees : List Rooted) (w : Compilation)
     → (part_effect limits context (part.Statement s) trees w).unit ≡ w.unit

@@ -22,8 +22,8 @@ use Rattle.inf_unit.specs.Tokens.{SourceToken}
 use Rattle.inf_unit.specs.Units.{Unit as UnitAtHand, begun, depth_behind, is_some_mark, kind_at, noted, text_passed}
 use Rattle.inf_compilation.specs.Context.{Context}
 use Rattle.inf_compilation.specs.Actions.{Compilation, opens}
-use Rattle.inf_compilation.specs.Parts.{part_ended, statement_at}
-use Rattle.inf_compilation.specs.declared.parts.Part.TheVariants as part
+use Rattle.inf_parts.specs.Parts.{part_ended, statement_at}
+use Rattle.inf_parts.specs.declared.parts.Part.TheVariants as part
 use Rattle.inf_expression_laws.specs.Gathered.{AreSeen}
 use Rattle.inf_statement_laws.specs.Happenings.{Acts, Happening, Takes}
 use Rattle.inf_statement_laws.specs.Laid.{next_comes, passed, run}

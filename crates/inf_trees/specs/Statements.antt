@@ -7,11 +7,14 @@ use Rattle.inf_scanner.specs.declared.tokens.Place.{Place}
 use Rattle.inf_machine.specs.declared.symbols.Symbol.{Symbol}
 use Rattle.inf_machine.specs.Grammar.{Event, IsOneOf, IsText}
 use Rattle.inf_syntax.specs.Parts.{ !begin, !deeper, !name, !outer, !outer_maybe, !outer_sure, !outer_word, !text, 'at', 'close_brace'}
-use Rattle.inf_syntax.specs.Parts.{'comma', 'default', 'do', 'double_greater', 'double_less', 'else', 'for', 'give', 'greater', 'if', 'jump'}
-use Rattle.inf_syntax.specs.Parts.{'less', 'move', 'objectloop', 'open_brace', 'return', 'string', 'style', 'switch', 'while', CASENAME, NAME}
+use Rattle.inf_syntax.specs.Parts.{'comma', 'default', 'do', 'double_greater', 'double_less', 'else', 'for', 'give', 'greater', 'if'}
+use Rattle.inf_syntax.specs.Parts.{'jump'}
+use Rattle.inf_syntax.specs.Parts.{'less', 'move', 'objectloop', 'open_brace', 'return', 'string', 'style', 'switch', 'while', CASENAME}
+use Rattle.inf_syntax.specs.Parts.{NAME}
 use Rattle.inf_syntax.specs.Parts.{TEXT, act, assembly, case_end, end, expression, mark_statement_1, plain_word, print_rest, statement}
 use Rattle.inf_syntax.specs.Parts.{statement_3, statement_4, string_rest, text_more, top_item, top_item_10, top_item_11, top_item_12}
-use Rattle.inf_syntax.specs.Parts.{top_item_18, top_item_2, top_item_20, top_item_5, top_item_6, top_item_7, top_item_8, top_item_9, top_next}
+use Rattle.inf_syntax.specs.Parts.{top_item_18, top_item_2, top_item_20, top_item_5, top_item_6, top_item_7, top_item_8, top_item_9}
+use Rattle.inf_syntax.specs.Parts.{top_next}
 use Rattle.inf_syntax.specs.Parts.{top_range, top_values, top_word}
 use Rattle.inf_syntax.specs.Parts.{give_rest}
 use Rattle.inf_syntax.specs.declared.actions.Action.{Action}
@@ -20,8 +23,8 @@ use Rattle.inf_unit.specs.Tokens.{is_mark}
 use Rattle.inf_unit.specs.Units.{Unit as UnitAtHand, begun, over}
 use Rattle.inf_compilation.specs.Context.{Context}
 use Rattle.inf_compilation.specs.Actions.{Compilation}
-use Rattle.inf_compilation.specs.Parts.{part_ended, statement_at}
-use Rattle.inf_compilation.specs.declared.parts.Part.TheVariants as part
+use Rattle.inf_parts.specs.Parts.{part_ended, statement_at}
+use Rattle.inf_parts.specs.declared.parts.Part.TheVariants as part
 use Rattle.inf_expression_laws.specs.Gathered.{AreSeen}
 use Rattle.inf_statement_laws.specs.Laid.{next_comes, passed, run}
 use Rattle.inf_statement_laws.specs.Readings.{Seen}

@@ -28,7 +28,8 @@ use Rattle.inf_statement_laws.specs.Laid.{next_comes, passed, run}
 use Rattle.inf_statement_laws.specs.Readings.{Seen, all_fit, all_taken, behind_ends, behind_token, directed, token_happenings}
 use Rattle.inf_statement_laws.proofs.Laying.{run_then}
 use Rattle.inf_language.specs.Texts.{atoms_of}
-use Rattle.inf_language.proofs.TextsActed.{rule_is_spaced, texts_do_their_actions}
+use Rattle.inf_language.proofs.TextsActed.{texts_do_their_actions}
+use Rattle.inf_grammar.proofs.Spaced.{rule_is_spaced}
 use Rattle.inf_program.specs.definition.Steps.{AllKept}
 use Rattle.inf_turn_laws.specs.Acted.{PiecesDoTheirActions, seen_in, text_happenings}
 use Rattle.inf_program.specs.definition.Steps.{Ends, Passes, Reads, Step}

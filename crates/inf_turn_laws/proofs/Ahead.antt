@@ -16,7 +16,7 @@ use Rattle.inf_unit.specs.Tokens.{SourceToken}
 use Rattle.inf_constructs.specs.Constructs.{all_ended}
 use Rattle.inf_compilation.specs.Context.{Context}
 use Rattle.inf_compilation.specs.Actions.{Compilation, took}
-use Rattle.inf_compilation.specs.Parts.{closed_ahead, construct_closed, construct_ended, constructs_laid}
+use Rattle.inf_compilation.specs.Nesting.{closed_ahead, construct_closed, construct_ended, constructs_laid}
 use Rattle.inf_reader.specs.Acting.{act, acted, all_acted}
 use Rattle.inf_statement_laws.specs.Happenings.{Between, Happening}
 use Rattle.inf_statement_laws.specs.Laid.{next_comes, passed, run}

@@ -9,7 +9,7 @@ use Rattle.inf_grammar.specs.Language.{grammar}
 use Rattle.inf_unit.specs.Tokens.{SourceToken, atom_of, is_end}
 use Rattle.inf_compilation.specs.Actions.{Compilation, piece_begun as work_begun}
 use Rattle.inf_compilation.specs.Context.{Context}
-use Rattle.inf_compilation.specs.Parts.{closed_ahead}
+use Rattle.inf_compilation.specs.Nesting.{closed_ahead}
 use Rattle.inf_reader.specs.Reading.{ReaderState, between, piece_rule}
 use Rattle.inf_reader.specs.declared.recovery.Recovery.TheVariants as mode
 use Rattle.inf_session.specs.Choices.{Choices}
@@ -19,7 +19,8 @@ use Rattle.inf_statement_laws.specs.Laid.{passed}
 use Rattle.inf_statement_laws.specs.Readings.{all_taken}
 use Rattle.inf_language.specs.Constants.{piece_done}
 use Rattle.inf_language.specs.Texts.{atoms_of}
-use Rattle.inf_language.proofs.TextsActed.{rule_is_spaced, texts_do_their_actions}
+use Rattle.inf_language.proofs.TextsActed.{texts_do_their_actions}
+use Rattle.inf_grammar.proofs.Spaced.{rule_is_spaced}
 use Rattle.inf_trees.specs.Directives.{IsDirective, begins_directive}
 use Rattle.inf_trees.proofs.DirectivesRead.{directives_are_trees}
 use Rattle.inf_program.specs.Turns.{AllFit, grouped, piece_first, steps_by}

@@ -25,15 +25,17 @@ use Rattle.inf_unit.specs.declared.roles.Role.{Role}
 use Rattle.inf_unit.specs.declared.roles.Role.TheVariants as role
 use Rattle.inf_unit.proofs.Cases.{of_both}
 use Rattle.inf_compilation.specs.Context.{Context, longest}
-use Rattle.inf_compilation.specs.Actions.{Compilation, cases_ended, close_open, header_of, header_with, is_deep, is_to_be_replaced, kind_ended}
+use Rattle.inf_compilation.specs.Actions.{Compilation, cases_ended, close_open, header_of, header_with, is_deep, is_to_be_replaced}
+use Rattle.inf_compilation.specs.Actions.{kind_ended}
 use Rattle.inf_compilation.specs.Actions.{named, nested, opens, passed, settled_of, sized, stopped, took, trees_at, with_all_unused}
 use Rattle.inf_compilation.specs.Actions.{with_routine_fault}
 use Rattle.inf_compilation.specs.Crowds.{crowd_opened, crowd_told, value_named, value_named_by}
-use Rattle.inf_compilation.specs.Parts.{actions_named, case_prepared, construct_ended, constructs_laid, found_in, has_last, order_of}
-use Rattle.inf_compilation.specs.Parts.{part_begun, part_carried, part_effect, part_ended, part_finished, part_prepared, place_of, statement_at}
-use Rattle.inf_compilation.specs.Parts.{wanted_of}
-use Rattle.inf_compilation.specs.declared.parts.Part.{Part}
-use Rattle.inf_compilation.specs.declared.parts.Part.TheVariants as part
+use Rattle.inf_parts.specs.Parts.{actions_named, case_prepared, found_in, has_last, order_of}
+use Rattle.inf_compilation.specs.Nesting.{construct_ended, constructs_laid}
+use Rattle.inf_parts.specs.Parts.{part_begun, part_carried, part_effect, part_ended, part_finished, part_prepared, place_of, statement_at}
+use Rattle.inf_parts.specs.Parts.{wanted_of}
+use Rattle.inf_parts.specs.declared.parts.Part.{Part}
+use Rattle.inf_parts.specs.declared.parts.Part.TheVariants as part
 use Rattle.inf_verb_lines.specs.Verbs.{word_sifted}
 use Rattle.inf_reader.specs.Acting.{act, ended, is_crowded, is_tall, is_wordy, noted, noted_of, operands_named, played, value_noted}
 use Rattle.inf_statement_laws.specs.Happenings.{Acts, Happening, Takes}

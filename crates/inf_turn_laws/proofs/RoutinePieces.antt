@@ -21,7 +21,7 @@ use Rattle.inf_laws.specs.KeptTokens.{Kept}
 use Rattle.inf_statement_laws.specs.Laid.{next_comes, passed, run}
 use Rattle.inf_statement_laws.specs.Readings.{Seen}
 use Rattle.inf_language.specs.Texts.{atoms_of, happenings_of}
-use Rattle.inf_language.proofs.TextsActed.{rule_is_spaced}
+use Rattle.inf_grammar.proofs.Spaced.{rule_is_spaced}
 use Rattle.inf_routine_trees.specs.Routines.{routine_symbols}
 use Rattle.inf_routine_trees.proofs.Effects.{given}
 use Rattle.inf_routine_trees.proofs.RoutineTrees.{Runs, routine_runs}

@@ -26,7 +26,8 @@ use Rattle.inf_statement_laws.specs.Laid.{next_comes, passed}
 use Rattle.inf_statement_laws.specs.Readings.{Seen, all_fit, all_taken, directed, left_behind}
 use Rattle.inf_statement_laws.proofs.Reading.{routines_are_read_whole}
 use Rattle.inf_language.specs.Texts.{atoms_of}
-use Rattle.inf_language.proofs.TextsActed.{rule_is_spaced, texts_do_their_actions}
+use Rattle.inf_language.proofs.TextsActed.{texts_do_their_actions}
+use Rattle.inf_grammar.proofs.Spaced.{rule_is_spaced}
 use Rattle.inf_turn_laws.specs.Acted.{seen_in, text_happenings}
 use Rattle.inf_program.specs.definition.Steps.{Reads}
 use Rattle.inf_program.specs.Turns.{AllFit, grouped, piece_first}

@@ -22,9 +22,9 @@ use Rattle.inf_unit.specs.declared.roles.Role.TheVariants as role
 use Rattle.inf_compilation.specs.Context.{Context}
 use Rattle.inf_compilation.specs.Actions.{Compilation, cases_ended, kind_ended, with_routine_fault}
 use Rattle.inf_compilation.specs.Crowds.{crowd_opened, crowd_told}
-use Rattle.inf_compilation.specs.Parts.{case_prepared, part_prepared, statement_at}
-use Rattle.inf_compilation.specs.declared.parts.Part.{Part}
-use Rattle.inf_compilation.specs.declared.parts.Part.TheVariants as part
+use Rattle.inf_parts.specs.Parts.{case_prepared, part_prepared, statement_at}
+use Rattle.inf_parts.specs.declared.parts.Part.{Part}
+use Rattle.inf_parts.specs.declared.parts.Part.TheVariants as part
 use Rattle.inf_reader.specs.Acting.{act, is_crowded, noted_of}
 use Rattle.inf_statement_laws.specs.Happenings.{Acts, Happening, Takes}
 use Rattle.inf_statement_laws.specs.Laid.{happens, run}

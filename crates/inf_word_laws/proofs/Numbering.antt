@@ -42,11 +42,11 @@ use Rattle.inf_output.specs.Texts.{used_in}
 use Rattle.inf_text.specs.Packing.{packed}
 use Rattle.inf_unit.specs.Tokens.{SourceToken}
 use Rattle.inf_unit.specs.Units.{bytes_at, name_at}
-use Rattle.inf_statements.specs.Operands.{Settled, found_operand, is_stack, operand_by, settled, settled_action, settled_alone, settled_as}
-use Rattle.inf_statements.specs.Operands.{settled_by, settled_leaf, settled_name, settled_text, standing, system_by, system_constant}
-use Rattle.inf_statements.specs.Operands.{system_operand, with_settled}
-use Rattle.inf_statements.specs.Printing.{text_at}
-use Rattle.inf_statements.specs.Statements.{text_packed}
+use Rattle.inf_operands.specs.Operands.{Settled, found_operand, is_stack, operand_by, settled, settled_action, settled_alone, settled_as}
+use Rattle.inf_operands.specs.Operands.{settled_by, settled_leaf, settled_name, settled_text, standing, system_by, system_constant}
+use Rattle.inf_operands.specs.Operands.{system_operand, with_settled}
+use Rattle.inf_operands.specs.Texts.{text_at}
+use Rattle.inf_operands.specs.Texts.{text_packed}
 use Rattle.inf_verbs.specs.Routines.{action_fault}
 use Rattle.inf_verbs.specs.declared.routines.ActionFault.{ActionFault}
 use Rattle.inf_word_laws.specs.Names.{AllNamed, IsNamed, OperandsNamed}

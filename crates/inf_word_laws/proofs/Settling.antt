@@ -33,11 +33,11 @@ use Rattle.inf_text.specs.Packing.{packed}
 use Rattle.inf_output.specs.Texts.{used_in}
 use Rattle.inf_unit.specs.Tokens.{SourceToken}
 use Rattle.inf_unit.specs.Units.{bytes_at, name_at}
-use Rattle.inf_statements.specs.Operands.{Settled, found_operand, is_stack, leaf_added, one_added, operand_by, settled, settled_action}
-use Rattle.inf_statements.specs.Operands.{settled_alone, settled_as, settled_by, settled_leaf, settled_name, settled_text, settled_word}
-use Rattle.inf_statements.specs.Operands.{standing, system_by, system_constant, system_operand, with_settled}
-use Rattle.inf_statements.specs.Printing.{text_at}
-use Rattle.inf_statements.specs.Statements.{text_packed}
+use Rattle.inf_operands.specs.Operands.{Settled, found_operand, is_stack, leaf_added, one_added, operand_by, settled, settled_action}
+use Rattle.inf_operands.specs.Operands.{settled_alone, settled_as, settled_by, settled_leaf, settled_name, settled_text, settled_word}
+use Rattle.inf_operands.specs.Operands.{standing, system_by, system_constant, system_operand, with_settled}
+use Rattle.inf_operands.specs.Texts.{text_at}
+use Rattle.inf_operands.specs.Texts.{text_packed}
 use Rattle.inf_verbs.specs.Routines.{action_fault}
 use Rattle.inf_verbs.specs.declared.routines.ActionFault.{ActionFault}
 use Rattle.inf_word_laws.specs.Operands.{AllStand, OperandStands, OperandsStand}

@@ -9,7 +9,7 @@ use Rattle.inf_gathering.specs.declared.gathering.Leaf.{Leaf}
 use Rattle.inf_names.specs.Locals.{Local}
 use Rattle.inf_unit.specs.Tokens.{SourceToken}
 use Rattle.inf_output.specs.Output.{Out}
-use Rattle.inf_statements.specs.Operands.{Settled, settled}
+use Rattle.inf_operands.specs.Operands.{Settled, settled}
 
 -- Tells whether the name for which an operand stands by its number, if it does, is among those of an output.
 abbrev pub IsNamed : Operand → Out → Type 0

@@ -9,7 +9,7 @@ use Rattle.inf_gathering.specs.declared.gathering.Leaf.{Leaf}
 use Rattle.inf_names.specs.Locals.{Local}
 use Rattle.inf_unit.specs.Tokens.{SourceToken}
 use Rattle.inf_output.specs.Output.{Out}
-use Rattle.inf_statements.specs.Operands.{Settled, leaf_added, settled}
+use Rattle.inf_operands.specs.Operands.{Settled, leaf_added, settled}
 use Rattle.inf_word_laws.specs.Standing.{Keeps, Stands}
 
 -- Tells whether an operand stands in an output: the word for which it stands, if it does, is there.

@@ -12,7 +12,7 @@ use Rattle.inf_grammar.specs.Routines.{closings}
 use Rattle.inf_unit.specs.Tokens.{SourceToken, atom_of, is_end}
 use Rattle.inf_compilation.specs.Actions.{Compilation, piece_begun as work_begun, took as work_took}
 use Rattle.inf_compilation.specs.Context.{Context}
-use Rattle.inf_compilation.specs.Parts.{closed_ahead}
+use Rattle.inf_compilation.specs.Nesting.{closed_ahead}
 use Rattle.inf_reader.specs.Acting.{all_acted}
 use Rattle.inf_reader.specs.Handing.{is_empty}
 use Rattle.inf_reader.specs.Reading.{piece_rule}

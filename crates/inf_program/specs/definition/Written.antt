@@ -4,7 +4,7 @@ use Rattle.inf_settings.specs.Bounds.{Limits, limits_of}
 use Rattle.inf_devices.specs.Files.{Sources}
 use Rattle.inf_unit.specs.Messages.{flushed}
 use Rattle.inf_session.specs.Choices.{Choices}
-use Rattle.inf_session.specs.Ending.{Outcome, finished, missing}
+use Rattle.inf_ending.specs.Ending.{Outcome, finished, missing}
 use Rattle.inf_program.specs.definition.Program.{IsProgram}
 use Rattle.inf_program.specs.definition.States.{State, start}
 use Rattle.inf_program.specs.definition.Supplied.{AreSupplied}

@@ -6,9 +6,9 @@ use Rattle.inf_devices.specs.Files.{Rose, Sources}
 use Rattle.inf_devices.specs.Sinks.{Takes}
 use Rattle.inf_command.specs.FileNames.{source_name}
 use Rattle.inf_compile.specs.Comes.{Begins, Heard, OpenedBy, OpenedPart}
-use Rattle.inf_session.specs.Ending.{missing}
-use Rattle.inf_session.specs.Faults.{IfRead, IfStory}
-use Rattle.inf_session.specs.declared.compiled.Status.TheVariants as status
+use Rattle.inf_ending.specs.Ending.{missing}
+use Rattle.inf_ending.specs.Faults.{IfRead, IfStory}
+use Rattle.inf_ending.specs.declared.compiled.Status.TheVariants as status
 use Rattle.inf_compile.specs.Compiling.{Compiles, DeliversPart, HasCause, chosen_by, named_by}
 use Rattle.inf_compile.proofs.Delivering.{all_named, more_caused, none_clean, none_read, none_told, refused_begins, refused_compiles}
 use Rattle.inf_compile.proofs.Delivering.{refused_opens, unfailed_always}

@@ -1,7 +1,7 @@
 -- Only a fault of writing the messages counts a failure.
 use Rattle.std.proofs.Common.{rules, ◌≡◌, IfErr, refl}
-use Rattle.inf_session.specs.Faults.{UnlessMessages}
-use Rattle.inf_session.proofs.Quiet.{hides_behind, hides_none}
+use Rattle.inf_ending.specs.Faults.{UnlessMessages}
+use Rattle.inf_ending.proofs.Quiet.{hides_behind, hides_none}
 use Rattle.inf_compile.proofs.compile.refuse.Goals as goal
 
 pub returns-in_err-ending-clause-quiet : goal.returns-in_err-ending-clause-quiet

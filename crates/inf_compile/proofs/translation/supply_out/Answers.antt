@@ -1,13 +1,13 @@
 use Rattle.std.proofs.Common.{◌≡◌}
 use Rattle.inf_compilation.specs.Works.{work as work_of}
 use Rattle.inf_session.specs.Choices.{chosen}
-use Rattle.inf_session.specs.Delivered.{Delivers, EndsCleanOf, SucceedsClean, TakesFront, story_in}
-use Rattle.inf_session.specs.Ending.{finished}
-use Rattle.inf_session.specs.declared.compiled.Status.TheVariants as status
-use Rattle.inf_session.proofs.Delivering.{ends_behind, if_ok_more}
+use Rattle.inf_ending.specs.Delivered.{Delivers, EndsCleanOf, SucceedsClean, TakesFront, story_in}
+use Rattle.inf_ending.specs.Ending.{finished}
+use Rattle.inf_ending.specs.declared.compiled.Status.TheVariants as status
+use Rattle.inf_ending.proofs.Delivering.{ends_behind, if_ok_more}
 use Rattle.inf_compile.specs.Comes.{BreaksOffAll, EndsAll}
 use Rattle.inf_compile.proofs.Concluding.{breaks_off_all, breaks_off_part, ends_all, on_err_leads}
-use Rattle.inf_session.proofs.Quiet.{hides_then}
+use Rattle.inf_ending.proofs.Quiet.{hides_then}
 use Rattle.inf_compile.proofs.translation.supply_out.Goals as goal
 
 pub returns-in-Ok-clause-ok : goal.returns-in-Ok-clause-ok

@@ -8,10 +8,10 @@ use Rattle.inf_sources.specs.Open.{Open, nesting, opened_since}
 use Rattle.inf_sources.proofs.Calls.{fit_then, unreadable_then, went_then}
 use Rattle.inf_letters.specs.Letters.{set_of}
 use Rattle.inf_session.specs.Choices.{Choices, most_quoted}
-use Rattle.inf_session.specs.Faults.{IfRead}
+use Rattle.inf_ending.specs.Faults.{IfRead}
 use Rattle.inf_session.specs.Leading.{GivenUp, OpensAll}
 use Rattle.inf_session.specs.Session.{first_state, run}
-use Rattle.inf_session.proofs.Delivering.{if_ok_more}
+use Rattle.inf_ending.proofs.Delivering.{if_ok_more}
 use Rattle.inf_session.proofs.Standings.{caused_more, if_caused_more, if_read_more, read_caused}
 use Rattle.inf_settings.specs.Bounds.{limits_of}
 use Rattle.inf_command.specs.Directories.{directories_of}
@@ -21,8 +21,8 @@ use Rattle.inf_compile.specs.Comes.{Concludes, GivenUpFrom, Stops}
 use Rattle.inf_compile.proofs.Concluding.{stops_none}
 use Rattle.inf_compile.proofs.GivingUp.{given_up_between}
 use Rattle.inf_compile.proofs.Heading.{chosen_is, chosen_over_is, given_up_there, made, read_as_is, unread_there, went_chosen}
-use Rattle.inf_session.specs.declared.faults.Fault.{Fault}
-use Rattle.inf_session.proofs.Quiet.{hides_none}
+use Rattle.inf_ending.specs.declared.faults.Fault.{Fault}
+use Rattle.inf_ending.proofs.Quiet.{hides_none}
 use Rattle.inf_compile.proofs.translation.translate_opened.Goals as goal
 
 pub returns-clause-concludes : goal.returns-clause-concludes

@@ -5,7 +5,7 @@ use Rattle.inf_sources.specs.Calls.{IsUnreadable, StaysFit, Went}
 use Rattle.inf_sources.specs.Open.{IsNested, Open, nesting, opened_since}
 use Rattle.inf_sources.proofs.Calls.{went_as, went_none}
 use Rattle.inf_session.specs.Choices.{chosen}
-use Rattle.inf_session.specs.Faults.{Caused, IfRead}
+use Rattle.inf_ending.specs.Faults.{Caused, IfRead}
 use Rattle.inf_session.specs.Leading.{GivenUp, OpensAll}
 use Rattle.inf_session.specs.Session.{State, run}
 use Rattle.inf_session.specs.Standing.{state}

@@ -1,9 +1,9 @@
 use Rattle.std.proofs.Common.{◌≡◌, IfOk, OnErr, ap, subst}
 use Rattle.inf_unit.specs.Messages.{FileNames}
 use Rattle.inf_compilation.specs.Works.{work as work_of}
-use Rattle.inf_session.specs.Delivered.{Delivers, EndsCleanOf, TakesFront, story_in}
-use Rattle.inf_session.specs.Ending.{finished}
-use Rattle.inf_session.specs.declared.compiled.Status.TheVariants as status
+use Rattle.inf_ending.specs.Delivered.{Delivers, EndsCleanOf, TakesFront, story_in}
+use Rattle.inf_ending.specs.Ending.{finished}
+use Rattle.inf_ending.specs.declared.compiled.Status.TheVariants as status
 use Rattle.inf_session.proofs.session.Session.finish.Goals as goal
 
 pub returns-clause-ok : goal.returns-clause-ok

@@ -5,7 +5,7 @@ use Rattle.inf_session.specs.Choices.{chosen}
 use Rattle.inf_session.proofs.Opening.{in_vain}
 use Rattle.inf_devices.specs.Files.{Rose}
 use Rattle.inf_sources.specs.Calls.{IsUnreadable}
-use Rattle.inf_session.specs.Faults.{fault_of}
+use Rattle.inf_ending.specs.Faults.{fault_of}
 use Rattle.inf_session.specs.Leading.{NotTried}
 use Rattle.inf_session.proofs.Standings.{caused_more, read_caused}
 use Rattle.inf_session.proofs.session.Session.include.Goals as goal

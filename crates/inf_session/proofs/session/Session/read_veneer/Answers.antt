@@ -4,8 +4,8 @@ use Rattle.inf_session.specs.Choices.{chosen}
 use Rattle.inf_session.specs.Standing.{state}
 use Rattle.inf_session.specs.Veneer.{next_supplied, supplied_at, text_read}
 use Rattle.inf_session.proofs.Supplying.{cuts_as, writes_as}
-use Rattle.inf_session.specs.Faults.{UnlessMessages}
-use Rattle.inf_session.proofs.Quiet.{hides_behind}
+use Rattle.inf_ending.specs.Faults.{UnlessMessages}
+use Rattle.inf_ending.proofs.Quiet.{hides_behind}
 use Rattle.inf_session.proofs.session.Session.read_veneer.Goals as goal
 
 pub returns-in_ok-read_text-in-Some-clause-supplied : goal.returns-in_ok-read_text-in-Some-clause-supplied

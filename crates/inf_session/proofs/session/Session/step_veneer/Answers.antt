@@ -1,7 +1,7 @@
 use Rattle.std.proofs.Common.{rules, ◌≡◌, IfErr, refl}
 use Rattle.inf_opcode.proofs.Growing.{on_err}
-use Rattle.inf_session.specs.Faults.{UnlessMessages}
-use Rattle.inf_session.proofs.Quiet.{hides_behind}
+use Rattle.inf_ending.specs.Faults.{UnlessMessages}
+use Rattle.inf_ending.proofs.Quiet.{hides_behind}
 use Rattle.inf_session.proofs.session.Session.step_veneer.Goals as goal
 
 pub returns-in_err-was_read-clause-cut : goal.returns-in_err-was_read-clause-cut

@@ -14,7 +14,7 @@ use Rattle.inf_reader.specs.Handing.{is_between}
 use Rattle.inf_reader.specs.Reading.{is_mode_ended}
 use Rattle.inf_reader.specs.Standing.{standing}
 use Rattle.inf_session.specs.Choices.{chosen}
-use Rattle.inf_session.specs.Faults.{fault_of}
+use Rattle.inf_ending.specs.Faults.{fault_of}
 use Rattle.inf_session.specs.Leading.{StopsInToken}
 use Rattle.inf_session.specs.Session.{State, context_of}
 use Rattle.inf_session.specs.Standing.{state}

@@ -1,0 +1,65 @@
+-- Failures to write messages are not told as anything else.
+use Rattle.std.proofs.Common.{◌≡◌, ℕ, Option, refl, ◌∙◌, subst, Result, Ok, Err, IfErr, IsErr}
+use Rattle.std.specs.Prelude.{IsErrAnd}
+use Rattle.inf_ending.specs.Faults.{HaltHidesNone, HidesNoFailure, UnlessMessages, fault_of}
+use Rattle.inf_ending.specs.declared.faults.Fault.{Fault}
+use Rattle.inf_ending.specs.declared.faults.Fault.TheVariants as fault
+use Rattle.inf_ending.specs.declared.faults.Halt.{Halt}
+use Rattle.inf_ending.specs.declared.faults.Halt.TheVariants as halt
+
+unless_any : (f : Fault) (A : Type 0) → A → UnlessMessages f A
+unless_any fault.Memory A holds = holds
+unless_any (fault.Read name) A holds = holds
+unless_any fault.Messages A holds = tt
+unless_any (fault.Story n) A holds = holds
+
+pub unless_more : (f : Fault) (A B : Type 0) → (A → B) → UnlessMessages f A → UnlessMessages f B
+unless_more fault.Memory A B h holds = h holds
+unless_more (fault.Read name) A B h holds = h holds
+unless_more fault.Messages A B h holds = tt
+unless_more (fault.Story n) A B h holds = h holds
+
+unless_told : (f : Fault) (A : Type 0) → f ≡ fault.Messages → UnlessMessages f A
+unless_told fault.Memory A told = cc
+unless_told (fault.Read name) A told = cc
+unless_told fault.Messages A told = tt
+unless_told (fault.Story n) A told = cc
+
+-- nothing was written
+pub hides_none : {T : Type 0} (r : Result T Fault) (n : ℕ) → HidesNoFailure r n n
+hides_none (Ok x) n = (refl, tt)
+hides_none (Err f) n = (tt, unless_any f (n ≡ n) refl)
+
+-- messages could not be written
+pub hides_told : {T : Type 0} (r : Result T Fault) (before now : ℕ) → IsErrAnd r (λ f. f ≡ fault.Messages) → HidesNoFailure r before now
+hides_told (Ok x) before now told = absurd told
+hides_told (Err f) before now told = (tt, unless_told f (now ≡ before) told)
+
+-- a refused call behind others that counted no failure
+pub hides_behind : {T : Type 0} (r : Result T Fault) (first before now : ℕ) → IsErr r → before ≡ first
+    → IfErr r (λ f. UnlessMessages f (now ≡ before)) → HidesNoFailure r first now
+hides_behind (Ok x) first before now is same hides = cc
+hides_behind (Err f) first before now is same hides =
+    (tt, unless_more f (now ≡ before) (now ≡ first) (λ later. later ∙ same) hides)
+
+-- a call behind others that counted no failure
+pub hides_then : {T : Type 0} (r : Result T Fault) (first before now : ℕ) → before ≡ first → HidesNoFailure r before now →
+    HidesNoFailure r first now
+hides_then r first before now same hides = let P : ℕ → Type 0 = λ n. HidesNoFailure r n now in subst P same hides
+
+-- a call that writes nothing, behind others that counted no failure
+pub hides_always : {T : Type 0} (r : Result T Fault) (first now : ℕ) → now ≡ first → HidesNoFailure r first now
+hides_always r first now same = hides_then r first now now same (hides_none r now)
+
+-- nothing was written in a turn
+pub halt_hides_none : {T : Type 0} (r : Result T Halt) (lost : Option Fault) (n : ℕ) → HaltHidesNone r lost n n
+halt_hides_none (Ok x) lost n = (refl, tt)
+halt_hides_none (Err h) lost n = (tt, unless_any (fault_of h lost) (n ≡ n) refl)
+
+-- the messages of a turn could not be written
+pub halt_hides_told : {T : Type 0} (r : Result T Halt) (lost : Option Fault) (before now : ℕ) → IsErrAnd r (λ h. h ≡ halt.Messages)
+    → HaltHidesNone r lost before now
+halt_hides_told (Ok x) lost before now told = absurd told
+halt_hides_told (Err halt.Memory) lost before now told = cc
+halt_hides_told (Err halt.Read) lost before now told = cc
+halt_hides_told (Err halt.Messages) lost before now told = (tt, tt)

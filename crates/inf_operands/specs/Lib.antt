@@ -1,0 +1,4 @@
+pub mod Operands
+pub mod OperandLists
+pub mod Uses
+pub mod Texts

@@ -1,0 +1,78 @@
+-- The trees of a unit whose names are only looked up are those of its names in use, where the use changes nothing.
+use Rattle.std.proofs.Common.{◌≡◌, ℕ, List, [], false, Option, None, sym, ap, ◌∙◌}
+use Rattle.inf_settings.specs.Bounds.{Limits}
+use Rattle.inf_expressions.specs.Rooted.{Rooted}
+use Rattle.inf_expressions.specs.declared.findings.Finding.{Finding}
+use Rattle.inf_output.specs.Output.{Out}
+use Rattle.inf_scanner.specs.declared.tokens.Place.{Place}
+use Rattle.inf_expressions.specs.Units.{trees_of}
+use Rattle.inf_expressions.specs.declared.operators.Operand.{Operand}
+use Rattle.inf_expressions.specs.declared.units.Wanted.{Wanted}
+use Rattle.inf_operands.proofs.Staying.{settled_named}
+use Rattle.inf_operands.specs.Operands.{Settled}
+use Rattle.inf_operands.specs.Uses.{LeavesStay}
+use Rattle.inf_compilation.specs.Actions.{Compilation, named, operands_of, settled_of, trees_at, unit_ended}
+use Rattle.inf_compilation.specs.Findings.{nothing_found}
+use Rattle.inf_compilation.specs.Context.{Context}
+use Rattle.inf_parts.specs.Parts.{found_in, has_last, is_case, order_of, part_begun, part_carried, part_effect, part_finished}
+use Rattle.inf_parts.specs.Parts.{part_laid, wanted_of}
+use Rattle.inf_parts.specs.declared.parts.Part.{Part}
+use Rattle.inf_parts.specs.declared.parts.Part.TheVariants as part
+
+-- the operands of a unit, where its names are used, once it has named its locals
+used : (limits : Limits) (context : Context) (w : Compilation) (operands : List Operand)
+    → LeavesStay w.locals w.output w.unit.tokens w.unit.gathering.leaves operands
+    → settled_of limits context (named w) ≡ record { out = w.output; operands = operands }
+used limits context w operands stay =
+    settled_named limits context.set w.locals w.unit.tokens w.unit.gathering.leaves w.unit.items (record { out = w.output; operands = [] })
+    ∙ stay limits context.set
+
+same_trees : (limits : Limits) (context : Context) (w : Compilation) (operands : List Operand) (trees : List Rooted)
+    → (first : ℕ) (wanted : Wanted) → LeavesStay w.locals w.output w.unit.tokens w.unit.gathering.leaves operands
+    → trees ≡ trees_of wanted first operands w.unit.gathering.symbols
+    → let s = settled_of limits context (named w) in (trees ≡ trees_at first wanted s.operands (named w)) × (s.out ≡ w.output)
+same_trees limits context w operands trees first wanted stay e =
+    let is : settled_of limits context (named w) ≡ record { out = w.output; operands = operands } = used limits context w operands stay in (
+      e ∙ ap (λ (s : Settled). trees_of wanted first s.operands w.unit.gathering.symbols) (sym is),
+      ap (λ (s : Settled). s.out) is,
+    )
+
+-- Trees are those of a unit whose names are used, and the use changes nothing.
+abbrev StayUsed : Limits → Context → Part → List Rooted → Compilation → Type 0
+StayUsed limits context p trees w =
+    let s = settled_of limits context w in (trees ≡ trees_at (order_of p w) (wanted_of p) s.operands w) × (s.out ≡ w.output)
+
+stays_used : (limits : Limits) (context : Context) (p : Part) (w : Compilation) (operands : List Operand) (trees : List Rooted)
+    → is_case p ≡ false → LeavesStay w.locals w.output w.unit.tokens w.unit.gathering.leaves operands
+    → trees ≡ trees_of (wanted_of p) (order_of p w) operands w.unit.gathering.symbols
+    → StayUsed limits context p trees (named (part_begun limits p w))
+stays_used limits context (part.Statement s) w operands trees other stay e =
+    same_trees limits context w operands trees (order_of (part.Statement s) w) (wanted_of (part.Statement s)) stay e
+stays_used limits context part.Condition w operands trees other stay e =
+    same_trees limits context w operands trees (order_of part.Condition w) (wanted_of part.Condition) stay e
+stays_used limits context part.Start w operands trees other stay e =
+    same_trees limits context w operands trees (order_of part.Start w) (wanted_of part.Start) stay e
+stays_used limits context part.Step w operands trees other stay e =
+    same_trees limits context w operands trees (order_of part.Step w) (wanted_of part.Step) stay e
+stays_used limits context part.Loop w operands trees other stay e =
+    same_trees limits context w operands trees (order_of part.Loop w) (wanted_of part.Loop) stay e
+stays_used limits context part.Switched w operands trees other stay e =
+    same_trees limits context w operands trees (order_of part.Switched w) (wanted_of part.Switched) stay e
+stays_used limits context part.Case w operands trees other stay e = absurd (cc other)
+
+-- what is laid with such trees
+carried : (limits : Limits) (context : Context) (first : Place) (p : Part) (trees : List Rooted) (w : Compilation)
+    → StayUsed limits context p trees w → part_laid limits context first p trees w ≡ part_carried limits context first p None w
+carried limits context first p trees w stay =
+    ap (λ (ts : List Rooted). part_laid limits context first p ts w) stay.0
+    ∙ ap (λ (o : Out). unit_ended limits context first (has_last p) nothing_found
+    (part_effect limits context p (trees_at (order_of p w) (wanted_of p) (settled_of limits context w).operands w)
+    (record w { output = record o { first = first } }))) (sym stay.1)
+
+pub finished : (limits : Limits) (context : Context) (p : Part) (w : Compilation) (trees : List Rooted) → is_case p ≡ false
+    → LeavesStay w.locals w.output w.unit.tokens w.unit.gathering.leaves (operands_of w)
+    → trees ≡ trees_at (order_of p w) (wanted_of p) (operands_of w) w → found_in limits context p w ≡ None → (first : Place)
+    → part_laid limits context first p trees (named (part_begun limits p w)) ≡ part_finished limits context first p w
+finished limits context p w trees other stay e none first =
+    carried limits context first p trees (named (part_begun limits p w)) (stays_used limits context p w (operands_of w) trees other stay e)
+    ∙ ap (λ (f : Option Finding). part_carried limits context first p f (named (part_begun limits p w))) (sym none)
