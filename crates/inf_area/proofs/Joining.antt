@@ -1,23 +1,20 @@
 -- Cells one behind the other: their bytes, their fixups, and the number of these.
 use Rattle.std.proofs.Common.{◌≡◌, ℕ, ◌+◌, List, [], ◌∷◌, ◌++◌, length, map, refl, ap, ◌∙◌, arith}
-use Rattle.inf_area.specs.declared.fixups.Fixup.{Fixup}
-use Rattle.inf_area.specs.declared.targets.AreaName.{AreaName}
-use Rattle.inf_area.specs.declared.cells.Cell.{Cell}
-use Rattle.inf_area.specs.declared.cells.Cell.TheVariants as cell
+use Rattle.inf_area.specs.{declared.cells.Cell.Cell, declared.fixups.Fixup.Fixup, declared.targets.AreaName.AreaName}
 use Rattle.inf_area.specs.Cells.{bytes_of, fixups_of, later_count, size_of}
 
 pub bytes_of-append : (cells others : List Cell) → bytes_of (cells ++ others) ≡ bytes_of cells ++ bytes_of others
 bytes_of-append [] others = refl
-bytes_of-append ((cell.Byte byte) ∷ cells) others = ap (λ xs. byte ∷ xs) (bytes_of-append cells others)
-bytes_of-append ((cell.Later target) ∷ cells) others = ap (λ xs. 0 ∷ 0 ∷ xs) (bytes_of-append cells others)
+bytes_of-append ((Cell.Byte byte) ∷ cells) others = ap (λ xs. byte ∷ xs) (bytes_of-append cells others)
+bytes_of-append ((Cell.Later target) ∷ cells) others = ap (λ xs. 0 ∷ 0 ∷ xs) (bytes_of-append cells others)
 
 pub fixups_of-append : (area : AreaName) (place : ℕ) (cells others : List Cell) →
     fixups_of area place (cells ++ others) ≡ fixups_of area place cells ++ fixups_of area (place + size_of cells) others
 fixups_of-append area place [] others = ap (λ n. fixups_of area n others) (omega arith)
-fixups_of-append area place ((cell.Byte byte) ∷ cells) others =
+fixups_of-append area place ((Cell.Byte byte) ∷ cells) others =
     let at : place + 1 + size_of cells ≡ place + (1 + size_of cells) = omega arith in
     fixups_of-append area (place + 1) cells others ∙ ap (λ n. fixups_of area (place + 1) cells ++ fixups_of area n others) at
-fixups_of-append area place ((cell.Later target) ∷ cells) others =
+fixups_of-append area place ((Cell.Later target) ∷ cells) others =
     let at : place + 2 + size_of cells ≡ place + (2 + size_of cells) = omega arith in
     let here : Fixup = record { area = area; place = place; target = target } in
     ap (λ xs. here ∷ xs) (fixups_of-append area (place + 2) cells others ∙ ap (λ n. fixups_of area (place + 2) cells ++ fixups_of area n
@@ -25,19 +22,19 @@ fixups_of-append area place ((cell.Later target) ∷ cells) others =
 
 pub length-bytes_of : (cells : List Cell) → length (bytes_of cells) ≡ size_of cells
 length-bytes_of [] = refl
-length-bytes_of ((cell.Byte byte) ∷ cells) = omega (arith, length-bytes_of cells)
-length-bytes_of ((cell.Later target) ∷ cells) = omega (arith, length-bytes_of cells)
+length-bytes_of ((Cell.Byte byte) ∷ cells) = omega (arith, length-bytes_of cells)
+length-bytes_of ((Cell.Later target) ∷ cells) = omega (arith, length-bytes_of cells)
 
 pub length-fixups_of : (area : AreaName) (place : ℕ) (cells : List Cell) → length (fixups_of area place cells) ≡ later_count cells
 length-fixups_of area place [] = refl
-length-fixups_of area place ((cell.Byte byte) ∷ cells) = length-fixups_of area (place + 1) cells
-length-fixups_of area place ((cell.Later target) ∷ cells) = omega (arith, length-fixups_of area (place + 2) cells)
+length-fixups_of area place ((Cell.Byte byte) ∷ cells) = length-fixups_of area (place + 1) cells
+length-fixups_of area place ((Cell.Later target) ∷ cells) = omega (arith, length-fixups_of area (place + 2) cells)
 
 -- bytes that are known
-pub bytes_of-known : (bytes : List ℕ) → bytes_of (map cell.Byte bytes) ≡ bytes
+pub bytes_of-known : (bytes : List ℕ) → bytes_of (map Cell.Byte bytes) ≡ bytes
 bytes_of-known [] = refl
 bytes_of-known (byte ∷ bytes) = ap (λ xs. byte ∷ xs) (bytes_of-known bytes)
 
-pub fixups_of-known : (area : AreaName) (place : ℕ) (bytes : List ℕ) → fixups_of area place (map cell.Byte bytes) ≡ []
+pub fixups_of-known : (area : AreaName) (place : ℕ) (bytes : List ℕ) → fixups_of area place (map Cell.Byte bytes) ≡ []
 fixups_of-known area place [] = refl
 fixups_of-known area place (byte ∷ bytes) = fixups_of-known area (place + 1) bytes

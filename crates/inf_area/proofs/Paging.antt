@@ -3,9 +3,7 @@ use Rattle.std.proofs.Common.{◌≡◌, ℕ, zero, suc, ◌+◌, ◌*◌, ◌<�
 use Rattle.std.proofs.Common.{ap, arith, length-append}
 use Rattle.std.proofs.lemmas.List.{get_or_append_left, get_or-append-add, set-append_left, set-append_right, take-append-le, with_items_is}
 use Rattle.std.proofs.lemmas.List.Concat.{flat_map-append}
-use Rattle.std.specs.List.{flat_map, AllByRecursion}
-use Rattle.std.specs.Vec.{with_items}
-use Rattle.std.specs.Global.{Vec, Box}
+use Rattle.std.specs.{Global.Box, Global.Vec, List.AllByRecursion, List.flat_map, Vec.with_items}
 use Rattle.inf_area.specs.Pages.{page_bytes}
 
 module _ (X : Type 0) (f : X → List ℕ) where

@@ -1,7 +1,6 @@
 -- Bytes in pages.
+use Rattle.std.specs.{Global.Box, List.AllByRecursion, List.flat_map}
 use Rattle.std.specs.Prelude.{◌≡◌, ℕ, ◌*◌, ◌<◌, ◌≤◌, ◌^◌, List, length}
-use Rattle.std.specs.List.{flat_map, AllByRecursion}
-use Rattle.std.specs.Global.{Box}
 
 -- the bytes of pages, one behind the other
 abbrev pub page_bytes : List (Box (List ℕ)) → List ℕ

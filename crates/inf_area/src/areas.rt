@@ -1,8 +1,7 @@
 //! The areas of a story: lists of bytes that grow at their end and are patched in place.
 ghost use Rattle.std.specs.Prelude.{◌≡◌, ◌+◌, ◌-◌, ◌<◌, ◌≤◌, ◌^◌, ℕ, List, [], ◌∷◌, ◌++◌, length, take, drop, slice_index, slice_set, OnOk};
 ghost use Rattle.std.specs.Prelude.{OnErr};
-ghost use Rattle.inf_area.specs.Moves.{moved};
-ghost use Rattle.inf_area.specs.Words.{with_word};
+ghost use Rattle.inf_area.specs.{Moves.moved, Words.with_word};
 
 use crate::words::word_bytes;
 use std::alloc::{AllocError, Global};

@@ -3,15 +3,10 @@
 use Rattle.std.proofs.Common.{◌≡◌, ℕ, ◌+◌, ◌*◌, ◌-◌, ◌≤◌, ◌<◌, zero, suc, List, [], ◌∷◌, ◌++◌, length, replicate, refl, arith, ap, ◌∙◌}
 use Rattle.std.proofs.Common.{length-append, append_assoc, append-nil, sym}
 use Rattle.std.proofs.lemmas.List.{length-replicate}
-use Rattle.inf_area.specs.declared.targets.Value.{Value}
-use Rattle.inf_area.specs.declared.targets.Value.TheVariants as value
+use Rattle.inf_area.specs.{declared.cells.Cell.Cell, declared.targets.Value.Value}
 use Rattle.inf_area.specs.Cells.{bytes_of, later_count, value_cells, values_cells}
-use Rattle.inf_area.specs.declared.cells.Cell.{Cell}
-use Rattle.inf_area.specs.declared.cells.Cell.TheVariants as cell
-use Rattle.inf_arrays.specs.declared.kinds.ArrayKind.{ArrayKind}
-use Rattle.inf_arrays.specs.declared.kinds.ArrayKind.TheVariants as kind
+use Rattle.inf_arrays.specs.{Globals.all_globals, Globals.globals_cells, declared.kinds.ArrayKind.ArrayKind}
 use Rattle.inf_arrays.specs.Arrays.{Listed, array_cells, array_size, arrays_cells, arrays_laters, arrays_size, more_entries}
-use Rattle.inf_arrays.specs.Globals.{all_globals, globals_cells}
 use Rattle.inf_arrays.specs.Kinds.{bytes_cells, count_cells, count_size, entries_cells, entry_size, later_in, laters, laters_of}
 
 pub size_joined : (xs ys : List Listed) → arrays_size (xs ++ ys) ≡ arrays_size xs + arrays_size ys
@@ -27,16 +22,16 @@ laters_joined [] ys = omega arith
 laters_joined (x ∷ xs) ys = omega (arith, laters_joined xs ys)
 
 laters_of_joined : (k : ArrayKind) (xs ys : List Value) → laters_of k (xs ++ ys) ≡ laters_of k xs + laters_of k ys
-laters_of_joined kind.Bytes xs ys = refl
-laters_of_joined kind.Words xs ys = laters_joined xs ys
-laters_of_joined kind.String xs ys = refl
-laters_of_joined kind.Table xs ys = laters_joined xs ys
+laters_of_joined ArrayKind.Bytes xs ys = refl
+laters_of_joined ArrayKind.Words xs ys = laters_joined xs ys
+laters_of_joined ArrayKind.String xs ys = refl
+laters_of_joined ArrayKind.Table xs ys = laters_joined xs ys
 
 entries_more : (k : ArrayKind) (xs ys : List Value) → entry_size k * length (xs ++ ys) ≡ entry_size k * length xs + entry_size k * length ys
-entries_more kind.Bytes xs ys = omega (arith, length-append xs ys)
-entries_more kind.Words xs ys = omega (arith, length-append xs ys)
-entries_more kind.String xs ys = omega (arith, length-append xs ys)
-entries_more kind.Table xs ys = omega (arith, length-append xs ys)
+entries_more ArrayKind.Bytes xs ys = omega (arith, length-append xs ys)
+entries_more ArrayKind.Words xs ys = omega (arith, length-append xs ys)
+entries_more ArrayKind.String xs ys = omega (arith, length-append xs ys)
+entries_more ArrayKind.Table xs ys = omega (arith, length-append xs ys)
 
 -- the size of arrays of which the last has more entries
 pub size_more : (xs : List Listed) (a : Listed) (ys : List Value)
@@ -52,16 +47,16 @@ laters_more xs a ys =
 -- the size of arrays with one more, which has no entries
 pub size_opened : (xs : List Listed) (k : ArrayKind) →
     arrays_size (xs ++ record { kind = k; entries = [] } ∷ []) ≡ arrays_size xs + count_size k
-size_opened xs kind.Bytes = omega (arith, size_joined xs (record { kind = kind.Bytes; entries = [] } ∷ []))
-size_opened xs kind.Words = omega (arith, size_joined xs (record { kind = kind.Words; entries = [] } ∷ []))
-size_opened xs kind.String = omega (arith, size_joined xs (record { kind = kind.String; entries = [] } ∷ []))
-size_opened xs kind.Table = omega (arith, size_joined xs (record { kind = kind.Table; entries = [] } ∷ []))
+size_opened xs ArrayKind.Bytes = omega (arith, size_joined xs (record { kind = ArrayKind.Bytes; entries = [] } ∷ []))
+size_opened xs ArrayKind.Words = omega (arith, size_joined xs (record { kind = ArrayKind.Words; entries = [] } ∷ []))
+size_opened xs ArrayKind.String = omega (arith, size_joined xs (record { kind = ArrayKind.String; entries = [] } ∷ []))
+size_opened xs ArrayKind.Table = omega (arith, size_joined xs (record { kind = ArrayKind.Table; entries = [] } ∷ []))
 
 no_laters : (k : ArrayKind) → laters_of k [] ≡ 0
-no_laters kind.Bytes = refl
-no_laters kind.Words = refl
-no_laters kind.String = refl
-no_laters kind.Table = refl
+no_laters ArrayKind.Bytes = refl
+no_laters ArrayKind.Words = refl
+no_laters ArrayKind.String = refl
+no_laters ArrayKind.Table = refl
 
 pub laters_opened : (xs : List Listed) (k : ArrayKind) → arrays_laters (xs ++ record { kind = k; entries = [] } ∷ []) ≡ arrays_laters xs
 laters_opened xs k = omega (arith, all_laters_joined xs (record { kind = k; entries = [] } ∷ []), no_laters k)
@@ -102,13 +97,13 @@ cells_joined (x ∷ xs) ys =
 -- bytes of cells
 bytes_joined : (xs ys : List Cell) → length (bytes_of (xs ++ ys)) ≡ length (bytes_of xs) + length (bytes_of ys)
 bytes_joined [] ys = omega arith
-bytes_joined (cell.Byte b ∷ xs) ys = omega (arith, bytes_joined xs ys)
-bytes_joined (cell.Later t ∷ xs) ys = omega (arith, bytes_joined xs ys)
+bytes_joined (Cell.Byte b ∷ xs) ys = omega (arith, bytes_joined xs ys)
+bytes_joined (Cell.Later t ∷ xs) ys = omega (arith, bytes_joined xs ys)
 
 later_joined : (xs ys : List Cell) → later_count (xs ++ ys) ≡ later_count xs + later_count ys
 later_joined [] ys = omega arith
-later_joined (cell.Byte b ∷ xs) ys = later_joined xs ys
-later_joined (cell.Later t ∷ xs) ys = omega (arith, later_joined xs ys)
+later_joined (Cell.Byte b ∷ xs) ys = later_joined xs ys
+later_joined (Cell.Later t ∷ xs) ys = omega (arith, later_joined xs ys)
 
 bytes_of_bytes : (vs : List Value) → length (bytes_of (bytes_cells vs)) ≡ length vs
 bytes_of_bytes [] = refl
@@ -119,12 +114,12 @@ later_of_bytes [] = refl
 later_of_bytes (v ∷ vs) = later_of_bytes vs
 
 two_bytes : (v : Value) → length (bytes_of (value_cells v)) ≡ 2
-two_bytes (value.Known n) = refl
-two_bytes (value.Later t) = refl
+two_bytes (Value.Known n) = refl
+two_bytes (Value.Later t) = refl
 
 later_of_value : (v : Value) → later_count (value_cells v) ≡ later_in v
-later_of_value (value.Known n) = refl
-later_of_value (value.Later t) = refl
+later_of_value (Value.Known n) = refl
+later_of_value (Value.Later t) = refl
 
 pub bytes_of_values : (vs : List Value) → length (bytes_of (values_cells vs)) ≡ 2 * length vs
 bytes_of_values [] = omega arith
@@ -136,16 +131,16 @@ later_of_values (v ∷ vs) = omega (arith, later_joined (value_cells v) (values_
 
 array_bytes : (k : ArrayKind) (vs : List Value) →
     length (bytes_of (array_cells (record { kind = k; entries = vs }))) ≡ array_size (record { kind = k; entries = vs })
-array_bytes kind.Bytes vs = omega (arith, bytes_of_bytes vs)
-array_bytes kind.Words vs = omega (arith, bytes_of_values vs)
-array_bytes kind.String vs = omega (arith, bytes_of_bytes vs)
-array_bytes kind.Table vs = omega (arith, bytes_of_values vs)
+array_bytes ArrayKind.Bytes vs = omega (arith, bytes_of_bytes vs)
+array_bytes ArrayKind.Words vs = omega (arith, bytes_of_values vs)
+array_bytes ArrayKind.String vs = omega (arith, bytes_of_bytes vs)
+array_bytes ArrayKind.Table vs = omega (arith, bytes_of_values vs)
 
 array_later : (k : ArrayKind) (vs : List Value) → later_count (array_cells (record { kind = k; entries = vs })) ≡ laters_of k vs
-array_later kind.Bytes vs = later_of_bytes vs
-array_later kind.Words vs = later_of_values vs
-array_later kind.String vs = later_of_bytes vs
-array_later kind.Table vs = later_of_values vs
+array_later ArrayKind.Bytes vs = later_of_bytes vs
+array_later ArrayKind.Words vs = later_of_values vs
+array_later ArrayKind.String vs = later_of_bytes vs
+array_later ArrayKind.Table vs = later_of_values vs
 
 -- as many bytes are written as are counted
 pub size_written : (xs : List Listed) → length (bytes_of (arrays_cells xs)) ≡ arrays_size xs
@@ -158,16 +153,16 @@ laters_written [] = refl
 laters_written (x ∷ xs) = omega (arith, later_joined (array_cells x) (arrays_cells xs), array_later x.kind x.entries, laters_written xs)
 
 -- zeros are known
-zeros_known : (n : ℕ) → laters (replicate n (value.Known 0)) ≡ 0
+zeros_known : (n : ℕ) → laters (replicate n (Value.Known 0)) ≡ 0
 zeros_known zero = refl
 zeros_known (suc n) = omega (arith, zeros_known n)
 
 pub globals_later : (vs : List Value) → later_count (globals_cells vs) ≡ laters vs
 globals_later vs =
     later_of_values (all_globals vs)
-    ∙ omega (arith, laters_joined vs (replicate (240 - length vs) (value.Known 0)), zeros_known (240 - length vs))
+    ∙ omega (arith, laters_joined vs (replicate (240 - length vs) (Value.Known 0)), zeros_known (240 - length vs))
 
 pub globals_size : (vs : List Value) → length vs ≤ 235 → length (bytes_of (globals_cells vs)) ≡ 480
 globals_size vs few =
     bytes_of_values (all_globals vs)
-    ∙ omega (arith, few, length-append vs (replicate (240 - length vs) (value.Known 0)), length-replicate (240 - length vs) (value.Known 0))
+    ∙ omega (arith, few, length-append vs (replicate (240 - length vs) (Value.Known 0)), length-replicate (240 - length vs) (Value.Known 0))

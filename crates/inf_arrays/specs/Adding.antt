@@ -1,9 +1,7 @@
 -- The items of a source that add entries, by those of the code.
-use Rattle.inf_arrays.specs.Arrays.{Adding, One, Zeros, Characters}
-use Rattle.inf_arrays.specs.declared.arrays.Entries.{Entries}
-use Rattle.inf_arrays.specs.declared.arrays.Entries.TheVariants as entries
+use Rattle.inf_arrays.specs.{Arrays.Adding, Arrays.Characters, Arrays.One, Arrays.Zeros, declared.arrays.Entries.Entries}
 
 abbrev pub added : Entries → Adding
-added (entries.One v) = One v
-added (entries.Zeros count) = Zeros count
-added (entries.Characters text) = Characters text.now
+added (Entries.One v) = One v
+added (Entries.Zeros count) = Zeros count
+added (Entries.Characters text) = Characters text.now

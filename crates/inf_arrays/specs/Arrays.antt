@@ -1,15 +1,10 @@
 -- The arrays of a story: each is its kind and its entries; the last one may be open.
 use Rattle.std.specs.Prelude.{ℕ, ◌+◌, ◌*◌, ◌≤◌, List, [], ◌∷◌, ◌++◌, Option, Some, None, Bool, true, false, nat_lt, length, map, option_map}
 use Rattle.std.specs.Prelude.{option_to_list, replicate, if◌then◌else◌}
-use Rattle.inf_area.specs.declared.targets.Value.{Value}
-use Rattle.inf_area.specs.declared.targets.Value.TheVariants as value
-use Rattle.inf_area.specs.declared.cells.Cell.{Cell}
-use Rattle.inf_settings.specs.Bounds.{Limits}
-use Rattle.inf_settings.specs.declared.setting.Setting.TheVariants as setting
+use Rattle.inf_area.specs.{declared.cells.Cell.Cell, declared.targets.Value.Value}
+use Rattle.inf_settings.specs.{Bounds.Limits, declared.setting.Setting.Setting}
+use Rattle.inf_arrays.specs.{declared.arrays.ArrayFault.ArrayFault, declared.kinds.ArrayKind.ArrayKind}
 use Rattle.inf_arrays.specs.Kinds.{are_bytes, count_cells, count_size, entries_cells, entry_size, laters_of, misfit_by}
-use Rattle.inf_arrays.specs.declared.arrays.ArrayFault.{ArrayFault}
-use Rattle.inf_arrays.specs.declared.arrays.ArrayFault.TheVariants as fault
-use Rattle.inf_arrays.specs.declared.kinds.ArrayKind.{ArrayKind}
 
 pub record Listed : Type 0 where
   pub kind : ArrayKind
@@ -46,7 +41,7 @@ with_entries values arrays =
 -- the characters of a text
 abbrev pub characters : List ℕ → List Value
 characters [] = []
-characters (c ∷ text) = value.Known c ∷ characters text
+characters (c ∷ text) = Value.Known c ∷ characters text
 
 -- the number of bytes of an array, and of several
 abbrev pub array_size : Listed → ℕ
@@ -64,7 +59,7 @@ arrays_laters (array ∷ arrays) = laters_of array.kind array.entries + arrays_l
 -- Tells whether an array is open and there is room for `added` more entries.
 abbrev pub RoomIn : Limits → Option Listed → ℕ → AllArrays → Type 0
 RoomIn limits None added arrays = ⊥
-RoomIn limits (Some array) added arrays = arrays_size (all_of arrays) + entry_size array.kind * added ≤ limits setting.Arrays
+RoomIn limits (Some array) added arrays = arrays_size (all_of arrays) + entry_size array.kind * added ≤ limits Setting.Arrays
 
 abbrev pub HasRoom : Limits → ℕ → AllArrays → Type 0
 HasRoom limits added arrays = RoomIn limits arrays.open_one added arrays
@@ -72,12 +67,13 @@ HasRoom limits added arrays = RoomIn limits arrays.open_one added arrays
 -- the fault for which an array cannot be opened
 abbrev pub open_fault : Limits → ArrayKind → AllArrays → Option ArrayFault
 open_fault limits kind arrays =
-    if nat_lt (limits setting.Arrays) (arrays_size (all_of arrays) + count_size kind) then Some fault.Full else None
+    if nat_lt (limits Setting.Arrays) (arrays_size (all_of arrays) + count_size kind) then Some ArrayFault.Full else None
 
 -- the fault of `added` more entries of the open array, where `fit` says whether they are bytes
 abbrev pub more_fault : Limits → ℕ → Bool → AllArrays → Listed → Option ArrayFault
 more_fault limits added fit arrays array = option_or (misfit_by array.kind (length array.entries) added fit)
-    (if nat_lt (limits setting.Arrays) (arrays_size (all_of arrays) + entry_size array.kind * added) then Some fault.Full else None) where
+    (if nat_lt (limits Setting.Arrays) (arrays_size (all_of arrays) + entry_size array.kind * added) then Some ArrayFault.Full
+    else None) where
       option_or : Option ArrayFault → Option ArrayFault → Option ArrayFault
       option_or None other = other
       option_or (Some f) other = Some f
@@ -94,7 +90,7 @@ entries_fault limits values arrays = fault_by limits (length values) (are_bytes 
 
 -- the fault of zeros, which are bytes, and of which there is one at least
 abbrev pub zeros_fault : Limits → ℕ → AllArrays → Option ArrayFault
-zeros_fault limits count arrays = if nat_lt count 1 then Some fault.NoEntries else fault_by limits count true arrays
+zeros_fault limits count arrays = if nat_lt count 1 then Some ArrayFault.NoEntries else fault_by limits count true arrays
 
 -- the fault of characters, which are bytes
 abbrev pub characters_fault : Limits → List ℕ → AllArrays → Option ArrayFault
@@ -108,7 +104,7 @@ pub data Adding : Type 0 where
 
 abbrev pub values_in : Adding → List Value
 values_in (One v) = v ∷ []
-values_in (Zeros count) = replicate count (value.Known 0)
+values_in (Zeros count) = replicate count (Value.Known 0)
 values_in (Characters text) = characters text
 
 abbrev pub added_fault : Limits → Adding → AllArrays → Option ArrayFault

@@ -1,7 +1,6 @@
 -- The arrays of a story, by those of the code.
 use Rattle.std.specs.Prelude.{List, Option, map, option_map}
-use Rattle.inf_arrays.specs.Arrays.{AllArrays, Listed}
-use Rattle.inf_arrays.specs.declared.arrays.Array.{Array}
+use Rattle.inf_arrays.specs.{Arrays.AllArrays, Arrays.Listed, declared.arrays.Array.Array}
 
 abbrev pub listed : Array → Listed
 listed array = record { kind = array.kind; entries = array.entries.items }

@@ -1,19 +1,14 @@
 //! Arrays, entry by entry.
 ghost use Rattle.std.specs.Prelude.{◌≡◌, ◌<◌, ◌≤◌, ◌+◌, ◌++◌, ◌∷◌, ◌^◌, [], None, Some, OnOk, OnErr, IfOk, IfErr, IfNone, IsSome};
 ghost use Rattle.std.specs.Prelude.{MatchResult, is_some, length, map, option_map, option_to_list, replicate, unwrap_or};
-ghost use Rattle.inf_area.specs.Fixups.{with_fixups};
-ghost use Rattle.inf_area.specs.declared.targets.AreaName.TheVariants as area_name;
-ghost use Rattle.inf_area.specs.declared.targets.Value.TheVariants.{Known};
-ghost use Rattle.inf_area.specs.Cells.{bytes_of, fixups_of, later_count};
-ghost use Rattle.inf_area.specs.declared.cells.WriteFault.TheVariants as write_fault;
-ghost use Rattle.inf_arrays.specs.Adding.{added};
+ghost use Rattle.inf_area.specs.{Cells.bytes_of, Cells.fixups_of, Cells.later_count, Fixups.with_fixups};
+ghost use Rattle.inf_area.specs.declared.{cells.WriteFault.WriteFault, targets.AreaName.AreaName, targets.Value.TheVariants.Known};
+ghost use Rattle.inf_arrays.specs.{Adding.added, Listing.listed, declared.arrays.ArrayFault.TheVariants.Memory};
 ghost use Rattle.inf_arrays.specs.Arrays.{HasRoom, added_fault, all_of, array_cells, arrays_cells, arrays_laters, arrays_size, characters};
 ghost use Rattle.inf_arrays.specs.Arrays.{characters_fault, closed_one, entries_fault, fault_by, no_arrays, opened, open_fault, values_in};
 ghost use Rattle.inf_arrays.specs.Arrays.{with_entries, zeros_fault};
 ghost use Rattle.inf_arrays.specs.Kinds.{bytes_cells, count_cells, count_size, entries_cells, low_byte};
-ghost use Rattle.inf_arrays.specs.Listing.{listed};
-ghost use Rattle.inf_arrays.specs.declared.arrays.ArrayFault.TheVariants.{Memory};
-ghost use Rattle.inf_settings.specs.declared.setting.Setting.TheVariants as setting;
+ghost use Rattle.inf_settings.specs.declared.setting.Setting.{Setting};
 
 use crate::kinds::{ArrayKind, is_byte, misfit_by};
 use inf_area::{Area, AreaName, Cells, Refs, Value, WriteFault, append_cells};
@@ -72,7 +67,7 @@ pub struct Arrays<B: Bounds> {
     later: usize,
     limit: usize,
     of: PhantomData<B>,
-    ghost is_most: { limit ≡ B.most setting.Arrays },
+    ghost is_most: { limit ≡ B.most Setting.Arrays },
 }
 
 impl<B: Bounds> Model for Arrays<B> {
@@ -144,7 +139,7 @@ impl<B: Bounds> Arrays<B> {
     /// Creates an empty list of arrays, of at most `limit` bytes together. It takes no memory until the second array is
     /// opened or the first entry comes.
     pub fn new(alloc: Global, limit: usize) -> Arrays<B>
-        requires { limit ≡ B.most setting.Arrays }
+        requires { limit ≡ B.most Setting.Arrays }
         ensures { result ≡ no_arrays }
     {
         Arrays {
@@ -161,7 +156,7 @@ impl<B: Bounds> Arrays<B> {
     /// Returns the number of bytes of all arrays, with the open one as if it ended here. It never passes the limit.
     pub fn size(&self) -> usize
         ensures value { result ≡ arrays_size (all_of self.now) }
-        ensures limited { result ≤ B.most setting.Arrays }
+        ensures limited { result ≤ B.most Setting.Arrays }
     {
         self.size
     }
@@ -204,7 +199,7 @@ impl<B: Bounds> Arrays<B> {
     // Begins an array, where none is open and there is room for it.
     fn begin(&mut self, kind: ArrayKind)
         requires none { self.old.open_one ≡ None }
-        requires room { arrays_size (all_of self.old) + count_size kind ≤ B.most setting.Arrays }
+        requires room { arrays_size (all_of self.old) + count_size kind ≤ B.most Setting.Arrays }
         ensures { self.new ≡ opened kind self.old }
     {
         let array = Array {
@@ -379,13 +374,13 @@ impl<B: Bounds> Arrays<B> {
     pub fn write<A: Area>(&self, area: &mut A, refs: &mut Refs) -> Result<(), WriteFault>
         ensures bytes { OnOk result (A.bytes area.new ≡ A.bytes area.old ++ bytes_of (arrays_cells (all_of self.now))) }
         ensures fixups { OnOk result (refs.new ≡ with_fixups
-            (refs.old.list ++ fixups_of area_name.Arrays (length (A.bytes area.old)) (arrays_cells (all_of self.now))) refs.old) }
+            (refs.old.list ++ fixups_of AreaName.Arrays (length (A.bytes area.old)) (arrays_cells (all_of self.now))) refs.old) }
         ensures room { OnOk result (length refs.old.list + arrays_laters (all_of self.now) ≤ refs.old.limit) }
         ensures bytes_stay { OnErr result (A.bytes area.new ≡ A.bytes area.old) }
         ensures fixups_stay { OnErr result (refs.new ≡ refs.old) }
-        ensures full { IfErr result (λ fault. fault ≡ write_fault.Full
+        ensures full { IfErr result (λ fault. fault ≡ WriteFault.Full
             → refs.old.limit < length refs.old.list + arrays_laters (all_of self.now)) }
-        ensures memory { IfErr result (λ fault. fault ≡ write_fault.Memory
+        ensures memory { IfErr result (λ fault. fault ≡ WriteFault.Memory
             → length refs.old.list + arrays_laters (all_of self.now) ≤ refs.old.limit) }
     {
         if refs.limit() - refs.len() < self.later {

@@ -1,11 +1,8 @@
 //! Global variables.
 ghost use Rattle.std.specs.Prelude.{◌≡◌, ◌<◌, ◌≤◌, ◌+◌, ◌++◌, ◌∷◌, [], OnOk, OnErr, IfOk, IfErr, length};
-ghost use Rattle.inf_area.specs.Fixups.{with_fixups};
-ghost use Rattle.inf_area.specs.declared.targets.AreaName.TheVariants as area_name;
+ghost use Rattle.inf_area.specs.{Fixups.with_fixups, declared.cells.WriteFault.WriteFault, declared.targets.AreaName.AreaName};
 ghost use Rattle.inf_area.specs.Cells.{bytes_of, fixups_of};
-ghost use Rattle.inf_area.specs.declared.cells.WriteFault.TheVariants as write_fault;
-ghost use Rattle.inf_arrays.specs.Globals.{globals_cells};
-ghost use Rattle.inf_arrays.specs.Kinds.{laters};
+ghost use Rattle.inf_arrays.specs.{Globals.globals_cells, Kinds.laters};
 ghost use Rattle.inf_arrays.specs.declared.globals.GlobalFault.TheVariants.{TooMany, Memory};
 
 use crate::kinds::laters;
@@ -116,12 +113,12 @@ impl Globals {
     pub fn write<A: Area>(&self, area: &mut A, refs: &mut Refs) -> Result<(), WriteFault>
         ensures bytes { OnOk result (A.bytes area.new ≡ A.bytes area.old ++ bytes_of (globals_cells self.now)) }
         ensures fixups { OnOk result (refs.new ≡ with_fixups
-            (refs.old.list ++ fixups_of area_name.Globals (length (A.bytes area.old)) (globals_cells self.now)) refs.old) }
+            (refs.old.list ++ fixups_of AreaName.Globals (length (A.bytes area.old)) (globals_cells self.now)) refs.old) }
         ensures room { OnOk result (length refs.old.list + laters self.now ≤ refs.old.limit) }
         ensures bytes_stay { OnErr result (A.bytes area.new ≡ A.bytes area.old) }
         ensures fixups_stay { OnErr result (refs.new ≡ refs.old) }
-        ensures full { IfErr result (λ fault. fault ≡ write_fault.Full → refs.old.limit < length refs.old.list + laters self.now) }
-        ensures memory { IfErr result (λ fault. fault ≡ write_fault.Memory → length refs.old.list + laters self.now ≤ refs.old.limit) }
+        ensures full { IfErr result (λ fault. fault ≡ WriteFault.Full → refs.old.limit < length refs.old.list + laters self.now) }
+        ensures memory { IfErr result (λ fault. fault ≡ WriteFault.Memory → length refs.old.list + laters self.now ≤ refs.old.limit) }
     {
         if refs.limit() - refs.len() < self.later {
             return Err(WriteFault::Full);

@@ -1,9 +1,8 @@
 //! The sizes of written arrays and variables.
 ghost use Rattle.std.specs.Prelude.{◌≡◌, ◌*◌, ◌≤◌, length};
 ghost use Rattle.inf_area.specs.Cells.{bytes_of, later_count};
+ghost use Rattle.inf_arrays.specs.{Globals.globals_cells, Kinds.laters};
 ghost use Rattle.inf_arrays.specs.Arrays.{all_of, arrays_cells, arrays_laters, arrays_size};
-ghost use Rattle.inf_arrays.specs.Globals.{globals_cells};
-ghost use Rattle.inf_arrays.specs.Kinds.{laters};
 
 use crate::arrays::Arrays;
 use crate::globals::Globals;

@@ -2,9 +2,7 @@
 use Rattle.std.proofs.Common.{◌≡◌, ℕ, ◌+◌, ◌-◌, ◌≤◌, Bool, true, false, cond, List, [], ◌∷◌, ◌++◌, length, take, drop, Option, Some, None}
 use Rattle.std.proofs.Common.{is_some, refl, sym, ◌∙◌, ap, arith, append-nil, append_assoc, length-append, length-drop}
 use Rattle.std.proofs.lemmas.List.{drop_at, drop-drop, take_at}
-use Rattle.inf_opcode.specs.declared.cells.Kept.{Kept}
-use Rattle.inf_opcode.specs.declared.cells.Special.{Special}
-use Rattle.inf_opcode.specs.declared.cells.Special.TheVariants.{Marks, Branches, Jumps, Refers}
+use Rattle.inf_opcode.specs.{declared.cells.Kept.Kept, declared.cells.Special.Special}
 use Rattle.inf_opcode.specs.Cells.{Cell, Plain, Of, special_size, special_bytes, long_bytes, kept_from}
 use Rattle.inf_assembler.specs.Places.{Places, with_some, joined, is_short_to, size_at, long_place, place_from, closed_special}
 use Rattle.inf_assembler.specs.Places.{closed_bytes, closed_fixups, fixup_at, first_of, marks, unplaced, used_by, missing, marked_again}
@@ -32,10 +30,10 @@ cond_saving true = refl
 cond_saving false = refl
 
 pub size_saving : (long : Places) (old : ℕ) (what : Special) → special_saving long old what + size_at long old what ≡ special_size what
-size_saving long old (Marks label) = refl
-size_saving long old (Branches branch) = cond_saving (is_short_to long old branch.target)
-size_saving long old (Jumps label) = refl
-size_saving long old (Refers target) = refl
+size_saving long old (Special.Marks label) = refl
+size_saving long old (Special.Branches branch) = cond_saving (is_short_to long old branch.target)
+size_saving long old (Special.Jumps label) = refl
+size_saving long old (Special.Refers target) = refl
 
 -- the places of labels
 pub place_bridge : (long : Places) (saved old new : ℕ) (cells : List Cell) (n : ℕ) → old ≡ new + saved →
@@ -218,10 +216,10 @@ marked_same b p q (Some x) (Some y) e = refl
 
 again_same : (kept : List Kept) (before : List Cell) (what : Special) →
     ((n : ℕ) → is_some (kept_place nowhere 0 kept n) ≡ is_some (long_place 0 before n)) → kept_again kept what ≡ marked_again before what
-again_same kept before (Marks label) same = ap (λ b. cond b (Some label) None) (same label.number)
-again_same kept before (Branches branch) same = refl
-again_same kept before (Jumps label) same = refl
-again_same kept before (Refers target) same = refl
+again_same kept before (Special.Marks label) same = ap (λ b. cond b (Some label) None) (same label.number)
+again_same kept before (Special.Branches branch) same = refl
+again_same kept before (Special.Jumps label) same = refl
+again_same kept before (Special.Refers target) same = refl
 
 pub twice_bridge : (kept : List Kept) (before cells : List Cell) (place : ℕ) →
     ((n : ℕ) → is_some (kept_place nowhere 0 kept n) ≡ is_some (long_place 0 before n)) →

@@ -2,10 +2,8 @@
 use Rattle.std.proofs.Common.{◌≡◌, ℕ, ◌+◌, ◌≤◌, Bool, true, false, ltb, cond, List, length, Option, Some, None, refl, ◌∙◌, ap, arith}
 use Rattle.std.proofs.lemmas.Bool.Decides.{nat_tests}
 use Rattle.inf_area.specs.Fixups.{Fixups}
-use Rattle.inf_opcode.specs.declared.writing.Counts.{Counts}
-use Rattle.inf_opcode.specs.Cells.{plain, long_bytes, label_count, fixup_count}
-use Rattle.inf_opcode.specs.Counts.{counts_of}
-use Rattle.inf_opcode.specs.Instructions.{Parts, front_cells, instruction_cells}
+use Rattle.inf_opcode.specs.{Cells.fixup_count, Cells.label_count, Cells.long_bytes, Cells.plain, Counts.counts_of, Instructions.Parts}
+use Rattle.inf_opcode.specs.{Instructions.front_cells, Instructions.instruction_cells, declared.writing.Counts.Counts}
 use Rattle.inf_assembler.specs.Routines.{State, full_by, full_with}
 use Rattle.inf_opcode.proofs.Growing.{long-plain}
 use Rattle.inf_opcode.proofs.Counting.{length-long, labels-append, fixups-append, labels-plain, fixups-plain}

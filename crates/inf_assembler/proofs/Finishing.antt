@@ -1,17 +1,11 @@
 -- The results computed at the end are those of the routine's cells.
-use Rattle.std.specs.Prelude.{Result, Ok, Err, OnOk}
-use Rattle.std.proofs.Common.{◌≡◌, ℕ, ◌+◌, List, [], ◌∷◌, ◌++◌, length, Option, Some, None, refl, sym, ◌∙◌, ap, arith, append_assoc}
-use Rattle.std.proofs.Common.{length-append}
+use Rattle.std.proofs.Common.{Result, Ok, Err, OnOk, ◌≡◌, ℕ, ◌+◌, List, [], ◌∷◌, ◌++◌, length, Option, Some, None, refl, sym, ◌∙◌, ap}
+use Rattle.std.proofs.Common.{arith, append_assoc, length-append}
 use mathlib.Core.Path.{fun_ext}
 use Rattle.inf_area.specs.Fixups.{Fixups}
-use Rattle.inf_opcode.specs.declared.cells.Kept.{Kept}
-use Rattle.inf_opcode.specs.declared.cells.Special.{Special}
-use Rattle.inf_opcode.specs.declared.cells.Special.TheVariants.{Marks, Branches, Jumps, Refers}
-use Rattle.inf_opcode.specs.declared.instructions.Label.{Label}
-use Rattle.inf_assembler.specs.declared.routines.CloseFault.TheVariants as close_fault
-use Rattle.inf_assembler.specs.declared.routines.Limits.{Limits}
-use Rattle.inf_assembler.specs.declared.routines.RoutineKind.{RoutineKind}
+use Rattle.inf_opcode.specs.{declared.cells.Kept.Kept, declared.cells.Special.Special, declared.instructions.Label.Label}
 use Rattle.inf_opcode.specs.Cells.{Cell, Plain, Of, special_size, long_bytes, fixup_count, kept_from}
+use Rattle.inf_assembler.specs.declared.{routines.CloseFault.CloseFault, routines.Limits.Limits, routines.RoutineKind.RoutineKind}
 use Rattle.inf_assembler.specs.Places.{Places, with_some, size_at, fixup_at, closed_fixups, missing, twice_behind}
 use Rattle.inf_assembler.specs.Closing.{found, nowhere, kept_place, kept_missing, kept_twice, kept_fixups, squeezed, AreInOrder}
 use Rattle.inf_assembler.specs.Routines.{Contents, long_places, places, body_bytes, routine_fixups, full_fault, body_fault, twice_fault}
@@ -25,10 +19,10 @@ none_of (Some x) h = absurd (h x refl)
 
 length-fixup : (place : ℕ) (what : Special) (cells : List Cell) →
     length (fixup_at place what) + fixup_count cells ≡ fixup_count (Of what ∷ cells)
-length-fixup place (Marks label) cells = omega arith
-length-fixup place (Branches branch) cells = omega arith
-length-fixup place (Jumps label) cells = omega arith
-length-fixup place (Refers target) cells = omega arith
+length-fixup place (Special.Marks label) cells = omega arith
+length-fixup place (Special.Branches branch) cells = omega arith
+length-fixup place (Special.Jumps label) cells = omega arith
+length-fixup place (Special.Refers target) cells = omega arith
 
 pub length-fixups : (long : Places) (old new : ℕ) (cells : List Cell) → length (closed_fixups long old new cells) ≡ fixup_count cells
 length-fixups long old new [] = refl
@@ -90,7 +84,7 @@ module _ (start : ℕ) (contents : Contents) (kept : List Kept) (is : kept ≡ k
 -- the first fault
 module _ (start : ℕ) (kind : RoutineKind) (contents : Contents) (limits : Limits) (refs : Fixups) where
   pub fault_missing : (label : Label) → missing (long_places start contents) contents.cells ≡ Some label →
-      fault_of start kind contents limits refs ≡ Some (close_fault.LabelMissing label)
+      fault_of start kind contents limits refs ≡ Some (CloseFault.LabelMissing label)
   fault_missing label e =
       ap (missing_fault (twice_fault (body_fault (full_fault start kind contents limits refs) (body_bytes start contents))
       (twice_behind [] contents.cells))) e
@@ -101,7 +95,7 @@ module _ (start : ℕ) (kind : RoutineKind) (contents : Contents) (limits : Limi
       (twice_behind [] contents.cells))) e
 
   pub fault_twice : (label : Label) → missing (long_places start contents) contents.cells ≡ None →
-      twice_behind [] contents.cells ≡ Some label → fault_of start kind contents limits refs ≡ Some (close_fault.LabelTwice label)
+      twice_behind [] contents.cells ≡ Some label → fault_of start kind contents limits refs ≡ Some (CloseFault.LabelTwice label)
   fault_twice label e f =
       fault_none e ∙ ap (twice_fault (body_fault (full_fault start kind contents limits refs) (body_bytes start contents))) f
 

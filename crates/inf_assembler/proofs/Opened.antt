@@ -2,9 +2,8 @@
 use Rattle.std.proofs.Common.{◌≡◌, ℕ, ◌+◌, ◌-◌, ◌≤◌, Bool, List, [], ◌∷◌, ◌++◌, length, get_or, take, drop, refl, sym, ◌∙◌, ap, subst}
 use Rattle.std.proofs.Common.{arith, append-nil, append_assoc, length-append}
 use Rattle.std.proofs.lemmas.List.{map-append, drop_at, take_at, get_or_at, drop_all}
-use Rattle.inf_opcode.specs.Cells.{Cell, Plain, Of, plain, special_size, special_bytes, long_bytes, label_count, fixup_count, kept_from}
-use Rattle.inf_opcode.specs.Cells.{cells_of}
-use Rattle.inf_opcode.specs.Grown.{Grew}
+use Rattle.inf_opcode.specs.{Cells.Cell, Cells.Of, Cells.Plain, Cells.cells_of, Cells.fixup_count, Cells.kept_from, Cells.label_count}
+use Rattle.inf_opcode.specs.{Cells.long_bytes, Cells.plain, Cells.special_bytes, Cells.special_size, Grown.Grew}
 use Rattle.inf_assembler.specs.Routines.{State, Contents, Moment, Were, contents_of, Stands, Holds, with_cells}
 use Rattle.inf_opcode.proofs.Growing.{length-special, long-append, kept-append}
 use Rattle.inf_opcode.proofs.Counting.{length-long, labels-append, fixups-append}

@@ -3,13 +3,8 @@ use Rattle.std.proofs.Common.{◌≡◌, ℕ, ◌+◌, ◌-◌, ◌<◌, ◌≤�
 use Rattle.std.proofs.Common.{Some, None, is_some, refl, sym, ◌∙◌, ap, subst, arith}
 use Rattle.std.proofs.lemmas.List.{drop_more, take_more}
 use Rattle.inf_area.specs.declared.targets.Target.{Target}
-use Rattle.inf_opcode.specs.declared.cells.Kept.{Kept}
-use Rattle.inf_opcode.specs.declared.cells.Special.{Special}
-use Rattle.inf_opcode.specs.declared.cells.Special.TheVariants.{Marks, Branches, Jumps, Refers}
-use Rattle.inf_opcode.specs.declared.instructions.Destination.{Destination}
-use Rattle.inf_opcode.specs.declared.instructions.Destination.TheVariants.{To, ReturnFalse, ReturnTrue}
-use Rattle.inf_opcode.specs.declared.instructions.Label.{Label}
-use Rattle.inf_opcode.specs.Cells.{special_size}
+use Rattle.inf_opcode.specs.{Cells.special_size, declared.cells.Kept.Kept, declared.cells.Special.Special}
+use Rattle.inf_opcode.specs.{declared.instructions.Destination.Destination, declared.instructions.Label.Label}
 use Rattle.inf_assembler.specs.Places.{Places, with_some, is_short_to, size_at, branch_bytes, branch_offset, closed_special, first_of}
 use Rattle.inf_assembler.specs.Places.{marks, fixup_at}
 use Rattle.inf_assembler.specs.Closing.{AreInOrder, nowhere, special_saving, kept_place, kept_again, kept_twice, placed_bytes, with_bytes}
@@ -37,24 +32,24 @@ length-branch false sense offset = refl
 -- a special cell has as many bytes as its size
 pub closed_size : (long places : Places) (old new : ℕ) (what : Special) (bytes : List ℕ) →
     closed_special long places old new what ≡ Some bytes → length bytes ≡ size_at long old what
-closed_size long places old new (Marks label) bytes e = let same : bytes ≡ [] = cc in ap length same
-closed_size long places old new (Branches branch) bytes e =
+closed_size long places old new (Special.Marks label) bytes e = let same : bytes ≡ [] = cc in ap length same
+closed_size long places old new (Special.Branches branch) bytes e =
     let short = is_short_to long old branch.target in
     let made = some_of (branch_bytes short branch.sense) (branch_offset places (new + cond short 1 2) branch.target) bytes e in
     ap length (sym made.1) ∙ length-branch short branch.sense made.0
-closed_size long places old new (Jumps label) bytes e =
+closed_size long places old new (Special.Jumps label) bytes e =
     let made = some_of _ _ bytes e in ap length (sym made.1)
-closed_size long places old new (Refers target) bytes e = let same : bytes ≡ 0 ∷ 0 ∷ [] = cc in ap length same
+closed_size long places old new (Special.Refers target) bytes e = let same : bytes ≡ 0 ∷ 0 ∷ [] = cc in ap length same
 
 cond_le : (b : Bool) → cond b 1 2 ≤ 2
 cond_le true = omega arith
 cond_le false = omega arith
 
 pub size_le : (long : Places) (old : ℕ) (what : Special) → size_at long old what ≤ special_size what
-size_le long old (Marks label) = omega arith
-size_le long old (Branches branch) = cond_le (is_short_to long old branch.target)
-size_le long old (Jumps label) = omega arith
-size_le long old (Refers target) = omega arith
+size_le long old (Special.Marks label) = omega arith
+size_le long old (Special.Branches branch) = cond_le (is_short_to long old branch.target)
+size_le long old (Special.Jumps label) = omega arith
+size_le long old (Special.Refers target) = omega arith
 
 -- the bytes once one more entry is written
 pub squeezed_step : (long places : Places) (from to i : ℕ) (kept : List Kept) (d : Kept) (xs added : List ℕ) → i < length kept
@@ -72,15 +67,15 @@ squeezed_step long places from to i kept d xs added within is =
 
 -- no branch is short where no long place is known, and no entry saves bytes there
 near_nowhere : (place : ℕ) (target : Destination) → is_short_to nowhere place target ≡ false
-near_nowhere place (To label) = refl
-near_nowhere place ReturnFalse = refl
-near_nowhere place ReturnTrue = refl
+near_nowhere place (Destination.To label) = refl
+near_nowhere place Destination.ReturnFalse = refl
+near_nowhere place Destination.ReturnTrue = refl
 
 pub saving_nowhere : (place : ℕ) (what : Special) → special_saving nowhere place what ≡ 0
-saving_nowhere place (Marks label) = refl
-saving_nowhere place (Branches branch) = ap (λ b. cond b 1 0) (near_nowhere place branch.target)
-saving_nowhere place (Jumps label) = refl
-saving_nowhere place (Refers target) = refl
+saving_nowhere place (Special.Marks label) = refl
+saving_nowhere place (Special.Branches branch) = ap (λ b. cond b 1 0) (near_nowhere place branch.target)
+saving_nowhere place (Special.Jumps label) = refl
+saving_nowhere place (Special.Refers target) = refl
 
 first_of-cond : (b : Bool) (x : ℕ) (y z : Option ℕ) → cond b (Some x) (first_of y z) ≡ first_of (cond b (Some x) y) z
 first_of-cond true x y z = refl
@@ -100,20 +95,20 @@ kept_place-push saved (first ∷ before) entry n =
 
 -- a label that is marked for the first time is not marked twice, and no other entry marks one
 pub again_new : (before : List Kept) (label : Label) → is_some (kept_place nowhere 0 before label.number) ≡ false →
-    kept_again before (Marks label) ≡ None
+    kept_again before (Special.Marks label) ≡ None
 again_new before label new = ap (λ b. cond b (Some label) None) new
 
-pub again_other : (before : List Kept) (what : Special) → ((label : Label) → what ≡ Marks label → ⊥) → kept_again before what ≡ None
-again_other before (Marks label) other = absurd (other label refl)
-again_other before (Branches branch) other = refl
-again_other before (Jumps label) other = refl
-again_other before (Refers target) other = refl
+pub again_other : (before : List Kept) (what : Special) → ((label : Label) → what ≡ Special.Marks label → ⊥) → kept_again before what ≡ None
+again_other before (Special.Marks label) other = absurd (other label refl)
+again_other before (Special.Branches branch) other = refl
+again_other before (Special.Jumps label) other = refl
+again_other before (Special.Refers target) other = refl
 
-pub marks_other : (n : ℕ) (what : Special) → ((label : Label) → what ≡ Marks label → ⊥) → marks n what ≡ false
-marks_other n (Marks label) other = absurd (other label refl)
-marks_other n (Branches branch) other = refl
-marks_other n (Jumps label) other = refl
-marks_other n (Refers target) other = refl
+pub marks_other : (n : ℕ) (what : Special) → ((label : Label) → what ≡ Special.Marks label → ⊥) → marks n what ≡ false
+marks_other n (Special.Marks label) other = absurd (other label refl)
+marks_other n (Special.Branches branch) other = refl
+marks_other n (Special.Jumps label) other = refl
+marks_other n (Special.Refers target) other = refl
 
 pub twice_step : (i : ℕ) (kept : List Kept) (d : Kept) → i < length kept → kept_again (take i kept) (get_or kept i d).what ≡ None →
     kept_twice (take (i + 1) kept) (drop (i + 1) kept) ≡ kept_twice (take i kept) (drop i kept)
@@ -132,8 +127,8 @@ pub fixups_step : (long : Places) (saved i : ℕ) (kept : List Kept) (d : Kept) 
     (saved + saving long (get_or kept i d)) (drop (i + 1) kept)
 fixups_step long saved i kept d within = ap (kept_fixups long saved) (drop_more kept i d within)
 
-pub fixup_other : (place : ℕ) (what : Special) → ((target : Target) → what ≡ Refers target → ⊥) → fixup_at place what ≡ []
-fixup_other place (Marks label) other = refl
-fixup_other place (Branches branch) other = refl
-fixup_other place (Jumps label) other = refl
-fixup_other place (Refers target) other = absurd (other target refl)
+pub fixup_other : (place : ℕ) (what : Special) → ((target : Target) → what ≡ Special.Refers target → ⊥) → fixup_at place what ≡ []
+fixup_other place (Special.Marks label) other = refl
+fixup_other place (Special.Branches branch) other = refl
+fixup_other place (Special.Jumps label) other = refl
+fixup_other place (Special.Refers target) other = absurd (other target refl)

@@ -2,11 +2,8 @@
 use Rattle.std.specs.Prelude.{ℕ, ◌+◌, ◌-◌, ◌≤◌, ◌==◌, List, [], ◌∷◌, ◌++◌, length, take, drop, slice_get, Option, Some, None, is_some}
 use Rattle.std.specs.Prelude.{if◌then◌else◌}
 use Rattle.inf_area.specs.declared.fixups.Fixup.{Fixup}
-use Rattle.inf_opcode.specs.declared.instructions.Label.{Label}
-use Rattle.inf_opcode.specs.declared.cells.Kept.{Kept}
-use Rattle.inf_opcode.specs.declared.cells.Special.{Special}
-use Rattle.inf_opcode.specs.declared.cells.Special.TheVariants.{Marks, Branches, Jumps, Refers}
-use Rattle.inf_opcode.specs.Cells.{special_size}
+use Rattle.inf_opcode.specs.{Cells.special_size, declared.cells.Kept.Kept, declared.cells.Special.Special}
+use Rattle.inf_opcode.specs.{declared.instructions.Label.Label}
 use Rattle.inf_assembler.specs.Places.{Places, marks, is_short_to, closed_special, used_by, unplaced, first_of, fixup_at}
 
 -- the place of a label in a table
@@ -23,10 +20,10 @@ only label place number = if label == number then Some place else None
 
 -- the number of bytes that a special cell saves against its long size
 abbrev pub special_saving : Places → ℕ → Special → ℕ
-special_saving long place (Marks label) = 0
-special_saving long place (Branches branch) = if is_short_to long place branch.target then 1 else 0
-special_saving long place (Jumps label) = 0
-special_saving long place (Refers target) = 0
+special_saving long place (Special.Marks label) = 0
+special_saving long place (Special.Branches branch) = if is_short_to long place branch.target then 1 else 0
+special_saving long place (Special.Jumps label) = 0
+special_saving long place (Special.Refers target) = 0
 
 abbrev pub saving : Places → Kept → ℕ
 saving long entry = special_saving long entry.place entry.what
@@ -48,10 +45,10 @@ kept_missing places (entry ∷ others) = first_of (unplaced places (used_by entr
 
 -- the first label that is marked twice, by its second mark, behind the entries before
 abbrev pub kept_again : List Kept → Special → Option Label
-kept_again before (Marks label) = if is_some (kept_place nowhere 0 before label.number) then Some label else None
-kept_again before (Branches branch) = None
-kept_again before (Jumps label) = None
-kept_again before (Refers target) = None
+kept_again before (Special.Marks label) = if is_some (kept_place nowhere 0 before label.number) then Some label else None
+kept_again before (Special.Branches branch) = None
+kept_again before (Special.Jumps label) = None
+kept_again before (Special.Refers target) = None
 
 abbrev pub kept_twice : List Kept → List Kept → Option Label
 kept_twice before [] = None

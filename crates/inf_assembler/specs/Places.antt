@@ -1,22 +1,16 @@
 -- The places of cells in a closed routine: short branches, offsets and bytes.
 use Rattle.std.specs.Prelude.{ℕ, ◌+◌, ◌-◌, ◌*◌, ◌/◌, ◌%◌, Bool, true, false, nat_lt, nat_le, ◌==◌, ◌&&◌, List, [], ◌∷◌, ◌++◌, Option, Some}
 use Rattle.std.specs.Prelude.{None, is_some, if◌then◌else◌}
-use Rattle.inf_area.specs.declared.targets.AreaName.TheVariants.{Code}
-use Rattle.inf_area.specs.declared.fixups.Fixup.{Fixup}
-use Rattle.inf_area.specs.Words.{word}
-use Rattle.inf_opcode.specs.declared.instructions.Label.{Label}
-use Rattle.inf_opcode.specs.declared.instructions.Destination.{Destination}
-use Rattle.inf_opcode.specs.declared.instructions.Destination.TheVariants.{To, ReturnFalse, ReturnTrue}
-use Rattle.inf_opcode.specs.declared.cells.Special.{Special}
-use Rattle.inf_opcode.specs.declared.cells.Special.TheVariants.{Marks, Branches, Jumps, Refers}
+use Rattle.inf_area.specs.{Words.word, declared.fixups.Fixup.Fixup, declared.targets.AreaName.AreaName}
+use Rattle.inf_opcode.specs.declared.{cells.Special.Special, instructions.Destination.Destination, instructions.Label.Label}
 use Rattle.inf_opcode.specs.Cells.{Cell, Plain, Of, special_size, sense_bit}
 
 -- whether a special cell marks a label
 abbrev pub marks : ℕ → Special → Bool
-marks number (Marks label) = label.number == number
-marks number (Branches branch) = false
-marks number (Jumps label) = false
-marks number (Refers target) = false
+marks number (Special.Marks label) = label.number == number
+marks number (Special.Branches branch) = false
+marks number (Special.Jumps label) = false
+marks number (Special.Refers target) = false
 
 -- the places of labels, by their numbers
 abbrev pub Places : Type 0
@@ -36,16 +30,16 @@ is_near place None = false
 is_near place (Some target) = nat_le (place + 2) target && nat_le target (place + 63)
 
 abbrev pub is_short_to : Places → ℕ → Destination → Bool
-is_short_to long place (To label) = is_near place (long label.number)
-is_short_to long place ReturnFalse = false
-is_short_to long place ReturnTrue = false
+is_short_to long place (Destination.To label) = is_near place (long label.number)
+is_short_to long place Destination.ReturnFalse = false
+is_short_to long place Destination.ReturnTrue = false
 
 -- the size in bytes of a special cell at a long place
 abbrev pub size_at : Places → ℕ → Special → ℕ
-size_at long place (Marks label) = 0
-size_at long place (Branches branch) = if is_short_to long place branch.target then 1 else 2
-size_at long place (Jumps label) = 2
-size_at long place (Refers target) = 2
+size_at long place (Special.Marks label) = 0
+size_at long place (Special.Branches branch) = if is_short_to long place branch.target then 1 else 2
+size_at long place (Special.Jumps label) = 2
+size_at long place (Special.Refers target) = 2
 
 -- The place of a label, in cells from the place `new` on, which is `old` with all branches long: the sum of the sizes
 -- before its first mark.
@@ -66,9 +60,9 @@ offset_to half end (Some target) =
 
 -- the offset of a branch whose last byte is before `end`; those of 0 and 1 return
 abbrev pub branch_offset : Places → ℕ → Destination → Option ℕ
-branch_offset places end (To label) = offset_to 8192 end (places label.number)
-branch_offset places end ReturnFalse = Some 0
-branch_offset places end ReturnTrue = Some 1
+branch_offset places end (Destination.To label) = offset_to 8192 end (places label.number)
+branch_offset places end Destination.ReturnFalse = Some 0
+branch_offset places end Destination.ReturnTrue = Some 1
 
 -- the bytes of a branch: one, whose bit 6 is set, or two (section 4.7)
 abbrev pub branch_bytes : Bool → Bool → ℕ → List ℕ
@@ -82,12 +76,12 @@ with_some f (Some x) = Some (f x)
 
 -- the bytes of a special cell at a place, by its long place; none where an offset does not fit
 abbrev pub closed_special : Places → Places → ℕ → ℕ → Special → Option (List ℕ)
-closed_special long places old new (Marks label) = Some []
-closed_special long places old new (Branches branch) =
+closed_special long places old new (Special.Marks label) = Some []
+closed_special long places old new (Special.Branches branch) =
     let short = is_short_to long old branch.target in
     with_some (branch_bytes short branch.sense) (branch_offset places (new + (if short then 1 else 2)) branch.target)
-closed_special long places old new (Jumps label) = with_some word (offset_to 32768 (new + 2) (places label.number))
-closed_special long places old new (Refers target) = Some (0 ∷ 0 ∷ [])
+closed_special long places old new (Special.Jumps label) = with_some word (offset_to 32768 (new + 2) (places label.number))
+closed_special long places old new (Special.Refers target) = Some (0 ∷ 0 ∷ [])
 
 -- bytes followed by bytes, each of which may be none
 abbrev pub joined : Option (List ℕ) → Option (List ℕ) → Option (List ℕ)
@@ -105,10 +99,10 @@ closed_bytes long places old new ((Of what) ∷ cells) =
 
 -- the reference of a special cell, with its place
 abbrev pub fixup_at : ℕ → Special → List Fixup
-fixup_at place (Marks label) = []
-fixup_at place (Branches branch) = []
-fixup_at place (Jumps label) = []
-fixup_at place (Refers target) = record { area = Code; place = place; target = target } ∷ []
+fixup_at place (Special.Marks label) = []
+fixup_at place (Special.Branches branch) = []
+fixup_at place (Special.Jumps label) = []
+fixup_at place (Special.Refers target) = record { area = AreaName.Code; place = place; target = target } ∷ []
 
 abbrev pub closed_fixups : Places → ℕ → ℕ → List Cell → List Fixup
 closed_fixups long old new [] = []
@@ -118,15 +112,15 @@ closed_fixups long old new ((Of what) ∷ cells) =
 
 -- the label that a branch goes to
 abbrev pub label_of : Destination → Option Label
-label_of (To label) = Some label
-label_of ReturnFalse = None
-label_of ReturnTrue = None
+label_of (Destination.To label) = Some label
+label_of Destination.ReturnFalse = None
+label_of Destination.ReturnTrue = None
 
 abbrev pub used_by : Special → Option Label
-used_by (Marks label) = None
-used_by (Branches branch) = label_of branch.target
-used_by (Jumps label) = Some label
-used_by (Refers target) = None
+used_by (Special.Marks label) = None
+used_by (Special.Branches branch) = label_of branch.target
+used_by (Special.Jumps label) = Some label
+used_by (Special.Refers target) = None
 
 -- the first of two
 abbrev pub first_of : {A : Type 0} → Option A → Option A → Option A
@@ -146,10 +140,10 @@ missing places ((Of what) ∷ cells) = first_of (unplaced places (used_by what))
 
 -- a label that a special cell marks, where cells before it mark it too
 abbrev pub marked_again : List Cell → Special → Option Label
-marked_again before (Marks label) = if is_some (long_place 0 before label.number) then Some label else None
-marked_again before (Branches branch) = None
-marked_again before (Jumps label) = None
-marked_again before (Refers target) = None
+marked_again before (Special.Marks label) = if is_some (long_place 0 before label.number) then Some label else None
+marked_again before (Special.Branches branch) = None
+marked_again before (Special.Jumps label) = None
+marked_again before (Special.Refers target) = None
 
 -- the first label that is marked twice, by its second mark, behind the cells before
 abbrev pub twice_behind : List Cell → List Cell → Option Label

@@ -1,21 +1,11 @@
 -- Open routines, and the effect of each call on them (Z-Machine Standard 1.1, section 5).
 use Rattle.std.specs.Prelude.{◌≡◌, ℕ, ◌+◌, Bool, true, false, nat_lt, List, [], ◌∷◌, ◌++◌, length, take, drop, slice_index, Option, Some}
 use Rattle.std.specs.Prelude.{None, if◌then◌else◌}
-use Rattle.inf_area.specs.declared.fixups.Fixup.{Fixup}
-use Rattle.inf_area.specs.Fixups.{Fixups, with_fixups}
-use Rattle.inf_opcode.specs.declared.cells.Kept.{Kept}
-use Rattle.inf_assembler.specs.declared.routines.Closed.{Closed}
-use Rattle.inf_assembler.specs.declared.routines.CloseFault.{CloseFault}
-use Rattle.inf_assembler.specs.declared.routines.CloseFault.TheVariants as close_fault
-use Rattle.inf_assembler.specs.declared.routines.GrowFault.{GrowFault}
-use Rattle.inf_assembler.specs.declared.routines.GrowFault.TheVariants as grow_fault
-use Rattle.inf_opcode.specs.declared.instructions.Label.{Label}
-use Rattle.inf_assembler.specs.declared.routines.Limits.{Limits}
-use Rattle.inf_assembler.specs.declared.routines.RoutineKind.{RoutineKind}
-use Rattle.inf_assembler.specs.declared.routines.RoutineKind.TheVariants.{Plain as Own, Embedded}
-use Rattle.inf_assembler.specs.declared.routines.Limit.{Limit}
-use Rattle.inf_assembler.specs.declared.routines.Limit.TheVariants.{Labels, Code, Refs}
+use Rattle.inf_area.specs.{Fixups.Fixups, Fixups.with_fixups, declared.fixups.Fixup.Fixup}
+use Rattle.inf_opcode.specs.{declared.cells.Kept.Kept, declared.instructions.Label.Label}
 use Rattle.inf_opcode.specs.Cells.{Cell, long_bytes, label_count, fixup_count, kept_from, cells_of}
+use Rattle.inf_assembler.specs.declared.{routines.CloseFault.CloseFault, routines.Closed.Closed, routines.GrowFault.GrowFault}
+use Rattle.inf_assembler.specs.declared.{routines.Limit.Limit, routines.Limits.Limits, routines.RoutineKind.RoutineKind}
 use Rattle.inf_assembler.specs.Places.{Places, long_place, place_from, closed_bytes, closed_fixups, missing, twice_behind}
 
 -- The state of an open routine: its start, the entries that it keeps of its bytes, its number of labels, branches and
@@ -76,9 +66,9 @@ with_cells cells is_final contents = record contents { cells = contents.cells ++
 -- the first limit that more labels, bytes and references would pass
 abbrev pub full_by : ℕ → ℕ → ℕ → State → ℕ → Fixups → Option Limit
 full_by labels bytes fixups state len refs =
-    if nat_lt state.limits.labels (state.labels + labels) then Some Labels else
-    if nat_lt state.limits.code (len + bytes) then Some Code else
-    if nat_lt refs.limit (length refs.list + state.fixups + fixups) then Some Refs else None
+    if nat_lt state.limits.labels (state.labels + labels) then Some Limit.Labels else
+    if nat_lt state.limits.code (len + bytes) then Some Limit.Code else
+    if nat_lt refs.limit (length refs.list + state.fixups + fixups) then Some Limit.Refs else None
 
 -- the first limit that more cells would pass
 abbrev pub full_with : List Cell → State → List ℕ → Fixups → Option Limit
@@ -86,8 +76,8 @@ full_with cells state bytes refs = full_by (label_count cells) (length (long_byt
 
 -- the fault where they are refused: a limit, or want of memory
 abbrev pub refusal : Option Limit → GrowFault
-refusal None = grow_fault.Memory
-refusal (Some setting) = grow_fault.Full setting
+refusal None = GrowFault.Memory
+refusal (Some setting) = GrowFault.Full setting
 
 -- a moment of an open routine: its numbers of bytes, entries, labels and references, and whether control never ran past its
 -- last item
@@ -124,8 +114,8 @@ places start contents = place_from (long_places start contents) (start + 1) (sta
 
 -- the instruction that returns where control runs past the last item
 abbrev pub closing_byte : RoutineKind → ℕ
-closing_byte Own = 176
-closing_byte Embedded = 177
+closing_byte RoutineKind.Plain = 176
+closing_byte RoutineKind.Embedded = 177
 
 abbrev pub closing_bytes : RoutineKind → Bool → List ℕ
 closing_bytes kind true = []
@@ -149,24 +139,24 @@ is_full false limit len = nat_lt limit (len + 1)
 
 abbrev pub end_fault : Bool → Limits → ℕ → Fixups → ℕ → Option CloseFault
 end_fault is_final limits len refs fixups =
-    if is_full is_final limits.code len then Some (close_fault.Full Code) else
-    if nat_lt refs.limit (length refs.list + fixups) then Some (close_fault.Full Refs) else None
+    if is_full is_final limits.code len then Some (CloseFault.Full Limit.Code) else
+    if nat_lt refs.limit (length refs.list + fixups) then Some (CloseFault.Full Limit.Refs) else None
 
 abbrev pub full_fault : ℕ → RoutineKind → Contents → Limits → Fixups → List ℕ → Option CloseFault
 full_fault start kind contents limits refs body =
     end_fault contents.is_final limits (start + 1 + length body) refs (fixup_count contents.cells)
 
 abbrev pub body_fault : (List ℕ → Option CloseFault) → Option (List ℕ) → Option CloseFault
-body_fault next None = Some close_fault.TooFar
+body_fault next None = Some CloseFault.TooFar
 body_fault next (Some body) = next body
 
 abbrev pub twice_fault : Option CloseFault → Option Label → Option CloseFault
 twice_fault next None = next
-twice_fault next (Some label) = Some (close_fault.LabelTwice label)
+twice_fault next (Some label) = Some (CloseFault.LabelTwice label)
 
 abbrev pub missing_fault : Option CloseFault → Option Label → Option CloseFault
 missing_fault next None = next
-missing_fault next (Some label) = Some (close_fault.LabelMissing label)
+missing_fault next (Some label) = Some (CloseFault.LabelMissing label)
 
 abbrev pub fault_of : ℕ → RoutineKind → Contents → Limits → Fixups → Option CloseFault
 fault_of start kind contents limits refs =

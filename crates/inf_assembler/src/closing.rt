@@ -1,9 +1,7 @@
 //! Closing a routine: its short branches, and the bytes that move together.
 ghost use Rattle.std.specs.Prelude.{◌≡◌, ℕ, ◌+◌, ◌-◌, ◌<◌, ◌≤◌, [], ◌∷◌, ◌++◌, Option, Some, None, IfOk, OnOk, OnErr, MatchResult};
 ghost use Rattle.std.specs.Prelude.{MatchOption, length, take, List, ◌^◌, IfErr};
-ghost use Rattle.inf_area.specs.Fixups.{with_fixups};
-ghost use Rattle.inf_area.specs.declared.fixups.Fixup.{Fixup};
-ghost use Rattle.inf_area.specs.declared.fixups.AddFault.TheVariants.{Full};
+ghost use Rattle.inf_area.specs.{Fixups.with_fixups, declared.fixups.AddFault.TheVariants.Full, declared.fixups.Fixup.Fixup};
 ghost use Rattle.inf_opcode.specs.Cells.{special_size};
 ghost use Rattle.inf_assembler.specs.Places.{is_short_to, first_of, offset_to, branch_offset, branch_bytes, closed_special, used_by};
 ghost use Rattle.inf_assembler.specs.Closing.{found, saving, kept_place, kept_missing, kept_twice, placed_bytes, squeezed, kept_fixups};

@@ -1,12 +1,9 @@
 //! Routines: opened, written item by item, and closed.
 ghost use Rattle.std.specs.Prelude.{◌≡◌, ◌+◌, ◌^◌, ◌<◌, ◌≤◌, ℕ, List, [], ◌∷◌, ◌++◌, length, take, nat_lt, Some, None, Option, true, false};
 ghost use Rattle.std.specs.Prelude.{◌⊎◌, if◌then◌else◌, IfOk, OnOk, OnErr, MatchResult, MatchOption};
-ghost use Rattle.inf_area.specs.declared.fixups.Fixup.{Fixup};
-ghost use Rattle.inf_area.specs.Fixups.{Fixups, with_fixups};
-ghost use Rattle.inf_opcode.specs.Cells.{Of};
-ghost use Rattle.inf_opcode.specs.Grown.{Grew, Longer};
-ghost use Rattle.inf_opcode.specs.Instructions.{IsProper, instruction_cells};
-ghost use Rattle.inf_opcode.specs.PartsOf.{parts_of};
+ghost use Rattle.inf_area.specs.{Fixups.Fixups, Fixups.with_fixups, declared.fixups.Fixup.Fixup};
+ghost use Rattle.inf_opcode.specs.{Cells.Of, Grown.Grew, Grown.Longer, Instructions.IsProper, Instructions.instruction_cells};
+ghost use Rattle.inf_opcode.specs.{PartsOf.parts_of};
 
 use crate::closing::{first_missing, first_twice, label_places, list_fixups, squeeze};
 use inf_area::{AddFault, Area, Refs};
@@ -189,8 +186,7 @@ fn exceeds(limit: usize, held: usize, more: usize) -> bool
 }
 
 impl Routine {
-    ghost use Rattle.inf_opcode.specs.Opcodes.{row_of};
-    ghost use Rattle.inf_opcode.specs.declared.cells.Special.TheVariants.{Marks};
+    ghost use Rattle.inf_opcode.specs.{Opcodes.row_of, declared.cells.Special.TheVariants.Marks};
     ghost use Rattle.inf_assembler.specs.declared.routines.Limit.{Limit};
     ghost use Rattle.inf_assembler.specs.declared.routines.Limit.TheVariants.{Labels, Code};
     ghost use Rattle.inf_assembler.specs.declared.routines.CloseFault.TheVariants as close_fault;

@@ -1,36 +1,24 @@
 -- Instructions and routines are read as the parts of which they were made.
 use Rattle.std.proofs.Common.{◌≡◌, ℕ, suc, ◌+◌, ◌<◌, ◌≤◌, Bool, true, false, cond, List, [], ◌∷◌, ◌++◌, length, map, Option, Some, None}
-use Rattle.std.proofs.Common.{is_some, ◌⊎◌, inl, inr, refl, sym, ◌∙◌, ap, subst, arith, append_assoc, length-append}
-use Rattle.std.specs.List.{flat_map}
-use Rattle.std.specs.Option.{option_map}
-use Rattle.inf_opcode.specs.declared.cells.Special.TheVariants.{Marks, Branches, Jumps, Refers}
-use Rattle.inf_opcode.specs.declared.instructions.Branch.{Branch}
-use Rattle.inf_opcode.specs.declared.instructions.Operand.{Operand}
-use Rattle.inf_opcode.specs.declared.instructions.Operand.TheVariants.{Large, Small, Variable, Later, Offset}
-use Rattle.inf_opcode.specs.declared.instructions.Destination.{Destination}
-use Rattle.inf_opcode.specs.declared.instructions.Destination.TheVariants.{To, ReturnFalse, ReturnTrue}
-use Rattle.inf_opcode.specs.declared.opcodes.OperandCount.{OperandCount}
-use Rattle.inf_opcode.specs.declared.opcodes.OperandCount.TheVariants.{Zero, One, Two, Several, Extended}
+use Rattle.std.proofs.Common.{is_some, ◌⊎◌, inl, inr, refl, sym, ◌∙◌, ap, subst, arith, append_assoc, length-append, flat_map, option_map}
+use Rattle.inf_opcode.specs.{Names.opcodes, Opcodes.has_place, Opcodes.has_room, Opcodes.row_of, declared.cells.Special.Special}
+use Rattle.inf_opcode.specs.{declared.instructions.Branch.Branch, declared.instructions.Destination.Destination}
+use Rattle.inf_opcode.specs.{declared.instructions.Operand.Operand, declared.opcodes.OperandCount.OperandCount}
 use Rattle.inf_opcode.specs.Cells.{Cell, Plain, Of, plain}
-use Rattle.inf_opcode.specs.Names.{opcodes}
-use Rattle.inf_opcode.specs.Opcodes.{row_of, has_place, has_room}
 use Rattle.inf_opcode.specs.Instructions.{Parts, IsProper, bare, is_long, heading, heading_by, types_bytes, operand_cells, store_cells}
 use Rattle.inf_opcode.specs.Instructions.{branch_cells, front_cells, instruction_cells}
+use Rattle.inf_assembler.specs.{Routines.closing_byte, declared.routines.RoutineKind.RoutineKind}
 use Rattle.inf_assembler.specs.Places.{Places, is_near, is_short_to, offset_to, long_place, place_from, closed_bytes}
-use Rattle.inf_assembler.specs.declared.routines.RoutineKind.{RoutineKind}
-use Rattle.inf_assembler.specs.declared.routines.RoutineKind.TheVariants.{Plain as Own, Embedded}
-use Rattle.inf_assembler.specs.Routines.{closing_byte}
 use Rattle.inf_assembler_laws.specs.Laws.{returning}
 use Rattle.inf_assembler_laws.specs.Items.{Item, Marked, Written, items_cells, AreProper, instructions}
 use Rattle.inf_assembler_laws.specs.Decoding.{◌>>=◌, opcode_at, Given, Aimed, Seen, Opening, operands_at, store_at, branch_at, text_at}
 use Rattle.inf_assembler_laws.specs.Decoding.{instruction_at, instructions_at, given, aimed, seen}
+use Rattle.inf_assembler_laws.proofs.{Openings.opening_at-heading, Reading.both_parts, Reading.text_at-bytes, Rows.opcode_at-row}
+use Rattle.inf_assembler_laws.proofs.{Rows.row_fits}
 use Rattle.inf_assembler_laws.proofs.Offsets.{short_size, near_of, near_long, offset_clear, short_clear}
-use Rattle.inf_assembler_laws.proofs.Openings.{opening_at-heading}
 use Rattle.inf_assembler_laws.proofs.Parts.{split, closed-plain, closed-store, some_same, all_suit, operands_read, store_bytes, store_read}
 use Rattle.inf_assembler_laws.proofs.Parts.{Clear, branch_read}
 use Rattle.inf_assembler_laws.proofs.Placed.{cells_size, long_size, long_size-append, cells_size-append, AreUnmarked, beside}
-use Rattle.inf_assembler_laws.proofs.Reading.{both_parts, text_at-bytes}
-use Rattle.inf_assembler_laws.proofs.Rows.{opcode_at-row, row_fits}
 
 -- the cells before an instruction's branch
 abbrev pub before_branch : Parts → List Cell
@@ -139,21 +127,21 @@ instruction_read long places old new total parts bytes rest proper clear e is_to
 unmarked-append : (xs ys : List Cell) → AreUnmarked xs → AreUnmarked ys → AreUnmarked (xs ++ ys)
 unmarked-append [] ys first second = second
 unmarked-append ((Plain byte) ∷ xs) ys first second = unmarked-append xs ys first second
-unmarked-append ((Of (Marks label)) ∷ xs) ys first second = absurd first
-unmarked-append ((Of (Branches branch)) ∷ xs) ys first second = unmarked-append xs ys first second
-unmarked-append ((Of (Jumps label)) ∷ xs) ys first second = unmarked-append xs ys first second
-unmarked-append ((Of (Refers target)) ∷ xs) ys first second = unmarked-append xs ys first second
+unmarked-append ((Of (Special.Marks label)) ∷ xs) ys first second = absurd first
+unmarked-append ((Of (Special.Branches branch)) ∷ xs) ys first second = unmarked-append xs ys first second
+unmarked-append ((Of (Special.Jumps label)) ∷ xs) ys first second = unmarked-append xs ys first second
+unmarked-append ((Of (Special.Refers target)) ∷ xs) ys first second = unmarked-append xs ys first second
 
 unmarked-plain : (bytes : List ℕ) → AreUnmarked (plain bytes)
 unmarked-plain [] = tt
 unmarked-plain (byte ∷ bytes) = unmarked-plain bytes
 
 unmarked-operand : (operand : Operand) → AreUnmarked (operand_cells operand)
-unmarked-operand (Large number) = tt
-unmarked-operand (Small number) = tt
-unmarked-operand (Variable number) = tt
-unmarked-operand (Later target) = tt
-unmarked-operand (Offset label) = tt
+unmarked-operand (Operand.Large number) = tt
+unmarked-operand (Operand.Small number) = tt
+unmarked-operand (Operand.Variable number) = tt
+unmarked-operand (Operand.Later target) = tt
+unmarked-operand (Operand.Offset label) = tt
 
 unmarked-operands : (operands : List Operand) → AreUnmarked (flat_map operand_cells operands)
 unmarked-operands [] = tt
@@ -182,11 +170,11 @@ cond_some_bytes false x y xs ys = omega arith
 
 heading_some : (count : OperandCount) (number : ℕ) (types : List ℕ) (operands : List Operand) →
     1 ≤ length (heading_by count number types operands)
-heading_some Zero number types operands = omega arith
-heading_some One number types operands = omega arith
-heading_some Two number types operands = cond_some_bytes (is_long operands) _ _ _ _
-heading_some Several number types operands = omega arith
-heading_some Extended number types operands = omega arith
+heading_some OperandCount.Zero number types operands = omega arith
+heading_some OperandCount.One number types operands = omega arith
+heading_some OperandCount.Two number types operands = cond_some_bytes (is_long operands) _ _ _ _
+heading_some OperandCount.Several number types operands = omega arith
+heading_some OperandCount.Extended number types operands = omega arith
 
 before_some : (long : Places) (old : ℕ) (parts : Parts) → 1 ≤ cells_size long old (before_branch parts)
 before_some long old parts =
@@ -216,7 +204,7 @@ module _ (all : List Cell) (start : ℕ) where
   new_at before = start + cells_size long start before
 
   clear_by : (before back : List Cell) (parts : Parts) (branch : Branch) (label : ℕ) →
-      all ≡ before ++ ((before_branch parts ++ Of (Branches branch) ∷ []) ++ back)
+      all ≡ before ++ ((before_branch parts ++ Of (Special.Branches branch) ∷ []) ++ back)
       → (short : Bool) → is_near (old_at before + long_size (before_branch parts)) (long label) ≡ short → is_short_to long
       (old_at before + long_size (before_branch parts)) branch.target ≡ short
       → (o : Option ℕ) → places label ≡ o → (offset : ℕ) → offset_to 8192
@@ -224,21 +212,21 @@ module _ (all : List Cell) (start : ℕ) where
       → (2 ≤ offset) × (short ≡ true → offset < 64)
   clear_by before back parts branch label is short near_is short_is None place_is offset e = cc
   clear_by before back parts branch label is short near_is short_is (Some place) place_is offset e =
-      let gap = before_branch parts ++ Of (Branches branch) ∷ [] in
+      let gap = before_branch parts ++ Of (Special.Branches branch) ∷ [] in
       let old = old_at before in
       let new = new_at before in
       let old_branch = old + long_size (before_branch parts) in
       let new_branch = new + cells_size long old (before_branch parts) in
       let end = new_branch + cond short 1 2 in
       let near = near_of 8192 end place offset e in
-      let unmarked = unmarked-append (before_branch parts) (Of (Branches branch) ∷ []) (unmarked-before parts) tt in
+      let unmarked = unmarked-append (before_branch parts) (Of (Special.Branches branch) ∷ []) (unmarked-before parts) tt in
       let found =
       beside long start before gap back label place unmarked (ap (λ cells. place_from long start start cells label) (sym is) ∙ place_is) in
       let long_is : long label ≡ Some found.long = ap (λ cells. long_place start cells label) is ∙ found.is in
       let long_gap : long_size gap ≡ long_size (before_branch parts) + 2 =
-      long_size-append (before_branch parts) (Of (Branches branch) ∷ []) in
+      long_size-append (before_branch parts) (Of (Special.Branches branch) ∷ []) in
       let size_gap : cells_size long old gap ≡ cells_size long old (before_branch parts) + cond short 1 2 =
-      cells_size-append long old (before_branch parts) (Of (Branches branch) ∷ []) ∙ omega (arith, ap short_size short_is) in
+      cells_size-append long old (before_branch parts) (Of (Special.Branches branch) ∷ []) ∙ omega (arith, ap short_size short_is) in
       let ahead : short ≡ true → (old_branch + 2 ≤ found.long) × (found.long ≤ old_branch + 63) =
       λ yes. near_long old_branch found.long (ap (is_near old_branch) (sym long_is) ∙ near_is ∙ yes) in
       let apart : short ≡ false → new + 2 < end = λ no. omega (arith, ap short_size no, before_some long old parts) in
@@ -253,16 +241,16 @@ module _ (all : List Cell) (start : ℕ) where
       )
 
   clear_target : (before back : List Cell) (parts : Parts) (sense : Bool) (target : Destination) →
-      all ≡ before ++ ((before_branch parts ++ Of (Branches (record { sense = sense; target = target })) ∷ []) ++ back)
+      all ≡ before ++ ((before_branch parts ++ Of (Special.Branches (record { sense = sense; target = target })) ∷ []) ++ back)
       → Clear long places (old_at before + long_size (before_branch parts))
       (new_at before + cells_size long (old_at before) (before_branch parts)) target
-  clear_target before back parts sense (To label) is =
+  clear_target before back parts sense (Destination.To label) is =
       λ offset e.
-      let known = clear_by before back parts (record { sense = sense; target = To label }) label.number is
+      let known = clear_by before back parts (record { sense = sense; target = Destination.To label }) label.number is
       (is_near (old_at before + long_size (before_branch parts)) (long label.number)) refl refl (places label.number) refl offset e in
       record { large = known.0; small = known.1 }
-  clear_target before back parts sense ReturnFalse is = tt
-  clear_target before back parts sense ReturnTrue is = tt
+  clear_target before back parts sense Destination.ReturnFalse is = tt
+  clear_target before back parts sense Destination.ReturnTrue is = tt
 
   clear_option : (before back : List Cell) (parts : Parts) (branch : Option Branch) →
       all ≡ before ++ ((before_branch parts ++ branch_cells branch) ++ back)
@@ -280,7 +268,7 @@ module _ (all : List Cell) (start : ℕ) where
   items_read before [] total bytes rest is proper e t =
       let same : bytes ≡ [] = some_same bytes [] (sym e) in ap (λ b. instructions_at total 0 (b ++ rest)) same
   items_read before ((Marked label) ∷ items) total bytes rest is proper e t =
-      let mark : List Cell = Of (Marks label) ∷ [] in
+      let mark : List Cell = Of (Special.Marks label) ∷ [] in
       let s = split long places (old_at before) (new_at before) mark (items_cells items) bytes e in
       let none : s.front ≡ [] = some_same s.front [] (sym s.is_front) in
       let same : bytes ≡ s.back = s.whole ∙ ap (λ f. f ++ s.back) none in
@@ -343,5 +331,5 @@ routine_read place items bytes rest proper e =
 pub returns_read : (kind : RoutineKind) (total : ℕ) (rest : List ℕ) →
     instruction_at total (closing_byte kind ∷ rest) ≡ Some (seen (λ _. None) (bare (returning kind)), rest)
 unfolding opcode_at opcodes
-returns_read Own total rest = refl
-returns_read Embedded total rest = refl
+returns_read RoutineKind.Plain total rest = refl
+returns_read RoutineKind.Embedded total rest = refl

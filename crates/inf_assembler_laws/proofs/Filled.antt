@@ -1,21 +1,14 @@
 -- Filling the fixups of a routine gives the routine with its numbers.
+use Rattle.std.proofs.{Math.ListN.set, Math.Seq.set-append_seam, lemmas.List.set-append_right}
 use Rattle.std.proofs.Common.{◌≡◌, ℕ, ◌+◌, ◌-◌, ◌/◌, ◌%◌, cond, List, [], ◌∷◌, ◌++◌, length, Some, refl, sym, ◌∙◌, ap, arith, append_assoc}
 use Rattle.std.proofs.Common.{length-append}
-use Rattle.std.proofs.Math.ListN.{set}
-use Rattle.std.proofs.Math.Seq.{set-append_seam}
-use Rattle.std.proofs.lemmas.List.{set-append_right}
 use mathlib.Core.Path.{fun_ext}
-use Rattle.inf_area.specs.declared.targets.AreaName.TheVariants.{Code}
-use Rattle.inf_area.specs.declared.fixups.Fixup.{Fixup}
-use Rattle.inf_area.specs.declared.targets.Target.{Target}
+use Rattle.inf_area.specs.{declared.fixups.Fixup.Fixup, declared.targets.AreaName.AreaName, declared.targets.Target.Target}
 use Rattle.inf_area.specs.Words.{word, with_word}
-use Rattle.inf_opcode.specs.declared.cells.Special.{Special}
-use Rattle.inf_opcode.specs.declared.cells.Special.TheVariants.{Marks, Branches, Jumps, Refers}
-use Rattle.inf_opcode.specs.Cells.{Cell, Plain, Of, special_size}
+use Rattle.inf_opcode.specs.{Cells.Cell, Cells.Of, Cells.Plain, Cells.special_size, declared.cells.Special.Special}
 use Rattle.inf_assembler.specs.Places.{Places, with_some, joined, marks, size_at, long_place, place_from, closed_special, closed_bytes}
 use Rattle.inf_assembler.specs.Places.{closed_fixups, fixup_at}
-use Rattle.inf_assembler.proofs.Finishing.{with_some_of}
-use Rattle.inf_assembler.proofs.Passes.{closed_size}
+use Rattle.inf_assembler.proofs.{Finishing.with_some_of, Passes.closed_size}
 use Rattle.inf_assembler_laws.specs.Filling.{known_special, known_cells, filled}
 use Rattle.inf_assembler_laws.proofs.Parts.{joined_of, some_same}
 
@@ -35,11 +28,11 @@ long_known : (number_of : Target → ℕ) (old : ℕ) (cells : List Cell) (label
     long_place old (known_cells number_of cells) label ≡ long_place old cells label
 long_known number_of old [] label = refl
 long_known number_of old ((Plain byte) ∷ cells) label = long_known number_of (old + 1) cells label
-long_known number_of old ((Of (Marks other)) ∷ cells) label =
-    ap (λ o. cond (marks label (Marks other)) (Some old) o) (long_known number_of (old + 0) cells label)
-long_known number_of old ((Of (Branches branch)) ∷ cells) label = long_known number_of (old + 2) cells label
-long_known number_of old ((Of (Jumps other)) ∷ cells) label = long_known number_of (old + 2) cells label
-long_known number_of old ((Of (Refers target)) ∷ cells) label =
+long_known number_of old ((Of (Special.Marks other)) ∷ cells) label =
+    ap (λ o. cond (marks label (Special.Marks other)) (Some old) o) (long_known number_of (old + 0) cells label)
+long_known number_of old ((Of (Special.Branches branch)) ∷ cells) label = long_known number_of (old + 2) cells label
+long_known number_of old ((Of (Special.Jumps other)) ∷ cells) label = long_known number_of (old + 2) cells label
+long_known number_of old ((Of (Special.Refers target)) ∷ cells) label =
     let two : old + 1 + 1 ≡ old + 2 = omega arith in
     ap (λ n. long_place n (known_cells number_of cells) label) two ∙ long_known number_of (old + 2) cells label
 
@@ -47,12 +40,12 @@ place_known : (number_of : Target → ℕ) (long : Places) (old new : ℕ) (cell
     place_from long old new (known_cells number_of cells) label ≡ place_from long old new cells label
 place_known number_of long old new [] label = refl
 place_known number_of long old new ((Plain byte) ∷ cells) label = place_known number_of long (old + 1) (new + 1) cells label
-place_known number_of long old new ((Of (Marks other)) ∷ cells) label =
-    ap (λ o. cond (marks label (Marks other)) (Some new) o) (place_known number_of long (old + 0) (new + 0) cells label)
-place_known number_of long old new ((Of (Branches branch)) ∷ cells) label =
-    place_known number_of long (old + 2) (new + size_at long old (Branches branch)) cells label
-place_known number_of long old new ((Of (Jumps other)) ∷ cells) label = place_known number_of long (old + 2) (new + 2) cells label
-place_known number_of long old new ((Of (Refers target)) ∷ cells) label =
+place_known number_of long old new ((Of (Special.Marks other)) ∷ cells) label =
+    ap (λ o. cond (marks label (Special.Marks other)) (Some new) o) (place_known number_of long (old + 0) (new + 0) cells label)
+place_known number_of long old new ((Of (Special.Branches branch)) ∷ cells) label =
+    place_known number_of long (old + 2) (new + size_at long old (Special.Branches branch)) cells label
+place_known number_of long old new ((Of (Special.Jumps other)) ∷ cells) label = place_known number_of long (old + 2) (new + 2) cells label
+place_known number_of long old new ((Of (Special.Refers target)) ∷ cells) label =
     let two : old + 1 + 1 ≡ old + 2 = omega arith in
     let new_two : new + 1 + 1 ≡ new + 2 = omega arith in
     ap (λ n. place_from long n (new + 1 + 1) (known_cells number_of cells) label) two
@@ -107,35 +100,36 @@ module _ (number_of : Target → ℕ) (long places : Places) where
             ∙ ap (filled number_of fixups) (sym (append_assoc front one (made.0 ++ rest))) ∙ next.fills
             ∙ append_assoc front one (next.numbered ++ rest);
       }
-  numbered old new ((Of (Marks label)) ∷ cells) front bytes rest at e =
+  numbered old new ((Of (Special.Marks label)) ∷ cells) front bytes rest at e =
       let made = joined_of (Some []) (closed_bytes long places (old + 0) (new + 0) cells) bytes e in
-      let here = closed_size long places old new (Marks label) made.front made.is_front in
-      kept_before old new (Marks label) cells front made.front made.back bytes rest refl refl made.is_front made.whole
+      let here = closed_size long places old new (Special.Marks label) made.front made.is_front in
+      kept_before old new (Special.Marks label) cells front made.front made.back bytes rest refl refl made.is_front made.whole
       (numbered (old + 0) (new + 0) cells (front ++ made.front) made.back rest (omega (arith, at, length-append front made.front, here))
       made.is_back)
-  numbered old new ((Of (Branches branch)) ∷ cells) front bytes rest at e =
-      let size = size_at long old (Branches branch) in
+  numbered old new ((Of (Special.Branches branch)) ∷ cells) front bytes rest at e =
+      let size = size_at long old (Special.Branches branch) in
       let made =
-      joined_of (closed_special long places old new (Branches branch)) (closed_bytes long places (old + 2) (new + size) cells) bytes e in
-      let here = closed_size long places old new (Branches branch) made.front made.is_front in
-      kept_before old new (Branches branch) cells front made.front made.back bytes rest refl refl made.is_front made.whole
+      joined_of (closed_special long places old new (Special.Branches branch))
+      (closed_bytes long places (old + 2) (new + size) cells) bytes e in
+      let here = closed_size long places old new (Special.Branches branch) made.front made.is_front in
+      kept_before old new (Special.Branches branch) cells front made.front made.back bytes rest refl refl made.is_front made.whole
       (numbered (old + 2) (new + size) cells (front ++ made.front) made.back rest (omega (arith, at, length-append front made.front, here))
       made.is_back)
-  numbered old new ((Of (Jumps label)) ∷ cells) front bytes rest at e =
+  numbered old new ((Of (Special.Jumps label)) ∷ cells) front bytes rest at e =
       let made =
-      joined_of (closed_special long places old new (Jumps label)) (closed_bytes long places (old + 2) (new + 2) cells) bytes e in
-      let here = closed_size long places old new (Jumps label) made.front made.is_front in
-      kept_before old new (Jumps label) cells front made.front made.back bytes rest refl refl made.is_front made.whole
+      joined_of (closed_special long places old new (Special.Jumps label)) (closed_bytes long places (old + 2) (new + 2) cells) bytes e in
+      let here = closed_size long places old new (Special.Jumps label) made.front made.is_front in
+      kept_before old new (Special.Jumps label) cells front made.front made.back bytes rest refl refl made.is_front made.whole
       (numbered (old + 2) (new + 2) cells (front ++ made.front) made.back rest (omega (arith, at, length-append front made.front, here))
       made.is_back)
-  numbered old new ((Of (Refers target)) ∷ cells) front bytes rest at e =
+  numbered old new ((Of (Special.Refers target)) ∷ cells) front bytes rest at e =
       let made = joined_of (Some (0 ∷ 0 ∷ [])) (closed_bytes long places (old + 2) (new + 2) cells) bytes e in
       let zeros : made.front ≡ 0 ∷ 0 ∷ [] = some_same made.front (0 ∷ 0 ∷ []) (sym made.is_front) in
       let number = number_of target in
       let next = numbered (old + 2) (new + 2) cells (front ++ word number) made.back rest
       (omega (arith, at, length-append front (word number))) made.is_back in
       let fixups = closed_fixups long (old + 2) (new + 2) cells in
-      let fixup : Fixup = record { area = Code; place = new; target = target } in
+      let fixup : Fixup = record { area = AreaName.Code; place = new; target = target } in
       let two : old + 1 + 1 ≡ old + 2 = omega arith in
       let new_two : new + 1 + 1 ≡ new + 2 = omega arith in
       record {

@@ -2,11 +2,7 @@
 use Rattle.std.proofs.Common.{◌≡◌, ℕ, ◌+◌, ◌<◌, ◌≤◌, Bool, true, false, cond, List, [], ◌∷◌, ◌++◌, Option, Some, None, ◌⊎◌, inl, inr, refl}
 use Rattle.std.proofs.Common.{sym, ◌∙◌, ap, subst, arith, append_assoc}
 use Rattle.inf_area.specs.Words.{word}
-use Rattle.inf_opcode.specs.declared.cells.Special.{Special}
-use Rattle.inf_opcode.specs.declared.cells.Special.TheVariants.{Marks, Branches, Jumps, Refers}
-use Rattle.inf_opcode.specs.declared.instructions.Label.{Label}
-use Rattle.inf_opcode.specs.declared.instructions.Destination.{Destination}
-use Rattle.inf_opcode.specs.declared.instructions.Destination.TheVariants.{To, ReturnFalse, ReturnTrue}
+use Rattle.inf_opcode.specs.declared.{cells.Special.Special, instructions.Destination.Destination, instructions.Label.Label}
 use Rattle.inf_opcode.specs.Cells.{Cell, Plain, Of, special_size}
 use Rattle.inf_assembler.specs.Places.{Places, is_near, is_short_to, size_at, offset_to, branch_offset, branch_bytes, long_place}
 use Rattle.inf_assembler.specs.Places.{place_from, closed_special, closed_bytes}
@@ -42,13 +38,13 @@ module _ (all : List Cell) (start : ℕ) where
   new_at before = start + cells_size long start before
 
   label_within : (before after : List Cell) (old new : ℕ) (sense : Bool) (label : Label) → old ≡ old_at before → new ≡ new_at before
-      → all ≡ before ++ ((Of (Branches (record { sense = sense; target = To label })) ∷ []) ++ after)
+      → all ≡ before ++ ((Of (Special.Branches (record { sense = sense; target = Destination.To label })) ∷ []) ++ after)
       → (short : Bool) → is_near old (long label.number) ≡ short → (o : Option ℕ) → places label.number ≡ o → (offset : ℕ) → offset_to 8192
       (new + cond short 1 2) o ≡ Some offset
       → offset < cond short 64 16384
   label_within before after old new sense label old_is new_is is short near_is None place_is offset e = cc
   label_within before after old new sense label old_is new_is is short near_is (Some place) place_is offset e =
-      let gap : List Cell = Of (Branches (record { sense = sense; target = To label })) ∷ [] in
+      let gap : List Cell = Of (Special.Branches (record { sense = sense; target = Destination.To label })) ∷ [] in
       let end = new + cond short 1 2 in
       let near = near_of 8192 end place offset e in
       let found = beside long start before gap after label.number place tt
@@ -67,34 +63,36 @@ module _ (all : List Cell) (start : ℕ) where
       (branch_below end place offset near)
 
   target_within : (before after : List Cell) (old new : ℕ) (sense : Bool) (target : Destination) → old ≡ old_at before → new ≡ new_at before
-      → all ≡ before ++ ((Of (Branches (record { sense = sense; target = target })) ∷ []) ++ after)
+      → all ≡ before ++ ((Of (Special.Branches (record { sense = sense; target = target })) ∷ []) ++ after)
       → (offset : ℕ) → branch_offset places (new + cond (is_short_to long old target) 1 2) target ≡ Some offset → offset < cond
       (is_short_to long old target) 64 16384
-  target_within before after old new sense (To label) old_is new_is is offset e =
+  target_within before after old new sense (Destination.To label) old_is new_is is offset e =
       label_within before after old new sense label old_is new_is is (is_near old (long label.number)) refl (places label.number) refl
       offset e
-  target_within before after old new sense ReturnFalse old_is new_is is offset e = let same : 0 ≡ offset = cc in omega (arith, same)
-  target_within before after old new sense ReturnTrue old_is new_is is offset e = let same : 1 ≡ offset = cc in omega (arith, same)
+  target_within before after old new sense Destination.ReturnFalse old_is new_is is offset e =
+      let same : 0 ≡ offset = cc in omega (arith, same)
+  target_within before after old new sense Destination.ReturnTrue old_is new_is is offset e =
+      let same : 1 ≡ offset = cc in omega (arith, same)
 
   field_within : (before after : List Cell) (old new : ℕ) (what : Special) (bytes : List ℕ) (others : List Field) → old ≡ old_at before →
       new ≡ new_at before
       → all ≡ before ++ ((Of what ∷ []) ++ after) → closed_special long places old new what ≡ Some bytes → AreWithin others → AreWithin
       (field_at long places old new what ++ others)
-  field_within before after old new (Marks label) bytes others old_is new_is is e rest = rest
-  field_within before after old new (Branches branch) bytes others old_is new_is is e rest =
+  field_within before after old new (Special.Marks label) bytes others old_is new_is is e rest = rest
+  field_within before after old new (Special.Branches branch) bytes others old_is new_is is e rest =
       let short = is_short_to long old branch.target in
       let made = with_some_of (branch_bytes short branch.sense) (branch_offset places (new + cond short 1 2) branch.target) bytes e in (
         below_of (cond short 64 16384) (branch_offset places (new + cond short 1 2) branch.target) made.0 made.1
             (target_within before after old new branch.sense branch.target old_is new_is is made.0 made.1),
         rest,
       )
-  field_within before after old new (Jumps label) bytes others old_is new_is is e rest =
+  field_within before after old new (Special.Jumps label) bytes others old_is new_is is e rest =
       let made = with_some_of word (offset_to 32768 (new + 2) (places label.number)) bytes e in (
         below_of 65536 (offset_to 32768 (new + 2) (places label.number)) made.0 made.1
             (jump_within (places label.number) (new + 2) made.0 made.1),
         rest,
       )
-  field_within before after old new (Refers target) bytes others old_is new_is is e rest = rest
+  field_within before after old new (Special.Refers target) bytes others old_is new_is is e rest = rest
 
   pub fields_within : (before cells : List Cell) (old new : ℕ) (bytes : List ℕ) → old ≡ old_at before → new ≡ new_at before →
       all ≡ before ++ cells

@@ -4,18 +4,13 @@ use Rattle.std.proofs.Common.{map, Option, Some, None, is_some, refl, sym, ◌�
 use Rattle.std.proofs.lemmas.Bool.Decides.{nat_tests}
 use Rattle.std.specs.List.{flat_map}
 use Rattle.inf_area.specs.Words.{word}
-use Rattle.inf_opcode.specs.declared.cells.Special.TheVariants.{Branches}
-use Rattle.inf_opcode.specs.declared.instructions.Branch.{Branch}
-use Rattle.inf_opcode.specs.declared.instructions.Operand.{Operand}
-use Rattle.inf_opcode.specs.declared.instructions.Operand.TheVariants.{Large, Small, Variable, Later, Offset}
-use Rattle.inf_opcode.specs.declared.instructions.Destination.{Destination}
-use Rattle.inf_opcode.specs.declared.instructions.Destination.TheVariants.{To, ReturnFalse, ReturnTrue}
+use Rattle.inf_opcode.specs.{declared.cells.Special.Special, declared.instructions.Branch.Branch}
+use Rattle.inf_opcode.specs.{declared.instructions.Destination.Destination, declared.instructions.Operand.Operand}
 use Rattle.inf_opcode.specs.Cells.{Cell, Plain, Of, plain, special_size}
 use Rattle.inf_opcode.specs.Instructions.{type_code, operand_cells, store_cells, has_no_offset, fits_jump}
 use Rattle.inf_assembler.specs.Places.{Places, with_some, joined, is_short_to, size_at, offset_to, branch_offset, branch_bytes}
 use Rattle.inf_assembler.specs.Places.{closed_special, closed_bytes}
-use Rattle.inf_assembler.proofs.Finishing.{with_some_of}
-use Rattle.inf_assembler.proofs.Passes.{closed_size}
+use Rattle.inf_assembler.proofs.{Finishing.with_some_of, Passes.closed_size}
 use Rattle.inf_assembler_laws.specs.Decoding.{◌>>=◌, Given, Word, Place, GoesTo, place_by, place_in, aim_at, word_given, operand_at}
 use Rattle.inf_assembler_laws.specs.Decoding.{operands_at, store_at, branch_at, given, aim_of, aimed}
 use Rattle.inf_assembler_laws.proofs.Offsets.{near_of, jump_place, branch_place, branch_below, aim_from}
@@ -103,11 +98,11 @@ some_same x y e = cc
 
 -- an operand that an opcode takes: the offset to a label where it jumps, and no such offset where it does not
 abbrev Suits : Bool → Operand → Type 0
-Suits jumps (Large number) = jumps ≡ false
-Suits jumps (Small number) = Unit {0}
-Suits jumps (Variable number) = Unit {0}
-Suits jumps (Later target) = jumps ≡ false
-Suits jumps (Offset label) = jumps ≡ true
+Suits jumps (Operand.Large number) = jumps ≡ false
+Suits jumps (Operand.Small number) = Unit {0}
+Suits jumps (Operand.Variable number) = Unit {0}
+Suits jumps (Operand.Later target) = jumps ≡ false
+Suits jumps (Operand.Offset label) = jumps ≡ true
 
 abbrev AllSuit : Bool → List Operand → Type 0
 AllSuit jumps [] = Unit {0}
@@ -115,21 +110,21 @@ AllSuit jumps (operand ∷ others) = Suits jumps operand × AllSuit jumps others
 
 suit_false : (operands : List Operand) → has_no_offset operands ≡ true → AllSuit false operands
 suit_false [] e = tt
-suit_false ((Large number) ∷ others) e = (refl, suit_false others e)
-suit_false ((Small number) ∷ others) e = (tt, suit_false others e)
-suit_false ((Variable number) ∷ others) e = (tt, suit_false others e)
-suit_false ((Later target) ∷ others) e = (refl, suit_false others e)
-suit_false ((Offset label) ∷ others) e = cc
+suit_false ((Operand.Large number) ∷ others) e = (refl, suit_false others e)
+suit_false ((Operand.Small number) ∷ others) e = (tt, suit_false others e)
+suit_false ((Operand.Variable number) ∷ others) e = (tt, suit_false others e)
+suit_false ((Operand.Later target) ∷ others) e = (refl, suit_false others e)
+suit_false ((Operand.Offset label) ∷ others) e = cc
 
 pub all_suit : (jumps : Bool) (operands : List Operand) → fits_jump jumps operands ≡ true → AllSuit jumps operands
 all_suit false operands e = suit_false operands e
 all_suit true [] e = cc
-all_suit true ((Large number) ∷ others) e = cc
-all_suit true ((Small number) ∷ others) e = cc
-all_suit true ((Variable number) ∷ others) e = cc
-all_suit true ((Later target) ∷ others) e = cc
-all_suit true ((Offset label) ∷ []) e = (refl, tt)
-all_suit true ((Offset label) ∷ next ∷ others) e = cc
+all_suit true ((Operand.Large number) ∷ others) e = cc
+all_suit true ((Operand.Small number) ∷ others) e = cc
+all_suit true ((Operand.Variable number) ∷ others) e = cc
+all_suit true ((Operand.Later target) ∷ others) e = cc
+all_suit true ((Operand.Offset label) ∷ []) e = (refl, tt)
+all_suit true ((Operand.Offset label) ∷ next ∷ others) e = cc
 
 -- the place of a jump
 jump_by : (place : Option ℕ) (end offset : ℕ) → offset_to 32768 end place ≡ Some offset → place_by 32768 end offset ≡ place_in place
@@ -144,20 +139,20 @@ operand_read : (long places : Places) (old new total : ℕ) (jumps : Bool) (oper
     closed_bytes long places old new (operand_cells operand) ≡ Some bytes
     → total ≡ new + length bytes + length rest → operand_at total jumps (type_code operand) (bytes ++ rest) ≡ Some
     (given places operand, rest)
-operand_read long places old new total jumps (Large number) bytes rest suits e t =
+operand_read long places old new total jumps (Operand.Large number) bytes rest suits e t =
     let same : bytes ≡ word number = some_same bytes (word number) (sym e) in
     ap (λ b. operand_at total jumps 0 (b ++ rest)) same
     ∙ ap (λ j. Some (word_given j (total - length rest) (256 * (number / 256) + number % 256), rest)) suits
     ∙ ap (λ n. Some (Word n, rest)) (two_bytes number)
-operand_read long places old new total jumps (Small number) bytes rest suits e t =
+operand_read long places old new total jumps (Operand.Small number) bytes rest suits e t =
     let same : bytes ≡ number ∷ [] = some_same bytes (number ∷ []) (sym e) in ap (λ b. operand_at total jumps 1 (b ++ rest)) same
-operand_read long places old new total jumps (Variable number) bytes rest suits e t =
+operand_read long places old new total jumps (Operand.Variable number) bytes rest suits e t =
     let same : bytes ≡ number ∷ [] = some_same bytes (number ∷ []) (sym e) in ap (λ b. operand_at total jumps 2 (b ++ rest)) same
-operand_read long places old new total jumps (Later target) bytes rest suits e t =
+operand_read long places old new total jumps (Operand.Later target) bytes rest suits e t =
     let same : bytes ≡ 0 ∷ 0 ∷ [] = some_same bytes (0 ∷ 0 ∷ []) (sym e) in
     ap (λ b. operand_at total jumps 0 (b ++ rest)) same
     ∙ ap (λ j. Some (word_given j (total - length rest) 0, rest)) suits
-operand_read long places old new total jumps (Offset label) bytes rest suits e t =
+operand_read long places old new total jumps (Operand.Offset label) bytes rest suits e t =
     let made = joined_of (with_some word (offset_to 32768 (new + 2) (places label.number))) (Some []) bytes e in
     let offset = with_some_of word (offset_to 32768 (new + 2) (places label.number)) made.front made.is_front in
     let number = offset.0 in
@@ -244,10 +239,11 @@ pub record IsClear (long places : Places) (old new : ℕ) (target : Destination)
   pub small : is_short_to long old target ≡ true → offset < 64
 
 abbrev pub Clear : Places → Places → ℕ → ℕ → Destination → Type 0
-Clear long places old new (To label) = (offset : ℕ) → offset_to 8192 (new + (cond (is_short_to long old (To label)) 1 2))
-    (places label.number) ≡ Some offset → IsClear long places old new (To label) offset
-Clear long places old new ReturnFalse = Unit {0}
-Clear long places old new ReturnTrue = Unit {0}
+Clear long places old new (Destination.To label) =
+    (offset : ℕ) → offset_to 8192 (new + (cond (is_short_to long old (Destination.To label)) 1 2))
+    (places label.number) ≡ Some offset → IsClear long places old new (Destination.To label) offset
+Clear long places old new Destination.ReturnFalse = Unit {0}
+Clear long places old new Destination.ReturnTrue = Unit {0}
 
 aim_by : (place : Option ℕ) (end offset : ℕ) → offset_to 8192 end place ≡ Some offset → 2 ≤ offset →
     (offset < 16384) × (aim_at end offset ≡ GoesTo (place_in place))
@@ -262,18 +258,18 @@ target_read : (long places : Places) (old new total : ℕ) (sense : Bool) (targe
     (cond (is_short_to long old target) 1 2)
     → branch_at total true (branch_bytes (is_short_to long old target) sense offset ++ rest) ≡ Some
     (Some (record { sense = sense; aim = aim_of places target }), rest)
-target_read long places old new total sense (To label) offset rest clear e t =
-    let short = is_short_to long old (To label) in
+target_read long places old new total sense (Destination.To label) offset rest clear e t =
+    let short = is_short_to long old (Destination.To label) in
     let end = new + (cond short 1 2) in
     let known = clear offset e in
     let aim = aim_by (places label.number) end offset e known.large in
     branch_bytes_read short sense offset end total rest known.small aim.0 t
     ∙ ap (λ a. Some (Some (record { sense = sense; aim = a }), rest)) aim.1
-target_read long places old new total sense ReturnFalse offset rest clear e t =
+target_read long places old new total sense Destination.ReturnFalse offset rest clear e t =
     let same : offset ≡ 0 = some_same offset 0 (sym e) in
     branch_bytes_read false sense offset (new + 2) total rest (λ short. cc) (omega (arith, same)) t
     ∙ ap (λ o. Some (Some (record { sense = sense; aim = aim_at (new + 2) o }), rest)) same
-target_read long places old new total sense ReturnTrue offset rest clear e t =
+target_read long places old new total sense Destination.ReturnTrue offset rest clear e t =
     let same : offset ≡ 1 = some_same offset 1 (sym e) in
     branch_bytes_read false sense offset (new + 2) total rest (λ short. cc) (omega (arith, same)) t
     ∙ ap (λ o. Some (Some (record { sense = sense; aim = aim_at (new + 2) o }), rest)) same
@@ -284,7 +280,7 @@ length-branch false sense offset = refl
 
 pub branch_read : (long places : Places) (old new total : ℕ) (branch : Branch) (bytes rest : List ℕ) →
     Clear long places old new branch.target
-    → closed_bytes long places old new (Of (Branches branch) ∷ []) ≡ Some bytes → total ≡ new + length bytes + length rest
+    → closed_bytes long places old new (Of (Special.Branches branch) ∷ []) ≡ Some bytes → total ≡ new + length bytes + length rest
     → branch_at total true (bytes ++ rest) ≡ Some (Some (aimed places branch), rest)
 branch_read long places old new total branch bytes rest clear e t =
     let short = is_short_to long old branch.target in

@@ -2,7 +2,6 @@
 use Rattle.std.proofs.Common.{◌≡◌, ℕ, ◌+◌, ◌≤◌, Bool, true, false, cond, List, [], ◌∷◌, ◌++◌, length, Option, Some, None, ◌⊎◌, inl, inr}
 use Rattle.std.proofs.Common.{refl, sym, ◌∙◌, ap, arith, length-append}
 use Rattle.inf_opcode.specs.declared.cells.Special.{Special}
-use Rattle.inf_opcode.specs.declared.cells.Special.TheVariants.{Marks, Branches, Jumps, Refers}
 use Rattle.inf_opcode.specs.Cells.{Cell, Plain, Of, special_size, special_bytes, long_bytes}
 use Rattle.inf_opcode.proofs.Growing.{length-special, long-append}
 use Rattle.inf_assembler.specs.Places.{Places, marks, size_at, long_place, place_from, first_of}
@@ -171,27 +170,27 @@ long_split old ((Of what) ∷ xs) ys label =
 abbrev pub AreUnmarked : List Cell → Type 0
 AreUnmarked [] = Unit {0}
 AreUnmarked ((Plain byte) ∷ cells) = AreUnmarked cells
-AreUnmarked ((Of (Marks label)) ∷ cells) = ⊥
-AreUnmarked ((Of (Branches branch)) ∷ cells) = AreUnmarked cells
-AreUnmarked ((Of (Jumps label)) ∷ cells) = AreUnmarked cells
-AreUnmarked ((Of (Refers target)) ∷ cells) = AreUnmarked cells
+AreUnmarked ((Of (Special.Marks label)) ∷ cells) = ⊥
+AreUnmarked ((Of (Special.Branches branch)) ∷ cells) = AreUnmarked cells
+AreUnmarked ((Of (Special.Jumps label)) ∷ cells) = AreUnmarked cells
+AreUnmarked ((Of (Special.Refers target)) ∷ cells) = AreUnmarked cells
 
 place_unmarked : (long : Places) (old new : ℕ) (xs : List Cell) (label : ℕ) → AreUnmarked xs → place_from long old new xs label ≡ None
 place_unmarked long old new [] label plain = refl
 place_unmarked long old new ((Plain byte) ∷ xs) label plain = place_unmarked long (old + 1) (new + 1) xs label plain
-place_unmarked long old new ((Of (Marks other)) ∷ xs) label plain = absurd plain
-place_unmarked long old new ((Of (Branches branch)) ∷ xs) label plain =
-    place_unmarked long (old + 2) (new + size_at long old (Branches branch)) xs label plain
-place_unmarked long old new ((Of (Jumps other)) ∷ xs) label plain = place_unmarked long (old + 2) (new + 2) xs label plain
-place_unmarked long old new ((Of (Refers target)) ∷ xs) label plain = place_unmarked long (old + 2) (new + 2) xs label plain
+place_unmarked long old new ((Of (Special.Marks other)) ∷ xs) label plain = absurd plain
+place_unmarked long old new ((Of (Special.Branches branch)) ∷ xs) label plain =
+    place_unmarked long (old + 2) (new + size_at long old (Special.Branches branch)) xs label plain
+place_unmarked long old new ((Of (Special.Jumps other)) ∷ xs) label plain = place_unmarked long (old + 2) (new + 2) xs label plain
+place_unmarked long old new ((Of (Special.Refers target)) ∷ xs) label plain = place_unmarked long (old + 2) (new + 2) xs label plain
 
 long_unmarked : (old : ℕ) (xs : List Cell) (label : ℕ) → AreUnmarked xs → long_place old xs label ≡ None
 long_unmarked old [] label plain = refl
 long_unmarked old ((Plain byte) ∷ xs) label plain = long_unmarked (old + 1) xs label plain
-long_unmarked old ((Of (Marks other)) ∷ xs) label plain = absurd plain
-long_unmarked old ((Of (Branches branch)) ∷ xs) label plain = long_unmarked (old + 2) xs label plain
-long_unmarked old ((Of (Jumps other)) ∷ xs) label plain = long_unmarked (old + 2) xs label plain
-long_unmarked old ((Of (Refers target)) ∷ xs) label plain = long_unmarked (old + 2) xs label plain
+long_unmarked old ((Of (Special.Marks other)) ∷ xs) label plain = absurd plain
+long_unmarked old ((Of (Special.Branches branch)) ∷ xs) label plain = long_unmarked (old + 2) xs label plain
+long_unmarked old ((Of (Special.Jumps other)) ∷ xs) label plain = long_unmarked (old + 2) xs label plain
+long_unmarked old ((Of (Special.Refers target)) ∷ xs) label plain = long_unmarked (old + 2) xs label plain
 
 -- A label is before two places, or behind them, where no label is marked between the two.
 pub record Beside (long_one : Option ℕ) (long_before before long_behind behind place : ℕ) : Type 0 where

@@ -1,13 +1,9 @@
 -- The bytes of an instruction are read back part by part.
 use Rattle.std.proofs.Common.{◌≡◌, ◌≢◌, ℕ, zero, suc, ◌+◌, ◌*◌, ◌/◌, ◌%◌, ◌<◌, ◌≤◌, Bool, true, false, ltb, leb, ◌&&◌, cond, List, [], ◌∷◌}
-use Rattle.std.proofs.Common.{◌++◌, length, map, Option, Some, None, refl, ◌∙◌, ap, arith}
-use Rattle.std.specs.Prelude.{slice_get}
-use Rattle.std.specs.Option.{option_map_or}
+use Rattle.std.proofs.Common.{◌++◌, length, map, Option, Some, None, refl, ◌∙◌, ap, arith, slice_get}
 use Rattle.std.proofs.lemmas.Bool.Decides.{nat_tests}
-use Rattle.inf_opcode.specs.declared.opcodes.Opcode.{Opcode}
-use Rattle.inf_opcode.specs.declared.instructions.Operand.{Operand}
-use Rattle.inf_opcode.specs.declared.instructions.Operand.TheVariants.{Large, Small, Variable, Later, Offset}
-use Rattle.inf_opcode.specs.Opcodes.{row_of}
+use Rattle.std.specs.Option.{option_map_or}
+use Rattle.inf_opcode.specs.{Opcodes.row_of, declared.instructions.Operand.Operand, declared.opcodes.Opcode.Opcode}
 use Rattle.inf_opcode.specs.Instructions.{type_code, type_slot, types_byte, types_bytes, is_text, fits_text}
 use Rattle.inf_assembler_laws.specs.Decoding.{◌>>=◌, long, short_one, short_zero, variable_two, variable_several, form_of, types_in}
 use Rattle.inf_assembler_laws.specs.Decoding.{given_types, types_at, Opening, untyped, words_at, text_at}
@@ -66,11 +62,11 @@ slots (suc n) [] = 3 ∷ slots n []
 slots (suc n) (operand ∷ others) = type_code operand ∷ slots n others
 
 given_types-code : (operand : Operand) (codes : List ℕ) → given_types (type_code operand ∷ codes) ≡ type_code operand ∷ given_types codes
-given_types-code (Large number) codes = refl
-given_types-code (Small number) codes = refl
-given_types-code (Variable number) codes = refl
-given_types-code (Later target) codes = refl
-given_types-code (Offset label) codes = refl
+given_types-code (Operand.Large number) codes = refl
+given_types-code (Operand.Small number) codes = refl
+given_types-code (Operand.Variable number) codes = refl
+given_types-code (Operand.Later target) codes = refl
+given_types-code (Operand.Offset label) codes = refl
 
 given_types-none : (n : ℕ) → given_types (slots n []) ≡ []
 given_types-none zero = refl
@@ -83,11 +79,11 @@ given_types-slots (suc n) (operand ∷ others) few =
     given_types-code operand (slots n others) ∙ ap (λ codes. type_code operand ∷ codes) (given_types-slots n others (omega arith))
 
 pub type_code-small : (operand : Operand) → type_code operand < 4
-type_code-small (Large number) = omega arith
-type_code-small (Small number) = omega arith
-type_code-small (Variable number) = omega arith
-type_code-small (Later target) = omega arith
-type_code-small (Offset label) = omega arith
+type_code-small (Operand.Large number) = omega arith
+type_code-small (Operand.Small number) = omega arith
+type_code-small (Operand.Variable number) = omega arith
+type_code-small (Operand.Later target) = omega arith
+type_code-small (Operand.Offset label) = omega arith
 
 abbrev slot_of : Option Operand → ℕ
 slot_of found = option_map_or type_code found 3

@@ -1,18 +1,9 @@
 -- Instructions read from bytes, by the formats of the Z-Machine Standard 1.1, section 4.
 use Rattle.std.specs.Prelude.{ℕ, zero, suc, ◌+◌, ◌-◌, ◌*◌, ◌/◌, ◌%◌, Bool, true, false, nat_lt, nat_le, ◌==◌, ◌&&◌, List, [], ◌∷◌, ◌++◌}
-use Rattle.std.specs.Prelude.{length, map, find, Option, Some, None, if◌then◌else◌}
-use Rattle.std.specs.Option.{option_map}
-use Rattle.inf_opcode.specs.declared.opcodes.Opcode.{Opcode}
-use Rattle.inf_opcode.specs.declared.opcodes.OperandCount.{OperandCount}
-use Rattle.inf_opcode.specs.declared.opcodes.OperandCount.TheVariants.{Zero, One, Two, Several, Extended}
-use Rattle.inf_opcode.specs.declared.instructions.Branch.{Branch}
-use Rattle.inf_opcode.specs.declared.instructions.Operand.{Operand}
-use Rattle.inf_opcode.specs.declared.instructions.Operand.TheVariants.{Large, Small, Variable, Later, Offset}
-use Rattle.inf_opcode.specs.declared.instructions.Destination.{Destination}
-use Rattle.inf_opcode.specs.declared.instructions.Destination.TheVariants.{To, ReturnFalse, ReturnTrue}
-use Rattle.inf_opcode.specs.Names.{opcodes}
-use Rattle.inf_opcode.specs.Opcodes.{row_of}
-use Rattle.inf_opcode.specs.Instructions.{Parts}
+use Rattle.std.specs.Prelude.{length, map, find, Option, Some, None, if◌then◌else◌, option_map}
+use Rattle.inf_opcode.specs.{Instructions.Parts, Names.opcodes, Opcodes.row_of, declared.instructions.Branch.Branch}
+use Rattle.inf_opcode.specs.{declared.instructions.Destination.Destination, declared.instructions.Operand.Operand}
+use Rattle.inf_opcode.specs.{declared.opcodes.Opcode.Opcode, declared.opcodes.OperandCount.OperandCount}
 use Rattle.inf_assembler.specs.Places.{Places}
 
 -- one step of reading behind another
@@ -23,11 +14,11 @@ None >>= next = None
 
 -- the number of a count, by which counts are compared
 abbrev pub rank : OperandCount → ℕ
-rank Zero = 0
-rank One = 1
-rank Two = 2
-rank Several = 3
-rank Extended = 4
+rank OperandCount.Zero = 0
+rank OperandCount.One = 1
+rank OperandCount.Two = 2
+rank OperandCount.Several = 3
+rank OperandCount.Extended = 4
 
 -- whether an opcode has this count and this number
 abbrev pub is_at : OperandCount → ℕ → Opcode → Bool
@@ -88,13 +79,13 @@ untyped found rest =
 
 -- An instruction's opening by its form. In the long form a bit of a type says variable and not small (sections 4.4.1 to 4.4.3).
 abbrev pub opening_by : Form → ℕ → List ℕ → Option Opening
-opening_by long first rest = typed (opcode_at Two (first % 32)) ((1 + first / 64) ∷ (1 + first / 32 % 2) ∷ []) rest
-opening_by short_one first rest = typed (opcode_at One (first % 16)) ((first / 16 % 4) ∷ []) rest
-opening_by short_zero first rest = typed (opcode_at Zero (first % 16)) [] rest
-opening_by variable_two first rest = untyped (opcode_at Two (first % 32)) rest
-opening_by variable_several first rest = untyped (opcode_at Several (first % 32)) rest
+opening_by long first rest = typed (opcode_at OperandCount.Two (first % 32)) ((1 + first / 64) ∷ (1 + first / 32 % 2) ∷ []) rest
+opening_by short_one first rest = typed (opcode_at OperandCount.One (first % 16)) ((first / 16 % 4) ∷ []) rest
+opening_by short_zero first rest = typed (opcode_at OperandCount.Zero (first % 16)) [] rest
+opening_by variable_two first rest = untyped (opcode_at OperandCount.Two (first % 32)) rest
+opening_by variable_several first rest = untyped (opcode_at OperandCount.Several (first % 32)) rest
 opening_by extended first [] = None
-opening_by extended first (number ∷ rest) = untyped (opcode_at Extended number) rest
+opening_by extended first (number ∷ rest) = untyped (opcode_at OperandCount.Extended number) rest
 
 abbrev pub opening_at : List ℕ → Option Opening
 opening_at [] = None
@@ -205,16 +196,16 @@ place_in None = 0
 place_in (Some place) = place
 
 abbrev pub given : Places → Operand → Given
-given places (Large number) = Word number
-given places (Small number) = Byte number
-given places (Variable number) = OfVariable number
-given places (Later target) = Word 0
-given places (Offset label) = Place (place_in (places label.number))
+given places (Operand.Large number) = Word number
+given places (Operand.Small number) = Byte number
+given places (Operand.Variable number) = OfVariable number
+given places (Operand.Later target) = Word 0
+given places (Operand.Offset label) = Place (place_in (places label.number))
 
 abbrev pub aim_of : Places → Destination → Aim
-aim_of places (To label) = GoesTo (place_in (places label.number))
-aim_of places ReturnFalse = Returns false
-aim_of places ReturnTrue = Returns true
+aim_of places (Destination.To label) = GoesTo (place_in (places label.number))
+aim_of places Destination.ReturnFalse = Returns false
+aim_of places Destination.ReturnTrue = Returns true
 
 abbrev pub aimed : Places → Branch → Aimed
 aimed places branch = record { sense = branch.sense; aim = aim_of places branch.target }

@@ -1,8 +1,6 @@
 -- The fields of a routine's offsets (Z-Machine Standard 1.1, sections 4.7 and 15, jump).
 use Rattle.std.specs.Prelude.{ℕ, ◌+◌, ◌<◌, List, [], ◌∷◌, ◌++◌, Option, Some, None, if◌then◌else◌}
-use Rattle.inf_opcode.specs.declared.cells.Special.{Special}
-use Rattle.inf_opcode.specs.declared.cells.Special.TheVariants.{Marks, Branches, Jumps, Refers}
-use Rattle.inf_opcode.specs.Cells.{Cell, Plain, Of, special_size}
+use Rattle.inf_opcode.specs.{Cells.Cell, Cells.Of, Cells.Plain, Cells.special_size, declared.cells.Special.Special}
 use Rattle.inf_assembler.specs.Places.{Places, is_short_to, size_at, offset_to, branch_offset}
 use Rattle.inf_assembler.specs.Routines.{Contents, long_places, places}
 
@@ -12,12 +10,13 @@ pub record Field : Type 0 where
   pub offset : Option ℕ
 
 abbrev pub field_at : Places → Places → ℕ → ℕ → Special → List Field
-field_at long places old new (Marks label) = []
-field_at long places old new (Branches branch) =
+field_at long places old new (Special.Marks label) = []
+field_at long places old new (Special.Branches branch) =
     let short = is_short_to long old branch.target in
     record { values = if short then 64 else 16384; offset = branch_offset places (new + (if short then 1 else 2)) branch.target } ∷ []
-field_at long places old new (Jumps label) = record { values = 65536; offset = offset_to 32768 (new + 2) (places label.number) } ∷ []
-field_at long places old new (Refers target) = []
+field_at long places old new (Special.Jumps label) =
+    record { values = 65536; offset = offset_to 32768 (new + 2) (places label.number) } ∷ []
+field_at long places old new (Special.Refers target) = []
 
 -- the fields of cells that begin at the place `new`, and with all branches long at `old`
 abbrev pub fields : Places → Places → ℕ → ℕ → List Cell → List Field

@@ -1,18 +1,14 @@
 -- Routines whose references have numbers.
 use Rattle.std.specs.Prelude.{ℕ, List, [], ◌∷◌, ◌++◌}
-use Rattle.inf_area.specs.declared.fixups.Fixup.{Fixup}
-use Rattle.inf_area.specs.declared.targets.Target.{Target}
-use Rattle.inf_area.specs.Words.{word, with_word}
-use Rattle.inf_opcode.specs.declared.cells.Special.{Special}
-use Rattle.inf_opcode.specs.declared.cells.Special.TheVariants.{Marks, Branches, Jumps, Refers}
-use Rattle.inf_opcode.specs.Cells.{Cell, Plain, Of, plain}
+use Rattle.inf_area.specs.{Words.with_word, Words.word, declared.fixups.Fixup.Fixup, declared.targets.Target.Target}
+use Rattle.inf_opcode.specs.{Cells.Cell, Cells.Of, Cells.Plain, Cells.plain, declared.cells.Special.Special}
 
 -- cells with the number of each reference in its place
 abbrev pub known_special : (Target → ℕ) → Special → List Cell
-known_special number_of (Marks label) = Of (Marks label) ∷ []
-known_special number_of (Branches branch) = Of (Branches branch) ∷ []
-known_special number_of (Jumps label) = Of (Jumps label) ∷ []
-known_special number_of (Refers target) = plain (word (number_of target))
+known_special number_of (Special.Marks label) = Of (Special.Marks label) ∷ []
+known_special number_of (Special.Branches branch) = Of (Special.Branches branch) ∷ []
+known_special number_of (Special.Jumps label) = Of (Special.Jumps label) ∷ []
+known_special number_of (Special.Refers target) = plain (word (number_of target))
 
 abbrev pub known_cells : (Target → ℕ) → List Cell → List Cell
 known_cells number_of [] = []

@@ -1,9 +1,6 @@
 -- Routines as the items that they were made of.
-use Rattle.std.specs.Prelude.{ℕ, Bool, List, [], ◌∷◌}
-use Rattle.std.specs.List.{flat_map}
-use Rattle.inf_opcode.specs.declared.cells.Special.TheVariants.{Marks}
-use Rattle.inf_opcode.specs.declared.instructions.Label.{Label}
-use Rattle.inf_opcode.specs.Cells.{Cell, Of}
+use Rattle.std.specs.Prelude.{ℕ, Bool, List, [], ◌∷◌, flat_map}
+use Rattle.inf_opcode.specs.{Cells.Cell, Cells.Of, declared.cells.Special.Special, declared.instructions.Label.Label}
 use Rattle.inf_opcode.specs.Instructions.{Parts, IsProper, instruction_cells}
 use Rattle.inf_assembler.specs.Routines.{Contents}
 
@@ -13,7 +10,7 @@ pub data Item : Type 0 where
   Written : (parts : Parts) → Item
 
 abbrev pub item_cells : Item → List Cell
-item_cells (Marked label) = Of (Marks label) ∷ []
+item_cells (Marked label) = Of (Special.Marks label) ∷ []
 item_cells (Written parts) = instruction_cells parts
 
 abbrev pub items_cells : List Item → List Cell

@@ -1,17 +1,12 @@
 -- Laws above the definitions.
 use Rattle.std.specs.Prelude.{◌≡◌, ℕ, ◌+◌, ◌≤◌, Bool, List, ◌∷◌, ◌++◌, length, map, Option, Some, None}
 use Rattle.inf_area.specs.declared.targets.Target.{Target}
-use Rattle.inf_opcode.specs.declared.opcodes.Opcode.{Opcode}
-use Rattle.inf_opcode.specs.declared.opcodes.Opcode.TheVariants.{Rtrue, Rfalse}
-use Rattle.inf_opcode.specs.Instructions.{bare}
-use Rattle.inf_opcode.specs.Names.{name_of, opcode_named}
+use Rattle.inf_opcode.specs.{Instructions.bare, Names.name_of, Names.opcode_named, declared.opcodes.Opcode.Opcode}
 use Rattle.inf_assembler.specs.declared.routines.RoutineKind.{RoutineKind}
-use Rattle.inf_assembler.specs.declared.routines.RoutineKind.TheVariants.{Plain as Own, Embedded}
 use Rattle.inf_assembler.specs.Routines.{Contents, long_places, places, body_bytes, routine_fixups, closing_byte}
+use Rattle.inf_assembler_laws.specs.{Fields.AreWithin, Fields.routine_fields, Filling.filled, Filling.known_cells}
 use Rattle.inf_assembler_laws.specs.Items.{Item, routine_of, AreProper, instructions}
 use Rattle.inf_assembler_laws.specs.Decoding.{instruction_at, instructions_at, seen}
-use Rattle.inf_assembler_laws.specs.Fields.{AreWithin, routine_fields}
-use Rattle.inf_assembler_laws.specs.Filling.{known_cells, filled}
 
 -- A name gives its opcode back.
 abbrev pub NamesAreFound : Type 0
@@ -28,8 +23,8 @@ RoutinesAreReadBack =
 
 -- The return at the end of a routine is read as rtrue or rfalse.
 abbrev pub returning : RoutineKind → Opcode
-returning Own = Rtrue
-returning Embedded = Rfalse
+returning RoutineKind.Plain = Opcode.Rtrue
+returning RoutineKind.Embedded = Opcode.Rfalse
 
 abbrev pub ReturnsAreReadBack : Type 0
 ReturnsAreReadBack = (kind : RoutineKind) (total : ℕ) (rest : List ℕ) → instruction_at total (closing_byte kind ∷ rest) ≡ Some

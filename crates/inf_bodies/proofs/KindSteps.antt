@@ -1,10 +1,8 @@
 -- The tokens of a unit one by one, with their places.
 use Rattle.std.proofs.Common.{◌≡◌, ◌<◌, ◌+◌, ℕ, suc, zero, List, [], ◌∷◌, drop, length, refl, sym, ap, ◌∙◌, arith}
-use Rattle.inf_unit.specs.Tokens.{SourceToken}
-use Rattle.inf_unit.specs.Units.{kind_at}
-use Rattle.inf_bodies.specs.Objects.{header_from, header_step}
-use Rattle.inf_bodies.specs.Values.{bracket_from, bracket_step}
-use Rattle.inf_bodies.specs.declared.headers.Header.{Header}
+use Rattle.inf_unit.specs.{Tokens.SourceToken, Units.kind_at}
+use Rattle.inf_bodies.specs.{Objects.header_from, Objects.header_step, Values.bracket_from, Values.bracket_step}
+use Rattle.inf_bodies.specs.{declared.headers.Header.Header}
 
 header_next : (word place at : ℕ) (tokens : List SourceToken) (h : Header) → at < length tokens
     → header_from word place (drop at tokens) h ≡ header_from word (place + 1) (drop (suc at) tokens)

@@ -2,13 +2,10 @@
 use Rattle.std.proofs.Common.{◌≡◌, ℕ, Option, Some, None, refl, sym, ap, ◌∙◌}
 use Rattle.inf_settings.specs.Bounds.{Limits}
 use Rattle.inf_area.specs.declared.targets.Value.{Value}
-use Rattle.inf_expressions.specs.Findings.{least_of_both}
-use Rattle.inf_expressions.specs.declared.findings.Finding.{Finding}
-use Rattle.inf_expressions.specs.declared.units.Wanted.TheVariants as wanted
+use Rattle.inf_expressions.specs.{Findings.least_of_both, declared.findings.Finding.Finding, declared.units.Wanted.Wanted}
 use Rattle.inf_output.specs.Output.{Out}
 use Rattle.inf_operands.specs.Uses.{LeavesStay}
-use Rattle.inf_compilation.specs.Actions.{Compilation, finding_at, operands_of}
-use Rattle.inf_compilation.specs.Context.{Context}
+use Rattle.inf_compilation.specs.{Actions.Compilation, Actions.finding_at, Actions.operands_of, Context.Context}
 use Rattle.inf_named_values.proofs.ValuesStay.{output_stays, value_stays}
 use Rattle.inf_named_values.specs.Values.{looked_value}
 use Rattle.inf_bodies.specs.Bodies.{place_finding, placed, placed_finding}
@@ -43,7 +40,7 @@ found_by limits context name w None stay = found_settled limits context name w s
 found_by limits context name w (Some f) stay = refl
 
 pub expression_stays : (limits : Limits) (context : Context) (name : Option ℕ) (w : Compilation) (v : Value)
-    → finding_at 0 wanted.Constant w ≡ None → v ≡ looked_value w
+    → finding_at 0 Wanted.Constant w ≡ None → v ≡ looked_value w
     → LeavesStay w.locals w.output w.unit.tokens w.unit.gathering.leaves (operands_of w)
     → placed limits name v None w ≡ expression_placed limits context name w
 expression_stays limits context name w v none e stay =
@@ -53,7 +50,7 @@ expression_stays limits context name w v none e stay =
     ∙ placed_by limits context name w (least_of_both None own) stay)
 
 pub expression_found : (limits : Limits) (context : Context) (name : Option ℕ) (w : Compilation) (v : Value)
-    → finding_at 0 wanted.Constant w ≡ None → v ≡ looked_value w
+    → finding_at 0 Wanted.Constant w ≡ None → v ≡ looked_value w
     → LeavesStay w.locals w.output w.unit.tokens w.unit.gathering.leaves (operands_of w)
     → placed_finding limits name v None w ≡ expression_finding limits context name w
 expression_found limits context name w v none e stay =

@@ -3,24 +3,15 @@
 use Rattle.std.specs.Prelude.{ℕ, ◌+◌, ◌-◌, ◌%◌, ◌==◌, List, length, Bool, true, false, not, Option, Some, None}
 use Rattle.inf_settings.specs.Bounds.{Limits}
 use Rattle.inf_area.specs.declared.targets.Value.{Value}
-use Rattle.inf_expressions.specs.declared.findings.Finding.{Finding}
-use Rattle.inf_expressions.specs.Findings.{least_of_both, wrong_kind}
-use Rattle.inf_names.specs.declared.meanings.Meaning.{Meaning}
-use Rattle.inf_names.specs.declared.meanings.Meaning.TheVariants as meaning
-use Rattle.inf_names.specs.declared.symbols.Found.{Found}
-use Rattle.inf_names.specs.declared.symbols.Found.TheVariants as found
+use Rattle.inf_expressions.specs.{Findings.least_of_both, Findings.wrong_kind, declared.findings.Finding.Finding}
+use Rattle.inf_names.specs.{Spellings.Name, declared.meanings.Meaning.Meaning, declared.symbols.Found.Found}
 use Rattle.inf_output.specs.Output.{Code}
-use Rattle.inf_scanner.specs.declared.tokens.Mark.TheVariants as mark
-use Rattle.inf_scanner.specs.declared.tokens.Place.{Place}
-use Rattle.inf_scanner.specs.declared.tokens.TokenKind.{TokenKind}
-use Rattle.inf_names.specs.Spellings.{Name}
-use Rattle.inf_compilation.specs.Context.{Context}
-use Rattle.inf_unit.specs.Tokens.{SourceToken, is_mark}
-use Rattle.inf_unit.specs.Units.{first_place, kind_at, name_at, order}
+use Rattle.inf_scanner.specs.{declared.tokens.Mark.Mark, declared.tokens.Place.Place, declared.tokens.TokenKind.TokenKind}
+use Rattle.inf_compilation.specs.{Actions.Compilation, Context.Context}
+use Rattle.inf_unit.specs.{Tokens.SourceToken, Tokens.is_mark, Units.first_place, Units.kind_at, Units.name_at, Units.order}
 use Rattle.inf_tables.specs.declared.faults.WorldFault.{WorldFault}
 use Rattle.inf_tables.specs.World.{further_value_fault, given_property_fault, individual_fault, set_attribute_fault, with_further_value}
 use Rattle.inf_tables.specs.World.{with_given_property, with_individual, with_lost_property, with_set_attribute}
-use Rattle.inf_compilation.specs.Actions.{Compilation}
 use Rattle.inf_named_values.specs.Declarations.{name_declared, with_world}
 use Rattle.inf_bodies.specs.Objects.{class_of, entry_told, found_at, joined_fault, joined_some, noted, refused_finding}
 
@@ -46,19 +37,19 @@ class_read limits context place w =
 -- Attributes
 
 abbrev pub attribute_in : Meaning → Option ℕ
-attribute_in (meaning.Attribute number) = Some number
+attribute_in (Meaning.Attribute number) = Some number
 attribute_in _ = None
 
 abbrev pub attribute_of : Found Place → Option ℕ
-attribute_of (found.System m) = None
-attribute_of (found.Declared m first) = attribute_in m
-attribute_of found.Used = None
-attribute_of found.Unknown = None
+attribute_of (Found.System m) = None
+attribute_of (Found.Declared m first) = attribute_in m
+attribute_of Found.Used = None
+attribute_of Found.Unknown = None
 
 -- `~` before an attribute takes it away
 abbrev pub is_given_by : Option TokenKind → Bool
 is_given_by None = true
-is_given_by (Some k) = not (is_mark mark.BitNot k)
+is_given_by (Some k) = not (is_mark Mark.BitNot k)
 
 abbrev pub is_given : List SourceToken → ℕ → Bool
 is_given tokens at = is_given_by (kind_at tokens (at - 1))
@@ -90,15 +81,15 @@ attribute_read limits context place w =
 -- Properties
 
 abbrev pub property_in : Meaning → Option ℕ
-property_in (meaning.Property number is_additive) = Some number
-property_in (meaning.IndividualProperty number) = Some number
+property_in (Meaning.Property number is_additive) = Some number
+property_in (Meaning.IndividualProperty number) = Some number
 property_in _ = None
 
 abbrev pub property_of : Found Place → Option ℕ
-property_of (found.System m) = property_in m
-property_of (found.Declared m first) = property_in m
-property_of found.Used = None
-property_of found.Unknown = None
+property_of (Found.System m) = property_in m
+property_of (Found.Declared m first) = property_in m
+property_of Found.Used = None
+property_of Found.Unknown = None
 
 -- whether it is the property `name`, whose values are words of the dictionary
 abbrev pub is_words : Option ℕ → Bool
@@ -108,7 +99,7 @@ is_words (Some number) = number == 1
 -- a new individual property is declared with its name
 abbrev pub individual_declared : Limits → Option Name → ℕ → Code
 individual_declared limits None number o = o
-individual_declared limits (Some n) number o = name_declared limits n (meaning.IndividualProperty (number % 65536)) o
+individual_declared limits (Some n) number o = name_declared limits n (Meaning.IndividualProperty (number % 65536)) o
 
 -- Behind a property with something wrong further values give nothing. Where its name is new it is declared all the same.
 abbrev pub with_property_lost : Code
@@ -149,10 +140,10 @@ number_finding limits None v at w = Some (wrong_kind (order at))
 number_finding limits (Some number) v at w = refused_finding (given_property_fault limits number v w.output.tables.world) (order at)
 
 abbrev pub property_finding_by : Limits → Found Place → ℕ → Option Value → Compilation → Option Finding
-property_finding_by limits (found.System m) at v w = number_finding limits (property_in m) v at w
-property_finding_by limits (found.Declared m first) at v w = number_finding limits (property_in m) v at w
-property_finding_by limits found.Used at v w = None
-property_finding_by limits found.Unknown at v w = None
+property_finding_by limits (Found.System m) at v w = number_finding limits (property_in m) v at w
+property_finding_by limits (Found.Declared m first) at v w = number_finding limits (property_in m) v at w
+property_finding_by limits Found.Used at v w = None
+property_finding_by limits Found.Unknown at v w = None
 
 abbrev pub property_finding : Limits → ℕ → Option Value → Compilation → Option Finding
 property_finding limits at v w = property_finding_by limits (found_at at w) at v w

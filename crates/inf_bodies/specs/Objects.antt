@@ -2,41 +2,21 @@
 use Rattle.std.specs.Prelude.{ℕ, ◌+◌, ◌-◌, ◌%◌, ◌==◌, nat_le, nat_lt, List, [], ◌∷◌, ◌++◌, length, codes, Bool, false, if◌then◌else◌}
 use Rattle.std.specs.Prelude.{Option, Some, None, unwrap_or, Result, Ok, Err}
 use Rattle.std.specs.Str.{str_eq_ignore_ascii_case}
-use Rattle.inf_settings.specs.Bounds.{Limits}
-use Rattle.inf_expressions.specs.declared.findings.Finding.{Finding}
-use Rattle.inf_expressions.specs.declared.findings.UnitError.TheVariants as unit_error
+use Rattle.inf_settings.specs.{Bounds.Limits, declared.setting.Setting.Setting}
+use Rattle.inf_expressions.specs.{declared.findings.Finding.Finding, declared.findings.UnitError.UnitError}
 use Rattle.inf_expressions.specs.Findings.{least_of_both, wrong_kind}
-use Rattle.inf_names.specs.Symbols.{found_in}
-use Rattle.inf_names.specs.declared.meanings.Meaning.{Meaning}
-use Rattle.inf_names.specs.declared.meanings.Meaning.TheVariants as meaning
-use Rattle.inf_names.specs.declared.symbols.Found.{Found}
-use Rattle.inf_names.specs.declared.symbols.Found.TheVariants as found
+use Rattle.inf_names.specs.{Spellings.Name, Symbols.found_in, declared.meanings.Meaning.Meaning, declared.symbols.Found.Found}
 use Rattle.inf_output.specs.Output.{Code, Out, passed_table}
-use Rattle.inf_report.specs.Messages.{TooMany}
-use Rattle.inf_report.specs.declared.messages.FixedLimit.TheVariants as countable
-use Rattle.inf_scanner.specs.declared.tokens.Place.{Place}
-use Rattle.inf_scanner.specs.declared.tokens.TokenKind.{TokenKind}
-use Rattle.inf_scanner.specs.declared.tokens.TokenKind.TheVariants as kind
-use Rattle.inf_settings.specs.declared.setting.Setting.{Setting}
-use Rattle.inf_settings.specs.declared.setting.Setting.TheVariants as setting
-use Rattle.inf_names.specs.Spellings.{Name}
-use Rattle.inf_unit.specs.Messages.{Diagnostic}
-use Rattle.inf_compilation.specs.Context.{Context}
-use Rattle.inf_unit.specs.Tokens.{SourceToken}
+use Rattle.inf_report.specs.{Messages.TooMany, declared.messages.FixedLimit.FixedLimit}
+use Rattle.inf_scanner.specs.{declared.tokens.Place.Place, declared.tokens.TokenKind.TokenKind}
+use Rattle.inf_unit.specs.{Messages.Diagnostic, Tokens.SourceToken}
 use Rattle.inf_unit.specs.Units.{bytes_at, name_at, name_order, next_place, order}
-use Rattle.inf_tables.specs.declared.faults.WorldFault.{WorldFault}
-use Rattle.inf_tables.specs.declared.faults.WorldFault.TheVariants as fault
-use Rattle.inf_tables.specs.declared.faults.Misfit.{Misfit}
-use Rattle.inf_tables.specs.declared.faults.WorldSetting.{WorldSetting}
-use Rattle.inf_tables.specs.declared.faults.WorldSetting.TheVariants as world_setting
-use Rattle.inf_tables.specs.declared.kinds.Parent.{Parent}
-use Rattle.inf_tables.specs.declared.kinds.Parent.TheVariants as parent
-use Rattle.inf_tables.specs.Objects.{class_count, parent_of}
+use Rattle.inf_compilation.specs.{Actions.Compilation, Actions.unit_ended, Context.Context, Findings.found_alone, Findings.many_finding}
+use Rattle.inf_tables.specs.{Objects.class_count, Objects.parent_of, declared.faults.Misfit.Misfit, declared.faults.WorldFault.WorldFault}
+use Rattle.inf_tables.specs.{declared.faults.WorldSetting.WorldSetting, declared.kinds.Parent.Parent}
 use Rattle.inf_tables.specs.World.{class_header_fault, class_of_fault, lost_header_fault, object_header_fault, with_class_header}
 use Rattle.inf_tables.specs.World.{with_class_of, with_lost_header, with_object_header}
-use Rattle.inf_compilation.specs.Actions.{Compilation, unit_ended}
 use Rattle.inf_named_values.specs.Declarations.{declared_ended, name_declared, plainly_known, with_world}
-use Rattle.inf_compilation.specs.Findings.{found_alone, many_finding}
 use Rattle.inf_named_values.specs.declared.declarations.Declared.{Declared}
 use Rattle.inf_bodies.specs.declared.headers.Header.{Header}
 use Rattle.inf_bodies.specs.ShortNames.{bracketed, name_packed, packed_name, short_text}
@@ -45,24 +25,24 @@ use Rattle.inf_bodies.specs.ShortNames.{bracketed, name_packed, packed_name, sho
 
 -- the setting that bounds a count
 abbrev pub setting_of : WorldSetting → Setting
-setting_of world_setting.Objects = setting.Objects
-setting_of world_setting.PropertyTables = setting.PropertyTables
+setting_of WorldSetting.Objects = Setting.Objects
+setting_of WorldSetting.PropertyTables = Setting.PropertyTables
 
 -- A refused entry does nothing; where it would pass a setting, that is passed.
 abbrev pub noted : Limits → WorldFault → Code
-noted limits (fault.Limit l) o = o
-noted limits (fault.Misfit m) o = o
-noted limits (fault.Full s) o = passed_table limits (setting_of s) o
-noted limits fault.Memory o = o
+noted limits (WorldFault.Limit l) o = o
+noted limits (WorldFault.Misfit m) o = o
+noted limits (WorldFault.Full s) o = passed_table limits (setting_of s) o
+noted limits WorldFault.Memory o = o
 
 -- The finding about an entry that the world refuses, at `name`, the order of its name. It is no error of the unit that a
 -- setting would be passed.
 abbrev pub refused_finding : Option WorldFault → ℕ → Option Finding
 refused_finding None name = None
-refused_finding (Some (fault.Limit l)) name = Some (record { order = 0; error = unit_error.TooMany })
-refused_finding (Some (fault.Misfit m)) name = Some (wrong_kind name)
-refused_finding (Some (fault.Full s)) name = None
-refused_finding (Some fault.Memory) name = None
+refused_finding (Some (WorldFault.Limit l)) name = Some (record { order = 0; error = UnitError.TooMany })
+refused_finding (Some (WorldFault.Misfit m)) name = Some (wrong_kind name)
+refused_finding (Some (WorldFault.Full s)) name = None
+refused_finding (Some WorldFault.Memory) name = None
 
 -- The end of a unit of an object or a class, which begins at `first`: the finding about it is shown, and at its first token
 -- that there are too many values.
@@ -75,25 +55,25 @@ abbrev pub found_at : ℕ → Compilation → Found Place
 found_at at w = found_in (bytes_at w.unit.tokens at) w.output.names
 
 abbrev pub object_in : Meaning → Option ℕ
-object_in (meaning.Object number) = Some number
+object_in (Meaning.Object number) = Some number
 object_in _ = None
 
 abbrev pub object_of : Found Place → Option ℕ
-object_of (found.System m) = object_in m
-object_of (found.Declared m first) = object_in m
-object_of found.Used = None
-object_of found.Unknown = None
+object_of (Found.System m) = object_in m
+object_of (Found.Declared m first) = object_in m
+object_of Found.Used = None
+object_of Found.Unknown = None
 
 -- the class of the source
 abbrev pub class_in : Meaning → Option ℕ
-class_in (meaning.Class number) = Some number
+class_in (Meaning.Class number) = Some number
 class_in _ = None
 
 abbrev pub class_of : Found Place → Option ℕ
-class_of (found.System m) = None
-class_of (found.Declared m first) = class_in m
-class_of found.Used = None
-class_of found.Unknown = None
+class_of (Found.System m) = None
+class_of (Found.Declared m first) = class_in m
+class_of Found.Used = None
+class_of Found.Unknown = None
 
 -- The header of an object: behind its word arrows, the object's own name, a text as its short name, and the name of its parent
 
@@ -113,8 +93,8 @@ abbrev pub named_at : ℕ → Header → Header
 named_at at h = named_by h.own h.text at h
 
 abbrev pub header_with : ℕ → TokenKind → Header → Header
-header_with at (kind.Mark m) h = arrow_at at h
-header_with at kind.Text h = record h { text = Some at }
+header_with at (TokenKind.Mark m) h = arrow_at at h
+header_with at TokenKind.Text h = record h { text = Some at }
 header_with at _ h = named_at at h
 
 abbrev pub header_step : ℕ → ℕ → Option TokenKind → Header → Header
@@ -156,7 +136,7 @@ lost_begun o = lost_begun_by (lost_header_fault o.tables.world) o
 
 -- the name of a class is declared; where there is no such class, as that of none
 abbrev pub class_declared : Limits → Name → ℕ → Code
-class_declared limits name number o = name_declared limits name (meaning.Class (number % 65536)) o
+class_declared limits name number o = name_declared limits name (Meaning.Class (number % 65536)) o
 
 abbrev pub class_lost : Limits → Name → Code
 class_lost limits name o = class_declared limits name 0 (lost_begun o)
@@ -182,7 +162,7 @@ class_opened limits context (Some f) name w = record w { output = class_lost lim
 
 abbrev pub class_with : Limits → Context → Place → Name → Declared → Compilation → Compilation
 class_with limits context first name d w =
-    declared_ended limits context first false name countable.Globals d (class_opened limits context d.finding name w)
+    declared_ended limits context first false name FixedLimit.Globals d (class_opened limits context d.finding name w)
 
 abbrev pub class_header : Limits → Context → Place → Name → Compilation → Compilation
 class_header limits context first name w = class_with limits context first name (plainly_known name (name_order w.unit.tokens) w) w
@@ -196,7 +176,7 @@ hung_finding (Err m) at = Some (wrong_kind (order at))
 
 abbrev pub above_finding : Option ℕ → ℕ → Compilation → Option Finding
 above_finding None arrows w = None
-above_finding (Some at) arrows w = hung_finding (parent_of (parent.Arrows arrows) w.output.tables.world.objects) at
+above_finding (Some at) arrows w = hung_finding (parent_of (Parent.Arrows arrows) w.output.tables.world.objects) at
 
 -- the finding about the name of a parent: it is that of no object, or arrows are there, too
 abbrev pub parent_fit : Option ℕ → Option ℕ → ℕ → Option Finding
@@ -212,8 +192,8 @@ abbrev pub parent_finding : Header → Compilation → Option Finding
 parent_finding h w = least_of_both (above_finding h.arrow h.arrows w) (named_parent_finding h.parent h.arrow w)
 
 abbrev pub parent_in : Option ℕ → ℕ → Compilation → Parent
-parent_in None arrows w = parent.Arrows arrows
-parent_in (Some at) arrows w = parent.Object (unwrap_or (object_of (found_at at w)) 0)
+parent_in None arrows w = Parent.Arrows arrows
+parent_in (Some at) arrows w = Parent.Object (unwrap_or (object_of (found_at at w)) 0)
 
 abbrev pub own_name : Option ℕ → Compilation → Option Name
 own_name None w = None
@@ -249,7 +229,7 @@ joined_fault limits (Some number) o = class_of_fault limits number o.tables.worl
 
 abbrev pub object_declared : Limits → Option Name → ℕ → Code
 object_declared limits None number o = o
-object_declared limits (Some n) number o = name_declared limits n (meaning.Object (number % 65536)) o
+object_declared limits (Some n) number o = name_declared limits n (Meaning.Object (number % 65536)) o
 
 abbrev pub object_named : Limits → Option ℕ → Option Name → ℕ → Code
 object_named limits class name number o = object_declared limits name number (joined_some limits class o)
@@ -287,12 +267,12 @@ named_known context h at name w =
     record { found = d.found; finding = least_of_both d.finding (headed_finding h w) }
 
 abbrev pub object_known : Context → Header → Option Name → Compilation → Declared
-object_known context h None w = record { found = found.Unknown; finding = headed_finding h w }
+object_known context h None w = record { found = Found.Unknown; finding = headed_finding h w }
 object_known context h (Some name) w = named_known context h (unwrap_or h.own 0) name w
 
 abbrev pub object_ended : Limits → Context → Place → Option Name → Declared → Compilation → Compilation
 object_ended limits context first None d w = entry_told limits context first d.finding w
-object_ended limits context first (Some name) d w = declared_ended limits context first false name countable.Values d w
+object_ended limits context first (Some name) d w = declared_ended limits context first false name FixedLimit.Values d w
 
 abbrev pub object_with_known : Limits → Context → Place → Header → Option Name → Declared → Compilation → Compilation
 object_with_known limits context first h name d w =

@@ -1,18 +1,13 @@
 -- The short names of objects and classes. Z-Machine Standard 1.1, section 12.4; Designer's Manual, fourth edition, section 3.1.
 use Rattle.std.specs.Prelude.{ℕ, List, [], ◌∷◌, ◌++◌, codes, Option, Some, None}
-use Rattle.inf_characters.specs.Reading.{text_of}
-use Rattle.inf_characters.specs.declared.characters.CharSet.{CharSet}
-use Rattle.inf_characters.specs.declared.reading.Mode.TheVariants as mode
-use Rattle.inf_characters.specs.declared.texts.TextItem.{TextItem}
+use Rattle.inf_characters.specs.{Reading.text_of, declared.characters.CharSet.CharSet, declared.reading.Mode.Mode}
+use Rattle.inf_characters.specs.{declared.texts.TextItem.TextItem}
 use Rattle.inf_names.specs.Spellings.{Name}
-use Rattle.inf_output.specs.Output.{Code}
-use Rattle.inf_output.specs.Texts.{Packing, used_in}
+use Rattle.inf_output.specs.{Output.Code, Texts.Packing, Texts.used_in}
 use Rattle.inf_text.specs.Packing.{packed}
 use Rattle.inf_unit.specs.Texts.{fit_characters}
-use Rattle.inf_operands.specs.Texts.{text_at}
-use Rattle.inf_operands.specs.Texts.{text_packed}
-use Rattle.inf_compilation.specs.Context.{Context}
-use Rattle.inf_compilation.specs.Actions.{Compilation}
+use Rattle.inf_operands.specs.Texts.{text_at, text_packed}
+use Rattle.inf_compilation.specs.{Actions.Compilation, Context.Context}
 use Rattle.inf_bodies.specs.declared.headers.Header.{Header}
 
 -- the bytes of a short name of these characters, by how the texts of the story are packed
@@ -31,7 +26,7 @@ in_brackets name = 40 ∷ (name ++ 41 ∷ [])
 
 -- the characters of the short name of an object or a class without a text for it
 abbrev pub bracketed : CharSet → List ℕ → Option (List TextItem)
-bracketed set name = fit_characters (text_of set mode.Text (in_brackets name))
+bracketed set name = fit_characters (text_of set Mode.Text (in_brackets name))
 
 -- the name of an object, or a question mark where it has none
 abbrev pub shown_name : Option Name → List ℕ

@@ -2,39 +2,25 @@
 use Rattle.std.specs.Prelude.{ℕ, ◌+◌, ◌-◌, ◌==◌, List, [], ◌∷◌, length, slice_get, Bool, true, false, not, ◌&&◌, if◌then◌else◌, Option}
 use Rattle.std.specs.Prelude.{Some, None, is_some}
 use Rattle.inf_settings.specs.Bounds.{Limits}
-use Rattle.inf_area.specs.declared.targets.AreaName.TheVariants as area
-use Rattle.inf_area.specs.declared.targets.Target.TheVariants as target
-use Rattle.inf_area.specs.declared.targets.Value.{Value}
-use Rattle.inf_area.specs.declared.targets.Value.TheVariants as value
-use Rattle.inf_characters.specs.Reading.{text_of}
-use Rattle.inf_characters.specs.declared.characters.CharSet.{CharSet}
-use Rattle.inf_characters.specs.declared.reading.Mode.TheVariants as mode
-use Rattle.inf_characters.specs.declared.texts.TextItem.{TextItem}
+use Rattle.inf_area.specs.{declared.targets.AreaName.AreaName, declared.targets.Target.Target, declared.targets.Value.Value}
+use Rattle.inf_characters.specs.{Reading.text_of, declared.characters.CharSet.CharSet, declared.reading.Mode.Mode}
+use Rattle.inf_characters.specs.{declared.texts.TextItem.TextItem}
 use Rattle.inf_code.specs.Code.{place_behind}
-use Rattle.inf_dictionary.specs.declared.uses.WordUse.TheVariants as word_use
-use Rattle.inf_expressions.specs.declared.findings.Finding.{Finding}
-use Rattle.inf_expressions.specs.declared.units.Wanted.TheVariants as wanted
+use Rattle.inf_dictionary.specs.declared.uses.WordUse.{WordUse}
+use Rattle.inf_expressions.specs.{declared.findings.Finding.Finding, declared.units.Wanted.Wanted}
 use Rattle.inf_expressions.specs.Findings.{least_of_both, out_of_range}
 use Rattle.inf_gathering.specs.declared.gathering.Leaf.{Leaf}
-use Rattle.inf_gathering.specs.declared.gathering.Leaf.TheVariants as leaf
 use Rattle.inf_output.specs.Output.{with_word}
-use Rattle.inf_scanner.specs.declared.tokens.Mark.TheVariants as mark
-use Rattle.inf_scanner.specs.declared.tokens.Place.{Place}
-use Rattle.inf_scanner.specs.declared.tokens.TokenKind.{TokenKind}
+use Rattle.inf_scanner.specs.{declared.tokens.Mark.Mark, declared.tokens.Place.Place, declared.tokens.TokenKind.TokenKind}
 use Rattle.inf_operands.specs.Texts.{text_at}
 use Rattle.inf_report.specs.declared.messages.FixedLimit.{FixedLimit}
-use Rattle.inf_report.specs.declared.messages.FixedLimit.TheVariants as countable
 use Rattle.inf_names.specs.Locals.{Headed, no_locals}
 use Rattle.inf_text.specs.Packing.{dictionary_bytes}
-use Rattle.inf_compilation.specs.Context.{Context}
-use Rattle.inf_unit.specs.Texts.{fit_characters}
-use Rattle.inf_unit.specs.Tokens.{SourceToken, is_mark}
-use Rattle.inf_unit.specs.Units.{first_place, order}
+use Rattle.inf_compilation.specs.{Context.Context, Findings.Findings, Findings.header_findings}
 use Rattle.inf_compilation.specs.Actions.{Compilation, finding_at, opened_with, settled_of}
-use Rattle.inf_named_values.specs.Values.{looked_value, variables_from}
+use Rattle.inf_unit.specs.{Texts.fit_characters, Tokens.SourceToken, Tokens.is_mark, Units.first_place, Units.order}
+use Rattle.inf_named_values.specs.Values.{looked_value, variables_from, value_of}
 use Rattle.inf_bodies.specs.Bodies.{is_words, last_at, place_finding, placed, placed_finding, property_of}
-use Rattle.inf_named_values.specs.Values.{value_of}
-use Rattle.inf_compilation.specs.Findings.{Findings, header_findings}
 use Rattle.inf_bodies.specs.Objects.{entry_told, found_at}
 
 -- the place of the name of a property, which comes before its first value
@@ -64,14 +50,14 @@ word_leaf takes w = if takes && (length w.unit.gathering.symbols == 1) then only
 -- the character that the last token is, as a text
 abbrev pub char_by : CharSet → Option SourceToken → Option (List TextItem)
 char_by set None = None
-char_by set (Some t) = fit_characters (text_of set mode.Quote t.bytes)
+char_by set (Some t) = fit_characters (text_of set Mode.Quote t.bytes)
 
 abbrev pub char_text : Context → Compilation → Option (List TextItem)
 char_text context w = char_by context.set (slice_get w.unit.tokens (last_at w.unit.tokens))
 
 abbrev pub leaf_text : Context → Leaf → Compilation → Option (List TextItem)
-leaf_text context (leaf.Char c) w = char_text context w
-leaf_text context (leaf.Text at) w = text_at context.set w.unit.tokens at
+leaf_text context (Leaf.Char c) w = char_text context w
+leaf_text context (Leaf.Text at) w = text_at context.set w.unit.tokens at
 leaf_text context _ w = None
 
 abbrev pub word_text_by : Context → Option Leaf → Compilation → Option (List TextItem)
@@ -83,10 +69,10 @@ word_text context takes w = word_text_by context (word_leaf takes w) w
 
 -- no string variable may be among its characters
 abbrev pub text_value : Bool → List TextItem → Value
-text_value has_variables items = if has_variables then value.Known 0 else value.Later (target.Word (dictionary_bytes items))
+text_value has_variables items = if has_variables then Value.Known 0 else Value.Later (Target.Word (dictionary_bytes items))
 
 abbrev pub word_used : Limits → Option Finding → List TextItem → Compilation → Compilation
-word_used limits None items w = record w { output = with_word limits (dictionary_bytes items) word_use.Other false w.output }
+word_used limits None items w = record w { output = with_word limits (dictionary_bytes items) WordUse.Other false w.output }
 word_used limits (Some f) items w = w
 
 abbrev pub text_finding_by : Limits → Bool → Option ℕ → List TextItem → Compilation → Option Finding
@@ -131,10 +117,10 @@ value_with limits context name judged looked w =
     value_by limits context (least_of_both judged (place_finding limits name looked w)) name judged looked w
 
 abbrev pub expression_finding : Limits → Context → Option ℕ → Compilation → Option Finding
-expression_finding limits context name w = value_with_finding limits context name (finding_at 0 wanted.Constant w) (looked_value w) w
+expression_finding limits context name w = value_with_finding limits context name (finding_at 0 Wanted.Constant w) (looked_value w) w
 
 abbrev pub expression_placed : Limits → Context → Option ℕ → Compilation → Compilation
-expression_placed limits context name w = value_with limits context name (finding_at 0 wanted.Constant w) (looked_value w) w
+expression_placed limits context name w = value_with limits context name (finding_at 0 Wanted.Constant w) (looked_value w) w
 
 abbrev pub any_finding : Limits → Context → Option (List TextItem) → Option ℕ → Compilation → Option Finding
 any_finding limits context None name w = expression_finding limits context name w
@@ -162,7 +148,7 @@ value_read limits context place w = value_read_at limits context (first_place w.
 -- the place of the bracket that opens one, which is the last of its unit
 abbrev pub bracket_step : ℕ → Option TokenKind → ℕ → ℕ
 bracket_step at None bracket = bracket
-bracket_step at (Some k) bracket = if is_mark mark.OpenBracket k then at else bracket
+bracket_step at (Some k) bracket = if is_mark Mark.OpenBracket k then at else bracket
 
 abbrev pub bracket_from : ℕ → List SourceToken → ℕ → ℕ
 bracket_from at [] bracket = bracket
@@ -172,11 +158,11 @@ abbrev pub bracket_in : List SourceToken → ℕ
 bracket_in tokens = bracket_from 0 tokens 0
 
 abbrev pub next_routine : Compilation → Value
-next_routine w = value.Later (target.Place area.Code (place_behind w.output.code.finished))
+next_routine w = Value.Later (Target.Place AreaName.Code (place_behind w.output.code.finished))
 
 -- The limit that a routine as a value passes: where there are too many locals it is that of locals, else that of values.
 abbrev pub many_by : Bool → FixedLimit
-many_by are_locals = if are_locals then countable.Locals else countable.Values
+many_by are_locals = if are_locals then FixedLimit.Locals else FixedLimit.Values
 
 abbrev pub embedded_findings : Option Finding → Bool → Findings → Findings
 embedded_findings own are_locals header = record header { least = least_of_both own header.least; many = many_by are_locals }

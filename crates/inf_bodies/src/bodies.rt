@@ -1,5 +1,5 @@
 //! The entries in the bodies of objects and classes: classes, attributes and properties.
-ghost use Rattle.inf_compilation.specs.Context.{handed};
+ghost use Rattle.inf_compilation.specs.{Actions.body_ended, Actions.world_ended, Context.handed, Works.work};
 ghost use Rattle.std.specs.Prelude.{IfOk, OnOk, option_map, ◌≡◌};
 ghost use Rattle.inf_names.specs.Spellings.{as_name};
 ghost use Rattle.inf_bodies.specs.Bodies.{attribute_finding, attribute_of, attribute_read, attribute_set, attribute_set_some};
@@ -8,8 +8,6 @@ ghost use Rattle.inf_bodies.specs.Bodies.{further_placed, given, given_finding, 
 ghost use Rattle.inf_bodies.specs.Bodies.{individual_named, is_given, is_words, last_at, number_finding, place_finding, placed};
 ghost use Rattle.inf_bodies.specs.Bodies.{placed_finding, property_finding, property_given, property_gives, property_in, property_lost};
 ghost use Rattle.inf_bodies.specs.Bodies.{property_of, property_read};
-ghost use Rattle.inf_compilation.specs.Actions.{body_ended, world_ended};
-ghost use Rattle.inf_compilation.specs.Works.{work};
 
 use crate::effects::{join_some, setting_of};
 use crate::objects::{class_of, found_at, name_at, refused_finding, tell_entry};

@@ -1,5 +1,5 @@
 //! The headers of classes and objects.
-ghost use Rattle.inf_compilation.specs.Context.{handed};
+ghost use Rattle.inf_compilation.specs.{Context.handed, Works.work};
 ghost use Rattle.std.specs.Prelude.{OnOk, option_map, ◌≡◌};
 ghost use Rattle.inf_names.specs.Spellings.{as_name};
 ghost use Rattle.inf_bodies.specs.Objects.{above_finding, class_header, class_of, class_of_word, class_opened, class_with, entry_told};
@@ -8,7 +8,6 @@ ghost use Rattle.inf_bodies.specs.Objects.{named_parent_finding, object_ended, o
 ghost use Rattle.inf_bodies.specs.Objects.{object_of, object_opened, object_with, own_name, parent_finding, parent_fit, parent_in};
 ghost use Rattle.inf_bodies.specs.Objects.{refused_finding, word_place};
 ghost use Rattle.inf_unit.specs.Units.{name_at};
-ghost use Rattle.inf_compilation.specs.Works.{work};
 
 use crate::effects::{begin_class, begin_object, lose_class, lose_object};
 use crate::headers::{Header, header_in, word_place};

@@ -1,11 +1,10 @@
 //! The short names of objects and classes.
-ghost use Rattle.inf_compilation.specs.Context.{handed};
+ghost use Rattle.inf_compilation.specs.{Context.handed, Works.work};
 ghost use Rattle.std.specs.Prelude.{IfOk, OnOk, option_map, ◌≡◌};
 ghost use Rattle.inf_characters.specs.Reading.{text_of as read_in};
 ghost use Rattle.inf_names.specs.Spellings.{as_name};
 ghost use Rattle.inf_unit.specs.Texts.{fit_characters};
 ghost use Rattle.inf_bodies.specs.ShortNames.{bracketed, header_text, in_brackets, name_packed, packed_name, short_text, shown_name};
-ghost use Rattle.inf_compilation.specs.Works.{work};
 
 use crate::headers::Header;
 use inf_compilation::compilation::Compilation;

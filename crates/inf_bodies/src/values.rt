@@ -1,5 +1,5 @@
 //! The values of properties: words of the dictionary, expressions, and routines.
-ghost use Rattle.inf_compilation.specs.Context.{handed};
+ghost use Rattle.inf_compilation.specs.{Context.handed, Meant.found_as, Works.work};
 ghost use Rattle.std.specs.Prelude.{IfOk, OnOk, option_map, ◌≡◌};
 ghost use Rattle.inf_names.specs.LocalList.{headed as as_headed};
 ghost use Rattle.inf_bodies.specs.Values.{bracket_in, bracket_step, char_text, embedded, embedded_begun, embedded_findings};
@@ -8,8 +8,6 @@ ghost use Rattle.inf_bodies.specs.Values.{many_by, name_place, next_routine, onl
 ghost use Rattle.inf_bodies.specs.Values.{settled_placed, takes_words, text_finding, text_placed, text_value, value_finding, value_placed};
 ghost use Rattle.inf_bodies.specs.Values.{value_read, value_with, value_with_finding, word_leaf, word_text, word_used, wrong_if};
 ghost use Rattle.inf_bodies.specs.Bodies.{place_finding};
-ghost use Rattle.inf_compilation.specs.Meant.{found_as};
-ghost use Rattle.inf_compilation.specs.Works.{work};
 
 use crate::bodies::{is_words, last_at, place_finding, placed, property_of};
 use crate::objects::{found_at, tell_entry};

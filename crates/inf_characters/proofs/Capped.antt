@@ -1,13 +1,9 @@
 -- A number up to a limit gives the character that the number gives.
 use Rattle.std.proofs.Common.{◌≡◌, ◌<◌, ◌≤◌, ◌+◌, ◌*◌, ℕ, zero, suc, min, Bool, true, false, ◌&&◌, cond, Option, None, Some, List, [], ◌∷◌}
-use Rattle.std.proofs.Common.{refl, ap, sym, ◌∙◌, arith, inl, inr, eqb, leb, ltb}
-use Rattle.std.specs.List.{position_from, list_all}
-use Rattle.std.specs.Option.{option_map}
-use Rattle.std.specs.Prelude.{◌⊎◌, nat_lt}
-use Rattle.std.proofs.lemmas.Bool.{cases_lt}
-use Rattle.std.proofs.lemmas.Bool.Decides.{nat_tests}
-use Rattle.inf_characters.specs.Characters.{accented, zscii_of_unicode}
-use Rattle.inf_characters.specs.Reading.{digit_of, number_from}
+use Rattle.std.proofs.Common.{refl, ap, sym, ◌∙◌, arith, inl, inr, eqb, leb, ltb, option_map, ◌⊎◌, nat_lt}
+use Rattle.std.proofs.{lemmas.Bool.Decides.nat_tests, lemmas.Bool.cases_lt}
+use Rattle.std.specs.List.{list_all, position_from}
+use Rattle.inf_characters.specs.{Characters.accented, Characters.zscii_of_unicode, Reading.digit_of, Reading.number_from}
 
 -- one more digit, behind a number that the limit left as it was or cut
 pub capped-more : (base high digit : ℕ) → min (min high 65536 * base + digit) 65536 ≡ min (base * high + digit) 65536

@@ -1,18 +1,13 @@
 -- A piece is read from its own bytes: those behind it are not looked at, but for where it ends.
 use Rattle.std.proofs.Common.{◌≡◌, ◌<◌, ◌≤◌, ◌+◌, ◌*◌, ℕ, zero, suc, Bool, true, false, not, ◌||◌, cond, eqb, ltb, Option, None, Some}
 use Rattle.std.proofs.Common.{Result, Ok, Err, List, [], ◌∷◌, ◌++◌, length, take, drop, refl, sym, ap, ◌∙◌, arith}
-use Rattle.std.specs.List.{prefix_len}
 use Rattle.std.proofs.lemmas.List.{take-append-le}
+use Rattle.std.specs.List.{prefix_len}
+use Rattle.inf_characters.specs.{declared.characters.CharSet.CharSet, declared.reading.Mode.Mode, declared.reading.Piece.Piece}
+use Rattle.inf_characters.specs.{declared.reading.TextFault.TextFault, declared.texts.TextItem.TextItem}
 use Rattle.inf_characters.specs.Characters.{is_code, is_white, zscii_of_unicode}
 use Rattle.inf_characters.specs.Reading.{accent_piece, character_piece, closes, code_piece, digit_of, escape_piece, number_from, one}
 use Rattle.inf_characters.specs.Reading.{piece_at, spaces, spelled, unicode_piece, variable_piece, white_len}
-use Rattle.inf_characters.specs.declared.characters.CharSet.{CharSet}
-use Rattle.inf_characters.specs.declared.reading.Mode.{Mode}
-use Rattle.inf_characters.specs.declared.reading.Mode.TheVariants as mode
-use Rattle.inf_characters.specs.declared.reading.Piece.{Piece}
-use Rattle.inf_characters.specs.declared.reading.TextFault.{TextFault}
-use Rattle.inf_characters.specs.declared.reading.TextFault.TheVariants.{UnknownEscape, BadCode}
-use Rattle.inf_characters.specs.declared.texts.TextItem.TheVariants.{Character, Variable}
 
 -- a number, where its next byte was looked at
 abbrev after_digit : ℕ → ℕ → ℕ → List ℕ → Option ℕ → ℕ × ℕ
@@ -93,15 +88,15 @@ unicode_piece-behind p bytes found =
     (character_piece-behind p (zscii_of_unicode found.1) (2 + found.0))
 
 variable_piece-behind : (p : Piece) (m : Mode) (tens : ℕ) (bytes : List ℕ) → Behind p 2 (variable_piece m tens bytes)
-variable_piece-behind p mode.Quote tens bytes = behind_err p 2 _
-variable_piece-behind p mode.Abbreviation tens bytes = behind_err p 2 _
-variable_piece-behind p mode.Text tens [] = behind_err p 2 _
-variable_piece-behind p mode.Text tens (b ∷ bytes) = go (digit_of 10 b)
+variable_piece-behind p Mode.Quote tens bytes = behind_err p 2 _
+variable_piece-behind p Mode.Abbreviation tens bytes = behind_err p 2 _
+variable_piece-behind p Mode.Text tens [] = behind_err p 2 _
+variable_piece-behind p Mode.Text tens (b ∷ bytes) = go (digit_of 10 b)
   where
     go : (o : Option ℕ) → Behind p 2 (elim o as (λ _. Result Piece TextFault) [
-      | None ↦ Err UnknownEscape
+      | None ↦ Err TextFault.UnknownEscape
       | Some units ↦ cond
-          (ltb (10 * tens + units) 32) (Ok (one (Variable (10 * tens + units)) 2)) (Err BadCode)
+          (ltb (10 * tens + units) 32) (Ok (one (TextItem.Variable (10 * tens + units)) 2)) (Err TextFault.BadCode)
     ])
     go None = behind_err p 2 _
     go (Some units) = behind_both p 2 (ltb (10 * tens + units) 32) _ _ (behind_ok p _ 2 refl) (behind_err p 2 _)
@@ -111,7 +106,8 @@ accent_piece-behind p a [] = behind_err p 2 _
 accent_piece-behind p a (b ∷ bytes) = go (spelled a b)
   where
     go : (o : Option ℕ) →
-        Behind p 2 (elim o as (λ _. Result Piece TextFault) [ None ↦ Err UnknownEscape | Some c ↦ Ok (one (Character c) 2) ])
+        Behind p 2 (elim o as (λ _. Result Piece TextFault)
+        [ None ↦ Err TextFault.UnknownEscape | Some c ↦ Ok (one (TextItem.Character c) 2) ])
     go None = behind_err p 2 _
     go (Some c) = behind_ok p _ 2 refl
 
@@ -141,7 +137,8 @@ unicode_piece-cut p xs ys le e =
     let same = number_from-cut 16 0 0 xs ys (omega arith) in
     let closed = closes-cut found.0 xs ys (omega arith) in
     ap (unicode_piece xs) (sym same)
-    ∙ ap (λ (t : Bool). cond (eqb found.0 0 || not t) (Err UnknownEscape) (character_piece (zscii_of_unicode found.1) (2 + found.0)))
+    ∙ ap (λ (t : Bool). cond (eqb found.0 0 || not t) (Err TextFault.UnknownEscape)
+    (character_piece (zscii_of_unicode found.1) (2 + found.0)))
     (sym closed)
     ∙ e
 
@@ -149,9 +146,9 @@ variable_piece-cut : (p : Piece) (m : Mode) (tens : ℕ) (xs ys : List ℕ) → 
     Keeps p (variable_piece m tens (xs ++ ys)) (variable_piece m tens xs)
 unfolding Keeps Behind
 variable_piece-cut p m tens [] ys le e = let behind : p.behind ≡ 2 = variable_piece-behind p m tens ys e in absurd (omega arith)
-variable_piece-cut p mode.Quote tens (x ∷ xs) ys le e = e
-variable_piece-cut p mode.Abbreviation tens (x ∷ xs) ys le e = e
-variable_piece-cut p mode.Text tens (x ∷ xs) ys le e = e
+variable_piece-cut p Mode.Quote tens (x ∷ xs) ys le e = e
+variable_piece-cut p Mode.Abbreviation tens (x ∷ xs) ys le e = e
+variable_piece-cut p Mode.Text tens (x ∷ xs) ys le e = e
 
 accent_piece-cut : (p : Piece) (a : ℕ) (xs ys : List ℕ) → p.behind ≤ 1 + length xs → Keeps p (accent_piece a (xs ++ ys)) (accent_piece a xs)
 unfolding Keeps Behind
@@ -204,7 +201,7 @@ escape_piece-cut p m (x ∷ xs) ys le e =
 
 -- white space that is read as some spaces
 white : ℕ → ℕ → Result Piece TextFault
-white count behind = Ok (record { item = Character 32; count = count; behind = behind; is_mark = false })
+white count behind = Ok (record { item = TextItem.Character 32; count = count; behind = behind; is_mark = false })
 
 white-behind : (p : Piece) (count behind : ℕ) → Behind p behind (white count behind)
 unfolding white

@@ -1,37 +1,31 @@
 -- Reading itself never lacks memory.
 use Rattle.std.proofs.Common.{◌≡◌, ◌+◌, ◌*◌, ℕ, Bool, true, false, not, ◌||◌, cond, eqb, ltb, Option, None, Some, Result, Ok, Err, List, []}
 use Rattle.std.proofs.Common.{◌∷◌, drop, refl, sym, ap, ◌∙◌}
+use Rattle.inf_characters.specs.{declared.characters.CharSet.CharSet, declared.reading.Mode.Mode, declared.reading.Piece.Piece}
+use Rattle.inf_characters.specs.{declared.reading.TextFault.TextFault, declared.texts.TextItem.TextItem}
 use Rattle.inf_characters.specs.Characters.{is_code, is_white, zscii_of, zscii_of_unicode}
 use Rattle.inf_characters.specs.Reading.{Reads, accent_piece, and_then, character_piece, closes, code_piece, digit_of, escape_piece}
 use Rattle.inf_characters.specs.Reading.{is_new_line_mark, meaning, number_from, one, piece_at, spelled, text_from, text_of, unicode_piece}
 use Rattle.inf_characters.specs.Reading.{variable_piece, with_front}
-use Rattle.inf_characters.specs.declared.characters.CharSet.{CharSet}
-use Rattle.inf_characters.specs.declared.reading.Mode.{Mode}
-use Rattle.inf_characters.specs.declared.reading.Mode.TheVariants as mode
-use Rattle.inf_characters.specs.declared.reading.Piece.{Piece}
-use Rattle.inf_characters.specs.declared.reading.TextFault.{TextFault}
-use Rattle.inf_characters.specs.declared.reading.TextFault.TheVariants.{UnknownEscape, NoZscii, BadCode, Memory}
-use Rattle.inf_characters.specs.declared.texts.TextItem.{TextItem}
-use Rattle.inf_characters.specs.declared.texts.TextItem.TheVariants.{Character, Variable}
 use Rattle.inf_characters.proofs.Pieces.{Continues}
 
 -- a piece is not refused for want of memory
 Told : Result Piece TextFault → Type 0
-Told r = r ≡ Err Memory → ⊥
+Told r = r ≡ Err TextFault.Memory → ⊥
 
 told_ok : (p : Piece) → Told (Ok p)
 unfolding Told
 told_ok p e = cc
 
-told_escape : Told (Err UnknownEscape)
+told_escape : Told (Err TextFault.UnknownEscape)
 unfolding Told
 told_escape e = cc
 
-told_character : Told (Err NoZscii)
+told_character : Told (Err TextFault.NoZscii)
 unfolding Told
 told_character e = cc
 
-told_code : Told (Err BadCode)
+told_code : Told (Err TextFault.BadCode)
 unfolding Told
 told_code e = cc
 
@@ -52,15 +46,15 @@ unicode_piece-told bytes found =
     (character_piece-told (zscii_of_unicode found.1) (2 + found.0))
 
 variable_piece-told : (m : Mode) (tens : ℕ) (bytes : List ℕ) → Told (variable_piece m tens bytes)
-variable_piece-told mode.Quote tens bytes = told_escape
-variable_piece-told mode.Abbreviation tens bytes = told_escape
-variable_piece-told mode.Text tens [] = told_escape
-variable_piece-told mode.Text tens (b ∷ bytes) = go (digit_of 10 b)
+variable_piece-told Mode.Quote tens bytes = told_escape
+variable_piece-told Mode.Abbreviation tens bytes = told_escape
+variable_piece-told Mode.Text tens [] = told_escape
+variable_piece-told Mode.Text tens (b ∷ bytes) = go (digit_of 10 b)
   where
     go : (o : Option ℕ) → Told (elim o as (λ _. Result Piece TextFault) [
-      | None ↦ Err UnknownEscape
+      | None ↦ Err TextFault.UnknownEscape
       | Some units ↦ cond
-          (ltb (10 * tens + units) 32) (Ok (one (Variable (10 * tens + units)) 2)) (Err BadCode)
+          (ltb (10 * tens + units) 32) (Ok (one (TextItem.Variable (10 * tens + units)) 2)) (Err TextFault.BadCode)
     ])
     go None = told_escape
     go (Some units) = told_both (ltb (10 * tens + units) 32) _ _ (told_ok _) told_code
@@ -69,7 +63,8 @@ accent_piece-told : (a : ℕ) (bytes : List ℕ) → Told (accent_piece a bytes)
 accent_piece-told a [] = told_escape
 accent_piece-told a (b ∷ bytes) = go (spelled a b)
   where
-    go : (o : Option ℕ) → Told (elim o as (λ _. Result Piece TextFault) [ None ↦ Err UnknownEscape | Some c ↦ Ok (one (Character c) 2) ])
+    go : (o : Option ℕ) →
+        Told (elim o as (λ _. Result Piece TextFault) [ None ↦ Err TextFault.UnknownEscape | Some c ↦ Ok (one (TextItem.Character c) 2) ])
     go None = told_escape
     go (Some c) = told_ok _
 
@@ -92,9 +87,9 @@ piece_at-told set m after_mark b bytes =
     (told_both (eqb b 92) _ _ (told_ok _) (told_both (is_white set b) _ _ (told_ok _) (go (zscii_of set b))))
   where
     go : (o : Option ℕ) → Told (elim o as (λ _. Result Piece TextFault) [
-      | None ↦ Err NoZscii
+      | None ↦ Err TextFault.NoZscii
       | Some c ↦ Ok
-          (record { item = Character (meaning m c); count = 1; behind = 0; is_mark = is_new_line_mark m b })
+          (record { item = TextItem.Character (meaning m c); count = 1; behind = 0; is_mark = is_new_line_mark m b })
     ])
     go None = told_character
     go (Some c) = told_ok _
@@ -110,9 +105,9 @@ Continues-fault set m after_mark items rest bytes first tail fault split found h
     ∙ ap (λ (r : Result Piece TextFault). and_then r (λ p. text_from set m p.is_mark p.behind tail)) found in
     go fault (sym h.value ∙ ap (with_front items) step) (λ e. piece_at-told set m after_mark first tail (found ∙ e))
   where
-    go : (f : TextFault) → text_of set m bytes ≡ Err f → (◌≡◌ {A = Result Piece TextFault} (Err f) (Err Memory) → ⊥) →
+    go : (f : TextFault) → text_of set m bytes ≡ Err f → (◌≡◌ {A = Result Piece TextFault} (Err f) (Err TextFault.Memory) → ⊥) →
         Reads set m bytes (Err f)
-    go UnknownEscape is never = is
-    go NoZscii is never = is
-    go BadCode is never = is
-    go Memory is never = absurd (never refl)
+    go TextFault.UnknownEscape is never = is
+    go TextFault.NoZscii is never = is
+    go TextFault.BadCode is never = is
+    go TextFault.Memory is never = absurd (never refl)

@@ -1,17 +1,12 @@
 -- A text is read piece by piece.
+use Rattle.std.proofs.{Math.Seq.drop-append_seam, lemmas.List.length-take, lemmas.List.take-append-drop}
 use Rattle.std.proofs.Common.{◌≡◌, ◌<◌, ◌≤◌, ℕ, zero, suc, Bool, Ok, Err, Result, List, [], ◌∷◌, ◌++◌, length, take, drop, replicate}
 use Rattle.std.proofs.Common.{append_assoc, length-append, refl, sym, ap, ◌∙◌, arith}
-use Rattle.std.proofs.lemmas.List.{length-take, take-append-drop}
-use Rattle.std.proofs.Math.Seq.{drop-append_seam}
 use Rattle.inf_characters.proofs.Cuts.{piece_at-cut}
+use Rattle.inf_characters.specs.{Numbers.IsPieceOf, declared.characters.CharSet.CharSet, declared.reading.Mode.Mode}
+use Rattle.inf_characters.specs.{declared.reading.Piece.Piece, declared.reading.TextFault.TextFault, declared.texts.TextItem.TextItem}
 use Rattle.inf_characters.specs.Items.{IsItem, IsText}
-use Rattle.inf_characters.specs.Numbers.{IsPieceOf}
 use Rattle.inf_characters.specs.Reading.{HoldsItems, and_then, piece_at, text_from, text_of, with_front}
-use Rattle.inf_characters.specs.declared.characters.CharSet.{CharSet}
-use Rattle.inf_characters.specs.declared.reading.Mode.{Mode}
-use Rattle.inf_characters.specs.declared.reading.Piece.{Piece}
-use Rattle.inf_characters.specs.declared.reading.TextFault.{TextFault}
-use Rattle.inf_characters.specs.declared.texts.TextItem.{TextItem}
 
 -- a piece, for the proofs of other crates, which can't name the private type
 abbrev pub Found : Type 0

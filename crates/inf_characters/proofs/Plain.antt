@@ -1,19 +1,12 @@
 -- Bytes that are characters or white space by themselves are a text.
 use Rattle.std.proofs.Common.{◌≡◌, ℕ, zero, suc, Bool, true, false, not, cond, Option, Some, None, is_some, Ok, Err, Result, List, [], ◌∷◌}
 use Rattle.std.proofs.Common.{◌&&◌, ◌==◌, nat_le, replicate, refl, arith}
-use Rattle.std.specs.List.{list_all}
-use Rattle.std.specs.Result.{is_ok}
 use Rattle.std.proofs.lemmas.Bool.{and_parts, both_ways, le-leb, leb-true}
+use Rattle.std.specs.{List.list_all, Result.is_ok}
+use Rattle.inf_characters.specs.{declared.characters.CharSet.CharSet, declared.reading.Mode.Mode, declared.reading.Piece.Piece}
+use Rattle.inf_characters.specs.{declared.reading.TextFault.TextFault, declared.texts.TextItem.TextItem}
 use Rattle.inf_characters.specs.Characters.{has_byte, is_white, zscii_of, zscii_of_unicode}
 use Rattle.inf_characters.specs.Reading.{and_then, is_new_line_mark, is_plain, meaning, piece_at, text_from, text_of, with_front}
-use Rattle.inf_characters.specs.declared.characters.CharSet.{CharSet}
-use Rattle.inf_characters.specs.declared.characters.CharSet.TheVariants.{Ascii, Latin1}
-use Rattle.inf_characters.specs.declared.reading.Mode.{Mode}
-use Rattle.inf_characters.specs.declared.reading.Piece.{Piece}
-use Rattle.inf_characters.specs.declared.reading.TextFault.{TextFault}
-use Rattle.inf_characters.specs.declared.reading.TextFault.TheVariants.{NoZscii}
-use Rattle.inf_characters.specs.declared.texts.TextItem.{TextItem}
-use Rattle.inf_characters.specs.declared.texts.TextItem.TheVariants.{Character}
 
 -- choices, each of which is one
 either_ok : {X E : Type 0} (t : Bool) (x y : Result X E) → is_ok x ≡ true → is_ok y ≡ true → is_ok (cond t x y) ≡ true
@@ -33,8 +26,8 @@ this_some true x y t is = is
 this_some false x y t is = absurd (both_ways false refl t)
 
 byte_is : (set : CharSet) (b : ℕ) → nat_le b 126 ≡ true → has_byte set b ≡ true
-byte_is Ascii b l = le-leb (suc b) 128 (omega (arith, leb-true b 126 l))
-byte_is Latin1 b l = refl
+byte_is CharSet.Ascii b l = le-leb (suc b) 128 (omega (arith, leb-true b 126 l))
+byte_is CharSet.Latin1 b l = refl
 
 in_unicode : (b : ℕ) → nat_le 32 b ≡ true → nat_le b 126 ≡ true → is_some (zscii_of_unicode b) ≡ true
 unfolding zscii_of_unicode
@@ -55,8 +48,8 @@ plain_piece set mode after_mark b bytes p =
     (by_code (zscii_of set b) (has_code set b bounds.0 bounds.1))))
   where
     by_code : (z : Option ℕ) → is_some z ≡ true → is_ok {T = Piece} {E = TextFault} (elim z [
-      | None ↦ Err NoZscii
-      | Some c ↦ Ok (record { item = Character (meaning mode c); count = 1; behind = 0; is_mark = is_new_line_mark mode b })
+      | None ↦ Err TextFault.NoZscii
+      | Some c ↦ Ok (record { item = TextItem.Character (meaning mode c); count = 1; behind = 0; is_mark = is_new_line_mark mode b })
     ]) ≡ true
     by_code None is = absurd (both_ways false refl is)
     by_code (Some c) is = refl

@@ -1,9 +1,7 @@
 -- The characters of a text: ZSCII (Z-Machine Standard 1.1, section 3.8) and the character sets of a source.
+use Rattle.std.specs.{List.position_from, Option.option_map}
 use Rattle.std.specs.Prelude.{ℕ, ◌+◌, ◌==◌, nat_lt, nat_le, Bool, true, ◌&&◌, ◌||◌, Option, Some, None, List, [], ◌∷◌, if◌then◌else◌}
-use Rattle.std.specs.List.{position_from}
-use Rattle.std.specs.Option.{option_map}
 use Rattle.inf_characters.specs.declared.characters.CharSet.{CharSet}
-use Rattle.inf_characters.specs.declared.characters.CharSet.TheVariants.{Ascii, Latin1}
 
 -- the codes that a text may have: the new line, ASCII and the accented letters (section 3.8)
 abbrev pub is_code : ℕ → Bool
@@ -30,13 +28,13 @@ is_line_end b = (b == 10) || (b == 13)
 
 -- tab, line ends, form feed and space, and under ISO 8859-1 the space that does not break
 abbrev pub is_white : CharSet → ℕ → Bool
-is_white Ascii b = (b == 32) || (b == 9) || (b == 12) || is_line_end b
-is_white Latin1 b = (b == 32) || (b == 9) || (b == 12) || is_line_end b || (b == 160)
+is_white CharSet.Ascii b = (b == 32) || (b == 9) || (b == 12) || is_line_end b
+is_white CharSet.Latin1 b = (b == 32) || (b == 9) || (b == 12) || is_line_end b || (b == 160)
 
 -- whether a byte is a character of the set
 abbrev pub has_byte : CharSet → ℕ → Bool
-has_byte Ascii b = nat_lt b 128
-has_byte Latin1 b = true
+has_byte CharSet.Ascii b = nat_lt b 128
+has_byte CharSet.Latin1 b = true
 
 -- the code of a byte of a source: each white space byte is a space
 unfoldable pub zscii_of : CharSet → ℕ → Option ℕ

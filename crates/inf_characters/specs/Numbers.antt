@@ -1,7 +1,6 @@
 -- Numbers up to a limit, and the bounds of a piece. Only the crate's private clauses cite them.
 use Rattle.std.specs.Prelude.{ℕ, ◌≤◌, List, length, min}
-use Rattle.inf_characters.specs.Items.{IsItem}
-use Rattle.inf_characters.specs.declared.reading.Piece.{Piece}
+use Rattle.inf_characters.specs.{Items.IsItem, declared.reading.Piece.Piece}
 
 -- a count of digits and their number, or the limit where that is less
 abbrev pub capped : ℕ × ℕ → ℕ × ℕ

@@ -2,15 +2,9 @@
 use Rattle.std.specs.Prelude.{◌≡◌, ℕ, zero, suc, ◌+◌, ◌-◌, ◌*◌, ◌==◌, nat_lt, nat_le, Bool, false, not, ◌&&◌, ◌||◌, Option, Some, None}
 use Rattle.std.specs.Prelude.{Result, Ok, Err, List, [], ◌∷◌, ◌++◌, length, take, drop, replicate, codes, if◌then◌else◌}
 use Rattle.std.specs.List.{list_any, prefix_len}
+use Rattle.inf_characters.specs.{declared.characters.CharSet.CharSet, declared.reading.Mode.Mode, declared.reading.Piece.Piece}
+use Rattle.inf_characters.specs.{declared.reading.TextFault.TextFault, declared.texts.TextItem.TextItem}
 use Rattle.inf_characters.specs.Characters.{is_code, is_white, is_line_end, zscii_of, zscii_of_unicode}
-use Rattle.inf_characters.specs.declared.characters.CharSet.{CharSet}
-use Rattle.inf_characters.specs.declared.reading.Mode.{Mode}
-use Rattle.inf_characters.specs.declared.reading.Mode.TheVariants as mode
-use Rattle.inf_characters.specs.declared.reading.Piece.{Piece}
-use Rattle.inf_characters.specs.declared.reading.TextFault.{TextFault}
-use Rattle.inf_characters.specs.declared.reading.TextFault.TheVariants.{UnknownEscape, NoZscii, BadCode, Memory}
-use Rattle.inf_characters.specs.declared.texts.TextItem.{TextItem}
-use Rattle.inf_characters.specs.declared.texts.TextItem.TheVariants.{Character, Variable}
 
 -- a piece of one item
 abbrev pub one : TextItem → ℕ → Piece
@@ -33,14 +27,14 @@ number_from base count high (b ∷ bs) =
 -- @@ and a decimal number: the character of that code
 abbrev pub code_piece : ℕ × ℕ → Result Piece TextFault
 code_piece found =
-    if found.0 == 0 then Err UnknownEscape
-    else if is_code found.1 then Ok (one (Character found.1) (1 + found.0))
-    else Err BadCode
+    if found.0 == 0 then Err TextFault.UnknownEscape
+    else if is_code found.1 then Ok (one (TextItem.Character found.1) (1 + found.0))
+    else Err TextFault.BadCode
 
 -- the piece of a character that may have no code
 abbrev pub character_piece : Option ℕ → ℕ → Result Piece TextFault
-character_piece None behind = Err NoZscii
-character_piece (Some c) behind = Ok (one (Character c) behind)
+character_piece None behind = Err TextFault.NoZscii
+character_piece (Some c) behind = Ok (one (TextItem.Character c) behind)
 
 -- whether a closing brace comes first
 abbrev pub closes : List ℕ → Bool
@@ -50,18 +44,18 @@ closes (b ∷ bs) = b == 125
 -- @{ and a hexadecimal number and }: the character of that number in Unicode
 abbrev pub unicode_piece : List ℕ → ℕ × ℕ → Result Piece TextFault
 unicode_piece bytes found =
-    if (found.0 == 0) || not (closes (drop found.0 bytes)) then Err UnknownEscape
+    if (found.0 == 0) || not (closes (drop found.0 bytes)) then Err TextFault.UnknownEscape
     else character_piece (zscii_of_unicode found.1) (2 + found.0)
 
 -- @ and two digits: a string variable, in the texts that are printed alone
 abbrev pub variable_piece : Mode → ℕ → List ℕ → Result Piece TextFault
-variable_piece mode.Quote tens bytes = Err UnknownEscape
-variable_piece mode.Abbreviation tens bytes = Err UnknownEscape
-variable_piece mode.Text tens [] = Err UnknownEscape
-variable_piece mode.Text tens (b ∷ bs) =
+variable_piece Mode.Quote tens bytes = Err TextFault.UnknownEscape
+variable_piece Mode.Abbreviation tens bytes = Err TextFault.UnknownEscape
+variable_piece Mode.Text tens [] = Err TextFault.UnknownEscape
+variable_piece Mode.Text tens (b ∷ bs) =
     elim (digit_of 10 b) [
-      | None ↦ Err UnknownEscape
-      | Some units ↦ if nat_lt (10 * tens + units) 32 then Ok (one (Variable (10 * tens + units)) 2) else Err BadCode
+      | None ↦ Err TextFault.UnknownEscape
+      | Some units ↦ if nat_lt (10 * tens + units) 32 then Ok (one (TextItem.Variable (10 * tens + units)) 2) else Err TextFault.BadCode
     ]
 
 -- the two characters that spell each of ZSCII 155 to 223 behind @, in their order (Inform Designer's Manual, table 2)
@@ -85,13 +79,13 @@ spelled mark letter = pair_from (stroke mark) letter 155 spellings
 
 -- @, a mark and a letter: an accented letter
 abbrev pub accent_piece : ℕ → List ℕ → Result Piece TextFault
-accent_piece a [] = Err UnknownEscape
+accent_piece a [] = Err TextFault.UnknownEscape
 accent_piece a (b ∷ bs) =
-    elim (spelled a b) [ None ↦ Err UnknownEscape | Some c ↦ Ok (one (Character c) 2) ]
+    elim (spelled a b) [ None ↦ Err TextFault.UnknownEscape | Some c ↦ Ok (one (TextItem.Character c) 2) ]
 
 -- the piece that @ begins
 unfoldable pub escape_piece : Mode → List ℕ → Result Piece TextFault
-escape_piece mode [] = Err UnknownEscape
+escape_piece mode [] = Err TextFault.UnknownEscape
 escape_piece mode (b ∷ bs) =
     if b == 64 then code_piece (number_from 10 0 0 bs)
     else if b == 123 then unicode_piece bs (number_from 16 0 0 bs)
@@ -99,15 +93,15 @@ escape_piece mode (b ∷ bs) =
 
 -- the character that a typed one gives: ^ a new line and ~ a quotation mark, but in a quoted word ^ an apostrophe
 abbrev pub meaning : Mode → ℕ → ℕ
-meaning mode.Quote c = if c == 94 then 39 else c
-meaning mode.Text c = if c == 94 then 13 else if c == 126 then 34 else c
-meaning mode.Abbreviation c = if c == 94 then 13 else if c == 126 then 34 else c
+meaning Mode.Quote c = if c == 94 then 39 else c
+meaning Mode.Text c = if c == 94 then 13 else if c == 126 then 34 else c
+meaning Mode.Abbreviation c = if c == 94 then 13 else if c == 126 then 34 else c
 
 -- whether a byte is the mark of a new line
 abbrev pub is_new_line_mark : Mode → ℕ → Bool
-is_new_line_mark mode.Quote b = false
-is_new_line_mark mode.Text b = b == 94
-is_new_line_mark mode.Abbreviation b = b == 94
+is_new_line_mark Mode.Quote b = false
+is_new_line_mark Mode.Text b = b == 94
+is_new_line_mark Mode.Abbreviation b = b == 94
 
 -- the length of the white space at the front
 abbrev pub white_len : CharSet → List ℕ → ℕ
@@ -123,17 +117,17 @@ spaces after_mark run =
 unfoldable pub piece_at : CharSet → Mode → Bool → ℕ → List ℕ → Result Piece TextFault
 piece_at set mode after_mark b bytes =
     if b == 64 then escape_piece mode bytes
-    else if b == 92 then Ok (record { item = Character 32; count = 0; behind = white_len set bytes; is_mark = false })
+    else if b == 92 then Ok (record { item = TextItem.Character 32; count = 0; behind = white_len set bytes; is_mark = false })
     else if is_white set b then Ok (record {
-      item = Character 32;
+      item = TextItem.Character 32;
       count = spaces after_mark (b ∷ take (white_len set bytes) bytes);
       behind =
           white_len set bytes;
       is_mark = false;
     })
     else elim (zscii_of set b) [
-      | None ↦ Err NoZscii
-      | Some c ↦ Ok (record { item = Character (meaning mode c); count = 1; behind = 0; is_mark = is_new_line_mark mode b })
+      | None ↦ Err TextFault.NoZscii
+      | Some c ↦ Ok (record { item = TextItem.Character (meaning mode c); count = 1; behind = 0; is_mark = is_new_line_mark mode b })
     ]
 
 -- items before a text that may be refused
@@ -170,10 +164,10 @@ pub record HoldsItems (set : CharSet) (mode : Mode) (bytes : List ℕ) : Type 0 
 -- A call answered as reading does; or there was too little memory, which only a text that has items takes.
 abbrev pub Reads : CharSet → Mode → List ℕ → Result (List TextItem) TextFault → Type 0
 Reads set mode bytes (Ok items) = text_of set mode bytes ≡ Ok items
-Reads set mode bytes (Err UnknownEscape) = text_of set mode bytes ≡ Err UnknownEscape
-Reads set mode bytes (Err NoZscii) = text_of set mode bytes ≡ Err NoZscii
-Reads set mode bytes (Err BadCode) = text_of set mode bytes ≡ Err BadCode
-Reads set mode bytes (Err Memory) = HoldsItems set mode bytes
+Reads set mode bytes (Err TextFault.UnknownEscape) = text_of set mode bytes ≡ Err TextFault.UnknownEscape
+Reads set mode bytes (Err TextFault.NoZscii) = text_of set mode bytes ≡ Err TextFault.NoZscii
+Reads set mode bytes (Err TextFault.BadCode) = text_of set mode bytes ≡ Err TextFault.BadCode
+Reads set mode bytes (Err TextFault.Memory) = HoldsItems set mode bytes
 
 -- a byte of a text that is a character or white space by itself, in both character sets and in each mode
 abbrev pub is_plain : ℕ → Bool

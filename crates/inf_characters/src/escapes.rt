@@ -1,7 +1,6 @@
 //! The escapes of a text: the pieces that begin with `@`.
 ghost use Rattle.std.specs.Prelude.{◌≡◌, ◌<◌, ◌≤◌, ◌+◌, IfOk, IsTrue, length};
-ghost use Rattle.inf_characters.specs.Items.{IsItem};
-ghost use Rattle.inf_characters.specs.Numbers.{IsPieceOf};
+ghost use Rattle.inf_characters.specs.{Items.IsItem, Numbers.IsPieceOf};
 ghost use Rattle.inf_characters.specs.Reading.{accent_piece, closes, code_piece, escape_piece, number_from, one, pair_from, spelled};
 ghost use Rattle.inf_characters.specs.Reading.{stroke, unicode_piece, variable_piece};
 

@@ -1,7 +1,6 @@
 //! The numbers in escapes.
 ghost use Rattle.std.specs.Prelude.{◌≡◌, ◌<◌, ◌≤◌, IfSome, length};
-ghost use Rattle.inf_characters.specs.Numbers.{capped};
-ghost use Rattle.inf_characters.specs.Reading.{digit_of, number_from};
+ghost use Rattle.inf_characters.specs.{Numbers.capped, Reading.digit_of, Reading.number_from};
 
 /// A number that no character and no code has. A greater one is read as this.
 const LIMIT: u32 = 65536;

@@ -1,12 +1,9 @@
 //! How the bytes of a source are read as a text.
+ghost use Rattle.std.specs.{List.list_all, List.list_any, Result.is_ok};
 ghost use Rattle.std.specs.Prelude.{◌≡◌, ◌<◌, ◌≤◌, ◌^◌, ◌∷◌, ◌++◌, IfErr, IfOk, OnOk, length, replicate, false, true};
-ghost use Rattle.std.specs.List.{list_all, list_any};
-ghost use Rattle.std.specs.Result.{is_ok};
-ghost use Rattle.inf_characters.specs.Characters.{is_line_end};
-ghost use Rattle.inf_characters.specs.Numbers.{IsPieceOf};
+ghost use Rattle.inf_characters.specs.{Characters.is_line_end, Numbers.IsPieceOf, declared.characters.CharSet.CharSet as Set};
+ghost use Rattle.inf_characters.specs.{declared.reading.Mode.Mode as TextMode};
 ghost use Rattle.inf_characters.specs.Reading.{Reads, is_new_line_mark, is_plain, meaning, piece_at, spaces, text_of, white_len};
-ghost use Rattle.inf_characters.specs.declared.characters.CharSet.{CharSet as Set};
-ghost use Rattle.inf_characters.specs.declared.reading.Mode.{Mode as TextMode};
 
 use crate::characters::{CharSet, Zscii, is_line_end, is_white, source_char};
 use crate::escapes::escape_piece;

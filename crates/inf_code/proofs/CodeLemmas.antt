@@ -3,17 +3,11 @@ use Rattle.std.proofs.Common.{◌≡◌, ℕ, ◌+◌, ◌-◌, ◌≤◌, List,
 use Rattle.std.proofs.Common.{arith, append_assoc, append-nil, length-append}
 use Rattle.std.proofs.lemmas.List.{map-append, drop_all, take-append-le, drop-append-le, length-drop}
 use Rattle.std.proofs.Math.Seq.{take-append-add, drop-append-add}
-use Rattle.inf_area.specs.declared.fixups.Fixup.{Fixup}
-use Rattle.inf_area.specs.declared.targets.AreaName.TheVariants as name
-use Rattle.inf_area.specs.declared.targets.Target.{Target}
-use Rattle.inf_area.specs.declared.cells.Cell.{Cell as CodeCell}
-use Rattle.inf_area.specs.declared.cells.Cell.TheVariants as cell
-use Rattle.inf_area.specs.declared.scale.Scale.{Scale}
+use Rattle.inf_area.specs.{declared.cells.Cell.Cell as CodeCell, declared.fixups.Fixup.Fixup, declared.scale.Scale.Scale}
+use Rattle.inf_area.specs.{declared.targets.AreaName.AreaName, declared.targets.Target.Target}
 use Rattle.inf_area.specs.Cells.{bytes_of, fixups_of, size_of}
 use Rattle.inf_area.proofs.Joining.{bytes_of-append, bytes_of-known, fixups_of-append, fixups_of-known, length-bytes_of}
-use Rattle.inf_opcode.specs.declared.cells.Special.{Special}
-use Rattle.inf_opcode.specs.declared.cells.Special.TheVariants.{Marks, Branches, Jumps, Refers}
-use Rattle.inf_opcode.specs.Cells.{Cell, Plain, Of, special_size}
+use Rattle.inf_opcode.specs.{Cells.Cell, Cells.Of, Cells.Plain, Cells.special_size, declared.cells.Special.Special}
 use Rattle.inf_assembler.specs.declared.routines.RoutineKind.{RoutineKind}
 use Rattle.inf_assembler.specs.Places.{Places, size_at, with_some, closed_special, joined, closed_bytes, fixup_at, closed_fixups}
 use Rattle.inf_assembler.specs.Routines.{Contents, long_places, places, closing, body_bytes, routine_fixups}
@@ -41,18 +35,18 @@ in_order-append place middle end (fixup ∷ fixups) more first second =
 cells_from-append : (place middle end : ℕ) (fixups more : List Fixup) (bytes new : List ℕ) → middle ≡ place + length bytes →
     AreInOrder place fixups middle → AreInOrder middle more end →
     cells_from place (fixups ++ more) (bytes ++ new) ≡ cells_from place fixups bytes ++ cells_from middle more new
-cells_from-append place middle end [] [] bytes new at first second = map-append cell.Byte bytes new
+cells_from-append place middle end [] [] bytes new at first second = map-append CodeCell.Byte bytes new
 cells_from-append place middle end [] (fixup ∷ more) bytes new at first second =
     let behind : middle ≤ fixup.place = second.0 in
     let front : fixup.place - place ≡ length bytes + (fixup.place - middle) = omega arith in
     let back : fixup.place + 2 - place ≡ length bytes + (fixup.place + 2 - middle) = omega arith in
-    let rest : List ℕ → List CodeCell = λ xs. cell.Later fixup.target ∷ cells_from (fixup.place + 2) more xs in
+    let rest : List ℕ → List CodeCell = λ xs. CodeCell.Later fixup.target ∷ cells_from (fixup.place + 2) more xs in
     ap (λ n. known (take n (bytes ++ new)) ++ rest (drop (fixup.place + 2 - place) (bytes ++ new))) front
     ∙ ap (λ n. known (take (length bytes + (fixup.place - middle)) (bytes ++ new)) ++ rest (drop n (bytes ++ new))) back
     ∙ ap (λ xs. known xs ++ rest (drop (length bytes + (fixup.place + 2 - middle)) (bytes ++ new)))
     (take-append-add bytes new (fixup.place - middle))
     ∙ ap (λ xs. known (bytes ++ take (fixup.place - middle) new) ++ rest xs) (drop-append-add bytes new (fixup.place + 2 - middle))
-    ∙ ap (λ xs. xs ++ rest (drop (fixup.place + 2 - middle) new)) (map-append cell.Byte bytes (take (fixup.place - middle) new))
+    ∙ ap (λ xs. xs ++ rest (drop (fixup.place + 2 - middle) new)) (map-append CodeCell.Byte bytes (take (fixup.place - middle) new))
     ∙ append_assoc (known bytes) (known (take (fixup.place - middle) new)) (rest (drop (fixup.place + 2 - middle) new))
 cells_from-append place middle end (fixup ∷ fixups) more bytes new at first second =
     let bound : fixup.place + 2 ≤ middle = in_order-bound (fixup.place + 2) middle fixups first.1 in
@@ -61,13 +55,13 @@ cells_from-append place middle end (fixup ∷ fixups) more bytes new at first se
     let back : fixup.place + 2 - place ≤ length bytes = omega arith in
     let left = drop (fixup.place + 2 - place) bytes in
     let long : middle ≡ fixup.place + 2 + length left = omega (arith, length-drop (fixup.place + 2 - place) bytes) in
-    let rest : List ℕ → List CodeCell = λ xs. cell.Later fixup.target ∷ cells_from (fixup.place + 2) (fixups ++ more) xs in
+    let rest : List ℕ → List CodeCell = λ xs. CodeCell.Later fixup.target ∷ cells_from (fixup.place + 2) (fixups ++ more) xs in
     let before = known (take (fixup.place - place) bytes) in
     ap (λ xs. known xs ++ rest (drop (fixup.place + 2 - place) (bytes ++ new))) (take-append-le (fixup.place - place) bytes new front)
     ∙ ap (λ xs. before ++ rest xs) (drop-append-le (fixup.place + 2 - place) bytes new back)
-    ∙ ap (λ cells. before ++ cell.Later fixup.target ∷ cells)
+    ∙ ap (λ cells. before ++ CodeCell.Later fixup.target ∷ cells)
     (cells_from-append (fixup.place + 2) middle end fixups more left new long first.1 second)
-    ∙ sym (append_assoc before (cell.Later fixup.target ∷ cells_from (fixup.place + 2) fixups left) (cells_from middle more new))
+    ∙ sym (append_assoc before (CodeCell.Later fixup.target ∷ cells_from (fixup.place + 2) fixups left) (cells_from middle more new))
 
 -- one piece behind the other
 pub stands_for-append : (place middle : ℕ) (fixups more : List Fixup) (bytes new : List ℕ) (cells others : List CodeCell) →
@@ -84,19 +78,19 @@ stands_for-append place middle fixups more bytes new cells others at first secon
           ∙ ap (λ xs. xs ++ cells_from middle more new) first.are ∙ ap (λ xs. cells ++ xs) second.are;
       bytes_are = bytes_of-append cells others ∙ ap (λ xs. xs ++ bytes_of others) first.bytes_are ∙ ap (λ xs. bytes ++ xs) second.bytes_are;
       fixups_are =
-          fixups_of-append name.Code place cells others
-          ∙ ap (λ xs. xs ++ fixups_of name.Code (place + size_of cells) others) first.fixups_are
-          ∙ ap (λ n. fixups ++ fixups_of name.Code n others) behind ∙ ap (λ xs. fixups ++ xs) second.fixups_are;
+          fixups_of-append AreaName.Code place cells others
+          ∙ ap (λ xs. xs ++ fixups_of AreaName.Code (place + size_of cells) others) first.fixups_are
+          ∙ ap (λ n. fixups ++ fixups_of AreaName.Code n others) behind ∙ ap (λ xs. fixups ++ xs) second.fixups_are;
     }
 
 -- bytes without fixups
 pub stands_for-known : (place : ℕ) (bytes : List ℕ) → StandsFor place [] bytes (known bytes)
 stands_for-known place bytes =
-    record { in_order = omega arith; are = refl; bytes_are = bytes_of-known bytes; fixups_are = fixups_of-known name.Code place bytes }
+    record { in_order = omega arith; are = refl; bytes_are = bytes_of-known bytes; fixups_are = fixups_of-known AreaName.Code place bytes }
 
 -- a number that is known later
 stands_for-later : (place : ℕ) (target : Target) →
-    StandsFor place (record { area = name.Code; place = place; target = target } ∷ []) (0 ∷ 0 ∷ []) (cell.Later target ∷ [])
+    StandsFor place (record { area = AreaName.Code; place = place; target = target } ∷ []) (0 ∷ 0 ∷ []) (CodeCell.Later target ∷ [])
 stands_for-later place target =
     let zeros : List ℕ = 0 ∷ 0 ∷ [] in
     let none : place - place ≡ 0 = omega arith in
@@ -104,8 +98,8 @@ stands_for-later place target =
     record {
       in_order = (omega arith, omega arith);
       are =
-          ap (λ n. known (take n zeros) ++ cell.Later target ∷ known (drop (place + 2 - place) zeros)) none
-          ∙ ap (λ n. cell.Later target ∷ known (drop n zeros)) both;
+          ap (λ n. known (take n zeros) ++ CodeCell.Later target ∷ known (drop (place + 2 - place) zeros)) none
+          ∙ ap (λ n. CodeCell.Later target ∷ known (drop n zeros)) both;
       bytes_are = refl;
       fixups_are = refl;
     }
@@ -142,13 +136,13 @@ Cells place fixups bytes = (cells : List CodeCell) × StandsFor place fixups byt
 
 stands_for-special : (long places : Places) (old new : ℕ) (what : Special) (added : List ℕ) →
     closed_special long places old new what ≡ Some added → Cells new (fixup_at new what) added
-stands_for-special long places old new (Marks label) added e = (known added, stands_for-known new added)
-stands_for-special long places old new (Branches branch) added e = (known added, stands_for-known new added)
-stands_for-special long places old new (Jumps label) added e = (known added, stands_for-known new added)
-stands_for-special long places old new (Refers target) added e =
+stands_for-special long places old new (Special.Marks label) added e = (known added, stands_for-known new added)
+stands_for-special long places old new (Special.Branches branch) added e = (known added, stands_for-known new added)
+stands_for-special long places old new (Special.Jumps label) added e = (known added, stands_for-known new added)
+stands_for-special long places old new (Special.Refers target) added e =
     let zeros : 0 ∷ 0 ∷ [] ≡ added = cc in (
-      cell.Later target ∷ [],
-      subst (λ xs. StandsFor new (fixup_at new (Refers target)) xs (cell.Later target ∷ [])) zeros
+      CodeCell.Later target ∷ [],
+      subst (λ xs. StandsFor new (fixup_at new (Special.Refers target)) xs (CodeCell.Later target ∷ [])) zeros
           (stands_for-later new target),
     )
 

@@ -1,13 +1,10 @@
 -- Code, step by step: its finished routines stay while one is open, and this one follows them when it is closed.
-use Rattle.std.specs.Prelude.{Result, Ok, Err, OnOk, OnErr, ◌≤◌}
-use Rattle.std.proofs.Common.{◌≡◌, ℕ, ◌+◌, List, [], ◌∷◌, ◌++◌, length, take, drop, Option, Some, None, refl, sym, ◌∙◌, ap, subst, arith}
-use Rattle.std.proofs.Common.{append_assoc, length-append, length-take}
+use Rattle.std.proofs.Common.{Result, Ok, Err, OnOk, OnErr, ◌≤◌, ◌≡◌, ℕ, ◌+◌, List, [], ◌∷◌, ◌++◌, length, take, drop, Option, Some, None}
+use Rattle.std.proofs.Common.{refl, sym, ◌∙◌, ap, subst, arith, append_assoc, length-append, length-take}
 use Rattle.std.proofs.lemmas.List.{take_at, take-take, take_all, length-take-le, length-drop, drop-append-le}
-use Rattle.inf_area.specs.Fixups.{Fixups}
-use Rattle.inf_area.specs.declared.scale.Scale.{Scale}
+use Rattle.inf_area.specs.{Fixups.Fixups, declared.scale.Scale.Scale}
 use Rattle.inf_opcode.specs.Cells.{long_bytes}
-use Rattle.inf_assembler.specs.declared.routines.Closed.{Closed}
-use Rattle.inf_assembler.specs.declared.routines.RoutineKind.{RoutineKind}
+use Rattle.inf_assembler.specs.{declared.routines.Closed.Closed, declared.routines.RoutineKind.RoutineKind}
 use Rattle.inf_assembler.specs.Routines.{State, Contents, Stands, IsOpen, Holds, Closes, contents_of, fresh, closing, routine_fixups}
 use Rattle.inf_assembler.specs.Routines.{body_bytes}
 use Rattle.inf_code.specs.Code.{IsCode, StandsFor, cells_from, first_routine, padded, place_behind, routine_cells, source_bytes}

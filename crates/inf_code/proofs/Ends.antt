@@ -1,14 +1,8 @@
 -- The fault at the end of a routine, by the parts of the code.
 use Rattle.std.specs.Prelude.{Result, Ok, Err, MatchResult}
 use Rattle.std.proofs.Common.{◌≡◌, ◌⊎◌, ◌+◌, ◌++◌, inl, inr, ℕ, Bool, false, true, cond, List, length, Option, Some, None, refl, sym, ◌∙◌, ap}
-use Rattle.inf_area.specs.Fixups.{Fixups}
-use Rattle.inf_area.specs.declared.cells.Cell.{Cell as CodeCell}
-use Rattle.inf_area.specs.declared.scale.Scale.{Scale}
-use Rattle.inf_area.specs.Cells.{later_count}
-use Rattle.inf_assembler.specs.declared.routines.CloseFault.{CloseFault}
-use Rattle.inf_assembler.specs.declared.routines.CloseFault.TheVariants as close_fault
-use Rattle.inf_assembler.specs.declared.routines.Closed.{Closed}
-use Rattle.inf_assembler.specs.declared.routines.RoutineKind.{RoutineKind}
+use Rattle.inf_area.specs.{Cells.later_count, Fixups.Fixups, declared.cells.Cell.Cell as CodeCell, declared.scale.Scale.Scale}
+use Rattle.inf_assembler.specs.declared.{routines.CloseFault.CloseFault, routines.Closed.Closed, routines.RoutineKind.RoutineKind}
 use Rattle.inf_assembler.specs.Routines.{Closes, State, contents_of, fault_of}
 use Rattle.inf_code.specs.Code.{IsCode, IsSpare, fault_behind, fault_of_full, finished_fault, first_fault, full_finished, padded}
 use Rattle.inf_code.specs.Code.{place_behind, references_before, routine_cells, source_bytes, source_cells, zeros_behind}
@@ -31,21 +25,21 @@ module _ (limits : CodeLimits) (finished : ℕ) (refs spare : Fixups) (bytes : L
       (lists is_lost finished refs spare bytes listed is.stands is.limit empty same) kind
 
 -- the fault is the first one, or want of memory
-pub told_first : (first later : Option CloseFault) (fault : CloseFault) → (fault ≡ close_fault.Memory) ⊎ (first ≡ Some fault) →
-    (fault ≡ close_fault.Memory) ⊎ (first_fault first later ≡ Some fault)
+pub told_first : (first later : Option CloseFault) (fault : CloseFault) → (fault ≡ CloseFault.Memory) ⊎ (first ≡ Some fault) →
+    (fault ≡ CloseFault.Memory) ⊎ (first_fault first later ≡ Some fault)
 told_first first later fault (inl memory) = inl memory
 told_first first later fault (inr e) = inr (first_some first later fault e)
 
 -- a lost routine has no fault beside its labels and offsets
 pub told_lost : {T : Type 0} (r : Result T CloseFault) (wrong : Option CloseFault) →
-    MatchResult r (λ _. wrong ≡ None) (λ fault. (fault ≡ close_fault.Memory) ⊎ (wrong ≡ Some fault))
-    → MatchResult r (λ _. first_fault wrong None ≡ None) (λ fault. (fault ≡ close_fault.Memory) ⊎ (first_fault wrong None ≡ Some fault))
+    MatchResult r (λ _. wrong ≡ None) (λ fault. (fault ≡ CloseFault.Memory) ⊎ (wrong ≡ Some fault))
+    → MatchResult r (λ _. first_fault wrong None ≡ None) (λ fault. (fault ≡ CloseFault.Memory) ⊎ (first_fault wrong None ≡ Some fault))
 told_lost (Ok x) wrong e = first_none wrong None e refl
 told_lost (Err fault) wrong e = told_first wrong None fault e
 
 -- Behind a routine without a fault of its own, the setting that would be passed is told, or want of memory.
 pub later_told : (first later now : Option CloseFault) (fault : CloseFault) → first ≡ None → later ≡ now
-    → (fault ≡ close_fault.Memory) ⊎ (now ≡ Some fault) → (fault ≡ close_fault.Memory) ⊎ (first_fault first later ≡ Some fault)
+    → (fault ≡ CloseFault.Memory) ⊎ (now ≡ Some fault) → (fault ≡ CloseFault.Memory) ⊎ (first_fault first later ≡ Some fault)
 later_told first later now fault none is (inl memory) = inl memory
 later_told first later now fault none is (inr told) = inr (later_some first later fault none (is ∙ told))
 

@@ -1,22 +1,13 @@
 -- The limit that is passed: the first that the assembler finds for its area is the first of the routines.
-use Rattle.std.specs.Prelude.{◌-◌, ◌<◌, ◌≤◌, nat_lt}
-use Rattle.std.proofs.Common.{◌≡◌, ℕ, ◌+◌, Bool, true, false, cond, List, [], ◌∷◌, length, take, Option, Some, None, refl, sym, ◌∙◌, ap}
-use Rattle.std.proofs.Common.{arith, length-append}
+use Rattle.std.proofs.Common.{◌-◌, ◌<◌, ◌≤◌, nat_lt, ◌≡◌, ℕ, ◌+◌, Bool, true, false, cond, List, [], ◌∷◌, length, take, Option, Some, None}
+use Rattle.std.proofs.Common.{refl, sym, ◌∙◌, ap, arith, length-append}
 use Rattle.std.proofs.lemmas.Bool.Decides.{nat_tests}
-use Rattle.inf_area.specs.declared.fixups.Fixup.{Fixup}
-use Rattle.inf_area.specs.declared.targets.AreaName.TheVariants as name
-use Rattle.inf_area.specs.declared.cells.Cell.{Cell as CodeCell}
-use Rattle.inf_area.specs.Cells.{later_count}
+use Rattle.inf_area.specs.{Cells.later_count, Fixups.Fixups, declared.cells.Cell.Cell as CodeCell, declared.fixups.Fixup.Fixup}
+use Rattle.inf_area.specs.{declared.targets.AreaName.AreaName}
 use Rattle.inf_area.proofs.Joining.{length-fixups_of}
-use Rattle.inf_area.specs.Fixups.{Fixups}
 use Rattle.inf_opcode.specs.Cells.{Cell, long_bytes, label_count, fixup_count}
-use Rattle.inf_assembler.specs.Places.{missing, twice_behind}
-use Rattle.inf_assembler.specs.declared.routines.CloseFault.{CloseFault}
-use Rattle.inf_assembler.specs.declared.routines.CloseFault.TheVariants as close_fault
-use Rattle.inf_assembler.specs.declared.routines.Limits.{Limits}
-use Rattle.inf_assembler.specs.declared.routines.RoutineKind.{RoutineKind}
-use Rattle.inf_assembler.specs.declared.routines.Limit.{Limit}
-use Rattle.inf_assembler.specs.declared.routines.Limit.TheVariants as setting
+use Rattle.inf_assembler.specs.{Places.missing, Places.twice_behind, declared.routines.CloseFault.CloseFault, declared.routines.Limit.Limit}
+use Rattle.inf_assembler.specs.{declared.routines.Limits.Limits, declared.routines.RoutineKind.RoutineKind}
 use Rattle.inf_assembler.specs.Routines.{State, Contents, body_bytes, body_fault, contents_of, fault_of, full_with, is_full, long_places}
 use Rattle.inf_assembler.specs.Routines.{missing_fault, twice_fault}
 use Rattle.inf_code.specs.declared.code.CodeLimits.{CodeLimits}
@@ -27,7 +18,7 @@ use Rattle.inf_code.proofs.CodeSteps.{size_finished}
 -- each fixup is a reference that is known later
 pub later_stands_for : (place : ℕ) (fixups : List Fixup) (bytes : List ℕ) (cells : List CodeCell) → StandsFor place fixups bytes cells →
     later_count cells ≡ length fixups
-later_stands_for place fixups bytes cells stands = sym (length-fixups_of name.Code place cells) ∙ ap length stands.fixups_are
+later_stands_for place fixups bytes cells stands = sym (length-fixups_of AreaName.Code place cells) ∙ ap length stands.fixups_are
 
 -- fixups that are as many as there is room for leave none for one more, and fewer leave it
 pub too_many : (limit len own count : ℕ) → len ≤ limit → limit - len ≤ own → count ≡ 1 + own → nat_lt limit (len + count) ≡ true
@@ -37,14 +28,14 @@ pub not_too_many : (limit len own count : ℕ) → own < limit - len → count �
 not_too_many limit len own count is same = grind (arith, nat_tests, is, same)
 
 -- where no limit is passed, the limit of bytes is not passed
-pub code_is_free : (full : Bool) (rest : Option Limit) → cond full (Some setting.Code) rest ≡ None →
-    cond full (Some setting.Code) None ≡ None
+pub code_is_free : (full : Bool) (rest : Option Limit) → cond full (Some Limit.Code) rest ≡ None →
+    cond full (Some Limit.Code) None ≡ None
 code_is_free true rest e = cc
 code_is_free false rest e = refl
 
 -- the first of three limits that is passed
 abbrev of_three : Bool → Bool → Bool → Option Limit
-of_three labels code refs = cond labels (Some setting.Labels) (cond code (Some setting.Code) (cond refs (Some setting.Refs) None))
+of_three labels code refs = cond labels (Some Limit.Labels) (cond code (Some Limit.Code) (cond refs (Some Limit.Refs) None))
 
 -- The list for the references of an open routine: its limit is the most references, and it has as many as precede those of
 -- the routine.
@@ -84,8 +75,8 @@ bytes_are limits finished refs bytes routine is =
 -- the fault of a routine at its limits, under any bounds
 abbrev pub limit_by : Limits → ℕ → ℕ → Contents → ℕ → Option CloseFault
 limit_by limits most references contents len =
-    cond (is_full contents.is_final limits.code len) (Some (close_fault.Full setting.Code))
-    (cond (nat_lt most (references + fixup_count contents.cells)) (Some (close_fault.Full setting.Refs)) None)
+    cond (is_full contents.is_final limits.code len) (Some (CloseFault.Full Limit.Code))
+    (cond (nat_lt most (references + fixup_count contents.cells)) (Some (CloseFault.Full Limit.Refs)) None)
 
 abbrev pub behind_by : Limits → ℕ → ℕ → ℕ → Contents → Option CloseFault
 behind_by limits most start references contents =

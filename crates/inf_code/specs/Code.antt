@@ -1,38 +1,22 @@
 -- The code of a story: finished routines, as bytes and numbers that are known later, and the open routine.
 use Rattle.std.specs.Prelude.{◌≡◌, ℕ, ◌+◌, ◌-◌, ◌≤◌, ◌<◌, ◌^◌, Bool, true, false, not, ◌&&◌, nat_lt, if◌then◌else◌, List, [], ◌∷◌, ◌++◌}
 use Rattle.std.specs.Prelude.{length, map, take, drop, Option, Some, None}
-use Rattle.inf_area.specs.declared.fixups.AddFault.{AddFault}
-use Rattle.inf_area.specs.declared.fixups.AddFault.TheVariants as add_fault
-use Rattle.inf_area.specs.declared.fixups.Fixup.{Fixup}
-use Rattle.inf_area.specs.declared.targets.AreaName.TheVariants as name
-use Rattle.inf_area.specs.declared.targets.Target.{Target}
-use Rattle.inf_area.specs.Fixups.{Fixups}
-use Rattle.inf_area.specs.declared.cells.Cell.{Cell as CodeCell}
-use Rattle.inf_area.specs.declared.cells.Cell.TheVariants as cell
-use Rattle.inf_area.specs.declared.scale.Scale.{Scale}
-use Rattle.inf_area.specs.Cells.{bytes_of, fixups_of, later_count, size_of}
-use Rattle.inf_area.specs.Scales.{gap}
+use Rattle.inf_area.specs.{Cells.bytes_of, Cells.fixups_of, Cells.later_count, Cells.size_of, Fixups.Fixups, Scales.gap}
+use Rattle.inf_area.specs.{declared.cells.Cell.Cell as CodeCell, declared.fixups.AddFault.AddFault, declared.fixups.Fixup.Fixup}
+use Rattle.inf_area.specs.{declared.scale.Scale.Scale, declared.targets.AreaName.AreaName, declared.targets.Target.Target}
+use Rattle.inf_opcode.specs.{Opcodes.row_of, declared.cells.Special.Special, declared.instructions.Label.Label}
 use Rattle.inf_opcode.specs.Cells.{Cell, Of, long_bytes, label_count, fixup_count}
-use Rattle.inf_opcode.specs.declared.cells.Special.TheVariants.{Marks}
-use Rattle.inf_opcode.specs.declared.instructions.Label.{Label}
 use Rattle.inf_opcode.specs.Instructions.{Parts, instruction_cells}
-use Rattle.inf_opcode.specs.Opcodes.{row_of}
-use Rattle.inf_assembler.specs.declared.routines.CloseFault.{CloseFault}
-use Rattle.inf_assembler.specs.declared.routines.CloseFault.TheVariants as close_fault
-use Rattle.inf_assembler.specs.declared.routines.Limits.{Limits}
-use Rattle.inf_assembler.specs.declared.routines.RoutineKind.{RoutineKind}
-use Rattle.inf_assembler.specs.declared.routines.Limit.{Limit}
-use Rattle.inf_assembler.specs.declared.routines.Limit.TheVariants as setting
-use Rattle.inf_assembler.specs.Places.{missing, twice_behind}
+use Rattle.inf_assembler.specs.{Places.missing, Places.twice_behind, declared.routines.CloseFault.CloseFault, declared.routines.Limit.Limit}
+use Rattle.inf_assembler.specs.{declared.routines.Limits.Limits, declared.routines.RoutineKind.RoutineKind}
 use Rattle.inf_assembler.specs.Routines.{State, Contents, IsOpen, contents_of, fresh, with_cells, body_bytes, closing, routine_fixups}
 use Rattle.inf_assembler.specs.Routines.{is_full, long_places, missing_fault, twice_fault, body_fault}
-use Rattle.inf_settings.specs.Bounds.{Limits as SettingLimits}
-use Rattle.inf_settings.specs.declared.setting.Setting.TheVariants as bound
+use Rattle.inf_settings.specs.{Bounds.Limits as SettingLimits, declared.setting.Setting.Setting}
 use Rattle.inf_code.specs.declared.code.CodeLimits.{CodeLimits}
 
 -- bytes as cells
 abbrev pub known : List ℕ → List CodeCell
-known bytes = map cell.Byte bytes
+known bytes = map CodeCell.Byte bytes
 
 -- the zeros behind a routine of `size` bytes that fill it up to the next packed address (Z-Machine Standard 1.1, section
 -- 1.2.3)
@@ -53,7 +37,8 @@ first_routine = 0x00 ∷ 0x8F ∷ 0 ∷ 0 ∷ 0xBA ∷ 0 ∷ 0 ∷ 0 ∷ []
 
 -- the first routine as cells, where `called` is the routine that it calls
 abbrev pub first_cells : Target → List CodeCell
-first_cells called = cell.Byte 0x00 ∷ cell.Byte 0x8F ∷ cell.Later called ∷ cell.Byte 0xBA ∷ cell.Byte 0 ∷ cell.Byte 0 ∷ cell.Byte 0 ∷ []
+first_cells called = CodeCell.Byte 0x00 ∷ CodeCell.Byte 0x8F ∷ CodeCell.Later called ∷ CodeCell.Byte 0xBA ∷ CodeCell.Byte 0 ∷ CodeCell.Byte
+    0 ∷ CodeCell.Byte 0 ∷ []
 
 -- the place where the routine behind finished ones begins, in bytes from the front of the code: behind the first routine
 -- and the finished ones
@@ -66,7 +51,7 @@ abbrev pub cells_from : ℕ → List Fixup → List ℕ → List CodeCell
 cells_from place [] bytes = known bytes
 cells_from place (fixup ∷ fixups) bytes =
     known (take (fixup.place - place) bytes)
-    ++ cell.Later fixup.target ∷ cells_from (fixup.place + 2) fixups (drop (fixup.place + 2 - place) bytes)
+    ++ CodeCell.Later fixup.target ∷ cells_from (fixup.place + 2) fixups (drop (fixup.place + 2 - place) bytes)
 
 -- Tells whether fixups follow one another from a place on, each of two bytes, and end before `end`.
 abbrev pub AreInOrder : ℕ → List Fixup → ℕ → Type 0
@@ -78,7 +63,7 @@ pub record StandsFor (place : ℕ) (fixups : List Fixup) (bytes : List ℕ) (cel
   pub in_order : AreInOrder place fixups (place + length bytes)
   pub are : cells_from place fixups bytes ≡ cells
   pub bytes_are : bytes_of cells ≡ bytes
-  pub fixups_are : fixups_of name.Code place cells ≡ fixups
+  pub fixups_are : fixups_of AreaName.Code place cells ≡ fixups
 
 -- the bytes of a routine whose items are `body`: its number of locals, these, and the return where control runs past the
 -- last (Z-Machine Standard 1.1, section 5)
@@ -116,7 +101,7 @@ is_lost_in (Some o) = o.is_lost
 
 -- the limits of code, from those of the settings
 abbrev pub code_limits : SettingLimits → CodeLimits
-code_limits limits = record { labels = limits bound.Labels; code = limits bound.Code; refs = limits bound.References }
+code_limits limits = record { labels = limits Setting.Labels; code = limits Setting.Code; refs = limits Setting.References }
 
 abbrev pub no_routines : Scale → Routines
 no_routines scale = record { scale = scale; has_begun = false; finished = []; routines = 0; opened = None }
@@ -131,7 +116,7 @@ abbrev pub are_too_many : Target → List CodeCell → Fixups → Bool
 are_too_many called finished refs = nat_lt refs.limit (length refs.list + later_count (code_cells called finished))
 
 abbrev pub unlisted : Bool → AddFault
-unlisted full = if full then add_fault.Full else add_fault.Memory
+unlisted full = if full then AddFault.Full else AddFault.Memory
 
 -- a routine with an instruction more, and the open routine with one
 abbrev pub with_instruction : Parts → Contents → Contents
@@ -143,7 +128,7 @@ with_item parts (Some o) = Some (record o { contents = with_instruction parts o.
 
 -- a routine with a label marked at its end, and the open routine with one
 abbrev pub with_mark : Label → Contents → Contents
-with_mark label contents = with_cells (Of (Marks label) ∷ []) false contents
+with_mark label contents = with_cells (Of (Special.Marks label) ∷ []) false contents
 
 abbrev pub with_label : Label → Option Opened → Option Opened
 with_label label None = None
@@ -200,8 +185,8 @@ most_references = 18446744073709551610
 -- the first limit that the beginning of code would pass
 abbrev pub full_first : CodeLimits → Option Limit
 full_first limits =
-    if nat_lt limits.code 8 then Some setting.Code else
-    if nat_lt limits.refs 5 then Some setting.Refs else None
+    if nat_lt limits.code 8 then Some Limit.Code else
+    if nat_lt limits.refs 5 then Some Limit.Refs else None
 
 -- the first limit that is passed where code begins; none where it has begun
 abbrev pub full_unless : Bool → CodeLimits → Option Limit
@@ -232,7 +217,7 @@ reference_count routines = (if routines.has_begun then 5 else 4) + later_count r
 -- the first limit that code would pass which begins with another routine; unless this is lost, it has a byte for the number
 -- of its locals
 abbrev pub full_with_locals : Bool → CodeLimits → Option Limit
-full_with_locals is_lost limits = if not is_lost && nat_lt limits.code 9 then Some setting.Code else full_first limits
+full_with_locals is_lost limits = if not is_lost && nat_lt limits.code 9 then Some Limit.Code else full_first limits
 
 abbrev pub full_before : Bool → Bool → CodeLimits → Option Limit
 full_before is_lost has_begun limits = if has_begun then None else full_with_locals is_lost limits
@@ -240,7 +225,7 @@ full_before is_lost has_begun limits = if has_begun then None else full_with_loc
 -- the first limit that another routine would pass at a place
 abbrev pub full_behind_bytes : CodeLimits → Bool → Bool → ℕ → Option Limit
 full_behind_bytes limits is_lost has_begun place =
-    if nat_lt unlimited (place + 1) then Some setting.Code else full_before is_lost has_begun limits
+    if nat_lt unlimited (place + 1) then Some Limit.Code else full_before is_lost has_begun limits
 
 abbrev pub full_opened : SettingLimits → Bool → Routines → Option Limit
 full_opened limits is_lost routines = full_behind_bytes (code_limits limits) is_lost routines.has_begun (place_behind routines.finished)
@@ -254,9 +239,9 @@ with_opened locals is_lost routines =
 -- references.
 abbrev pub full_cells : Bool → List CodeCell → List Cell → Contents → Option Limit
 full_cells is_lost finished cells contents =
-    if nat_lt unlimited (label_count contents.cells + label_count cells) then Some setting.Labels else
-    if nat_lt unlimited (bytes_with finished contents + length (long_bytes cells)) then Some setting.Code else
-    if nat_lt most_references (references_with is_lost finished contents + fixup_count cells) then Some setting.Refs else None
+    if nat_lt unlimited (label_count contents.cells + label_count cells) then Some Limit.Labels else
+    if nat_lt unlimited (bytes_with finished contents + length (long_bytes cells)) then Some Limit.Code else
+    if nat_lt most_references (references_with is_lost finished contents + fixup_count cells) then Some Limit.Refs else None
 
 abbrev pub full_behind : List CodeCell → List Cell → Option Opened → Option Limit
 full_behind finished cells None = None
@@ -268,7 +253,7 @@ full_with parts routines = full_behind routines.finished (instruction_cells part
 -- the bound that one more label would pass
 abbrev pub full_marked : Option Opened → Option Limit
 full_marked None = None
-full_marked (Some o) = if nat_lt unlimited (label_count o.contents.cells + 1) then Some setting.Labels else None
+full_marked (Some o) = if nat_lt unlimited (label_count o.contents.cells + 1) then Some Limit.Labels else None
 
 abbrev pub full_label : Routines → Option Limit
 full_label routines = full_marked routines.opened
@@ -290,7 +275,7 @@ rest_behind None used = None
 rest_behind (Some left) used = rest left used
 
 abbrev pub labels_left : SettingLimits → Routines → Option ℕ
-labels_left limits routines = rest (limits bound.Labels) (labels routines)
+labels_left limits routines = rest (limits Setting.Labels) (labels routines)
 
 -- The number of bytes of code so far, with those of the open routine, every branch long. A lost routine has none.
 abbrev pub code_with : ℕ → List CodeCell → Option Opened → ℕ
@@ -302,7 +287,7 @@ bytes_of_code routines = code_with (code_count routines) routines.finished routi
 
 -- the number of bytes of code that there may still be
 abbrev pub code_left : SettingLimits → Routines → Option ℕ
-code_left limits routines = rest (limits bound.Code) (bytes_of_code routines)
+code_left limits routines = rest (limits Setting.Code) (bytes_of_code routines)
 
 -- The number of references of the open routine. A lost routine has none.
 abbrev pub references_open : Option Opened → ℕ
@@ -311,15 +296,15 @@ references_open (Some o) = if o.is_lost then 0 else fixup_count o.contents.cells
 
 abbrev pub references_left : SettingLimits → Routines → Option ℕ
 references_left limits routines =
-    rest_behind (rest (limits bound.References) (reference_count routines)) (references_open routines.opened)
+    rest_behind (rest (limits Setting.References) (reference_count routines)) (references_open routines.opened)
 
 -- The fault of a routine behind `start` bytes and `references` references: a label that is missing or placed twice, an
 -- offset that does not fit, or the first bound that is passed, by its bytes with the return at its end or by all
 -- references.
 abbrev pub limit_fault : ℕ → Contents → ℕ → Option CloseFault
 limit_fault references contents len =
-    if is_full contents.is_final unlimited len then Some (close_fault.Full setting.Code) else
-    if nat_lt most_references (references + fixup_count contents.cells) then Some (close_fault.Full setting.Refs) else None
+    if is_full contents.is_final unlimited len then Some (CloseFault.Full Limit.Code) else
+    if nat_lt most_references (references + fixup_count contents.cells) then Some (CloseFault.Full Limit.Refs) else None
 
 abbrev pub fault_behind : ℕ → ℕ → Contents → Option CloseFault
 fault_behind start references contents =
@@ -331,13 +316,13 @@ fault_behind start references contents =
 -- The setting that finished routines would pass, by their bytes with the first one, and by all references that the story then has.
 abbrev pub full_finished : CodeLimits → ℕ → ℕ → Option Limit
 full_finished limits bytes references =
-    if nat_lt limits.code bytes then Some setting.Code else
-    if nat_lt limits.refs references then Some setting.Refs else None
+    if nat_lt limits.code bytes then Some Limit.Code else
+    if nat_lt limits.refs references then Some Limit.Refs else None
 
 -- the fault of a routine behind which finished routines would pass a setting; a lost one is none of them
 abbrev pub fault_of_full : Option Limit → Option CloseFault
 fault_of_full None = None
-fault_of_full (Some limit) = Some (close_fault.Full limit)
+fault_of_full (Some limit) = Some (CloseFault.Full limit)
 
 abbrev pub finished_fault : Bool → CodeLimits → List CodeCell → Option CloseFault
 finished_fault is_lost limits finished =

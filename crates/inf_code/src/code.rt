@@ -1,22 +1,16 @@
 //! The code of a story: its finished routines, and the open one.
 ghost use Rattle.std.specs.Prelude.{◌≡◌, ◌≤◌, ◌⊎◌, ◌∷◌, ◌++◌, ◌+◌, [], None, Some, IfOk, MatchResult, OnOk, OnErr, false, if◌then◌else◌};
-ghost use Rattle.std.specs.Prelude.{length, IsErr, IsSome};
-ghost use Rattle.std.specs.Prelude.{take, true};
-ghost use Rattle.inf_area.specs.Fixups.{with_fixups};
-ghost use Rattle.inf_area.specs.Cells.{bytes_of, fixups_of};
-ghost use Rattle.inf_opcode.specs.Instructions.{IsProper};
-ghost use Rattle.inf_opcode.specs.PartsOf.{parts_of};
-ghost use Rattle.inf_assembler.specs.declared.routines.Limit.{Limit};
-ghost use Rattle.inf_assembler.specs.declared.routines.CloseFault.TheVariants as close_fault;
+ghost use Rattle.std.specs.Prelude.{length, IsErr, IsSome, take, true};
+ghost use Rattle.inf_area.specs.{Cells.bytes_of, Cells.fixups_of, Fixups.with_fixups};
+ghost use Rattle.inf_opcode.specs.{Instructions.IsProper, PartsOf.parts_of};
+ghost use Rattle.inf_assembler.specs.{declared.routines.CloseFault.CloseFault, declared.routines.Limit.Limit};
 ghost use Rattle.inf_assembler.specs.Routines.{IsOpen, contents_of, refusal};
 ghost use Rattle.inf_code.specs.Code.{IsSpare, are_too_many, begun, bytes_of_code, code_cells, code_count, code_left, code_limits};
-ghost use Rattle.inf_code.specs.Code.{fault_behind};
-ghost use Rattle.inf_code.specs.Code.{fault_closed, fault_of_full, reference_count, references_left, references_open, full_begun};
-ghost use Rattle.inf_code.specs.Code.{full_behind_bytes, full_finished};
-ghost use Rattle.inf_code.specs.Code.{full_first, full_label, full_opened, full_with, is_lost_in, labels, labels_left, place_behind};
-ghost use Rattle.inf_code.specs.Code.{routine_bounds, routine_count, unlisted};
-ghost use Rattle.inf_code.specs.Code.{with_closed, with_item, with_label, with_none_open, with_opened, zeros_behind};
-ghost use Rattle.inf_settings.specs.declared.setting.Setting.TheVariants as setting;
+ghost use Rattle.inf_code.specs.Code.{fault_behind, fault_closed, fault_of_full, reference_count, references_left, references_open};
+ghost use Rattle.inf_code.specs.Code.{full_begun, full_behind_bytes, full_finished, full_first, full_label, full_opened, full_with};
+ghost use Rattle.inf_code.specs.Code.{is_lost_in, labels, labels_left, place_behind, routine_bounds, routine_count, unlisted, with_closed};
+ghost use Rattle.inf_code.specs.Code.{with_item, with_label, with_none_open, with_opened, zeros_behind};
+ghost use Rattle.inf_settings.specs.declared.setting.Setting.{Setting};
 
 use inf_area::{AddFault, Area, AreaName, Fixup, PagedArea, Refs, Scale, Target};
 use inf_assembler::{CloseFault, GrowFault, Limit, Limits, Routine, RoutineKind};
@@ -192,7 +186,7 @@ impl<B: Bounds> Code<B> {
     /// Returns the number of bytes of code so far: those of the first routine, once code has begun, and of the finished ones.
     pub fn count(&self) -> usize
         ensures value { result ≡ code_count self.now }
-        ensures few { result ≤ B.most setting.Code }
+        ensures few { result ≤ B.most Setting.Code }
     {
         if self.has_begun {
             self.finished
@@ -216,7 +210,7 @@ impl<B: Bounds> Code<B> {
     /// begun, and those of the finished routines. There are at most as many as there may be, if that is four at least.
     pub fn references(&self) -> usize
         ensures value { result ≡ reference_count self.now }
-        ensures few { 4 ≤ B.most setting.References → result ≤ B.most setting.References }
+        ensures few { 4 ≤ B.most Setting.References → result ≤ B.most Setting.References }
     {
         if self.has_begun {
             FIRST_REFERENCES + self.refs.len()
@@ -247,7 +241,7 @@ impl<B: Bounds> Code<B> {
 
     /// Returns the most bytes of code that there may be.
     pub fn most_bytes(&self) -> usize
-        ensures { result ≡ B.most setting.Code }
+        ensures { result ≡ B.most Setting.Code }
     {
         self.limits.code
     }
@@ -389,7 +383,7 @@ impl<B: Bounds> Code<B> {
         ensures ok { OnOk result (self.new ≡ with_closed kind self.old) }
         ensures err { OnErr result (self.new ≡ with_none_open self.old) }
         ensures fault { let wrong = fault_closed B.most kind self.old in
-            MatchResult result (λ _. wrong ≡ None) (λ fault. (fault ≡ close_fault.Memory) ⊎ (wrong ≡ Some fault)) }
+            MatchResult result (λ _. wrong ≡ None) (λ fault. (fault ≡ CloseFault.Memory) ⊎ (wrong ≡ Some fault)) }
         ensures is_open { IsErr result → IsSome self.old.opened }
     {
         let Some(routine) = self.routine.take() else {
@@ -487,7 +481,7 @@ fn close_lost(
     ensures within { routine.start ≤ length area.new }
     ensures none { IsSpare spare.new }
     ensures fault { let wrong = fault_behind routine.start 0 (contents_of routine area.old) in
-        MatchResult result (λ _. wrong ≡ None) (λ fault. (fault ≡ close_fault.Memory) ⊎ (wrong ≡ Some fault)) }
+        MatchResult result (λ _. wrong ≡ None) (λ fault. (fault ≡ CloseFault.Memory) ⊎ (wrong ≡ Some fault)) }
 {
     routine.close(area, spare, kind)?;
     spare.keep(0);
@@ -511,7 +505,7 @@ fn fill_up(
     ensures few { OnOk result (5 + listed ≤ limits.refs) }
     ensures err { OnErr result (area.new ≡ area.old) }
     ensures fault { let full = full_finished limits (length area.old + length (zeros_behind scale len)) (5 + listed) in
-        MatchResult result (λ _. full ≡ None) (λ fault. (fault ≡ close_fault.Memory) ⊎ (fault_of_full full ≡ Some fault)) }
+        MatchResult result (λ _. full ≡ None) (λ fault. (fault ≡ CloseFault.Memory) ⊎ (fault_of_full full ≡ Some fault)) }
 {
     let zeros: &[u8] = &[0, 0, 0, 0, 0, 0, 0];
     let behind = &zeros[..scale.gap(len)];

@@ -1,11 +1,7 @@
 -- Bytes that are all of ASCII are a text.
+use Rattle.std.proofs.{lemmas.Bool.ltb-true, lemmas.List.take_all, lemmas.Str.IsUtf8-from_ascii}
 use Rattle.std.proofs.Common.{◌≡◌, ℕ, zero, suc, ◌-◌, List, [], ◌∷◌, length, take, drop, Bool, true, false, ◌&&◌, refl, arith, subst, sym}
-use Rattle.std.specs.Char.{is_ascii}
-use Rattle.std.specs.List.{list_all}
-use Rattle.std.specs.Str.{IsAscii, IsUtf8}
-use Rattle.std.proofs.lemmas.Bool.{ltb-true}
-use Rattle.std.proofs.lemmas.List.{take_all}
-use Rattle.std.proofs.lemmas.Str.{IsUtf8-from_ascii}
+use Rattle.std.specs.{Char.is_ascii, List.list_all, Str.IsAscii, Str.IsUtf8}
 
 -- each of two tests that hold together
 first_holds : (a b : Bool) → (a && b) ≡ true → a ≡ true

@@ -1,12 +1,8 @@
 -- Paths that are cut at their commas.
 use Rattle.std.proofs.Common.{◌≡◌, ◌≢◌, ℕ, suc, ◌<◌, ◌==◌, false, List, [], ◌∷◌, ◌++◌, length, map, get_or, Option, Some, None, Bor, refl}
-use Rattle.std.proofs.Common.{ap, sym, subst, ◌∙◌, arith}
+use Rattle.std.proofs.Common.{ap, sym, subst, ◌∙◌, arith, option_map, IfSome}
 use Rattle.std.proofs.lemmas.Bool.Decides.{nat_tests}
-use Rattle.std.specs.List.{join_with_byte}
-use Rattle.std.specs.Iterator.Runs.{AllItems, Run}
-use Rattle.std.specs.Option.{option_map}
-use Rattle.std.specs.Prelude.{IfSome}
-use Rattle.std.specs.Str.Iter.{LacksByte}
+use Rattle.std.specs.{Iterator.Runs.AllItems, Iterator.Runs.Run, List.join_with_byte, Str.Iter.LacksByte}
 use Rattle.inf_command.specs.Directories.{cut_at_commas, in_front}
 
 other_byte : (b : ℕ) → b ≢ 44 → (b == 44) ≡ false

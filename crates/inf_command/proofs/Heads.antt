@@ -1,39 +1,33 @@
 -- Words of a command behind those of a head.
 use Rattle.std.proofs.Common.{◌≡◌, ℕ, ◌+◌, ◌==◌, List, [], ◌∷◌, Bool, true, false, cond, Option, Some, None, Result, Ok, Err, refl, ap, ◌∙◌}
 use Rattle.std.specs.Option.{option_map, option_or}
-use Rattle.inf_letters.specs.declared.letters.Letters.{Letters}
-use Rattle.inf_letters.specs.Letters.{spoken_over}
+use Rattle.inf_letters.specs.{Letters.spoken_over, declared.letters.Letters.Letters}
 use Rattle.inf_letters.proofs.Overs.{with_letters-over}
-use Rattle.inf_settings.specs.declared.setting.Setting.{Setting}
-use Rattle.inf_settings.specs.declared.setting.Setting.TheVariants as setting
-use Rattle.inf_settings.specs.declared.settings.SetFault.{SetFault}
+use Rattle.inf_settings.specs.{Words.Assigned, Words.assignment_of, declared.setting.Setting.Setting, declared.settings.SetFault.SetFault}
 use Rattle.inf_settings.specs.Settings.{answer_to, is_fit, named}
-use Rattle.inf_settings.specs.Words.{Assigned, assignment_of}
-use Rattle.inf_command.specs.declared.command_line.WordFault.{WordFault}
-use Rattle.inf_command.specs.declared.spoken.Spoken.{Spoken}
-use Rattle.inf_command.specs.Spoken.{numbers_over, with_name, with_named}
+use Rattle.inf_command.specs.{Heads.ComesFirst, Heads.HeadWords, Heads.behind_head, Heads.head_of, Spoken.numbers_over, Spoken.with_name}
+use Rattle.inf_command.specs.{Spoken.with_named, declared.command_line.WordFault.WordFault, declared.spoken.Spoken.Spoken}
 use Rattle.inf_command.specs.Words.{Choice, TakenWords, and_then, choice_of, chosen_letters, no_words, read_from, take_letters, take_name}
 use Rattle.inf_command.specs.Words.{take_setting, take_word, with_settings}
-use Rattle.inf_command.specs.Heads.{ComesFirst, HeadWords, behind_head, head_of}
 
 -- a setting that is named over others
 with_named-over : (x : Setting) (n : ℕ) (s others : Spoken) → with_named x n (numbers_over s others)
     ≡ numbers_over (with_named x n s) others
-with_named-over setting.QuotedText n s others = refl
-with_named-over setting.ExpressionNodes n s others = refl
-with_named-over setting.Symbols n s others = refl
-with_named-over setting.Labels n s others = refl
-with_named-over setting.DictionaryEntries n s others = refl
-with_named-over setting.Objects n s others = refl
-with_named-over setting.Verbs n s others = refl
-with_named-over setting.Actions n s others = refl
-with_named-over setting.GrammarLines n s others = refl
-with_named-over setting.PropertyTables n s others = refl
-with_named-over setting.Arrays n s others = refl
-with_named-over setting.LowStrings n s others = refl
-with_named-over setting.Code n s others = refl
-with_named-over setting.Strings n s others = refl
-with_named-over setting.References n s others = refl
+with_named-over Setting.QuotedText n s others = refl
+with_named-over Setting.ExpressionNodes n s others = refl
+with_named-over Setting.Symbols n s others = refl
+with_named-over Setting.Labels n s others = refl
+with_named-over Setting.DictionaryEntries n s others = refl
+with_named-over Setting.Objects n s others = refl
+with_named-over Setting.Verbs n s others = refl
+with_named-over Setting.Actions n s others = refl
+with_named-over Setting.GrammarLines n s others = refl
+with_named-over Setting.PropertyTables n s others = refl
+with_named-over Setting.Arrays n s others = refl
+with_named-over Setting.LowStrings n s others = refl
+with_named-over Setting.Code n s others = refl
+with_named-over Setting.Strings n s others = refl
+with_named-over Setting.References n s others = refl
 
 with_name-over : (o : Option Setting) (n : ℕ) (s others : Spoken) → with_name o n (numbers_over s others)
     ≡ numbers_over (with_name o n s) others

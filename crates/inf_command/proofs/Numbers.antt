@@ -1,9 +1,7 @@
 -- The settings that words named, one by one.
 use Rattle.std.proofs.Common.{◌≡◌, ◌+◌, ◌<◌, ℕ, List, length, drop, get_or, add-one, drop-cons, refl}
-use Rattle.inf_settings.specs.declared.setting.Setting.{Setting}
-use Rattle.inf_settings.specs.declared.settings.Settings.{Settings}
-use Rattle.inf_command.specs.declared.spoken.Spoken.{Spoken}
-use Rattle.inf_command.specs.Spoken.{number_named, with_number_of, with_numbers}
+use Rattle.inf_settings.specs.{declared.setting.Setting.Setting, declared.settings.Settings.Settings}
+use Rattle.inf_command.specs.{Spoken.number_named, Spoken.with_number_of, Spoken.with_numbers, declared.spoken.Spoken.Spoken}
 
 -- a setting is followed by those behind it
 pub with_numbers-next : (some : List Setting) (i : ℕ) (d : Setting) (s : Spoken) (settings : Settings) → i < length some

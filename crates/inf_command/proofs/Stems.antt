@@ -1,13 +1,9 @@
 -- The stem of a name, from its last `.` on.
 use Rattle.std.proofs.Common.{◌≡◌, ◌≢◌, ℕ, zero, suc, ◌<◌, ◌==◌, List, [], ◌∷◌, ◌++◌, length, get_or, Bool, true, false, Option, Some, None}
-use Rattle.std.proofs.Common.{drop, arith, lit<, ap, refl, sym, ◌∙◌}
-use Rattle.std.proofs.lemmas.List.{take-append-drop}
-use Rattle.std.specs.Str.Pattern.{FindsChar, RFindsChar, HasMatch, SplitsAroundMatch}
-use Rattle.std.specs.Str.{NoCharPasses}
-use Rattle.std.specs.Bool.{MatchBool}
-use Rattle.std.specs.Prelude.{codes}
-use Rattle.std.proofs.Math.Bool.{or-true, true-or}
+use Rattle.std.proofs.Common.{drop, arith, lit<, ap, refl, sym, ◌∙◌, MatchBool, codes}
+use Rattle.std.proofs.{Math.Bool.or-true, Math.Bool.true-or, lemmas.List.take-append-drop}
 use Rattle.std.proofs.lemmas.Str.Pattern.{NoCharPasses-char, drop_at_char, contains_char}
+use Rattle.std.specs.{Str.NoCharPasses, Str.Pattern.FindsChar, Str.Pattern.HasMatch, Str.Pattern.RFindsChar, Str.Pattern.SplitsAroundMatch}
 use Rattle.inf_command.specs.FileNames.{source_name, stem, stem_after, has_slash}
 
 -- a byte that is no `.` begins no extension

@@ -1,7 +1,6 @@
 -- One word more of a command's words.
 use Rattle.std.proofs.Common.{◌≡◌, ℕ, suc, ◌+◌, ◌<◌, List, map, drop, get_or, length, Ok, Err, Bor, add-one, drop-cons, ap}
-use Rattle.inf_command.specs.Words.{TakenWords, and_then, read_from, take_word}
-use Rattle.inf_command.specs.declared.command_line.WordFault.{WordFault}
+use Rattle.inf_command.specs.{Words.TakenWords, Words.and_then, Words.read_from, Words.take_word, declared.command_line.WordFault.WordFault}
 
 -- reading goes on with the words behind one that was taken
 pub read_from-taken : (words : List (Bor (List ℕ))) (i : ℕ) (d : Bor (List ℕ)) (taken next : TakenWords) → i < length words

@@ -1,7 +1,6 @@
 -- The names of the files that a command names.
 use Rattle.std.specs.Prelude.{ℕ, ◌==◌, ◌||◌, ◌&&◌, not, List, [], ◌∷◌, ◌++◌, Bool, false, if◌then◌else◌, Option, Some, None, codes}
 use Rattle.inf_area.specs.declared.scale.Scale.{Scale}
-use Rattle.inf_area.specs.declared.scale.Scale.TheVariants as scale
 use Rattle.inf_letters.specs.Letters.{scale_of}
 use Rattle.inf_command.specs.Words.{Choice}
 
@@ -26,8 +25,8 @@ source_name word = elim (stem word) [ Some front ↦ word | None ↦ word ++ cod
 
 -- the ending of the name of a story of a version
 abbrev pub extension : Scale → List ℕ
-extension scale.Four = codes ".z5"
-extension scale.Eight = codes ".z8"
+extension Scale.Four = codes ".z5"
+extension Scale.Eight = codes ".z8"
 
 -- the name that a story has where no word gives one: the source's, with the version's ending for its extension
 abbrev pub default_story_name : List ℕ → Scale → List ℕ

@@ -1,14 +1,9 @@
 -- Words of the head of a source, and their choices where the words of the command are silent.
+use Rattle.std.specs.{Char.is_ascii, List.list_all, Option.option_or}
 use Rattle.std.specs.Prelude.{◌≡◌, ℕ, ◌==◌, ◌&&◌, nat_le, Bool, length, List, [], ◌∷◌, if◌then◌else◌, Option, Some, None, Result, Ok, Err}
-use Rattle.std.specs.Option.{option_or}
-use Rattle.std.specs.List.{list_all}
-use Rattle.std.specs.Char.{is_ascii}
-use Rattle.inf_letters.specs.declared.letters.Letters.{Letters}
-use Rattle.inf_letters.specs.Letters.{none_spoken, spoken_over}
-use Rattle.inf_settings.specs.Settings.{named}
-use Rattle.inf_settings.specs.Words.{Assigned, assignment_of}
-use Rattle.inf_command.specs.declared.command_line.WordFault.{WordFault}
-use Rattle.inf_command.specs.declared.spoken.Spoken.{Spoken}
+use Rattle.inf_letters.specs.{Letters.none_spoken, Letters.spoken_over, declared.letters.Letters.Letters}
+use Rattle.inf_settings.specs.{Settings.named, Words.Assigned, Words.assignment_of}
+use Rattle.inf_command.specs.{declared.command_line.WordFault.WordFault, declared.spoken.Spoken.Spoken}
 use Rattle.inf_command.specs.Spoken.{none_named, numbers_over, with_name}
 use Rattle.inf_command.specs.Words.{Choice, TakenWords, chosen_letters, no_words, read_from, read_words}
 

@@ -1,11 +1,7 @@
 -- The settings that words named.
 use Rattle.std.specs.Prelude.{ℕ, List, [], ◌∷◌, if◌then◌else◌, Option, Some, None}
 use Rattle.std.specs.Option.{option_or}
-use Rattle.inf_settings.specs.declared.setting.Setting.{Setting}
-use Rattle.inf_settings.specs.declared.setting.Setting.TheVariants.{QuotedText, ExpressionNodes, Symbols, Labels, DictionaryEntries}
-use Rattle.inf_settings.specs.declared.setting.Setting.TheVariants.{Objects, Verbs, Actions, GrammarLines, PropertyTables, Arrays}
-use Rattle.inf_settings.specs.declared.setting.Setting.TheVariants.{LowStrings, Code, Strings, References}
-use Rattle.inf_settings.specs.declared.settings.Settings.{Settings}
+use Rattle.inf_settings.specs.{declared.setting.Setting.Setting, declared.settings.Settings.Settings}
 use Rattle.inf_settings.specs.Settings.{all_settings, defaults, is_fit, with_named as with_setting}
 use Rattle.inf_command.specs.declared.spoken.Spoken.{Spoken}
 
@@ -31,39 +27,39 @@ none_named = record {
 
 -- the number that a setting was given, if it was named
 abbrev pub number_named : Setting → Spoken → Option ℕ
-number_named QuotedText s = s.quoted_text
-number_named ExpressionNodes s = s.expression_nodes
-number_named Symbols s = s.symbols
-number_named Labels s = s.labels
-number_named DictionaryEntries s = s.dictionary_entries
-number_named Objects s = s.objects
-number_named Verbs s = s.verbs
-number_named Actions s = s.actions
-number_named GrammarLines s = s.grammar_lines
-number_named PropertyTables s = s.property_tables
-number_named Arrays s = s.arrays
-number_named LowStrings s = s.low_strings
-number_named Code s = s.code
-number_named Strings s = s.strings
-number_named References s = s.references
+number_named Setting.QuotedText s = s.quoted_text
+number_named Setting.ExpressionNodes s = s.expression_nodes
+number_named Setting.Symbols s = s.symbols
+number_named Setting.Labels s = s.labels
+number_named Setting.DictionaryEntries s = s.dictionary_entries
+number_named Setting.Objects s = s.objects
+number_named Setting.Verbs s = s.verbs
+number_named Setting.Actions s = s.actions
+number_named Setting.GrammarLines s = s.grammar_lines
+number_named Setting.PropertyTables s = s.property_tables
+number_named Setting.Arrays s = s.arrays
+number_named Setting.LowStrings s = s.low_strings
+number_named Setting.Code s = s.code
+number_named Setting.Strings s = s.strings
+number_named Setting.References s = s.references
 
 -- a setting is named: the last number holds
 abbrev pub with_named : Setting → ℕ → Spoken → Spoken
-with_named QuotedText n s = record s { quoted_text = Some n }
-with_named ExpressionNodes n s = record s { expression_nodes = Some n }
-with_named Symbols n s = record s { symbols = Some n }
-with_named Labels n s = record s { labels = Some n }
-with_named DictionaryEntries n s = record s { dictionary_entries = Some n }
-with_named Objects n s = record s { objects = Some n }
-with_named Verbs n s = record s { verbs = Some n }
-with_named Actions n s = record s { actions = Some n }
-with_named GrammarLines n s = record s { grammar_lines = Some n }
-with_named PropertyTables n s = record s { property_tables = Some n }
-with_named Arrays n s = record s { arrays = Some n }
-with_named LowStrings n s = record s { low_strings = Some n }
-with_named Code n s = record s { code = Some n }
-with_named Strings n s = record s { strings = Some n }
-with_named References n s = record s { references = Some n }
+with_named Setting.QuotedText n s = record s { quoted_text = Some n }
+with_named Setting.ExpressionNodes n s = record s { expression_nodes = Some n }
+with_named Setting.Symbols n s = record s { symbols = Some n }
+with_named Setting.Labels n s = record s { labels = Some n }
+with_named Setting.DictionaryEntries n s = record s { dictionary_entries = Some n }
+with_named Setting.Objects n s = record s { objects = Some n }
+with_named Setting.Verbs n s = record s { verbs = Some n }
+with_named Setting.Actions n s = record s { actions = Some n }
+with_named Setting.GrammarLines n s = record s { grammar_lines = Some n }
+with_named Setting.PropertyTables n s = record s { property_tables = Some n }
+with_named Setting.Arrays n s = record s { arrays = Some n }
+with_named Setting.LowStrings n s = record s { low_strings = Some n }
+with_named Setting.Code n s = record s { code = Some n }
+with_named Setting.Strings n s = record s { strings = Some n }
+with_named Setting.References n s = record s { references = Some n }
 
 -- the numbers after the setting of a name is named, if there is one and it can have the number
 abbrev pub with_name : Option Setting → ℕ → Spoken → Spoken

@@ -1,14 +1,8 @@
 -- The words of a command and their choices, taken from left to right.
 use Rattle.std.specs.Prelude.{ℕ, ◌+◌, ◌==◌, List, [], ◌∷◌, if◌then◌else◌, Option, Some, None, Result, Ok, Err}
-use Rattle.inf_letters.specs.declared.letters.Letters.{Letters}
-use Rattle.inf_letters.specs.Letters.{none_spoken, with_letters}
-use Rattle.inf_settings.specs.declared.settings.SetFault.{SetFault}
-use Rattle.inf_settings.specs.Settings.{answer_to, named}
-use Rattle.inf_settings.specs.Words.{Assigned, assignment_of}
-use Rattle.inf_command.specs.Spoken.{none_named, with_name}
-use Rattle.inf_command.specs.declared.command_line.WordFault.{WordFault}
-use Rattle.inf_command.specs.declared.command_line.WordFault.TheVariants as fault
-use Rattle.inf_command.specs.declared.spoken.Spoken.{Spoken}
+use Rattle.inf_letters.specs.{Letters.none_spoken, Letters.with_letters, declared.letters.Letters.Letters}
+use Rattle.inf_settings.specs.{Settings.answer_to, Settings.named, Words.Assigned, Words.assignment_of, declared.settings.SetFault.SetFault}
+use Rattle.inf_command.specs.{Spoken.none_named, Spoken.with_name, declared.command_line.WordFault.WordFault, declared.spoken.Spoken.Spoken}
 
 -- the choices of a command's words: the source, the story where a word names it, the settings that are named, those of letters, and the
 -- directories of included files where a word gives them, as the text behind its sign
@@ -38,16 +32,16 @@ chosen_letters l (b ∷ letters) = with_letters (b ∷ letters) l
 
 -- the choices after a word `-..`, by its letters
 abbrev pub take_letters : TakenWords → ℕ → Option Letters → Result TakenWords WordFault
-take_letters taken place None = Err (fault.Unknown place)
+take_letters taken place None = Err (WordFault.Unknown place)
 take_letters taken place (Some letters) = Ok (record taken { letters = letters })
 
 -- the choices after a word `$..`, by the settings that it leaves, and by the result of setting
 abbrev pub with_settings : TakenWords → ℕ → Spoken → Result Unit SetFault → Result TakenWords WordFault
 with_settings taken place settings (Ok done) = Ok (record taken { settings = settings })
-with_settings taken place settings (Err refused) = Err (fault.BadSetting place)
+with_settings taken place settings (Err refused) = Err (WordFault.BadSetting place)
 
 abbrev pub take_setting : TakenWords → ℕ → Option Assigned → Result TakenWords WordFault
-take_setting taken place None = Err (fault.BadSetting place)
+take_setting taken place None = Err (WordFault.BadSetting place)
 take_setting taken place (Some a) =
     with_settings taken place (with_name (named a.name) a.number taken.settings) (answer_to (named a.name) a.number)
 
@@ -55,7 +49,7 @@ take_setting taken place (Some a) =
 abbrev pub take_name : Option (List ℕ) → Option (List ℕ) → TakenWords → ℕ → List ℕ → Result TakenWords WordFault
 take_name None story taken place word = Ok (record taken { source = Some word })
 take_name (Some source) None taken place word = Ok (record taken { story = Some word })
-take_name (Some source) (Some story) taken place word = Err (fault.TooMany place)
+take_name (Some source) (Some story) taken place word = Err (WordFault.TooMany place)
 
 -- the choices after one more word, at its place among the words: its first byte decides what kind of word it is
 abbrev pub take_word : TakenWords → ℕ → List ℕ → Result TakenWords WordFault
@@ -68,7 +62,7 @@ take_word taken place (b ∷ bs) =
 
 -- the choice at the end of the words
 abbrev pub choice_of : Option (List ℕ) → TakenWords → Result Choice WordFault
-choice_of None taken = Err fault.NoSource
+choice_of None taken = Err WordFault.NoSource
 choice_of (Some source) taken =
     Ok (record { source = source; story = taken.story; settings = taken.settings; letters = taken.letters; path = taken.path })
 

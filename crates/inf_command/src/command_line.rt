@@ -1,12 +1,8 @@
 //! The words of a command, and the names of the files that they give.
+ghost use Rattle.std.specs.{Option.option_copied, Option.option_or, String.string_bytes};
 ghost use Rattle.std.specs.Prelude.{◌≡◌, ◌<◌, ◌==◌, IfOk, length, map};
-ghost use Rattle.std.specs.Option.{option_copied, option_or};
-ghost use Rattle.std.specs.String.{string_bytes};
-ghost use Rattle.inf_command.specs.Words.{read_words};
-ghost use Rattle.inf_command.specs.Directories.{directories_of};
+ghost use Rattle.inf_command.specs.{Directories.directories_of, Heads.with_head, Spoken.settings_of, Words.read_words};
 ghost use Rattle.inf_command.specs.FileNames.{extension, stem, source_name, story_name};
-ghost use Rattle.inf_command.specs.Heads.{with_head};
-ghost use Rattle.inf_command.specs.Spoken.{settings_of};
 ghost use Rattle.inf_letters.specs.Letters.{set_of, warns};
 
 use crate::directories::parts_of;

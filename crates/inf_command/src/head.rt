@@ -1,9 +1,6 @@
 //! The words of the head of a source.
+ghost use Rattle.std.specs.{Char.is_ascii, List.list_all, Option.option_copied, Str.IsUtf8};
 ghost use Rattle.std.specs.Prelude.{◌≡◌, ◌≤◌, Some, length};
-ghost use Rattle.std.specs.Char.{is_ascii};
-ghost use Rattle.std.specs.List.{list_all};
-ghost use Rattle.std.specs.Option.{option_copied};
-ghost use Rattle.std.specs.Str.{IsUtf8};
 ghost use Rattle.inf_settings.specs.Words.{assignment_of};
 ghost use Rattle.inf_command.specs.Heads.{no_head, take_head_word, with_head_letters, with_head_setting};
 ghost use Rattle.inf_command.specs.Words.{chosen_letters};

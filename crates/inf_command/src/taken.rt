@@ -1,6 +1,5 @@
 //! The words of a command one by one.
-ghost use Rattle.std.specs.Prelude.{◌≡◌};
-ghost use Rattle.std.specs.Option.{option_copied};
+ghost use Rattle.std.specs.Prelude.{◌≡◌, option_copied};
 ghost use Rattle.inf_settings.specs.Words.{assignment_of};
 ghost use Rattle.inf_command.specs.Words.{chosen_letters, choice_of, no_words, take_letters, take_name, take_setting, take_word};
 

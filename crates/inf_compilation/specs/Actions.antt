@@ -1,76 +1,44 @@
 -- Work of the actions of the grammar. While a unit is read they gather its parts, and at its end it acts, as a whole.
 use Rattle.std.specs.Prelude.{ℕ, ◌+◌, ◌-◌, max, List, [], ◌∷◌, length, map, nat_lt, Bool, true, false, ◌&&◌, if◌then◌else◌, Option}
 use Rattle.std.specs.Prelude.{Some, None, is_some, unwrap_or}
-use Rattle.inf_settings.specs.Bounds.{Limits}
+use Rattle.inf_settings.specs.{Bounds.Limits, declared.setting.Setting.Setting, declared.settings.Settings.Settings}
 use Rattle.inf_characters.specs.declared.characters.CharSet.{CharSet}
-use Rattle.inf_scanner.specs.declared.tokens.Mark.TheVariants as mark
-use Rattle.inf_scanner.specs.declared.tokens.Place.{Place}
-use Rattle.inf_scanner.specs.declared.tokens.TokenKind.{TokenKind}
-use Rattle.inf_scanner.specs.declared.tokens.TokenKind.TheVariants as kind
-use Rattle.inf_assembler.specs.declared.routines.RoutineKind.{RoutineKind}
-use Rattle.inf_assembler.specs.declared.routines.RoutineKind.TheVariants as routine_kind
-use Rattle.inf_assembler.specs.declared.routines.CloseFault.{CloseFault}
-use Rattle.inf_assembler.specs.declared.routines.CloseFault.TheVariants as close_fault
-use Rattle.inf_settings.specs.declared.setting.Setting.TheVariants as setting
-use Rattle.inf_settings.specs.declared.settings.Settings.{Settings}
-use Rattle.inf_expressions.specs.declared.findings.Finding.{Finding}
-use Rattle.inf_expressions.specs.declared.operators.Operand.{Operand}
-use Rattle.inf_expressions.specs.declared.operators.Operand.TheVariants as operand
-use Rattle.inf_expressions.specs.declared.units.Wanted.{Wanted}
-use Rattle.inf_expressions.specs.declared.units.Wanted.TheVariants as wanted
+use Rattle.inf_scanner.specs.{declared.tokens.Mark.Mark, declared.tokens.Place.Place, declared.tokens.TokenKind.TokenKind}
+use Rattle.inf_assembler.specs.{declared.routines.CloseFault.CloseFault, declared.routines.RoutineKind.RoutineKind}
+use Rattle.inf_expressions.specs.{Rooted.Rooted, Trees.Leaf, Trees.Tree, Units.judged, Units.trees_of, declared.findings.Finding.Finding}
+use Rattle.inf_expressions.specs.{declared.operators.Operand.Operand, declared.units.Wanted.Wanted}
 use Rattle.inf_expressions.specs.Findings.{least_of_both, no_constant, out_of_range}
-use Rattle.inf_expressions.specs.Rooted.{Rooted}
-use Rattle.inf_expressions.specs.Trees.{Tree, Leaf}
-use Rattle.inf_expressions.specs.Units.{judged, trees_of}
 use Rattle.inf_gathering.specs.declared.gathering.Leaf.{Leaf as UnitLeaf}
-use Rattle.inf_gathering.specs.declared.gathering.Leaf.TheVariants as leaf
-use Rattle.inf_area.specs.declared.scale.Scale.TheVariants as scale
+use Rattle.inf_area.specs.declared.scale.Scale.{Scale}
 use Rattle.inf_letters.specs.Letters.{abbreviates, debugs, none_spoken, scale_of, warns}
 use Rattle.inf_letters.specs.declared.letters.Letters.{Letters}
 use Rattle.inf_code.specs.Code.{fault_closed, labels as labels_of, no_routines, place_behind, with_none_open}
-use Rattle.inf_names.specs.NameSets.{is_among, with_name}
+use Rattle.inf_names.specs.{Locals.Headed, Locals.Local, NameSets.is_among, NameSets.with_name, Spellings.Name}
+use Rattle.inf_names.specs.{declared.meanings.Meaning.Meaning, declared.symbols.DeclareFault.DeclareFault, declared.symbols.Found.Found}
 use Rattle.inf_names.specs.Symbols.{Table, declare_fault, found_in, no_names}
-use Rattle.inf_names.specs.declared.symbols.DeclareFault.{DeclareFault}
-use Rattle.inf_names.specs.declared.symbols.Found.{Found}
-use Rattle.inf_names.specs.declared.symbols.Found.TheVariants as found
-use Rattle.inf_names.specs.declared.meanings.Meaning.{Meaning}
-use Rattle.inf_names.specs.declared.meanings.Meaning.TheVariants as meaning
 use Rattle.inf_report.specs.Messages.{BranchTooFar, DeepNesting, Exceeded, LabelMissing, UnusedLocal}
 use Rattle.inf_report.specs.OwnWords.{Words}
-use Rattle.inf_names.specs.Spellings.{Name}
-use Rattle.inf_names.specs.Locals.{Local, Headed}
-use Rattle.inf_compilation.specs.Context.{Context}
-use Rattle.inf_unit.specs.Directives.{Request, Nothing}
-use Rattle.inf_unit.specs.Messages.{FileNames, Reported, location, nothing_reported, with_error, with_fatal, with_fault}
-use Rattle.inf_unit.specs.Messages.{warnings_chosen, with_full, with_warning}
-use Rattle.inf_compilation.specs.Context.{Context, longest}
-use Rattle.inf_unit.specs.Names.{no_symbols}
-use Rattle.inf_unit.specs.Tokens.{SourceToken, number_of}
+use Rattle.inf_compilation.specs.{Context.Context, Context.longest, Words.nowhere, declared.compilation.Extending.Extending}
+use Rattle.inf_compilation.specs.{declared.compilation.Header.Header, declared.compilation.Listing.Listing}
+use Rattle.inf_compilation.specs.Findings.{Again, Findings, again_by, again_finding, found_alone, header_findings, nothing_found, told_as}
+use Rattle.inf_unit.specs.{Directives.Nothing, Directives.Request, Names.no_symbols, Tokens.SourceToken, Tokens.number_of}
+use Rattle.inf_unit.specs.Messages.{FileNames, Reported, location, nothing_reported, with_error, with_fatal, with_fault, warnings_chosen}
+use Rattle.inf_unit.specs.Messages.{with_full, with_warning}
 use Rattle.inf_unit.specs.Units.{Unit, bytes_at, first_place, kind_at, long_at, name_order, names_in, no_unit, outer_tokens, over}
 use Rattle.inf_unit.specs.Units.{quoted_in, taken as unit_taken}
-use Rattle.inf_output.specs.Strings.{no_strings}
-use Rattle.inf_output.specs.Texts.{no_texts}
-use Rattle.inf_tables.specs.Tables.{no_tables}
+use Rattle.inf_output.specs.{Strings.no_strings, Texts.no_texts}
 use Rattle.inf_output.specs.Output.{Code, Out, begun, closed, declared, full, opened, referred, with_scale}
-use Rattle.inf_compilation.specs.Findings.{Again, Findings, again_by, again_finding, found_alone, header_findings, nothing_found, told_as}
+use Rattle.inf_tables.specs.{Tables.no_tables, World.WorldOf, World.no_body_fault, World.with_end, declared.faults.WorldFault.WorldFault}
 use Rattle.inf_arrays.specs.Arrays.{AllArrays, no_arrays}
-use Rattle.inf_compilation.specs.declared.compilation.Listing.{Listing}
-use Rattle.inf_compilation.specs.declared.compilation.Extending.{Extending}
-use Rattle.inf_compilation.specs.declared.compilation.Header.{Header}
-use Rattle.inf_compilation.specs.Words.{nowhere}
-use Rattle.inf_verbs.specs.declared.verbs.LinePlace.TheVariants as line_place
-use Rattle.inf_constructs.specs.Constructs.{depth, ended}
-use Rattle.inf_constructs.specs.declared.constructs.Construct.{Construct}
-use Rattle.inf_constructs.specs.Labels.{NamedLabel, missing}
+use Rattle.inf_verbs.specs.declared.verbs.LinePlace.{LinePlace}
+use Rattle.inf_constructs.specs.{Constructs.depth, Constructs.ended, Labels.NamedLabel, Labels.missing, Roots.tree_in}
+use Rattle.inf_constructs.specs.{declared.constructs.Construct.Construct}
 use Rattle.inf_operands.specs.Operands.{Settled, all_looked, leaf_added, leaves_named, settled, stores_named}
-use Rattle.inf_constructs.specs.Roots.{tree_in}
-use Rattle.inf_tables.specs.declared.faults.WorldFault.{WorldFault}
-use Rattle.inf_tables.specs.World.{WorldOf, no_body_fault, with_end}
 
 abbrev pub no_output : Out
 no_output = record {
-  code = no_routines scale.Four;
-  strings = no_strings scale.Four;
+  code = no_routines Scale.Four;
+  strings = no_strings Scale.Four;
   tables = no_tables;
   names = no_symbols;
   texts = no_texts;
@@ -133,7 +101,7 @@ no_work settings = record {
   lost = no_arrays;
   is_name = false;
   is_embedded = false;
-  extending = record { verb = None; place = line_place.Last };
+  extending = record { verb = None; place = LinePlace.Last };
   letters = none_spoken;
   told = record { release = 1; serial = None };
 }
@@ -199,7 +167,7 @@ begun_at limits files first w =
 -- A message at a place ends the compilation, if there is a place; and else the tokens of the expression are counted.
 abbrev pub stopped : Context → Option Place → Compilation → Compilation
 stopped context None w = record w { most_tokens = max w.most_tokens (outer_tokens w.unit) }
-stopped context (Some place) w = record w { report = with_fatal (location context.names place) (Exceeded setting.ExpressionNodes) w.report }
+stopped context (Some place) w = record w { report = with_fatal (location context.names place) (Exceeded Setting.ExpressionNodes) w.report }
 
 -- An expression of more tokens than it may have ends the compilation, at the first token too many.
 abbrev pub sized : Context → Compilation → Compilation
@@ -216,8 +184,8 @@ abbrev pub nested : Context → Place → Bool → Compilation → Compilation
 nested context place is_deep w = if is_deep then record w { report = with_fatal (location context.names place) DeepNesting w.report } else w
 
 abbrev pub opens : TokenKind → Bool
-opens (kind.Mark mark.OpenParenthesis) = true
-opens (kind.Mark mark.OpenBrace) = true
+opens (TokenKind.Mark Mark.OpenParenthesis) = true
+opens (TokenKind.Mark Mark.OpenBrace) = true
 opens _ = false
 
 -- A token is taken.
@@ -256,17 +224,17 @@ cut context w = opening_checked context (sized context (given_up (body_ended (re
 
 -- Tells whether a token with these bytes is the name of a class.
 abbrev pub names_class_of : Meaning → Bool
-names_class_of (meaning.Class number) = true
+names_class_of (Meaning.Class number) = true
 names_class_of _ = false
 
 abbrev pub names_class : Found Place → Bool
-names_class (found.Declared m first) = names_class_of m
-names_class (found.System m) = false
-names_class found.Used = false
-names_class found.Unknown = false
+names_class (Found.Declared m first) = names_class_of m
+names_class (Found.System m) = false
+names_class Found.Used = false
+names_class Found.Unknown = false
 
 abbrev pub is_class : TokenKind → List ℕ → Compilation → Bool
-is_class kind.Name bytes w = names_class (found_in bytes w.output.names)
+is_class TokenKind.Name bytes w = names_class (found_in bytes w.output.names)
 is_class _ bytes w = false
 
 -- Expressions of the unit at hand
@@ -309,7 +277,7 @@ opened_with limits context first h found w =
 
 abbrev pub routine_declared : Limits → Name → Compilation → Compilation
 routine_declared limits name w =
-    record w { output = declared limits name.bytes name.place (meaning.Routine (place_behind w.output.code.finished)) w.output }
+    record w { output = declared limits name.bytes name.place (Meaning.Routine (place_behind w.output.code.finished)) w.output }
 
 -- The name of a routine stands behind the bracket of its header.
 abbrev pub header_with : Limits → Context → Place → Name → Headed → Compilation → Compilation
@@ -345,9 +313,9 @@ with_all_unused context place (l ∷ locals) r = with_all_unused context place l
 -- Error of the labels or offsets of a routine: a label that is used and not given, or a branch that goes too far. A label without a
 -- name is missing only where a limit was passed before its place was laid, which is told by itself.
 abbrev pub with_branch_fault : Context → Place → Option CloseFault → Reported → Reported
-with_branch_fault context place (Some (close_fault.LabelTwice label)) r =
+with_branch_fault context place (Some (CloseFault.LabelTwice label)) r =
     with_error (location context.names place) (location context.names place) BranchTooFar r
-with_branch_fault context place (Some close_fault.TooFar) r =
+with_branch_fault context place (Some CloseFault.TooFar) r =
     with_error (location context.names place) (location context.names place) BranchTooFar r
 with_branch_fault context place _ r = r
 
@@ -361,7 +329,7 @@ with_routine_fault context place labels fault r = with_fault_or (missing labels)
 
 -- A routine that stands in a list of values is embedded.
 abbrev pub kind_ended : Bool → RoutineKind
-kind_ended is_embedded = if is_embedded then routine_kind.Embedded else routine_kind.Plain
+kind_ended is_embedded = if is_embedded then RoutineKind.Embedded else RoutineKind.Plain
 
 -- End of a routine of a kind, at a place: its error is told, and its unused locals, which are not known behind it.
 abbrev pub close_as : Limits → RoutineKind → Context → Place → Compilation → Compilation
@@ -397,29 +365,29 @@ words_of set u = record { bytes = quoted_in u.tokens; set = set }
 -- Meaning of a constant, by its expression: a known number, or the meaning of a name that was declared before. A constant that is a
 -- routine has the packed address of the routine.
 abbrev pub as_constant : Meaning → Meaning
-as_constant (meaning.Routine place) = meaning.PackedAddress place
+as_constant (Meaning.Routine place) = Meaning.PackedAddress place
 as_constant m = m
 
 abbrev pub declared_meaning : Found Place → Option Meaning
-declared_meaning (found.Declared m place) = Some (as_constant m)
-declared_meaning (found.System m) = None
-declared_meaning found.Used = None
-declared_meaning found.Unknown = None
+declared_meaning (Found.Declared m place) = Some (as_constant m)
+declared_meaning (Found.System m) = None
+declared_meaning Found.Used = None
+declared_meaning Found.Unknown = None
 
 abbrev pub named_leaf : List SourceToken → List UnitLeaf → List ℕ
-named_leaf tokens ((leaf.Name at) ∷ leaves) = bytes_at tokens at
+named_leaf tokens ((UnitLeaf.Name at) ∷ leaves) = bytes_at tokens at
 named_leaf tokens _ = []
 
 -- A text is the next string, and a word of the dictionary stands for itself.
 abbrev pub leaf_meaning : List UnitLeaf → Compilation → Option Meaning
-leaf_meaning ((leaf.Text at) ∷ leaves) w = Some (meaning.Text (length w.output.strings.bytes))
-leaf_meaning ((leaf.Word word) ∷ leaves) w = Some (meaning.Word word.text)
+leaf_meaning ((UnitLeaf.Text at) ∷ leaves) w = Some (Meaning.Text (length w.output.strings.bytes))
+leaf_meaning ((UnitLeaf.Word word) ∷ leaves) w = Some (Meaning.Word word.text)
 leaf_meaning leaves w = declared_meaning (found_in (named_leaf w.unit.tokens leaves) w.output.names)
 
 abbrev pub constant_of : List Tree → Compilation → Option Meaning
-constant_of [] w = Some (meaning.Number 0)
-constant_of ((Leaf (operand.Known number)) ∷ trees) w = Some (meaning.Number number)
-constant_of ((Leaf (operand.Later target)) ∷ trees) w = leaf_meaning w.unit.gathering.leaves w
+constant_of [] w = Some (Meaning.Number 0)
+constant_of ((Leaf (Operand.Known number)) ∷ trees) w = Some (Meaning.Number number)
+constant_of ((Leaf (Operand.Later target)) ∷ trees) w = leaf_meaning w.unit.gathering.leaves w
 constant_of (_ ∷ trees) w = None
 
 -- Finding about the expression of a constant, and the meaning of the constant.
@@ -429,7 +397,7 @@ constant_finding _ found = found
 
 abbrev pub constant_meaning : Option Meaning → Option Finding → Meaning
 constant_meaning (Some m) None = m
-constant_meaning _ found = meaning.Number 0
+constant_meaning _ found = Meaning.Number 0
 
 -- Findings about the name of a constant, which stands at an order, and about its expression.
 abbrev pub constant_findings : ℕ → Option Again → Option Finding → Findings
@@ -457,8 +425,8 @@ constant_with limits context first name m found w = constant_declared limits con
 abbrev pub constant : Limits → Context → Place → List Name → Compilation → Compilation
 constant limits context first [] w = passed true w
 constant limits context first (name ∷ names) w =
-    constant_with limits context first name (constant_of (map tree_in (trees_at 0 wanted.Constant (operands_of w) w)) w)
-    (finding_at 0 wanted.Constant w) w
+    constant_with limits context first name (constant_of (map tree_in (trees_at 0 Wanted.Constant (operands_of w) w)) w)
+    (finding_at 0 Wanted.Constant w) w
 
 -- The routine of a name is to be replaced where it stands in a file that is marked. That is a use of the name.
 abbrev pub replace : Limits → Context → Place → List Name → Compilation → Compilation
@@ -476,7 +444,7 @@ abbrev pub stub_locals : List SourceToken → ℕ
 stub_locals tokens = stub_locals_by (kind_at tokens (length tokens - 1))
 
 abbrev pub stub_code : Limits → ℕ → Code
-stub_code limits locals o = closed limits routine_kind.Embedded (opened limits locals false o)
+stub_code limits locals o = closed limits RoutineKind.Embedded (opened limits locals false o)
 
 abbrev pub stubbed : Limits → Context → Place → Compilation → Compilation
 stubbed limits context first w =
@@ -486,10 +454,10 @@ stubbed limits context first w =
 
 -- Tells whether a name is declared, by the outcome of its look-up.
 abbrev pub is_declared : Found Place → Bool
-is_declared (found.System m) = true
-is_declared (found.Declared m place) = true
-is_declared found.Used = false
-is_declared found.Unknown = false
+is_declared (Found.System m) = true
+is_declared (Found.Declared m place) = true
+is_declared Found.Used = false
+is_declared Found.Unknown = false
 
 -- Tells whether the first of some names is declared.
 abbrev pub is_first_declared : List Name → Table Place → Bool

@@ -1,9 +1,7 @@
 -- Context that is handed down to all that is compiled.
 use Rattle.std.specs.Prelude.{ℕ}
 use Rattle.inf_characters.specs.declared.characters.CharSet.{CharSet}
-use Rattle.inf_settings.specs.Settings.{number_of}
-use Rattle.inf_settings.specs.declared.setting.Setting.TheVariants as setting
-use Rattle.inf_settings.specs.declared.settings.Settings.{Settings}
+use Rattle.inf_settings.specs.{Settings.number_of, declared.setting.Setting.Setting, declared.settings.Settings.Settings}
 use Rattle.inf_unit.specs.Messages.{FileNames}
 use Rattle.inf_compilation.specs.declared.context.Context.{Context as CodeContext}
 
@@ -19,4 +17,4 @@ handed c = record { names = c.files.now.names; set = c.set; settings = c.setting
 
 -- Number of tokens that an expression may have.
 abbrev pub longest : Context → ℕ
-longest context = number_of setting.ExpressionNodes context.settings
+longest context = number_of Setting.ExpressionNodes context.settings

@@ -1,47 +1,20 @@
 -- Values of a statement that prints, or gives attributes, of which there are more than code may have bytes for.
 use Rattle.std.specs.Prelude.{ℕ, List, [], ◌∷◌, ◌++◌, length, drop, nat_lt, Bool, true, false, not, ◌&&◌, ◌||◌, Option, Some, None}
 use Rattle.std.specs.Prelude.{option_map}
-use Rattle.inf_expressions.specs.Units.{judged}
-use Rattle.inf_expressions.specs.declared.findings.Finding.{Finding}
-use Rattle.inf_expressions.specs.declared.operators.Binary.{Binary}
-use Rattle.inf_expressions.specs.declared.operators.Binary.TheVariants as binary
-use Rattle.inf_expressions.specs.declared.operators.Function.{Function}
-use Rattle.inf_expressions.specs.declared.operators.Function.TheVariants as function
-use Rattle.inf_expressions.specs.declared.operators.Operand.{Operand}
-use Rattle.inf_expressions.specs.declared.operators.Operand.TheVariants as operand
-use Rattle.inf_expressions.specs.declared.operators.Operation.{Operation}
-use Rattle.inf_expressions.specs.declared.operators.Operation.TheVariants as operation
-use Rattle.inf_expressions.specs.declared.operators.Unary.{Unary}
-use Rattle.inf_expressions.specs.declared.operators.Unary.TheVariants as unary
-use Rattle.inf_expressions.specs.declared.symbols.Symbol.{Symbol}
-use Rattle.inf_expressions.specs.declared.symbols.Symbol.TheVariants as symbol
-use Rattle.inf_expressions.specs.declared.units.Wanted.TheVariants as wanted
-use Rattle.inf_gathering.specs.Gatherings.{Gathering}
-use Rattle.inf_gathering.specs.declared.gathering.Leaf.{Leaf}
-use Rattle.inf_gathering.specs.declared.gathering.Leaf.TheVariants as leaf
-use Rattle.inf_names.specs.Locals.{Local, number_of}
-use Rattle.inf_names.specs.Symbols.{Table, found_in}
-use Rattle.inf_names.specs.declared.symbols.Found.{Found}
-use Rattle.inf_names.specs.declared.symbols.Found.TheVariants as found
-use Rattle.inf_output.specs.Output.{Out}
-use Rattle.inf_output.specs.Veneer.{name_of}
-use Rattle.inf_output.specs.declared.veneer.Veneer.{Veneer}
-use Rattle.inf_output.specs.declared.veneer.Veneer.TheVariants as veneer
+use Rattle.inf_expressions.specs.{Units.judged, declared.findings.Finding.Finding, declared.operators.Binary.Binary}
+use Rattle.inf_expressions.specs.{declared.operators.Function.Function, declared.operators.Operand.Operand}
+use Rattle.inf_expressions.specs.{declared.operators.Operation.Operation, declared.operators.Unary.Unary, declared.symbols.Symbol.Symbol}
+use Rattle.inf_expressions.specs.{declared.units.Wanted.Wanted}
+use Rattle.inf_gathering.specs.{Gatherings.Gathering, declared.gathering.Leaf.Leaf}
+use Rattle.inf_names.specs.{Locals.Local, Locals.local_number, Symbols.Table, Symbols.found_in, declared.symbols.Found.Found}
+use Rattle.inf_output.specs.{Output.Out, Veneer.name_of, declared.veneer.Veneer.Veneer}
 use Rattle.inf_scanner.specs.declared.tokens.Place.{Place}
-use Rattle.inf_settings.specs.Settings.{number_of as setting_number}
-use Rattle.inf_settings.specs.declared.setting.Setting.TheVariants as setting
-use Rattle.inf_settings.specs.declared.settings.Settings.{Settings}
+use Rattle.inf_settings.specs.{Settings.number_of as setting_number, declared.setting.Setting.Setting, declared.settings.Settings.Settings}
 use Rattle.inf_operands.specs.Operands.{leaves_named, looked_leaf}
-use Rattle.inf_unit.specs.Crowds.{Crowd}
+use Rattle.inf_unit.specs.{Crowds.Crowd, Tokens.SourceToken, declared.items.Item.Item, declared.items.PrintRule.PrintRule}
 use Rattle.inf_unit.specs.LongLines.{LongLine, name_added, word_added}
-use Rattle.inf_unit.specs.Tokens.{SourceToken}
 use Rattle.inf_unit.specs.Units.{Unit, bytes_at, crowd_begun, order, value_sifted as unit_value_sifted}
-use Rattle.inf_unit.specs.declared.items.Item.{Item}
-use Rattle.inf_unit.specs.declared.items.Item.TheVariants as item
-use Rattle.inf_unit.specs.declared.items.PrintRule.{PrintRule}
-use Rattle.inf_unit.specs.declared.items.PrintRule.TheVariants as rule
-use Rattle.inf_compilation.specs.Context.{Context}
-use Rattle.inf_compilation.specs.Actions.{Compilation}
+use Rattle.inf_compilation.specs.{Actions.Compilation, Context.Context}
 
 -- The settings that a value may pass before that of the bytes of code
 
@@ -51,53 +24,53 @@ with_line r c = record c { line = r.0; tells = c.tells || r.1 }
 
 -- A name that is not known so far, and is no local, may be one too many.
 abbrev pub is_unknown : Found Place → Bool
-is_unknown found.Unknown = true
-is_unknown (found.System m) = false
-is_unknown (found.Declared m place) = false
-is_unknown found.Used = false
+is_unknown Found.Unknown = true
+is_unknown (Found.System m) = false
+is_unknown (Found.Declared m place) = false
+is_unknown Found.Used = false
 
 abbrev pub is_new_by : Option ℕ → Found Place → Bool
 is_new_by (Some local) f = false
 is_new_by None f = is_unknown f
 
 abbrev pub is_new : List Local → Table Place → List ℕ → Bool
-is_new locals names name = is_new_by (number_of name locals) (found_in name names)
+is_new locals names name = is_new_by (local_number name locals) (found_in name names)
 
 abbrev pub name_brought : Settings → Bool → List ℕ → Crowd → Crowd
-name_brought settings true name c = with_line (name_added name (setting_number setting.Symbols settings) c.line) c
+name_brought settings true name c = with_line (name_added name (setting_number Setting.Symbols settings) c.line) c
 name_brought settings false name c = c
 
 abbrev pub word_brought : Settings → List ℕ → Crowd → Crowd
-word_brought settings text c = with_line (word_added text (setting_number setting.DictionaryEntries settings) c.line) c
+word_brought settings text c = with_line (word_added text (setting_number Setting.DictionaryEntries settings) c.line) c
 
 -- A text is a string of the story.
 abbrev pub leaf_told : Settings → List Local → Table Place → List SourceToken → Leaf → Crowd → Crowd
-leaf_told settings locals names tokens (leaf.Name at) c =
+leaf_told settings locals names tokens (Leaf.Name at) c =
     name_brought settings (is_new locals names (bytes_at tokens at)) (bytes_at tokens at) c
-leaf_told settings locals names tokens (leaf.Alone at) c =
+leaf_told settings locals names tokens (Leaf.Alone at) c =
     name_brought settings (is_new locals names (bytes_at tokens at)) (bytes_at tokens at) c
-leaf_told settings locals names tokens (leaf.Word word) c = word_brought settings word.text c
-leaf_told settings locals names tokens (leaf.Text at) c = record c { tells = true }
-leaf_told settings locals names tokens (leaf.Number n) c = c
-leaf_told settings locals names tokens (leaf.Char z) c = c
-leaf_told settings locals names tokens (leaf.Action at) c = c
-leaf_told settings locals names tokens (leaf.System at) c = c
+leaf_told settings locals names tokens (Leaf.Word word) c = word_brought settings word.text c
+leaf_told settings locals names tokens (Leaf.Text at) c = record c { tells = true }
+leaf_told settings locals names tokens (Leaf.Number n) c = c
+leaf_told settings locals names tokens (Leaf.Char z) c = c
+leaf_told settings locals names tokens (Leaf.Action at) c = c
+leaf_told settings locals names tokens (Leaf.System at) c = c
 
 -- The code of a function of the system may have a label, or call a routine by its name.
 abbrev pub is_loud_function : Function → Bool
-is_loud_function function.Child = true
-is_loud_function function.Sibling = true
-is_loud_function function.Children = true
-is_loud_function function.Parent = false
-is_loud_function function.Random = false
-is_loud_function function.Indirect = false
+is_loud_function Function.Child = true
+is_loud_function Function.Sibling = true
+is_loud_function Function.Children = true
+is_loud_function Function.Parent = false
+is_loud_function Function.Random = false
+is_loud_function Function.Indirect = false
 
 abbrev pub is_loud : Operand → Bool
-is_loud (operand.Function f) = is_loud_function f
-is_loud (operand.Known n) = false
-is_loud (operand.Variable v) = false
-is_loud (operand.Later target) = false
-is_loud operand.Unknown = false
+is_loud (Operand.Function f) = is_loud_function f
+is_loud (Operand.Known n) = false
+is_loud (Operand.Variable v) = false
+is_loud (Operand.Later target) = false
+is_loud Operand.Unknown = false
 
 -- The operand of a leaf, behind the new actions so far: the actions, and the operand.
 abbrev pub operand_added : Table Place × Operand → Crowd → Crowd
@@ -120,23 +93,23 @@ leaves_brought settings locals o tokens (l ∷ leaves) c =
 
 -- A rule of the language may be the name of a routine that the code calls.
 abbrev pub rule_routine : PrintRule → Option Veneer
-rule_routine rule.Character = None
-rule_routine rule.String = None
-rule_routine rule.Address = None
-rule_routine rule.Object = None
-rule_routine rule.ShortName = Some veneer.ShortName
-rule_routine rule.DefiniteArticle = Some veneer.DefiniteArticle
-rule_routine rule.CapitalArticle = Some veneer.CapitalArticle
-rule_routine rule.IndefiniteArticle = Some veneer.IndefiniteArticle
-rule_routine rule.EnglishNumber = Some veneer.EnglishNumber
-rule_routine rule.Routine = None
+rule_routine PrintRule.Character = None
+rule_routine PrintRule.String = None
+rule_routine PrintRule.Address = None
+rule_routine PrintRule.Object = None
+rule_routine PrintRule.ShortName = Some Veneer.ShortName
+rule_routine PrintRule.DefiniteArticle = Some Veneer.DefiniteArticle
+rule_routine PrintRule.CapitalArticle = Some Veneer.CapitalArticle
+rule_routine PrintRule.IndefiniteArticle = Some Veneer.IndefiniteArticle
+rule_routine PrintRule.EnglishNumber = Some Veneer.EnglishNumber
+rule_routine PrintRule.Routine = None
 
 abbrev pub routine_brought : Settings → Table Place → Option Veneer → Crowd → Crowd
 routine_brought settings names None c = c
 routine_brought settings names (Some v) c = name_brought settings (is_unknown (found_in (name_of v) names)) (name_of v) c
 
 abbrev pub item_brought : Settings → Table Place → Item → Crowd → Crowd
-item_brought settings names (item.Ruled r) c = routine_brought settings names (rule_routine r) c
+item_brought settings names (Item.Ruled r) c = routine_brought settings names (rule_routine r) c
 item_brought settings names _ c = c
 
 abbrev pub items_brought : Settings → Table Place → List Item → Crowd → Crowd
@@ -145,13 +118,13 @@ items_brought settings names (i ∷ items) c = items_brought settings names item
 
 -- An entry of an array, or a property, is in memory.
 abbrev pub is_entry : Operation → Bool
-is_entry operation.Byte = true
-is_entry operation.Word = true
+is_entry Operation.Byte = true
+is_entry Operation.Word = true
 is_entry _ = false
 
 abbrev pub is_in_memory : Symbol → Bool
-is_in_memory (symbol.Two (binary.Operation o)) = is_entry o
-is_in_memory (symbol.Two (binary.Property p)) = true
+is_in_memory (Symbol.Two (Binary.Operation o)) = is_entry o
+is_in_memory (Symbol.Two (Binary.Property p)) = true
 is_in_memory _ = false
 
 abbrev pub are_in_memory : List Symbol → Bool → Bool
@@ -161,38 +134,38 @@ are_in_memory (s ∷ symbols) found = are_in_memory symbols (found || is_in_memo
 -- Operators whose code has bytes and references alone: it has no label, and calls no routine by its name. What is assigned or stepped has
 -- to be a variable, and nothing be in memory.
 abbrev pub is_plain_one : Bool → Unary → Bool
-is_plain_one in_memory unary.Negate = true
-is_plain_one in_memory (unary.Single s) = true
-is_plain_one in_memory unary.Not = false
-is_plain_one in_memory (unary.Before s) = not in_memory
-is_plain_one in_memory (unary.Behind s) = not in_memory
-is_plain_one in_memory (unary.Relative r) = false
-is_plain_one in_memory unary.Children = false
-is_plain_one in_memory unary.Call = true
-is_plain_one in_memory unary.Indirect = true
+is_plain_one in_memory Unary.Negate = true
+is_plain_one in_memory (Unary.Single s) = true
+is_plain_one in_memory Unary.Not = false
+is_plain_one in_memory (Unary.Before s) = not in_memory
+is_plain_one in_memory (Unary.Behind s) = not in_memory
+is_plain_one in_memory (Unary.Relative r) = false
+is_plain_one in_memory Unary.Children = false
+is_plain_one in_memory Unary.Call = true
+is_plain_one in_memory Unary.Indirect = true
 
 abbrev pub is_plain_two : Bool → Binary → Bool
-is_plain_two in_memory (binary.Operation o) = true
-is_plain_two in_memory (binary.Property p) = false
-is_plain_two in_memory (binary.Test t) = false
-is_plain_two in_memory (binary.Fails t) = false
-is_plain_two in_memory binary.Assign = not in_memory
-is_plain_two in_memory binary.Comma = true
-is_plain_two in_memory binary.And = false
-is_plain_two in_memory binary.Or = false
-is_plain_two in_memory binary.Call = true
-is_plain_two in_memory binary.Then = true
-is_plain_two in_memory binary.To = true
+is_plain_two in_memory (Binary.Operation o) = true
+is_plain_two in_memory (Binary.Property p) = false
+is_plain_two in_memory (Binary.Test t) = false
+is_plain_two in_memory (Binary.Fails t) = false
+is_plain_two in_memory Binary.Assign = not in_memory
+is_plain_two in_memory Binary.Comma = true
+is_plain_two in_memory Binary.And = false
+is_plain_two in_memory Binary.Or = false
+is_plain_two in_memory Binary.Call = true
+is_plain_two in_memory Binary.Then = true
+is_plain_two in_memory Binary.To = true
 
 abbrev pub is_plain : Bool → Symbol → Bool
-is_plain in_memory (symbol.Leaf first token leaf) = true
-is_plain in_memory (symbol.Bracketed order) = true
-is_plain in_memory (symbol.Prefix order op) = is_plain_one in_memory op
-is_plain in_memory (symbol.Suffix op) = is_plain_one in_memory op
-is_plain in_memory (symbol.Two op) = is_plain_two in_memory op
-is_plain in_memory symbol.Comma = true
-is_plain in_memory (symbol.List joints) = true
-is_plain in_memory (symbol.Call given) = true
+is_plain in_memory (Symbol.Leaf first token leaf) = true
+is_plain in_memory (Symbol.Bracketed order) = true
+is_plain in_memory (Symbol.Prefix order op) = is_plain_one in_memory op
+is_plain in_memory (Symbol.Suffix op) = is_plain_one in_memory op
+is_plain in_memory (Symbol.Two op) = is_plain_two in_memory op
+is_plain in_memory Symbol.Comma = true
+is_plain in_memory (Symbol.List joints) = true
+is_plain in_memory (Symbol.Call given) = true
 
 abbrev pub are_plain : Bool → List Symbol → Bool → Bool
 are_plain in_memory [] plain = plain
@@ -224,7 +197,7 @@ value_brought settings locals o u =
 -- The least finding about the value at hand.
 abbrev pub value_finding_by : Option Crowd → Unit → Option Finding
 value_finding_by None u = None
-value_finding_by (Some c) u = judged wanted.Value (order u.begun) c.operands (drop c.extent.symbols u.gathering.symbols)
+value_finding_by (Some c) u = judged Wanted.Value (order u.begun) c.operands (drop c.extent.symbols u.gathering.symbols)
 
 abbrev pub value_finding : Unit → Option Finding
 value_finding u = value_finding_by u.crowd u

@@ -1,19 +1,11 @@
 -- Findings about a unit, and the messages by which they are told.
 use Rattle.std.specs.Prelude.{ℕ, List, [], slice_get, Bool, if◌then◌else◌, Option, Some, None, option_map}
 use Rattle.inf_scanner.specs.declared.tokens.Place.{Place}
-use Rattle.inf_expressions.specs.declared.findings.Finding.{Finding}
-use Rattle.inf_expressions.specs.declared.findings.UnitError.{UnitError}
-use Rattle.inf_expressions.specs.declared.findings.UnitError.TheVariants as unit_error
-use Rattle.inf_expressions.specs.Findings.{least_of_both}
-use Rattle.inf_names.specs.declared.symbols.DeclareFault.{DeclareFault}
-use Rattle.inf_names.specs.declared.symbols.DeclareFault.TheVariants as declaring
+use Rattle.inf_expressions.specs.{Findings.least_of_both, declared.findings.Finding.Finding, declared.findings.UnitError.UnitError}
+use Rattle.inf_names.specs.{Locals.Headed, Locals.Repeated, Spellings.Name, declared.symbols.DeclareFault.DeclareFault}
 use Rattle.inf_report.specs.Messages.{Declared, End, Message, SystemName, TooMany}
 use Rattle.inf_report.specs.declared.messages.FixedLimit.{FixedLimit}
-use Rattle.inf_report.specs.declared.messages.FixedLimit.TheVariants as countable
-use Rattle.inf_names.specs.Spellings.{Name}
-use Rattle.inf_names.specs.Locals.{Headed, Repeated}
-use Rattle.inf_unit.specs.Messages.{FileNames, Diagnostic, location, message_of}
-use Rattle.inf_unit.specs.Tokens.{SourceToken, told}
+use Rattle.inf_unit.specs.{Messages.Diagnostic, Messages.FileNames, Messages.location, Messages.message_of, Tokens.SourceToken, Tokens.told}
 use Rattle.inf_compilation.specs.Words.{nowhere}
 
 -- Expressions
@@ -43,13 +35,13 @@ pub record Findings : Type 0 where
 -- A name that is declared already, if the names refuse it: names of the language, and first declarations, stay as they are. That
 -- there are too many names is no error of the unit.
 abbrev pub again_by : Name → Option (DeclareFault Place) → Option Again
-again_by n (Some (declaring.Present first)) = Some (record { name = n; first = first })
+again_by n (Some (DeclareFault.Present first)) = Some (record { name = n; first = first })
 again_by n _ = None
 
 -- Finding at the order of a name that is declared already.
 abbrev pub again_finding : ℕ → Option Again → Option Finding
 again_finding order None = None
-again_finding order (Some a) = Some (record { order = order; error = unit_error.Declared })
+again_finding order (Some a) = Some (record { order = order; error = UnitError.Declared })
 
 abbrev pub again_message : FileNames → List ℕ → Option Place → Message
 again_message files bytes None = SystemName bytes
@@ -62,19 +54,19 @@ again_told files a = record { place = a.name.place; message = again_message file
 
 -- Finding that there is one more than there may be, which is told of the first token.
 abbrev pub many_finding : Bool → Option Finding
-many_finding are_many = if are_many then Some (record { order = 0; error = unit_error.TooMany }) else None
+many_finding are_many = if are_many then Some (record { order = 0; error = UnitError.TooMany }) else None
 
 -- Findings about a unit in which nothing else may be wrong.
 abbrev pub found_alone : Option Finding → Findings
-found_alone f = record { least = f; many = countable.Values; again = None }
+found_alone f = record { least = f; many = FixedLimit.Values; again = None }
 
 abbrev pub nothing_found : Findings
 nothing_found = found_alone None
 
 -- Message of a finding, by its error, about a unit that begins at a place and has these tokens.
 unfoldable pub told_by : UnitError → FileNames → List SourceToken → Place → Finding → Findings → Option Diagnostic
-told_by unit_error.Declared files tokens first f all = option_map (again_told files) all.again
-told_by unit_error.TooMany files tokens first f all = Some (record { place = first; message = TooMany all.many })
+told_by UnitError.Declared files tokens first f all = option_map (again_told files) all.again
+told_by UnitError.TooMany files tokens first f all = Some (record { place = first; message = TooMany all.many })
 told_by _ files tokens first f all = Some (blame_of tokens f)
 
 abbrev pub told_of : FileNames → List SourceToken → Place → Option Finding → Findings → Option Diagnostic
@@ -100,4 +92,4 @@ first_again None later = later
 abbrev pub header_findings : ℕ → Option Again → Headed → Findings
 header_findings order of_name h =
     let again = first_again of_name (again_local h.repeated) in
-    record { least = least_of_both (many_finding h.are_too_many) (again_finding order again); many = countable.Locals; again = again }
+    record { least = least_of_both (many_finding h.are_too_many) (again_finding order again); many = FixedLimit.Locals; again = again }

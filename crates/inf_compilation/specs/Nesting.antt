@@ -2,12 +2,10 @@
 use Rattle.std.specs.Prelude.{ℕ, ◌-◌, nat_lt, max, List, if◌then◌else◌}
 use Rattle.inf_settings.specs.Bounds.{Limits}
 use Rattle.inf_scanner.specs.declared.tokens.Place.{Place}
-use Rattle.inf_compilation.specs.Context.{Context}
+use Rattle.inf_compilation.specs.{Actions.Compilation, Actions.is_deep, Actions.nested, Context.Context}
 use Rattle.inf_unit.specs.Units.{last_place}
+use Rattle.inf_constructs.specs.{declared.constructs.Construct.Construct, declared.constructs.Kind.Kind}
 use Rattle.inf_constructs.specs.Constructs.{Laying, all_ended, begun, between, changed, ended}
-use Rattle.inf_constructs.specs.declared.constructs.Construct.{Construct}
-use Rattle.inf_constructs.specs.declared.constructs.Kind.{Kind}
-use Rattle.inf_compilation.specs.Actions.{Compilation, is_deep, nested}
 
 abbrev pub constructs_laid : Laying (List Construct) → Compilation → Compilation
 constructs_laid laying w = let laid = laying w.output in record w { constructs = laid.0; output = laid.1 }

@@ -1,9 +1,7 @@
 -- Meaning of a compilation of the code.
 use Rattle.inf_names.specs.LocalList.{listed}
-use Rattle.inf_unit.specs.AtHand.{unit}
-use Rattle.inf_unit.specs.Directives.{asked}
-use Rattle.inf_compilation.specs.Actions.{Compilation}
-use Rattle.inf_compilation.specs.declared.compilation.Compilation.{Compilation as CodeCompilation}
+use Rattle.inf_unit.specs.{AtHand.unit, Directives.asked}
+use Rattle.inf_compilation.specs.{Actions.Compilation, declared.compilation.Compilation.Compilation as CodeCompilation}
 
 abbrev pub work : {B : Type 0} → CodeCompilation B → Compilation
 work w = record {

@@ -1,11 +1,8 @@
 //! Work of the actions of the grammar: they gather the parts of a unit, which acts at its end.
-ghost use Rattle.inf_compilation.specs.Context.{handed, longest};
+ghost use Rattle.inf_compilation.specs.{Actions.names_class, Actions.no_output, Context.handed, Context.longest};
 ghost use Rattle.std.specs.Prelude.{IfOk, None, OnOk, Some, false, true, ◌<◌, ◌≡◌, ◌≤◌};
 ghost use Rattle.inf_settings.specs.Bounds.{AreSet};
-ghost use Rattle.inf_unit.specs.Atoms.{is_short};
-ghost use Rattle.inf_unit.specs.Messages.{location};
-ghost use Rattle.inf_unit.specs.Spelled.{spelled};
-ghost use Rattle.inf_compilation.specs.Actions.{names_class, no_output};
+ghost use Rattle.inf_unit.specs.{Atoms.is_short, Messages.location, Spelled.spelled};
 
 use crate::context::Context;
 use crate::findings::{Findings, NOWHERE};
@@ -169,13 +166,11 @@ pub struct Listing {
 
 impl<B: Bounds> Compilation<B> {
     ghost use Rattle.inf_unit.specs.Directives.{Nothing, asked, asks};
+    ghost use Rattle.inf_compilation.specs.{Findings.found_alone, Findings.nothing_found, Meant.found_as, Nesting.closed_ahead};
+    ghost use Rattle.inf_compilation.specs.{Nesting.construct_closed, Works.work};
     ghost use Rattle.inf_compilation.specs.Actions.{begun_at, is_class, is_deep, labels_counted, letters_chosen, nested, no_work};
     ghost use Rattle.inf_compilation.specs.Actions.{opening_checked, passed, piece_begun, sized, stopped, token_checked, took};
     ghost use Rattle.inf_compilation.specs.Actions.{finding_told, unit_ended};
-    ghost use Rattle.inf_compilation.specs.Findings.{found_alone, nothing_found};
-    ghost use Rattle.inf_compilation.specs.Meant.{found_as};
-    ghost use Rattle.inf_compilation.specs.Nesting.{closed_ahead, construct_closed};
-    ghost use Rattle.inf_compilation.specs.Works.{work};
 
     /// Returns the output and the messages.
     pub fn into_parts(self) -> (Output<B>, Diagnostics)
@@ -306,7 +301,7 @@ impl<B: Bounds> Compilation<B> {
         self.constructs.clear();
         self.closed = 0;
         self.opening = None;
-        self.locals = Locals::new();
+        self.locals.list.clear();
     }
 
     /// Finishes a conditional directive at `first`, or the source: code begins with it, unless it has begun. The first setting that was

@@ -20,8 +20,7 @@ pub struct LookedConstant {
 }
 
 impl<B: Bounds> Compilation<B> {
-    ghost use Rattle.inf_compilation.specs.Actions.{finding_at, operands_of, trees_at};
-    ghost use Rattle.inf_compilation.specs.Works.{work};
+    ghost use Rattle.inf_compilation.specs.{Actions.finding_at, Actions.operands_of, Actions.trees_at, Works.work};
 
     /// Looks up the names of the unit's expression, which has to be a constant, and returns the expression with the least finding about it.
     /// Its trees are in the memory that was kept, if there is some.

@@ -1,16 +1,14 @@
 //! Values of a statement that prints, or gives attributes, of which there are more than code may have bytes for.
 ghost use Rattle.std.specs.Prelude.{IfOk, OnOk, false, length, true, ◌≡◌, ◌≤◌};
 ghost use Rattle.inf_names.specs.LocalList.{listed};
-ghost use Rattle.inf_unit.specs.AtHand.{unit as unit_of};
-ghost use Rattle.inf_unit.specs.Crowds.{crowd as crowd_of};
+ghost use Rattle.inf_unit.specs.{AtHand.unit as unit_of, Crowds.crowd as crowd_of};
 ghost use Rattle.inf_operands.specs.Operands.{looked_leaf};
-ghost use Rattle.inf_compilation.specs.Context.{handed};
+ghost use Rattle.inf_compilation.specs.{Context.handed, Works.work};
 ghost use Rattle.inf_compilation.specs.Crowds.{are_in_memory, are_plain, is_entry, is_in_memory, is_loud, is_loud_function, is_new};
-ghost use Rattle.inf_compilation.specs.Crowds.{is_new_by, is_plain, is_plain_one, is_plain_two, is_unknown, item_brought};
-ghost use Rattle.inf_compilation.specs.Crowds.{items_brought, leaf_brought, leaf_told, leaves_brought, name_brought};
-ghost use Rattle.inf_compilation.specs.Crowds.{operand_added, routine_brought, rule_routine, symbols_heard, value_brought, value_finding};
-ghost use Rattle.inf_compilation.specs.Crowds.{value_heard, value_named, value_sifted, word_brought};
-ghost use Rattle.inf_compilation.specs.Works.{work};
+ghost use Rattle.inf_compilation.specs.Crowds.{is_new_by, is_plain, is_plain_one, is_plain_two, is_unknown, item_brought, items_brought};
+ghost use Rattle.inf_compilation.specs.Crowds.{leaf_brought, leaf_told, leaves_brought, name_brought, operand_added, routine_brought};
+ghost use Rattle.inf_compilation.specs.Crowds.{rule_routine, symbols_heard, value_brought, value_finding, value_heard, value_named};
+ghost use Rattle.inf_compilation.specs.Crowds.{value_sifted, word_brought};
 
 use crate::compilation::Compilation;
 use crate::context::Context;

@@ -1,8 +1,7 @@
 //! The findings about a unit, and the messages by which they are told.
 ghost use Rattle.std.specs.Prelude.{option_map, ◌≡◌};
 ghost use Rattle.inf_report.specs.Meant.{meant};
-ghost use Rattle.inf_names.specs.LocalList.{headed as as_headed, repeated as repeated_of};
-ghost use Rattle.inf_names.specs.Spellings.{as_name};
+ghost use Rattle.inf_names.specs.{LocalList.headed as as_headed, LocalList.repeated as repeated_of, Spellings.as_name};
 ghost use Rattle.inf_unit.specs.Diagnostics.{blamed};
 ghost use Rattle.inf_compilation.specs.Findings.{again_by, again_finding, again_local, again_message, again_told, blame_of, found_alone};
 ghost use Rattle.inf_compilation.specs.Findings.{header_findings, many_finding, nothing_found, told_as};

@@ -1,12 +1,9 @@
 //! The beginnings and ends of routines.
-ghost use Rattle.inf_compilation.specs.Context.{handed};
-ghost use Rattle.std.specs.Prelude.{IfOk, None, OnErr, OnOk, ◌≡◌};
-ghost use Rattle.inf_names.specs.Symbols.{declare_fault};
-ghost use Rattle.inf_names.specs.LocalList.{headed as as_headed, listed};
-ghost use Rattle.inf_names.specs.Locals.{no_locals};
-ghost use Rattle.inf_names.specs.Spellings.{as_name};
+ghost use Rattle.inf_compilation.specs.{Context.handed, Meant.found_as};
 ghost use Rattle.inf_compilation.specs.Actions.{kind_ended, with_all_unused, with_routine_fault};
-ghost use Rattle.inf_compilation.specs.Meant.{found_as};
+ghost use Rattle.std.specs.Prelude.{IfOk, None, OnErr, OnOk, ◌≡◌};
+ghost use Rattle.inf_names.specs.{Locals.no_locals, Spellings.as_name, Symbols.declare_fault};
+ghost use Rattle.inf_names.specs.LocalList.{headed as as_headed, listed};
 
 use crate::compilation::Compilation;
 use crate::context::Context;

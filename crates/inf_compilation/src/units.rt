@@ -14,9 +14,7 @@ use inf_settings::bounds::Bounds;
 use std::alloc::AllocError;
 
 impl<B: Bounds> Compilation<B> {
-    ghost use Rattle.inf_compilation.specs.Actions.{finding_at, operands_of};
-    ghost use Rattle.inf_compilation.specs.Nesting.{construct_opened};
-    ghost use Rattle.inf_compilation.specs.Works.{work};
+    ghost use Rattle.inf_compilation.specs.{Actions.finding_at, Actions.operands_of, Nesting.construct_opened, Works.work};
 
     /// Returns the operands of the leaves of the unit's expressions, whose names are only looked up.
     pub fn operands(&self) -> Result<OperandList, AllocError>

@@ -3,40 +3,26 @@ use Rattle.std.proofs.Common.{◌≡◌, ℕ, ◌+◌, ◌≤◌, List, [], ◌�
 use Rattle.std.proofs.Common.{Bool, true, false, Option, Some, None, arith, Result, Ok, Err, IfOk, IfErr, OnErr, refl, sym, ap, subst, ◌∙◌}
 use Rattle.std.proofs.Common.{append_assoc, OnOk}
 use Rattle.inf_settings.specs.Bounds.{limits_of, Limits}
-use Rattle.inf_devices.specs.Files.{Opening, Openings, Sources, opened}
-use Rattle.inf_devices.specs.Sinks.{Takes}
-use Rattle.inf_lexer.specs.Readers.{Reader}
-use Rattle.inf_lexer.specs.Unread.{View, innermost_place, unread_of}
-use Rattle.inf_sources.specs.Cursors.{Cursor}
+use Rattle.inf_devices.specs.{Files.Opening, Files.Openings, Files.Sources, Files.opened, Sinks.Takes}
+use Rattle.inf_lexer.specs.{Readers.Reader, Unread.View, Unread.innermost_place, Unread.unread_of}
+use Rattle.inf_sources.specs.{Cursors.Cursor, declared.open_file.OpenFile.OpenFile}
 use Rattle.inf_sources.specs.Inclusions.{Nesting, cursors, cursors_of}
 use Rattle.inf_sources.specs.Open.{AllGiven, AreNested, AreTracked, Each, Fits, IsCounted, IsFrontOf, IsGiven, IsNested, Open, closed_to}
 use Rattle.inf_sources.specs.Open.{cursor_of, files_of, lexers, lexers_of, nesting, rest_of, waiting_at}
-use Rattle.inf_sources.specs.declared.open_file.OpenFile.{OpenFile}
 use Rattle.inf_sources.proofs.Places.{files_are, innermost_of, last_of}
 use Rattle.inf_conditionals.specs.Open.{Conditions, no_conditions}
-use Rattle.inf_compilation.specs.Actions.{Compilation}
+use Rattle.inf_compilation.specs.{Actions.Compilation, Works.work as work_of}
 use Rattle.inf_unit.specs.Messages.{FileNames}
-use Rattle.inf_reader.specs.Reading.{ReaderState}
-use Rattle.inf_reader.specs.Standing.{standing}
-use Rattle.inf_session.specs.Choices.{Choices}
-use Rattle.inf_ending.specs.Delivered.{Delivers, TakesFront}
-use Rattle.inf_ending.specs.Ending.{Outcome, finished, missing}
-use Rattle.inf_ending.specs.Faults.{Caused, IfRead}
+use Rattle.inf_reader.specs.{Reading.ReaderState, Standing.standing}
+use Rattle.inf_session.specs.{Choices.Choices, Standing.state, Veneer.supplied, declared.session.Session.Session}
 use Rattle.inf_session.specs.Leading.{CutsShort, Writes}
-use Rattle.inf_ending.specs.Delivered.{IsFront}
 use Rattle.inf_session.specs.Session.{IsRead, State, begun_with, first_state, has_ended, run, start}
-use Rattle.inf_session.specs.Standing.{state}
-use Rattle.inf_ending.specs.declared.compiled.Compiled.{Compiled}
-use Rattle.inf_ending.specs.declared.faults.Fault.{Fault}
-use Rattle.inf_ending.specs.declared.faults.Fault.TheVariants as fault
-use Rattle.inf_session.specs.declared.session.Session.{Session}
-use Rattle.inf_session.proofs.Leadings.{end_begins, front_more, front_then, same_end}
+use Rattle.inf_ending.specs.{Delivered.Delivers, Delivered.IsFront, Delivered.TakesFront, Ending.Outcome, Ending.finished, Ending.missing}
+use Rattle.inf_ending.specs.{Faults.Caused, Faults.IfRead, declared.compiled.Compiled.Compiled, declared.faults.Fault.Fault}
+use Rattle.inf_session.proofs.{Leadings.end_begins, Leadings.front_more, Leadings.front_then, Leadings.same_end, Supplying.supplied_begins}
 use Rattle.inf_ending.proofs.Delivering.{takes_none, takes_then}
-use Rattle.inf_session.proofs.Supplying.{supplied_begins}
-use Rattle.inf_session.specs.Veneer.{supplied}
 use Rattle.inf_compile.specs.Comes.{AreAt, AreNear, Begins, BreaksOff, BreaksOffAll, Comes, Concludes, Ends, EndsAll, OpenedBy, Stops}
 use Rattle.inf_compile.specs.Comes.{SuppliesAll, SuppliesPart, WereOpened, numbers_of}
-use Rattle.inf_compilation.specs.Works.{work as work_of}
 use Rattle.inf_compile.specs.Outcome.{IsCompiled, IsOutcomeOf, ending_of}
 
 -- fronts of two texts behind the same text are fronts
@@ -232,10 +218,10 @@ stops_ending limits sources o serial was now old mid new turns w over t = record
 
 -- a fault that is none of reading has no name
 unread_none : (f : Fault) (P : List ℕ → Type 0) (Q : Type 0) → Caused f (λ name. ⊥) Q → IfRead f P
-unread_none fault.Memory P Q c = tt
-unread_none (fault.Read name) P Q c = absurd c
-unread_none fault.Messages P Q c = tt
-unread_none (fault.Story n) P Q c = tt
+unread_none Fault.Memory P Q c = tt
+unread_none (Fault.Read name) P Q c = absurd c
+unread_none Fault.Messages P Q c = tt
+unread_none (Fault.Story n) P Q c = tt
 
 pub if_read_none : {T : Type 0} (r : Result T Fault) (P : List ℕ → Type 0) (Q : Type 0) → IfErr r (λ f. Caused f (λ name. ⊥) Q) →
     IfErr r (λ f. IfRead f P)

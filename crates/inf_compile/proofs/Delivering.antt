@@ -1,26 +1,17 @@
 -- The bytes that a story's sink takes of a compiled story.
-use Rattle.std.specs.Prelude.{Result, Ok, Err, IfOk, IfErr, OnOk, MatchResult, option_map}
-use Rattle.std.proofs.Common.{◌≡◌, ◌==◌, inl, inr, ℕ, Bool, true, false, cond, List, [], ◌∷◌, codes, length, Option, Some, None, refl, ap}
-use Rattle.std.proofs.Common.{subst, sym, ◌∙◌}
+use Rattle.std.proofs.Common.{Result, Ok, Err, IfOk, IfErr, OnOk, MatchResult, option_map, ◌≡◌, ◌==◌, inl, inr, ℕ, Bool, true, false, cond}
+use Rattle.std.proofs.Common.{List, [], ◌∷◌, codes, length, Option, Some, None, refl, ap, subst, sym, ◌∙◌}
 use Rattle.std.proofs.Math.Dec.{eqb-suc-zero}
-use Rattle.inf_devices.specs.Files.{Openings, Sources}
-use Rattle.inf_session.specs.Choices.{Choices}
+use Rattle.inf_devices.specs.{Files.Openings, Files.Sources, Sinks.Takes}
+use Rattle.inf_session.specs.{Choices.Choices, Session.State}
 use Rattle.inf_compile.specs.Comes.{Begins, Comes, OpenedBy, OpenedPart}
-use Rattle.inf_ending.specs.Delivered.{IsFront}
-use Rattle.inf_ending.specs.Ending.{Outcome, missing}
-use Rattle.inf_session.specs.Session.{State}
-use Rattle.inf_session.proofs.Leadings.{front_same}
-use Rattle.inf_compile.proofs.OutcomeLaws.{outcomes_are_unique}
-use Rattle.inf_ending.specs.declared.compiled.Compiled.{Compiled}
-use Rattle.inf_ending.specs.declared.compiled.Status.{Status}
-use Rattle.inf_ending.specs.declared.compiled.Status.TheVariants as status
-use Rattle.inf_ending.specs.declared.faults.Fault.{Fault}
-use Rattle.inf_ending.specs.declared.faults.Fault.TheVariants as fault
-use Rattle.inf_ending.specs.Delivered.{EndsClean, SucceedsClean, TakesFront, story_in}
-use Rattle.inf_ending.specs.Faults.{Caused, IfRead, IfStory, UnlessStory}
 use Rattle.inf_compile.specs.Compiling.{Compiles, DeliversPart, HasCause, OnlyStory, TakesClean, TakesPart, TakesStory, named_by}
 use Rattle.inf_compile.specs.Compiling.{no_sources}
-use Rattle.inf_devices.specs.Sinks.{Takes}
+use Rattle.inf_ending.specs.{Ending.Outcome, Ending.missing, Faults.Caused, Faults.IfRead, Faults.IfStory, Faults.UnlessStory}
+use Rattle.inf_ending.specs.{declared.compiled.Compiled.Compiled, declared.compiled.Status.Status, declared.faults.Fault.Fault}
+use Rattle.inf_ending.specs.Delivered.{IsFront, EndsClean, SucceedsClean, TakesFront, story_in}
+use Rattle.inf_session.proofs.Leadings.{front_same}
+use Rattle.inf_compile.proofs.OutcomeLaws.{outcomes_are_unique}
 use Rattle.inf_command.specs.FileNames.{source_name}
 
 -- A compilation whose story was taken whole has compiled.
@@ -87,9 +78,9 @@ pub clean_where_delivered : (serial : List ℕ) (P : ℕ → Type 0) (r : Result
     IfOk r (λ s. s ≡ c.status)
     → OnOk r (TakesStory (story_in c) story_old story_new)
     → IfErr r (λ fault. OnlyStory fault (λ n. P n × TakesPart (story_in c) n story_old story_new)) →
-    (c.status ≡ status.Errors → c.story ≡ None)
+    (c.status ≡ Status.Errors → c.story ≡ None)
     → SucceedsClean serial c before after
-    → MatchResult r (λ s. s ≡ status.Success → TakesClean serial (λ bytes. Takes story_old story_new bytes) before after)
+    → MatchResult r (λ s. s ≡ Status.Success → TakesClean serial (λ bytes. Takes story_old story_new bytes) before after)
     (λ fault. IfStory fault (λ n. TakesClean serial (λ bytes. TakesPart (Some bytes) n story_old story_new) before after))
 clean_where_delivered serial P (Ok s) c before after story_old story_new is whole told none clean = λ success.
     with_story (story_in c) whole (clean (sym is ∙ success))
@@ -98,10 +89,10 @@ clean_where_delivered serial P (Ok s) c before after story_old story_new is whol
         → TakesClean serial (λ bytes. Takes story_old story_new bytes) before after
     with_story None taken ends = let never : false ≡ true = ends.clean.has_story in cc
     with_story (Some bytes) taken ends = record { story = bytes; is_taken = taken; ends = ends }
-clean_where_delivered serial P (Err fault.Memory) c before after story_old story_new is whole told none clean = tt
-clean_where_delivered serial P (Err (fault.Read name)) c before after story_old story_new is whole told none clean = tt
-clean_where_delivered serial P (Err fault.Messages) c before after story_old story_new is whole told none clean = tt
-clean_where_delivered serial P (Err (fault.Story n)) c before after story_old story_new is whole told none clean =
+clean_where_delivered serial P (Err Fault.Memory) c before after story_old story_new is whole told none clean = tt
+clean_where_delivered serial P (Err (Fault.Read name)) c before after story_old story_new is whole told none clean = tt
+clean_where_delivered serial P (Err Fault.Messages) c before after story_old story_new is whole told none clean = tt
+clean_where_delivered serial P (Err (Fault.Story n)) c before after story_old story_new is whole told none clean =
     by_status c.status refl
   where
     with_part : (o : Option (List ℕ)) → TakesPart o n story_old story_new → EndsClean serial o before after
@@ -111,27 +102,27 @@ clean_where_delivered serial P (Err (fault.Story n)) c before after story_old st
 
     by_status : (s : Status) → c.status ≡ s →
         TakesClean serial (λ bytes. TakesPart (Some bytes) n story_old story_new) before after
-    by_status status.Success e = with_part (story_in c) told.1 (clean e)
-    by_status status.Errors e =
+    by_status Status.Success e = with_part (story_in c) told.1 (clean e)
+    by_status Status.Errors e =
         absurd (subst (λ (o : Option (List ℕ)). TakesPart o n story_old story_new) (ap (option_map (λ v. v.items)) (none e)) told.1)
 
 -- a fault before the story, and one of its sink
 pub caused_before : {T : Type 0} (r : Result T Fault) (P : List ℕ → Type 0) (A : Type 0) (R : ℕ → Type 0) → IfErr r (λ f. Caused f P A) →
     IfErr r (λ f. HasCause f P A R)
 caused_before (Ok x) P A R h = tt
-caused_before (Err fault.Memory) P A R h = tt
-caused_before (Err (fault.Read name)) P A R h = h
-caused_before (Err fault.Messages) P A R h = h
-caused_before (Err (fault.Story n)) P A R h = absurd h
+caused_before (Err Fault.Memory) P A R h = tt
+caused_before (Err (Fault.Read name)) P A R h = h
+caused_before (Err Fault.Messages) P A R h = h
+caused_before (Err (Fault.Story n)) P A R h = absurd h
 
 pub caused_behind : {T : Type 0} (r : Result T Fault) (P : List ℕ → Type 0) (A : Type 0) (R X : ℕ → Type 0) →
     IfErr r (λ f. OnlyStory f (λ n. R n × X n))
     → IfErr r (λ f. HasCause f P A R)
 caused_behind (Ok x) P A R X h = tt
-caused_behind (Err fault.Memory) P A R X h = tt
-caused_behind (Err (fault.Read name)) P A R X h = absurd h
-caused_behind (Err fault.Messages) P A R X h = absurd h
-caused_behind (Err (fault.Story n)) P A R X h = h.0
+caused_behind (Err Fault.Memory) P A R X h = tt
+caused_behind (Err (Fault.Read name)) P A R X h = absurd h
+caused_behind (Err Fault.Messages) P A R X h = absurd h
+caused_behind (Err (Fault.Story n)) P A R X h = h.0
 
 -- An empty word names no file
 
@@ -146,7 +137,7 @@ no_bytes b word e = let never : false ≡ true = sym (eqb-suc-zero (length word)
 
 -- status and messages are those of a source that is not there, and no story comes
 pub refused_compiles : (word date : List ℕ) (s : Sources) (o : Choices) (r : Status) (before after story_old story_new : Option (List ℕ)) →
-    (length word == 0) ≡ true → r ≡ status.Errors
+    (length word == 0) ≡ true → r ≡ Status.Errors
     → Takes before after (missing (codes ".inf")).messages → story_new ≡ story_old → Compiles (named_by word s) o date (source_name word) r
     before after story_old story_new
 refused_compiles [] date s o r before after story_old story_new e is takes same =
@@ -172,37 +163,37 @@ refused_opens (b ∷ word) s o old e = absurd (no_bytes b word e)
 
 -- no fault of it is one of reading or of the story
 pub none_read : (fault : Fault) (writing : Type 0) (P : List ℕ → Type 0) → HasCause fault (λ name. ⊥) writing (λ n. ⊥) → IfRead fault P
-none_read fault.Memory writing P cause = tt
-none_read (fault.Read name) writing P cause = absurd cause
-none_read fault.Messages writing P cause = tt
-none_read (fault.Story n) writing P cause = tt
+none_read Fault.Memory writing P cause = tt
+none_read (Fault.Read name) writing P cause = absurd cause
+none_read Fault.Messages writing P cause = tt
+none_read (Fault.Story n) writing P cause = tt
 
 pub none_told : (fault : Fault) (writing : Type 0) (P : ℕ → Type 0) → HasCause fault (λ name. ⊥) writing (λ n. ⊥) → IfStory fault P
-none_told fault.Memory writing P cause = tt
-none_told (fault.Read name) writing P cause = tt
-none_told fault.Messages writing P cause = tt
-none_told (fault.Story n) writing P cause = absurd cause
+none_told Fault.Memory writing P cause = tt
+none_told (Fault.Read name) writing P cause = tt
+none_told Fault.Messages writing P cause = tt
+none_told (Fault.Story n) writing P cause = absurd cause
 
 pub more_caused : (fault : Fault) (writing : Type 0) (P : List ℕ → Type 0) (Q : ℕ → Type 0) → HasCause fault (λ name. ⊥) writing (λ n. ⊥) →
     HasCause fault P writing Q
-more_caused fault.Memory writing P Q cause = tt
-more_caused (fault.Read name) writing P Q cause = absurd cause
-more_caused fault.Messages writing P Q cause = cause
-more_caused (fault.Story n) writing P Q cause = absurd cause
+more_caused Fault.Memory writing P Q cause = tt
+more_caused (Fault.Read name) writing P Q cause = absurd cause
+more_caused Fault.Messages writing P Q cause = cause
+more_caused (Fault.Story n) writing P Q cause = absurd cause
 
 pub unfailed_always : (fault : Fault) (story : Option (List ℕ)) (failures : ℕ) → UnlessStory fault
     ((story ≡ story) × (failures ≡ failures))
-unfailed_always fault.Memory story failures = (refl, refl)
-unfailed_always (fault.Read name) story failures = (refl, refl)
-unfailed_always fault.Messages story failures = (refl, refl)
-unfailed_always (fault.Story n) story failures = tt
+unfailed_always Fault.Memory story failures = (refl, refl)
+unfailed_always (Fault.Read name) story failures = (refl, refl)
+unfailed_always Fault.Messages story failures = (refl, refl)
+unfailed_always (Fault.Story n) story failures = tt
 
-no_success : (r : Status) (P : Type 0) → r ≡ status.Errors → r ≡ status.Success → P
-no_success r P is success = let never : status.Errors ≡ status.Success = sym is ∙ success in cc
+no_success : (r : Status) (P : Type 0) → r ≡ Status.Errors → r ≡ Status.Success → P
+no_success r P is success = let never : Status.Errors ≡ Status.Success = sym is ∙ success in cc
 
 -- An empty word ends in no success.
-pub none_clean : (r : Result Status Fault) (writing A : Type 0) (B : ℕ → Type 0) → IfOk r (λ s. s ≡ status.Errors) →
+pub none_clean : (r : Result Status Fault) (writing A : Type 0) (B : ℕ → Type 0) → IfOk r (λ s. s ≡ Status.Errors) →
     IfErr r (λ fault. HasCause fault (λ name. ⊥) writing (λ n. ⊥))
-    → MatchResult r (λ s. s ≡ status.Success → A) (λ fault. IfStory fault B)
+    → MatchResult r (λ s. s ≡ Status.Success → A) (λ fault. IfStory fault B)
 none_clean (Ok s) writing A B is cause = λ success. no_success s A is success
 none_clean (Err fault) writing A B is cause = none_told fault writing B cause

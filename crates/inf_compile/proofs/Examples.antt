@@ -1,33 +1,21 @@
 -- Worked examples, by the definitions.
 use Rattle.std.proofs.Common.{◌≡◌, ℕ, ◌/◌, List, [], ◌∷◌, length, map, refl, ap, ◌∙◌, subst}
-use Rattle.inf_area.specs.declared.targets.AreaName.TheVariants as area
-use Rattle.inf_area.specs.declared.targets.Target.TheVariants as target
-use Rattle.inf_area.specs.declared.targets.Value.{Value}
-use Rattle.inf_area.specs.declared.targets.Value.TheVariants as value
-use Rattle.inf_area.specs.declared.cells.Cell.{Cell}
-use Rattle.inf_area.specs.declared.scale.Scale.TheVariants as scale
+use Rattle.inf_area.specs.{declared.cells.Cell.Cell, declared.scale.Scale.Scale, declared.targets.AreaName.AreaName}
+use Rattle.inf_area.specs.{declared.targets.Target.Target, declared.targets.Value.Value}
 use Rattle.std.specs.Fmt.{digits}
 use Rattle.inf_veneer.specs.Texts as veneer
 use Rattle.inf_characters.specs.Characters.{accented, zscii_of, zscii_of_unicode}
-use Rattle.inf_text.specs.Packing.{packed, longest, character_zs, punctuation}
 use Rattle.inf_characters.specs.Reading.{escape_piece, piece_at, spelled, spellings, text_of}
+use Rattle.inf_text.specs.Packing.{packed, longest, character_zs, punctuation}
 use Rattle.inf_code.specs.Code.{known}
-use Rattle.inf_link.specs.declared.header.HeaderFields.{HeaderFields}
-use Rattle.inf_link.specs.Areas.{lengths}
-use Rattle.inf_link.specs.FillingLaws.{cells_sizes}
-use Rattle.inf_link.specs.Header.{number_bytes}
-use Rattle.inf_link.specs.MemoryMaps.{map_of}
-use Rattle.inf_link.specs.StoryLaws.{HasAt}
+use Rattle.inf_link.specs.{Areas.lengths, FillingLaws.cells_sizes, Header.number_bytes, MemoryMaps.map_of, StoryLaws.HasAt}
+use Rattle.inf_link.specs.{declared.areas.Areas.Areas, declared.header.HeaderFields.HeaderFields}
 use Rattle.inf_story.specs.Stories.{story, too_long}
 use Rattle.inf_story.specs.Plain as plain
 use Rattle.inf_story.specs.Tables as tables
-use Rattle.inf_story.proofs.Plain.{tables_are_plain}
-use Rattle.inf_story.proofs.Told.{story_tells}
-use Rattle.inf_link.specs.declared.areas.Areas.{Areas}
-use Rattle.inf_objects.specs.Attributes.{attribute_cells, flag_byte, no_attributes}
-use Rattle.inf_objects.specs.Tables.{all_falling}
-use Rattle.inf_tables.specs.Tables.{more, no_tables}
-use Rattle.inf_tables.specs.Areas.{first_names}
+use Rattle.inf_story.proofs.{Plain.tables_are_plain, Told.story_tells}
+use Rattle.inf_objects.specs.{Attributes.attribute_cells, Attributes.flag_byte, Attributes.no_attributes, Tables.all_falling}
+use Rattle.inf_tables.specs.{Areas.first_names, Tables.more, Tables.no_tables}
 use Rattle.inf_compile.specs.Examples.{ConditionalsChoose, ConditionsChoose, EmptySource, FilesAreIncluded, HelloIsAStory}
 use Rattle.inf_compile.specs.Examples.{NamesAreUndeclared, NoSource, SixteenAreOpen, TextIsMissing}
 use Rattle.inf_grammar.specs.Language as language
@@ -98,19 +86,19 @@ abbrev hello_code : List Cell
 hello_code = known (0x00 ∷ 0xB2 ∷ 0x35 ∷ 0x51 ∷ 0xC6 ∷ 0x85 ∷ 0xB0 ∷ 0x00 ∷ [])
 
 abbrev fields : List ℕ → HeaderFields
-fields serial = record { release = 1; serial = serial; scale = scale.Four }
+fields serial = record { release = 1; serial = serial; scale = Scale.Four }
 
 abbrev hello : List ℕ → List ℕ
-hello serial = story (fields serial) 8 (value.Later (target.Place area.Code 8) ∷ []) hello_code [] no_tables
+hello serial = story (fields serial) 8 (Value.Later (Target.Place AreaName.Code 8) ∷ []) hello_code [] no_tables
 
-plain_size : (map_of (cells_sizes (plain.plain_areas 8 hello_code [])) scale.Four).end ≡ 976
+plain_size : (map_of (cells_sizes (plain.plain_areas 8 hello_code [])) Scale.Four).end ≡ 976
 unfolding packed longest character_zs tables.three_spaces tables.abbreviations plain.property_defaults plain.objects plain.property_tables
     plain.class_numbers plain.globals plain.dictionary
 plain_size = refl
 
-hello_size : (map_of (cells_sizes (tables.areas 8 hello_code [] no_tables)) scale.Four).end ≡ 976
+hello_size : (map_of (cells_sizes (tables.areas 8 hello_code [] no_tables)) Scale.Four).end ≡ 976
 hello_size =
-    ap (λ (cells : Areas (List Cell)). (map_of (cells_sizes cells) scale.Four).end) (tables_are_plain 8 hello_code []) ∙ plain_size
+    ap (λ (cells : Areas (List Cell)). (map_of (cells_sizes cells) Scale.Four).end) (tables_are_plain 8 hello_code []) ∙ plain_size
 
 pub hello_is_a_story : HelloIsAStory
 unfolding digits more text_of piece_at escape_piece spelled spellings zscii_of zscii_of_unicode accented packed longest character_zs
@@ -120,7 +108,7 @@ unfolding digits more text_of piece_at escape_piece spelled spellings zscii_of z
     system.system_names veneer.all_names too_long tables.three_spaces tables.abbreviations first_names no_attributes attribute_cells
     flag_byte all_falling
 hello_is_a_story serial six =
-    let says = story_tells (fields serial) 8 (value.Later (target.Place area.Code 8) ∷ []) hello_code [] no_tables six in
+    let says = story_tells (fields serial) 8 (Value.Later (Target.Place AreaName.Code 8) ∷ []) hello_code [] no_tables six in
     let size : length (hello serial) ≡ 976 = says.as_mapped ∙ hello_size in
     record {
       story = hello serial;

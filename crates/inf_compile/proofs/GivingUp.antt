@@ -2,33 +2,24 @@
 use Rattle.std.proofs.Common.{◌≡◌, ◌⊎◌, ℕ, ◌+◌, ◌-◌, ◌<◌, ◌≤◌, List, [], ◌∷◌, length, map, min, reverse, get_or, drop, Option, arith}
 use Rattle.std.proofs.Common.{Result, IfErr, inl, inr, sym, ap, subst, ◌∙◌}
 use Rattle.inf_settings.specs.Bounds.{limits_of, Limits}
+use Rattle.inf_devices.specs.{Sinks.Takes, declared.files.Files.Ghosts as Files}
 use Rattle.inf_devices.specs.Files.{Counts, Opening, Openings, Sources, counts_opened, last_count, most_source_bytes, opened}
-use Rattle.inf_devices.specs.declared.files.Files.{Ghosts as Files}
 use Rattle.inf_characters.specs.declared.characters.CharSet.{CharSet}
-use Rattle.inf_devices.specs.Sinks.{Takes}
-use Rattle.inf_lexer.specs.Entering.{AreOpened}
-use Rattle.inf_lexer.specs.Readers.{Reader, at_front}
-use Rattle.inf_lexer.proofs.Opened.{many_opened, opened_stay}
+use Rattle.inf_lexer.specs.{Entering.AreOpened, Readers.Reader, Readers.at_front}
 use Rattle.inf_lexer.specs.Unread.{innermost, innermost_place, unread as unread_now, unread_of}
-use Rattle.inf_sources.specs.Calls.{AreCounted, IsUnreadable, Kept, Went, given_each}
-use Rattle.inf_sources.specs.Cursors.{Unfinished}
-use Rattle.inf_sources.specs.Heading.{head_front}
-use Rattle.inf_sources.specs.Inclusions.{Nesting, innermost_name}
+use Rattle.inf_lexer.proofs.Opened.{many_opened, opened_stay}
+use Rattle.inf_sources.specs.{Calls.AreCounted, Calls.IsUnreadable, Calls.Kept, Calls.Went, Calls.given_each, Cursors.Unfinished}
+use Rattle.inf_sources.specs.{Heading.head_front, Inclusions.Nesting, Inclusions.innermost_name, declared.open_file.OpenFile.OpenFile}
 use Rattle.inf_sources.specs.Open.{AllGiven, AreTracked, Each, IsCounted, IsFrontOf, IsNested, Open, closed_to, lexers, lexers_of}
 use Rattle.inf_sources.specs.Open.{opened_since}
-use Rattle.inf_sources.specs.declared.open_file.OpenFile.{OpenFile}
 use Rattle.inf_sources.proofs.Places.{innermost_of, last_of}
-use Rattle.inf_session.specs.Choices.{Choices}
-use Rattle.inf_ending.specs.Faults.{IfRead}
-use Rattle.inf_session.specs.Leading.{GivenUp, OpensAll, StopsAtInclusion, StopsFor, StopsInToken}
-use Rattle.inf_session.specs.Session.{State, has_ended, run, start, stepped}
-use Rattle.inf_ending.specs.declared.faults.Fault.{Fault}
-use Rattle.inf_session.proofs.Leadings.{stops_more}
+use Rattle.inf_session.specs.{Choices.Choices, Leading.GivenUp, Leading.OpensAll, Leading.StopsAtInclusion, Leading.StopsFor}
+use Rattle.inf_session.specs.{Leading.StopsInToken, Session.State, Session.has_ended, Session.run, Session.start, Session.stepped}
+use Rattle.inf_ending.specs.{Faults.IfRead, declared.faults.Fault.Fault}
+use Rattle.inf_session.proofs.{Leadings.stops_more, Standings.if_read_more}
 use Rattle.inf_ending.proofs.Delivering.{takes_none}
-use Rattle.inf_session.proofs.Standings.{if_read_more}
 use Rattle.inf_compile.specs.Comes.{AreAt, GivenUpFrom, Heard, IsUnread, OpenedSome, StopsReading, main_front, numbers_of}
-use Rattle.inf_compile.proofs.Heading.{heard_in_head}
-use Rattle.inf_compile.proofs.Concluding.{at_all}
+use Rattle.inf_compile.proofs.{Concluding.at_all, Heading.heard_in_head}
 
 -- a reader that opened a main source, of which nothing was read yet, counts what was given of it
 pub counted_at_front : (set : CharSet) (limit : ℕ) (main : Open) (old new : Counts) → new ≡ counts_opened old

@@ -1,35 +1,27 @@
 -- The head of a main source, word by word, and the rest behind it.
 use Rattle.std.proofs.Common.{◌≡◌, ◌⊎◌, inl, inr, ◌+◌, ◌-◌, ◌<◌, ◌≤◌, ℕ, zero, suc, List, [], ◌∷◌, length, length-drop, map, min}
 use Rattle.std.proofs.Common.{drop, get_or, reverse, Bool, true, false, cond, Option, IsTrue, unwrap_or, refl, sym, ap, subst, ◌∙◌, arith}
-use Rattle.std.specs.Prelude.{slice_get}
 use Rattle.std.proofs.lemmas.List.{length-map}
-use Rattle.inf_devices.specs.Files.{Opening, Openings, Rose, Sources, opened}
-use Rattle.inf_devices.specs.declared.files.Files.{Ghosts as Files}
-use Rattle.inf_lexer.specs.Names.{Nest}
-use Rattle.inf_letters.specs.declared.letters.Letters.{Letters}
-use Rattle.inf_settings.specs.declared.settings.Settings.{Settings}
-use Rattle.inf_characters.specs.declared.characters.CharSet.{CharSet}
-use Rattle.inf_letters.specs.Letters.{set_of}
-use Rattle.inf_sources.specs.Choosing.{chosen as files_chosen, nesting_chosen}
-use Rattle.inf_session.specs.Choices.{Choices, most_quoted}
+use Rattle.std.specs.Prelude.{slice_get}
+use Rattle.inf_devices.specs.{Files.Opening, Files.Openings, Files.Rose, Files.Sources, Files.opened, declared.files.Files.Ghosts as Files}
+use Rattle.inf_lexer.specs.{Entering.OpensOn, Names.Nest, declared.head.HeadPlace.HeadPlace}
 use Rattle.inf_lexer.specs.Heads.{WholeHead, head_within, is_word, with_head_word}
 use Rattle.inf_lexer.specs.Unread.{innermost, innermost_place, unread as unread_now, unread_of}
-use Rattle.inf_lexer.specs.declared.head.HeadPlace.{HeadPlace}
-use Rattle.inf_lexer.specs.declared.head.HeadPlace.TheVariants.{Line}
-use Rattle.inf_lexer.proofs.Heading.{words_take}
-use Rattle.inf_sources.specs.Cursors.{Cursor}
+use Rattle.inf_letters.specs.{Letters.set_of, declared.letters.Letters.Letters}
+use Rattle.inf_settings.specs.declared.settings.Settings.{Settings}
+use Rattle.inf_characters.specs.declared.characters.CharSet.{CharSet}
+use Rattle.inf_sources.specs.{Choosing.chosen as files_chosen, Choosing.nesting_chosen, Cursors.Cursor, Inclusions.Nesting}
+use Rattle.inf_sources.specs.{Inclusions.innermost_name, declared.open_file.OpenFile.OpenFile}
 use Rattle.inf_sources.specs.Heading.{HeadAt, ReadsHead, StopsInHead, UnfinishedAt, UnfinishedHead, behind_head, behind_word, behind_words}
 use Rattle.inf_sources.specs.Heading.{head_at, head_front, head_in, past_head, read_head}
-use Rattle.inf_sources.specs.Inclusions.{Nesting, innermost_name}
-use Rattle.inf_lexer.specs.Entering.{OpensOn}
 use Rattle.inf_sources.specs.Calls.{AreCounted, Honestly, IsUnreadable, Went, given_each}
 use Rattle.inf_sources.specs.Open.{AllGiven, AreNested, AreTracked, IsCounted, IsNested, Open, files_of, lexers, lexers_of, nesting}
 use Rattle.inf_sources.specs.Open.{opened_since}
-use Rattle.inf_sources.specs.declared.open_file.OpenFile.{OpenFile}
+use Rattle.inf_session.specs.Choices.{Choices, most_quoted}
+use Rattle.inf_lexer.proofs.Heading.{words_take}
 use Rattle.inf_sources.proofs.Places.{files_are, innermost_of, last_of}
 use Rattle.inf_ending.proofs.Delivering.{takes_none}
-use Rattle.inf_compile.specs.Chosen.{by_words, chosen_at, read_as}
-use Rattle.inf_compile.specs.Comes.{GivenUpInHead, HeardInHead, main_front}
+use Rattle.inf_compile.specs.{Chosen.by_words, Chosen.chosen_at, Chosen.read_as, Comes.GivenUpInHead, Comes.HeardInHead, Comes.main_front}
 use Rattle.inf_command.specs.Heads.{HeadWords, head_from, head_of, no_head, take_head_word, with_head}
 use Rattle.inf_command.specs.Words.{Choice}
 
@@ -52,7 +44,7 @@ pub record Leads (first now : Nesting) (at : HeadPlace) (head : HeadWords) : Typ
   pub nest : now ≡ record first { cursor = record first.cursor { rest = now.cursor.rest; lines = now.cursor.lines } }
 
 -- before the first word all words are left
-pub leads_first : (n : Nesting) → Leads n n Line no_head
+pub leads_first : (n : Nesting) → Leads n n HeadPlace.Line no_head
 leads_first n = record {
   words = zero;
   there_are = refl;

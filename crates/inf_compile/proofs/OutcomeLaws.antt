@@ -2,11 +2,9 @@
 use Rattle.std.proofs.Common.{◌≡◌, ℕ, List, Option, Some, None, sym, ap, ◌∙◌}
 use Rattle.inf_settings.specs.Bounds.{limits_of}
 use Rattle.inf_devices.specs.Files.{Sources}
-use Rattle.inf_session.specs.Choices.{Choices}
-use Rattle.inf_compile.specs.OutcomeLaws.{OutcomesAreUnique}
+use Rattle.inf_session.specs.{Choices.Choices, Session.State, Session.has_ended, Session.start}
+use Rattle.inf_compile.specs.{Outcome.IsCompiled, Outcome.IsOutcomeOf, Outcome.ending_of, OutcomeLaws.OutcomesAreUnique}
 use Rattle.inf_ending.specs.Ending.{Outcome}
-use Rattle.inf_compile.specs.Outcome.{IsCompiled, IsOutcomeOf, ending_of}
-use Rattle.inf_session.specs.Session.{State, has_ended, start}
 use Rattle.inf_session.proofs.Leadings.{same_end}
 
 same_final : (s : Sources) (o : Choices) (serial name : List ℕ) (e f : Outcome) → IsCompiled s o serial name e →

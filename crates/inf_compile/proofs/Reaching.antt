@@ -8,28 +8,21 @@ use Rattle.inf_settings.specs.Bounds.{limits_of, Limits}
 use Rattle.inf_scanner.proofs.TokenLaws.{tokens_take_bytes}
 use Rattle.inf_scanner.specs.declared.tokens.Place.{Place}
 use Rattle.inf_devices.specs.Files.{Sources}
-use Rattle.inf_lexer.specs.Entering.{first_there}
-use Rattle.inf_lexer.specs.Names.{can_name, candidates}
+use Rattle.inf_lexer.specs.{Entering.first_there, Names.can_name, Names.candidates}
 use Rattle.inf_characters.specs.declared.characters.CharSet.{CharSet}
-use Rattle.inf_sources.specs.Choosing.{waiting_with}
-use Rattle.inf_sources.specs.Cursors.{read}
+use Rattle.inf_sources.specs.{Choosing.waiting_with, Cursors.read, declared.open_files.Included.Included}
 use Rattle.inf_sources.specs.Inclusions.{Inclusion, Nesting, Opens, OpensNone, Waiting, by_first, inclusion, innermost_name}
-use Rattle.inf_sources.specs.declared.open_files.Included.{Included}
-use Rattle.inf_sources.specs.declared.open_files.Included.TheVariants as included
 use Rattle.inf_unit.proofs.Cases.{of_both}
 use Rattle.inf_unit.specs.Directives.{Request, Nothing, Include, End, Characters}
 use Rattle.inf_conditionals.specs.Judging.{judged}
-use Rattle.inf_reader.specs.Handing.{said_told, site_of}
-use Rattle.inf_reader.specs.Reading.{is_mode_ended}
+use Rattle.inf_reader.specs.{Handing.said_told, Handing.site_of, Reading.is_mode_ended}
 use Rattle.inf_session.specs.Choices.{Choices}
-use Rattle.inf_ending.specs.Ending.{Outcome, missing}
 use Rattle.inf_session.specs.Session.{State, answered, asked_nothing, file_closed, followed, has_ended, carried_out, context_of}
 use Rattle.inf_session.specs.Session.{included_by, is_resting, left, left_by, none_included, piece_closed, rested, run, stand_of, start}
 use Rattle.inf_session.specs.Session.{stepped, token_of, turn}
-use Rattle.inf_session.proofs.Leadings.{run_going, run_sum}
-use Rattle.inf_session.proofs.Stepping.{end_ends}
-use Rattle.inf_compile.specs.Outcome.{IsOutcomeOf, ending_of}
-use Rattle.inf_compile.specs.OutcomeLaws.{OutcomesExist}
+use Rattle.inf_ending.specs.Ending.{Outcome, missing}
+use Rattle.inf_session.proofs.{Leadings.run_going, Leadings.run_sum, Stepping.end_ends}
+use Rattle.inf_compile.specs.{Outcome.IsOutcomeOf, Outcome.ending_of, OutcomeLaws.OutcomesExist}
 
 -- A turn
 
@@ -75,7 +68,7 @@ left_goes was (w ∷ waiting) s same e = inr (Leaves w.cursor.rest (rests waitin
 
 -- a file is entered only where there is room for it
 opens_room : (can deep : Bool) (first : Option (List ℕ)) (name : List ℕ) →
-    cond (not can) (OpensNone included.NotThere) (cond deep (OpensNone included.TooDeep) (by_first first)) ≡ Opens name
+    cond (not can) (OpensNone Included.NotThere) (cond deep (OpensNone Included.TooDeep) (by_first first)) ≡ Opens name
     → deep ≡ false
 opens_room false deep first name e = cc
 opens_room true true first name e = cc
@@ -90,9 +83,9 @@ has_room sources directories text name n e =
     omega (arith, leb-false 16 (length n.waiting + 1) flat)
 
 none_stays : (unit : Place) (text : List ℕ) (why : Included) (s : State) → (none_included unit text why s).nesting ≡ s.nesting
-none_stays unit text included.Entered s = refl
-none_stays unit text included.NotThere s = refl
-none_stays unit text included.TooDeep s = refl
+none_stays unit text Included.Entered s = refl
+none_stays unit text Included.NotThere s = refl
+none_stays unit text Included.TooDeep s = refl
 
 included_goes : (was : Nesting) (sources : Sources) (o : Choices) (unit : Place) (text : List ℕ) (i : Inclusion) (s : State) →
     inclusion sources o.directories text s.nesting ≡ i

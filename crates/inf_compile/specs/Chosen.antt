@@ -4,15 +4,9 @@ use Rattle.inf_devices.specs.Files.{Sources}
 use Rattle.inf_letters.specs.Letters.{set_of}
 use Rattle.inf_lexer.specs.Heads.{WholeHead, whole_head}
 use Rattle.inf_scanner.specs.Lines.{first_line}
-use Rattle.inf_sources.specs.Choosing.{nesting_chosen}
-use Rattle.inf_sources.specs.Heading.{head_in, past_head}
-use Rattle.inf_sources.specs.Inclusions.{Nesting}
-use Rattle.inf_session.specs.Choices.{Choices, most_quoted}
-use Rattle.inf_session.specs.Session.{State, first_state}
-use Rattle.inf_command.specs.Directories.{directories_of}
-use Rattle.inf_command.specs.Heads.{head_of, with_head}
-use Rattle.inf_command.specs.Spoken.{settings_of}
-use Rattle.inf_command.specs.Words.{Choice}
+use Rattle.inf_sources.specs.{Choosing.nesting_chosen, Heading.head_in, Heading.past_head, Inclusions.Nesting}
+use Rattle.inf_session.specs.{Choices.Choices, Choices.most_quoted, Session.State, Session.first_state}
+use Rattle.inf_command.specs.{Directories.directories_of, Heads.head_of, Heads.with_head, Spoken.settings_of, Words.Choice}
 
 -- the choices of words for the reading
 abbrev pub by_words : Choice → Choices

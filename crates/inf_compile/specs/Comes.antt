@@ -2,27 +2,18 @@
 use Rattle.std.specs.Prelude.{◌≡◌, ℕ, ◌+◌, ◌-◌, ◌<◌, ◌≤◌, ◌⊎◌, List, [], ◌∷◌, get_or, slice_get, unwrap_or, length, map, drop, false}
 use Rattle.std.specs.Prelude.{Option, Some, None, min, option_map, ◌++◌}
 use Rattle.inf_settings.specs.Bounds.{limits_of, Limits}
+use Rattle.inf_devices.specs.{Sinks.Takes, declared.files.Files.Ghosts as Files}
 use Rattle.inf_devices.specs.Files.{Opening, Openings, Rose, Sources, last_count, most_source_bytes, opened}
-use Rattle.inf_devices.specs.declared.files.Files.{Ghosts as Files}
-use Rattle.inf_devices.specs.Sinks.{Takes}
-use Rattle.inf_lexer.specs.declared.head.HeadPlace.TheVariants.{Line}
+use Rattle.inf_lexer.specs.{Unread.unread, Unread.unread_of, declared.head.HeadPlace.HeadPlace}
 use Rattle.inf_scanner.specs.Lines.{first_line}
-use Rattle.inf_session.specs.Choices.{Choices}
-use Rattle.inf_lexer.specs.Unread.{unread, unread_of}
+use Rattle.inf_session.specs.{Choices.Choices, Standing.state, Veneer.supplied, declared.session.Session.Session}
 use Rattle.inf_session.specs.Leading.{CutsShort, GivenUp, StopsAtInclusion, Writes}
-use Rattle.inf_ending.specs.Delivered.{IsFront}
-use Rattle.inf_sources.specs.Cursors.{Cursor, Unfinished}
-use Rattle.inf_sources.specs.Heading.{HeadAt, StopsInHead, head_front}
-use Rattle.inf_sources.specs.Inclusions.{Nesting, cursors, innermost_name}
-use Rattle.inf_sources.specs.Open.{Each, IsFrontOf, IsGiven, IsNested, Open, files_of, lexers, nesting, opened_since}
-use Rattle.inf_ending.specs.Delivered.{Delivers}
-use Rattle.inf_ending.specs.Ending.{Outcome}
-use Rattle.inf_compile.specs.Outcome.{IsOutcome, ending_of}
 use Rattle.inf_session.specs.Session.{IsRead, State, has_ended, run, start, stepped}
-use Rattle.inf_session.specs.Standing.{state}
-use Rattle.inf_session.specs.Veneer.{supplied}
-use Rattle.inf_ending.specs.declared.compiled.Compiled.{Compiled}
-use Rattle.inf_session.specs.declared.session.Session.{Session}
+use Rattle.inf_ending.specs.{Delivered.Delivers, Delivered.IsFront, Ending.Outcome, declared.compiled.Compiled.Compiled}
+use Rattle.inf_sources.specs.{Cursors.Cursor, Cursors.Unfinished, Heading.HeadAt, Heading.StopsInHead, Heading.head_front}
+use Rattle.inf_sources.specs.{Inclusions.Nesting, Inclusions.cursors, Inclusions.innermost_name}
+use Rattle.inf_sources.specs.Open.{Each, IsFrontOf, IsGiven, IsNested, Open, files_of, lexers, nesting, opened_since}
+use Rattle.inf_compile.specs.Outcome.{IsOutcome, ending_of}
 
 -- The files that are open, the inner ones first, are those of openings behind the first `n`, each under the name of its number; and each
 -- was opened behind those around it.
@@ -171,7 +162,7 @@ pub record HeardNothing (failed : Type 0) (name : List ℕ) (old new : Openings)
 
 -- the front of the main source of a name, where its head begins
 abbrev pub main_front : Sources → List ℕ → HeadAt
-main_front sources name = record { place = Line; lines = first_line; rest = unwrap_or (sources name) [] }
+main_front sources name = record { place = HeadPlace.Line; lines = first_line; rest = unwrap_or (sources name) [] }
 
 -- Reading was given up in the head of the main source, which alone was opened, and nothing was written: the bytes given of its opening,
 -- which was not read out, do not end the head; of a source that has too many bytes, those that it may have do not.

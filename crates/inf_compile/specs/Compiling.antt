@@ -1,17 +1,10 @@
 -- The bytes that a compilation leaves in its devices.
 use Rattle.std.specs.Prelude.{◌≡◌, ℕ, ◌<◌, ◌==◌, List, length, take, if◌then◌else◌, Option, Some, None, string_bytes}
-use Rattle.inf_devices.specs.Files.{Sources}
-use Rattle.inf_devices.specs.Sinks.{Takes}
-use Rattle.inf_command.specs.FileNames.{source_name}
-use Rattle.inf_command.specs.Words.{Choice}
+use Rattle.inf_devices.specs.{Files.Sources, Sinks.Takes}
+use Rattle.inf_command.specs.{FileNames.source_name, Words.Choice}
 use Rattle.inf_session.specs.Choices.{Choices}
-use Rattle.inf_ending.specs.Delivered.{EndsClean}
-use Rattle.inf_ending.specs.Ending.{Outcome}
-use Rattle.inf_compile.specs.Chosen.{chosen_for}
-use Rattle.inf_compile.specs.Outcome.{IsOutcome}
-use Rattle.inf_ending.specs.declared.faults.Fault.{Fault}
-use Rattle.inf_ending.specs.declared.faults.Fault.TheVariants as fault
-use Rattle.inf_ending.specs.declared.compiled.Status.{Status}
+use Rattle.inf_ending.specs.{Delivered.EndsClean, Ending.Outcome, declared.compiled.Status.Status, declared.faults.Fault.Fault}
+use Rattle.inf_compile.specs.{Chosen.chosen_for, Outcome.IsOutcome}
 
 -- the choices of a reading, by the words of a command: with them the head of the source that they name, among these sources, decides
 -- each matter that they leave open
@@ -37,18 +30,18 @@ TakesPart (Some story) n old new = (n < length story) × Takes old new (take n s
 
 -- a fault of the story's sink alone
 abbrev pub OnlyStory : Fault → (ℕ → Type 0) → Type 0
-OnlyStory (fault.Story n) P = P n
-OnlyStory fault.Memory P = ⊥
-OnlyStory (fault.Read name) P = ⊥
-OnlyStory fault.Messages P = ⊥
+OnlyStory (Fault.Story n) P = P n
+OnlyStory Fault.Memory P = ⊥
+OnlyStory (Fault.Read name) P = ⊥
+OnlyStory Fault.Messages P = ⊥
 
 -- a fault of reading, with the name that it tells, one of writing messages, and one of the story, with the bytes that were written, have
 -- their causes
 abbrev pub HasCause : Fault → (List ℕ → Type 0) → Type 0 → (ℕ → Type 0) → Type 0
-HasCause fault.Memory reading writing telling = Unit {0}
-HasCause (fault.Read name) reading writing telling = reading (string_bytes name)
-HasCause fault.Messages reading writing telling = writing
-HasCause (fault.Story n) reading writing telling = telling n
+HasCause Fault.Memory reading writing telling = Unit {0}
+HasCause (Fault.Read name) reading writing telling = reading (string_bytes name)
+HasCause Fault.Messages reading writing telling = writing
+HasCause (Fault.Story n) reading writing telling = telling n
 
 -- A sink took this much of a story of some compiled work, of which no error and no fatal error was counted; the messages that were taken
 -- end with the last ones of this work.

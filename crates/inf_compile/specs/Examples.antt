@@ -1,27 +1,25 @@
 -- Worked examples: the outcomes of the main source `t.inf` among some sources.
-use Rattle.std.specs.Prelude.{◌≡◌, ℕ, List, [], ◌++◌, length, codes, if◌then◌else◌, true, zero, suc, Some, None}
-use Rattle.std.specs.Str.{bytes_eq}
+use Rattle.std.specs.Prelude.{◌≡◌, ℕ, List, [], ◌++◌, length, codes, if◌then◌else◌, true, zero, suc, Some, None, bytes_eq}
 use Rattle.inf_letters.specs.Letters.{none_spoken}
-use Rattle.inf_link.specs.Header.{number_bytes}
-use Rattle.inf_link.specs.StoryLaws.{HasAt}
+use Rattle.inf_link.specs.{Header.number_bytes, StoryLaws.HasAt}
 use Rattle.inf_settings.specs.Settings.{defaults}
 use Rattle.inf_devices.specs.Files.{Sources}
 use Rattle.inf_session.specs.Choices.{Choices}
 use Rattle.inf_compile.specs.Outcome.{IsOutcome}
-use Rattle.inf_ending.specs.declared.compiled.Status.TheVariants as status
+use Rattle.inf_ending.specs.declared.compiled.Status.{Status}
 
 abbrev pub name : List ℕ
 name = codes "t.inf"
 
 -- sources of no file, and with one more
-abbrev pub no_sources : Sources
-no_sources n = None
+abbrev pub no_files : Sources
+no_files n = None
 
 abbrev pub with_source : List ℕ → List ℕ → Sources → Sources
 with_source file source others n = if bytes_eq n file then Some source else others n
 
 abbrev pub only : List ℕ → Sources
-only source = with_source name source no_sources
+only source = with_source name source no_files
 
 -- the choices where no word chooses anything
 abbrev pub plain : Choices
@@ -30,10 +28,10 @@ plain = record { letters = none_spoken; settings = defaults; directories = [] }
 -- Some sources have errors: there are these messages, and no story.
 abbrev pub Refuses : Sources → List ℕ → Type 0
 Refuses sources messages =
-    (serial : List ℕ) → IsOutcome sources plain serial name (record { messages = messages; story = None; status = status.Errors })
+    (serial : List ℕ) → IsOutcome sources plain serial name (record { messages = messages; story = None; status = Status.Errors })
 
 abbrev pub NoSource : Type 0
-NoSource = Refuses no_sources (codes "t.inf(1): Fatal error: No file \"t.inf\"\n")
+NoSource = Refuses no_files (codes "t.inf(1): Fatal error: No file \"t.inf\"\n")
 
 abbrev pub EmptySource : Type 0
 EmptySource = Refuses (only []) (codes "t.inf(1): Error: No routine \"Main\"\nErrors: 1, warnings: 0 (no output)\n")
@@ -88,7 +86,7 @@ SixteenAreOpen =
 pub record IsHello (serial : List ℕ) : Type 0 where
   pub story : List ℕ
   pub is_outcome : IsOutcome (only (codes "[ Main; print \"hello\"; ];")) plain serial name
-      (record { messages = codes "Errors: 0, warnings: 0\n"; story = Some story; status = status.Success })
+      (record { messages = codes "Errors: 0, warnings: 0\n"; story = Some story; status = Status.Success })
   pub size : length story ≡ 976
   pub length_word : HasAt 0x1A story (number_bytes 244)
 

@@ -2,10 +2,8 @@
 use Rattle.std.specs.Prelude.{◌≡◌, ℕ, List, ◌++◌, Option, Some, None}
 use Rattle.inf_settings.specs.Bounds.{limits_of, Limits}
 use Rattle.inf_devices.specs.Files.{Sources}
-use Rattle.inf_session.specs.Choices.{Choices}
+use Rattle.inf_session.specs.{Choices.Choices, Session.IsRead, Session.State, Session.start, Veneer.supplied}
 use Rattle.inf_ending.specs.Ending.{Outcome, finished, missing}
-use Rattle.inf_session.specs.Session.{IsRead, State, start}
-use Rattle.inf_session.specs.Veneer.{supplied}
 
 -- The ending of a compilation whose source was read to this state: the used part of the veneer is read, and then the compilation ends.
 -- The messages that were written before come first.

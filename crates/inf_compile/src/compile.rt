@@ -1,13 +1,11 @@
 ghost use Rattle.std.specs.Prelude.{◌≡◌, codes, IsTrue, IfOk, IfErr, MatchResult, Ok, OnOk, OnErr, Some};
-ghost use Rattle.inf_devices.specs.Sinks.{Takes};
-ghost use Rattle.inf_devices.specs.Files.{Rose};
+ghost use Rattle.inf_devices.specs.{Files.Rose, Sinks.Takes};
 ghost use Rattle.inf_command.specs.FileNames.{source_name};
 ghost use Rattle.inf_compile.specs.Comes.{Begins, Heard, IsUnread, OpenedBy, OpenedPart};
-ghost use Rattle.inf_ending.specs.Delivered.{TakesFront, story_in};
-ghost use Rattle.inf_ending.specs.Ending.{missing};
-ghost use Rattle.inf_ending.specs.Faults.{HidesNoFailure, IfRead, IfStory, UnlessStory};
 ghost use Rattle.inf_compile.specs.Compiling.{Compiles, DeliversPart, HasCause, OnlyStory, TakesClean, TakesPart, TakesStory};
 ghost use Rattle.inf_compile.specs.Compiling.{chosen_by, named_by};
+ghost use Rattle.inf_ending.specs.{Delivered.TakesFront, Delivered.story_in, Ending.missing};
+ghost use Rattle.inf_ending.specs.Faults.{HidesNoFailure, IfRead, IfStory, UnlessStory};
 
 use crate::translation::translate;
 use inf_command::command_line::{Options, source_name};

@@ -2,9 +2,8 @@
 ghost use Rattle.std.specs.Prelude.{◌≡◌, ◌-◌, ◌<◌, ◌≤◌, ◌⊎◌, false, length, is_err, IsErr, IsErrOf, IfOk, OnErr, OnOk};
 ghost use Rattle.inf_devices.specs.Files.{Rose};
 ghost use Rattle.inf_lexer.specs.Unread.{unread};
-ghost use Rattle.inf_sources.specs.Calls.{Honestly, StaysFit, Went};
+ghost use Rattle.inf_sources.specs.{Calls.Honestly, Calls.StaysFit, Calls.Went, Open.nesting, Open.opened_since};
 ghost use Rattle.inf_sources.specs.Heading.{StopsInHead, head_front, head_in, past_head};
-ghost use Rattle.inf_sources.specs.Open.{nesting, opened_since};
 ghost use Rattle.inf_command.specs.Heads.{head_of};
 
 use arrayvec::ArrayVec;

@@ -3,12 +3,9 @@ ghost use Rattle.std.specs.Prelude.{◌≡◌, ℕ, ◌<◌, List, [], None, fal
 ghost use Rattle.inf_devices.specs.Files.{Rose};
 ghost use Rattle.inf_sources.specs.Calls.{Honestly, IsUnreadable, Kept, StaysFit, Went};
 ghost use Rattle.inf_sources.specs.Open.{nesting, opened_since};
-ghost use Rattle.inf_session.specs.Choices.{chosen, most_quoted};
-ghost use Rattle.inf_ending.specs.Delivered.{Appends, SucceedsClean};
-ghost use Rattle.inf_session.specs.Standing.{IsSet, state};
-ghost use Rattle.inf_session.specs.Leading.{GivenUp, OpensAll};
-ghost use Rattle.inf_session.specs.Session.{first_state, run};
-ghost use Rattle.inf_ending.specs.Faults.{Caused, HidesNoFailure, IfRead};
+ghost use Rattle.inf_session.specs.{Choices.chosen, Choices.most_quoted, Leading.GivenUp, Leading.OpensAll, Session.first_state};
+ghost use Rattle.inf_session.specs.{Session.run, Standing.IsSet, Standing.state};
+ghost use Rattle.inf_ending.specs.{Delivered.Appends, Delivered.SucceedsClean, Faults.Caused, Faults.HidesNoFailure, Faults.IfRead};
 ghost use Rattle.inf_settings.specs.Bounds.{limits_of};
 ghost use Rattle.inf_compile.specs.Chosen.{begun_at, chosen_at, chosen_for};
 ghost use Rattle.inf_compile.specs.Comes.{Begins, BreaksOffAll, Comes, Concludes, EndsAll, GivenUpFrom, Heard, IsUnread, OpenedPart, Stops};

@@ -1,21 +1,14 @@
 -- Conditionals and sides where all sides stay, and the effects of a whole directive on both.
-use Rattle.std.proofs.Common.{◌≡◌, List, [], ◌∷◌, ◌++◌, map, Bool, true, false, not, Some, None, refl, ap}
-use Rattle.std.specs.Prelude.{if◌then◌else◌}
+use Rattle.std.proofs.Common.{◌≡◌, List, [], ◌∷◌, ◌++◌, map, Bool, true, false, not, Some, None, refl, ap, if◌then◌else◌}
 use Rattle.inf_scanner.specs.declared.tokens.Place.{Place}
 use Rattle.inf_sources.specs.declared.open_file.Conditional.{Conditional}
 use Rattle.inf_unit.specs.Tokens.{SourceToken}
-use Rattle.inf_conditionals.specs.Condition.{Condition}
+use Rattle.inf_conditionals.specs.{Condition.Condition, Open.Conditions, declared.filtered.Filtered.Filtered}
+use Rattle.inf_conditionals.specs.{declared.pending.Awaits.Awaits, declared.pending.Effect.Effect, declared.pending.Pending.Pending}
 use Rattle.inf_conditionals.specs.Judging.{effected, none_handed, unfit as unfit_judged}
-use Rattle.inf_conditionals.specs.Open.{Conditions}
-use Rattle.inf_conditionals.specs.declared.filtered.Filtered.{Filtered}
-use Rattle.inf_conditionals.specs.declared.pending.Awaits.{Awaits}
-use Rattle.inf_conditionals.specs.declared.pending.Awaits.TheVariants as awaits
-use Rattle.inf_conditionals.specs.declared.pending.Effect.TheVariants as effect
-use Rattle.inf_conditionals.specs.declared.pending.Pending.{Pending}
 use Rattle.inf_conditional_sides.specs.Sides.{Ends, Kept, Lone, Side, Sides, Text, Unfit, closes, heard, opens, outer_sides, side_of, turns}
 use Rattle.inf_conditional_sides.specs.Sides.{unfit, with_side}
-use Rattle.inf_conditional_sides.specs.Judged.{Agree, AreFronts, ComeToTheSame, conditions_of, given_of, open_sides}
-use Rattle.inf_conditional_sides.specs.Judged.{pendings}
+use Rattle.inf_conditional_sides.specs.Judged.{Agree, AreFronts, ComeToTheSame, conditions_of, given_of, open_sides, pendings}
 
 -- Conditionals and sides where all stay
 
@@ -97,7 +90,7 @@ behind_inner place is_second stays (y ∷ inner) among =
 pub opened_same : (is_quiet : Bool) (t : SourceToken) (place : Place) (a : Awaits) (is_inner stays : Bool) (c : Conditions)
     (inner among : List Conditional) (texts : List Text) → AreFronts texts
     → ComeToTheSame is_quiet t
-    (effected (effect.Opens stays) is_quiet (record { place = place; is_inner = is_inner; awaits = a }) (reading c inner among texts))
+    (effected (Effect.Opens stays) is_quiet (record { place = place; is_inner = is_inner; awaits = a }) (reading c inner among texts))
     (opens place is_inner stays (staying inner among texts))
 opened_same is_quiet t place a true true c inner among texts fronts = record {
   now = record {
@@ -161,11 +154,11 @@ abbrev pub conditional : Place → Bool → Conditional
 conditional place is_second = record { place = place; is_second = is_second }
 
 abbrev pub turning_pending : Place → Bool → Pending
-turning_pending place is_inner = record { place = place; is_inner = is_inner; awaits = awaits.End effect.Turns }
+turning_pending place is_inner = record { place = place; is_inner = is_inner; awaits = Awaits.End Effect.Turns }
 
 abbrev TurnsSame : Bool → SourceToken → Place → Bool → Conditions → List Conditional → List Conditional → List Text → Type 0
 TurnsSame is_quiet t place is_inner c inner among texts =
-    ComeToTheSame is_quiet t (effected effect.Turns is_quiet (turning_pending place is_inner) (reading c inner among texts))
+    ComeToTheSame is_quiet t (effected Effect.Turns is_quiet (turning_pending place is_inner) (reading c inner among texts))
     (turns place (staying inner among texts))
 
 turned_outer : (is_quiet : Bool) (t : SourceToken) (place at : Place) (is_inner is_second : Bool) (c : Conditions)
@@ -212,7 +205,7 @@ turned_same is_quiet t place is_inner c (x ∷ inner) among texts fronts =
 pub closed_same : (is_quiet : Bool) (t : SourceToken) (place : Place) (is_inner : Bool) (c : Conditions) (inner among : List Conditional)
     (texts : List Text) → AreFronts texts
     → ComeToTheSame is_quiet t
-    (effected effect.Closes is_quiet (record { place = place; is_inner = is_inner; awaits = awaits.End effect.Closes })
+    (effected Effect.Closes is_quiet (record { place = place; is_inner = is_inner; awaits = Awaits.End Effect.Closes })
     (reading c inner among texts)) (closes place (staying inner among texts))
 closed_same is_quiet t place is_inner c [] [] texts fronts =
     record { now = agree c [] [] texts fronts; given = lone_heard is_quiet t place }

@@ -4,9 +4,7 @@ use Rattle.std.proofs.lemmas.List.{map-append, reverse-append}
 use Rattle.std.specs.Prelude.{if◌then◌else◌}
 use Rattle.inf_sources.specs.declared.open_file.Conditional.{Conditional}
 use Rattle.inf_unit.specs.Messages.{FileNames, Reported}
-use Rattle.inf_conditionals.specs.Ends.{piece_told, with_all_lone, with_lone}
-use Rattle.inf_conditionals.specs.Open.{Conditions}
-use Rattle.inf_conditionals.specs.declared.open.LeftOut.{LeftOut}
+use Rattle.inf_conditionals.specs.{Ends.piece_told, Ends.with_all_lone, Ends.with_lone, Open.Conditions, declared.open.LeftOut.LeftOut}
 use Rattle.inf_conditional_sides.specs.Sides.{Side, Sides, all_stay, at_end, only_between, outer_sides, side_of}
 use Rattle.inf_conditional_sides.specs.Judged.{Agree, AllAre, IsLeftOut, LeftInside, StandFor, is_settled_by, open_sides}
 use Rattle.inf_conditional_sides.specs.Ends.{EndsAreToldBySides, inner_only, piece_told_by, with_lone_sides}

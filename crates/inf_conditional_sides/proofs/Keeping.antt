@@ -1,12 +1,9 @@
 -- Laws that are read off the definition of sides: tokens that are kept, and directives without a conditional.
-use Rattle.std.proofs.Common.{◌≡◌, [], ◌∷◌, Bool, true, false, not, Option, None, ◌∙◌, ap, ℕ, List, refl}
-use Rattle.std.specs.Prelude.{if◌then◌else◌, unwrap_or}
+use Rattle.std.proofs.Common.{◌≡◌, [], ◌∷◌, Bool, true, false, not, Option, None, ◌∙◌, ap, ℕ, List, refl, if◌then◌else◌, unwrap_or}
 use Rattle.inf_scanner.specs.declared.tokens.Place.{Place}
 use Rattle.inf_output.specs.Output.{Out}
 use Rattle.inf_unit.specs.Tokens.{SourceToken, is_end, keyword}
-use Rattle.inf_conditionals.specs.Condition.{Condition}
-use Rattle.inf_conditionals.specs.Words.{word_of}
-use Rattle.inf_conditionals.specs.declared.words.ConditionalWord.{ConditionalWord}
+use Rattle.inf_conditionals.specs.{Condition.Condition, Words.word_of, declared.words.ConditionalWord.ConditionalWord}
 use Rattle.inf_conditional_sides.specs.Sides.{Ends, Kept, Lone, Sides, at_end, at_front, closed, giving, held, kept_step, left_step, offered}
 use Rattle.inf_conditional_sides.specs.Sides.{passed_over, turned}
 use Rattle.inf_conditional_sides.specs.Sides.{Side, all_stay, condition_holds, sides_behind, step, word_passed}

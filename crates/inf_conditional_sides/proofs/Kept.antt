@@ -1,31 +1,20 @@
 -- Where all sides stay, a token has the same result for conditionals and for sides.
 use Rattle.std.proofs.Common.{◌≡◌, ℕ, List, [], ◌∷◌, ◌++◌, Bool, true, false, not, ◌&&◌, Option, Some, None, refl, sym, ◌∙◌, ap, subst}
 use Rattle.std.specs.Prelude.{if◌then◌else◌, is_some}
-use Rattle.inf_scanner.specs.declared.tokens.Mark.TheVariants as mark
-use Rattle.inf_scanner.specs.declared.tokens.Place.{Place}
-use Rattle.inf_scanner.specs.declared.tokens.TokenKind.{TokenKind}
-use Rattle.inf_scanner.specs.declared.tokens.TokenKind.TheVariants as kind
+use Rattle.inf_scanner.specs.{declared.tokens.Mark.Mark, declared.tokens.Place.Place, declared.tokens.TokenKind.TokenKind}
 use Rattle.inf_machine.specs.Machine.{fits}
 use Rattle.inf_grammar.specs.Language.{grammar, known}
 use Rattle.inf_output.specs.Output.{Out}
 use Rattle.inf_sources.specs.declared.open_file.Conditional.{Conditional}
 use Rattle.inf_unit.specs.Tokens.{SourceToken, atom_of, is_mark, keyword}
+use Rattle.inf_conditionals.specs.{Open.Conditions, Said.told_by, Said.too_much, Words.word_of, declared.filtered.Filtered.Filtered}
+use Rattle.inf_conditionals.specs.{declared.filtered.Site.Site, declared.pending.Awaits.Awaits, declared.pending.Effect.Effect}
+use Rattle.inf_conditionals.specs.{declared.pending.Pending.Pending, declared.words.ConditionalWord.ConditionalWord}
 use Rattle.inf_conditionals.specs.Condition.{Condition, condition_begun, condition_took, is_whole, verdict_of}
-use Rattle.inf_conditionals.specs.Judging.{asked as token_asked, at_front as front_judged, awaited}
-use Rattle.inf_conditionals.specs.Judging.{behind_front as behind_front_judged, asked_on as asked_on_judged, begun as begun_judged, decided}
-use Rattle.inf_conditionals.specs.Judging.{effected, held as held_judged, named, none_handed, offered as offered_judged}
-use Rattle.inf_conditionals.specs.Judging.{offered_to as offered_in_judged, passed, saying, tokens_counted, unfit as unfit_judged, went_on}
-use Rattle.inf_conditionals.specs.Said.{told_by, too_much}
-use Rattle.inf_conditionals.specs.Open.{Conditions}
-use Rattle.inf_conditionals.specs.Words.{word_of}
-use Rattle.inf_conditionals.specs.declared.filtered.Filtered.{Filtered}
-use Rattle.inf_conditionals.specs.declared.filtered.Site.{Site}
-use Rattle.inf_conditionals.specs.declared.pending.Awaits.{Awaits}
-use Rattle.inf_conditionals.specs.declared.pending.Awaits.TheVariants as awaits
-use Rattle.inf_conditionals.specs.declared.pending.Effect.TheVariants as effect
-use Rattle.inf_conditionals.specs.declared.pending.Pending.{Pending}
-use Rattle.inf_conditionals.specs.declared.words.ConditionalWord.{ConditionalWord}
-use Rattle.inf_conditionals.specs.declared.words.ConditionalWord.TheVariants as word
+use Rattle.inf_conditionals.specs.Judging.{asked as token_asked, at_front as front_judged, awaited, behind_front as behind_front_judged}
+use Rattle.inf_conditionals.specs.Judging.{asked_on as asked_on_judged, begun as begun_judged, decided, effected, held as held_judged}
+use Rattle.inf_conditionals.specs.Judging.{named, none_handed, offered as offered_judged, offered_to as offered_in_judged, passed, saying}
+use Rattle.inf_conditionals.specs.Judging.{tokens_counted, unfit as unfit_judged, went_on}
 use Rattle.inf_conditional_sides.specs.Sides.{Asked, Directive, Ended, Ends, Front, Misfit, Sides, Sign, Text, Whole, asked, at_front}
 use Rattle.inf_conditional_sides.specs.Sides.{begun, behind_front, condition_form, condition_holds, condition_in, condition_of}
 use Rattle.inf_conditional_sides.specs.Sides.{condition_read, giving, goes_on, hash, held, is_name, name_form, offered, offered_in}
@@ -38,10 +27,10 @@ use Rattle.inf_conditional_sides.proofs.Acts.{reading, state, staying, turned_sa
 -- Directives with a condition
 
 abbrev pub asking : Bool → ConditionalWord
-asking true = word.Iftrue
-asking false = word.Iffalse
+asking true = ConditionalWord.Iftrue
+asking false = ConditionalWord.Iffalse
 
-asking_awaits : (wanted : Bool) (others : List Asked) → awaits.Condition wanted ≡ awaits_behind (asking wanted) others
+asking_awaits : (wanted : Bool) (others : List Asked) → Awaits.Condition wanted ≡ awaits_behind (asking wanted) others
 asking_awaits true others = refl
 asking_awaits false others = refl
 
@@ -56,7 +45,7 @@ asking_front true first others is = is
 asking_front false first others is = is
 
 abbrev pub asking_pending : Place → Bool → Bool → Pending
-asking_pending place is_inner wanted = record { place = place; is_inner = is_inner; awaits = awaits.Condition wanted }
+asking_pending place is_inner wanted = record { place = place; is_inner = is_inner; awaits = Awaits.Condition wanted }
 
 asked_agree : (place : Place) (is_inner wanted : Bool) (first : SourceToken) (others : List Asked) (k : Condition) (c : Conditions)
     (inner among : List Conditional) (texts : List Text) → AreFronts texts → condition_of first others ≡ Some k
@@ -112,28 +101,28 @@ pub begun_same : (is_quiet : Bool) (w : ConditionalWord) (t : SourceToken) (plac
     (inner among : List Conditional) (texts : List Text) → AreFronts texts
     → ComeToTheSame is_quiet t (begun_judged w t place is_inner (reading c inner among texts))
     (begun w t place is_inner (staying inner among texts))
-begun_same is_quiet word.Iftrue t place is_inner c inner among texts fronts =
+begun_same is_quiet ConditionalWord.Iftrue t place is_inner c inner among texts fronts =
     let first = record t { place = place } in
     asked_on is_quiet (fits grammar known (atom_of first) condition_begun.stack) t place is_inner true first []
     (condition_took first condition_begun) c inner among (pendings texts) (conditions_of texts) texts none_handed refl fronts refl
-begun_same is_quiet word.Iffalse t place is_inner c inner among texts fronts =
+begun_same is_quiet ConditionalWord.Iffalse t place is_inner c inner among texts fronts =
     let first = record t { place = place } in
     asked_on is_quiet (fits grammar known (atom_of first) condition_begun.stack) t place is_inner false first []
     (condition_took first condition_begun) c inner among (pendings texts) (conditions_of texts) texts none_handed refl fronts refl
-begun_same is_quiet word.Ifdef t place is_inner c inner among texts fronts = record {
-  now = agree c inner among (Directive place is_inner word.Ifdef (record t { place = place }) [] ∷ texts) (refl, fronts);
+begun_same is_quiet ConditionalWord.Ifdef t place is_inner c inner among texts fronts = record {
+  now = agree c inner among (Directive place is_inner ConditionalWord.Ifdef (record t { place = place }) [] ∷ texts) (refl, fronts);
   given = none_heard is_quiet;
 }
-begun_same is_quiet word.Ifndef t place is_inner c inner among texts fronts = record {
-  now = agree c inner among (Directive place is_inner word.Ifndef (record t { place = place }) [] ∷ texts) (refl, fronts);
+begun_same is_quiet ConditionalWord.Ifndef t place is_inner c inner among texts fronts = record {
+  now = agree c inner among (Directive place is_inner ConditionalWord.Ifndef (record t { place = place }) [] ∷ texts) (refl, fronts);
   given = none_heard is_quiet;
 }
-begun_same is_quiet word.Ifnot t place is_inner c inner among texts fronts = record {
-  now = agree c inner among (Directive place is_inner word.Ifnot (record t { place = place }) [] ∷ texts) (refl, fronts);
+begun_same is_quiet ConditionalWord.Ifnot t place is_inner c inner among texts fronts = record {
+  now = agree c inner among (Directive place is_inner ConditionalWord.Ifnot (record t { place = place }) [] ∷ texts) (refl, fronts);
   given = none_heard is_quiet;
 }
-begun_same is_quiet word.Endif t place is_inner c inner among texts fronts = record {
-  now = agree c inner among (Directive place is_inner word.Endif (record t { place = place }) [] ∷ texts) (refl, fronts);
+begun_same is_quiet ConditionalWord.Endif t place is_inner c inner among texts fronts = record {
+  now = agree c inner among (Directive place is_inner ConditionalWord.Endif (record t { place = place }) [] ∷ texts) (refl, fronts);
   given = none_heard is_quiet;
 }
 
@@ -144,22 +133,22 @@ named_same : (is_quiet : Bool) (o : Out) (k : TokenKind) (bytes : List ℕ) (at 
     (first : SourceToken) (c : Conditions) (inner among : List Conditional) (texts : List Text) → AreFronts texts
     → let t : SourceToken = record { kind = k; bytes = bytes; place = at; is_class = is_class } in
     let others = asked c.declared o t ∷ [] in
-    let p : Pending = record { place = place; is_inner = is_inner; awaits = awaits.Name true } in
-    let q : Pending = record { place = place; is_inner = is_inner; awaits = awaits.Name false } in
+    let p : Pending = record { place = place; is_inner = is_inner; awaits = Awaits.Name true } in
+    let q : Pending = record { place = place; is_inner = is_inner; awaits = Awaits.Name false } in
     let read = λ (w : ConditionalWord). read_as (name_form others) w c.declared o t place is_inner first others (staying inner among texts)
     in
-    ComeToTheSame is_quiet t (named k bytes true o p (reading c inner among texts)) (read word.Ifdef)
-    × ComeToTheSame is_quiet t (named k bytes false o q (reading c inner among texts)) (read word.Ifndef)
-named_same is_quiet o kind.Name bytes at is_class place is_inner first c inner among texts fronts =
-    let t : SourceToken = record { kind = kind.Name; bytes = bytes; place = at; is_class = is_class } in
+    ComeToTheSame is_quiet t (named k bytes true o p (reading c inner among texts)) (read ConditionalWord.Ifdef)
+    × ComeToTheSame is_quiet t (named k bytes false o q (reading c inner among texts)) (read ConditionalWord.Ifndef)
+named_same is_quiet o TokenKind.Name bytes at is_class place is_inner first c inner among texts fronts =
+    let t : SourceToken = record { kind = TokenKind.Name; bytes = bytes; place = at; is_class = is_class } in
     let others = asked c.declared o t ∷ [] in (
       record {
-        now = agree c inner among (Directive place is_inner word.Ifdef first others ∷ texts) (refl, fronts);
+        now = agree c inner among (Directive place is_inner ConditionalWord.Ifdef first others ∷ texts) (refl, fronts);
         given = none_heard
             is_quiet;
       },
       record {
-        now = agree c inner among (Directive place is_inner word.Ifndef first others ∷ texts) (refl, fronts);
+        now = agree c inner among (Directive place is_inner ConditionalWord.Ifndef first others ∷ texts) (refl, fronts);
         given = none_heard
             is_quiet;
       },
@@ -173,20 +162,20 @@ abbrev NamesEnd : Bool → Bool → Bool → Out → SourceToken → Place → B
     → List Conditional
     → List Text → Bool → ConditionalWord → Type 0
 NamesEnd is_quiet is_end is_name o t place is_inner first others c inner among texts stays w =
-    let p : Pending = record { place = place; is_inner = is_inner; awaits = awaits.End (effect.Opens stays) } in
+    let p : Pending = record { place = place; is_inner = is_inner; awaits = Awaits.End (Effect.Opens stays) } in
     let form = if is_end && is_name then Whole else Misfit in
     ComeToTheSame is_quiet t
-    (if is_end then effected (effect.Opens stays) is_quiet p (reading c inner among texts) else unfit_judged (reading c inner among texts))
+    (if is_end then effected (Effect.Opens stays) is_quiet p (reading c inner among texts) else unfit_judged (reading c inner among texts))
     (read_as form w c.declared o t place is_inner first others (staying inner among texts))
 
 names_end : (is_quiet is_end is_name : Bool) (o : Out) (t : SourceToken) (place : Place) (is_inner : Bool) (first : SourceToken) (n : Asked)
     (others : List Asked) (c : Conditions) (inner among : List Conditional) (texts : List Text) → AreFronts texts
     → (if is_name then Front else Misfit) ≡ Front
-    → NamesEnd is_quiet is_end is_name o t place is_inner first (n ∷ others) c inner among texts n.is_declared word.Ifdef
-    × NamesEnd is_quiet is_end is_name o t place is_inner first (n ∷ others) c inner among texts (not n.is_declared) word.Ifndef
+    → NamesEnd is_quiet is_end is_name o t place is_inner first (n ∷ others) c inner among texts n.is_declared ConditionalWord.Ifdef
+    × NamesEnd is_quiet is_end is_name o t place is_inner first (n ∷ others) c inner among texts (not n.is_declared) ConditionalWord.Ifndef
 names_end is_quiet true true o t place is_inner first n others c inner among texts fronts is = (
-  opened_same is_quiet t place (awaits.End (effect.Opens n.is_declared)) is_inner n.is_declared c inner among texts fronts,
-  opened_same is_quiet t place (awaits.End (effect.Opens (not n.is_declared))) is_inner (not n.is_declared) c inner among texts fronts,
+  opened_same is_quiet t place (Awaits.End (Effect.Opens n.is_declared)) is_inner n.is_declared c inner among texts fronts,
+  opened_same is_quiet t place (Awaits.End (Effect.Opens (not n.is_declared))) is_inner (not n.is_declared) c inner among texts fronts,
 )
 names_end is_quiet true false o t place is_inner first n others c inner among texts fronts is = cc
 names_end is_quiet false is_name o t place is_inner first n others c inner among texts fronts is =
@@ -197,9 +186,10 @@ turn_ends : (is_quiet is_end : Bool) (o : Out) (t : SourceToken) (place : Place)
     (others : List Asked)
     (c : Conditions) (inner among : List Conditional) (texts : List Text) → AreFronts texts
     → ComeToTheSame is_quiet t
-    (if is_end then effected effect.Turns is_quiet (turning_pending place is_inner) (reading c inner among texts)
+    (if is_end then effected Effect.Turns is_quiet (turning_pending place is_inner) (reading c inner among texts)
     else unfit_judged (reading c inner among texts))
-    (read_as (if is_end then Whole else Misfit) word.Ifnot c.declared o t place is_inner first others (staying inner among texts))
+    (read_as (if is_end then Whole else Misfit) ConditionalWord.Ifnot c.declared o t place is_inner first others
+    (staying inner among texts))
 turn_ends is_quiet true o t place is_inner first others c inner among texts fronts =
     turned_same is_quiet t place is_inner c inner among texts fronts
 turn_ends is_quiet false o t place is_inner first others c inner among texts fronts =
@@ -209,9 +199,10 @@ close_ends : (is_quiet is_end : Bool) (o : Out) (t : SourceToken) (place : Place
     (others : List Asked)
     (c : Conditions) (inner among : List Conditional) (texts : List Text) → AreFronts texts
     → ComeToTheSame is_quiet t
-    (if is_end then effected effect.Closes is_quiet (record { place = place; is_inner = is_inner; awaits = awaits.End effect.Closes })
+    (if is_end then effected Effect.Closes is_quiet (record { place = place; is_inner = is_inner; awaits = Awaits.End Effect.Closes })
     (reading c inner among texts) else unfit_judged (reading c inner among texts))
-    (read_as (if is_end then Whole else Misfit) word.Endif c.declared o t place is_inner first others (staying inner among texts))
+    (read_as (if is_end then Whole else Misfit) ConditionalWord.Endif c.declared o t place is_inner first others
+    (staying inner among texts))
 close_ends is_quiet true o t place is_inner first others c inner among texts fronts =
     closed_same is_quiet t place is_inner c inner among texts fronts
 close_ends is_quiet false o t place is_inner first others c inner among texts fronts =
@@ -222,7 +213,7 @@ ended_ends : (is_quiet is_end : Bool) (t : SourceToken) (place : Place) (c : Con
     (texts : List Text)
     → AreFronts texts
     → ComeToTheSame is_quiet t
-    (if is_end then effected effect.Nothing is_quiet (record { place = place; is_inner = false; awaits = awaits.End effect.Nothing })
+    (if is_end then effected Effect.Nothing is_quiet (record { place = place; is_inner = false; awaits = Awaits.End Effect.Nothing })
     (reading c inner among texts) else unfit_judged (reading c inner among texts))
     (if is_end then giving (staying inner among texts) (Ends place ∷ []) else unfit t (staying inner among texts))
 ended_ends is_quiet true t place c inner among texts fronts =
@@ -267,20 +258,20 @@ decided_same : (is_quiet wanted : Bool) (o : Out) (t : SourceToken) (place : Pla
     → condition_of first others ≡ Some k
     → let v = verdict_of c.declared o k in
     ComeToTheSame is_quiet t
-    (effected (effect.Opens (if wanted then v.is_true else not v.is_true)) is_quiet (asking_pending place is_inner wanted)
+    (effected (Effect.Opens (if wanted then v.is_true else not v.is_true)) is_quiet (asking_pending place is_inner wanted)
     (reading c inner among texts))
     (read_as Whole (asking wanted) c.declared o t place is_inner first others (staying inner among texts))
 decided_same is_quiet true o t place is_inner first others k c inner among texts fronts is =
     let v = verdict_of c.declared o k in
-    let now = effected (effect.Opens v.is_true) is_quiet (asking_pending place is_inner true) (reading c inner among texts) in
+    let now = effected (Effect.Opens v.is_true) is_quiet (asking_pending place is_inner true) (reading c inner among texts) in
     subst (λ x. ComeToTheSame is_quiet t now (opens place is_inner (condition_holds c.declared o x) (staying inner among texts))) (sym is)
-    (opened_same is_quiet t place (awaits.Condition true) is_inner v.is_true c inner among texts fronts)
+    (opened_same is_quiet t place (Awaits.Condition true) is_inner v.is_true c inner among texts fronts)
 decided_same is_quiet false o t place is_inner first others k c inner among texts fronts is =
     let v = verdict_of c.declared o k in
-    let now = effected (effect.Opens (not v.is_true)) is_quiet (asking_pending place is_inner false) (reading c inner among texts) in
+    let now = effected (Effect.Opens (not v.is_true)) is_quiet (asking_pending place is_inner false) (reading c inner among texts) in
     subst (λ x. ComeToTheSame is_quiet t now (opens place is_inner (not (condition_holds c.declared o x)) (staying inner among texts)))
     (sym is)
-    (opened_same is_quiet t place (awaits.Condition false) is_inner (not v.is_true) c inner among texts fronts)
+    (opened_same is_quiet t place (Awaits.Condition false) is_inner (not v.is_true) c inner among texts fronts)
 
 -- a condition that goes on, or is whole, has the same result
 went_same : (is_whole_now wanted : Bool) (site : Site) (o : Out) (t : SourceToken) (place : Place) (is_inner : Bool) (first : SourceToken)
@@ -343,7 +334,7 @@ front_same : (is_quiet : Bool) (w : Option ConditionalWord) (t : SourceToken) (p
     (inner among : List Conditional)
     (texts : List Text) → AreFronts texts
     → ComeToTheSame is_quiet t
-    (behind_front_judged w t (record { place = place; is_inner = false; awaits = awaits.Word }) (reading c inner among texts))
+    (behind_front_judged w t (record { place = place; is_inner = false; awaits = Awaits.Word }) (reading c inner among texts))
     (behind_front w t place (staying inner among texts))
 front_same is_quiet None t place c inner among texts fronts =
     record { now = agree c inner among texts fronts; given = both_heard is_quiet (hash place) t }
@@ -368,38 +359,40 @@ directive_same : (site : Site) (o : Out) (t : SourceToken) (place : Place) (is_i
     ComeToTheSame site.is_quiet t
     (awaited (awaits_behind w others) site o t (pending_of x) (state c inner among (pendings texts) (conditions_of (x ∷ texts))))
     (offered_to c.declared o t x (staying inner among texts))
-directive_same site o t place is_inner word.Ifdef first [] c inner among texts fronts is =
+directive_same site o t place is_inner ConditionalWord.Ifdef first [] c inner among texts fronts is =
     (named_same site.is_quiet o t.kind t.bytes t.place t.is_class place is_inner first c inner among texts fronts).0
-directive_same site o t place is_inner word.Ifdef first (n ∷ []) c inner among texts fronts is =
-    (names_end site.is_quiet (is_mark mark.Semicolon t.kind) (is_name n.token.kind) o t place is_inner first n (asked c.declared o t ∷ [])
+directive_same site o t place is_inner ConditionalWord.Ifdef first (n ∷ []) c inner among texts fronts is =
+    (names_end site.is_quiet (is_mark Mark.Semicolon t.kind) (is_name n.token.kind) o t place is_inner first n (asked c.declared o t ∷ [])
     c inner
     among texts fronts is).0
-directive_same site o t place is_inner word.Ifdef first (n ∷ m ∷ []) c inner among texts fronts is =
-    absurd (too_many_names (is_mark mark.Semicolon m.token.kind) (is_name n.token.kind) is)
-directive_same site o t place is_inner word.Ifdef first (n ∷ m ∷ l ∷ others) c inner among texts fronts is = absurd (misfit_front is)
-directive_same site o t place is_inner word.Ifndef first [] c inner among texts fronts is =
+directive_same site o t place is_inner ConditionalWord.Ifdef first (n ∷ m ∷ []) c inner among texts fronts is =
+    absurd (too_many_names (is_mark Mark.Semicolon m.token.kind) (is_name n.token.kind) is)
+directive_same site o t place is_inner ConditionalWord.Ifdef first (n ∷ m ∷ l ∷ others) c inner among texts fronts is =
+    absurd (misfit_front is)
+directive_same site o t place is_inner ConditionalWord.Ifndef first [] c inner among texts fronts is =
     (named_same site.is_quiet o t.kind t.bytes t.place t.is_class place is_inner first c inner among texts fronts).1
-directive_same site o t place is_inner word.Ifndef first (n ∷ []) c inner among texts fronts is =
-    (names_end site.is_quiet (is_mark mark.Semicolon t.kind) (is_name n.token.kind) o t place is_inner first n (asked c.declared o t ∷ [])
+directive_same site o t place is_inner ConditionalWord.Ifndef first (n ∷ []) c inner among texts fronts is =
+    (names_end site.is_quiet (is_mark Mark.Semicolon t.kind) (is_name n.token.kind) o t place is_inner first n (asked c.declared o t ∷ [])
     c inner
     among texts fronts is).1
-directive_same site o t place is_inner word.Ifndef first (n ∷ m ∷ []) c inner among texts fronts is =
-    absurd (too_many_names (is_mark mark.Semicolon m.token.kind) (is_name n.token.kind) is)
-directive_same site o t place is_inner word.Ifndef first (n ∷ m ∷ l ∷ others) c inner among texts fronts is = absurd (misfit_front is)
-directive_same site o t place is_inner word.Iftrue first others c inner among texts fronts is =
+directive_same site o t place is_inner ConditionalWord.Ifndef first (n ∷ m ∷ []) c inner among texts fronts is =
+    absurd (too_many_names (is_mark Mark.Semicolon m.token.kind) (is_name n.token.kind) is)
+directive_same site o t place is_inner ConditionalWord.Ifndef first (n ∷ m ∷ l ∷ others) c inner among texts fronts is =
+    absurd (misfit_front is)
+directive_same site o t place is_inner ConditionalWord.Iftrue first others c inner among texts fronts is =
     condition_asked (condition_of first others) true site o t place is_inner first others c inner among texts fronts refl is
-directive_same site o t place is_inner word.Iffalse first others c inner among texts fronts is =
+directive_same site o t place is_inner ConditionalWord.Iffalse first others c inner among texts fronts is =
     condition_asked (condition_of first others) false site o t place is_inner first others c inner among texts fronts refl is
-directive_same site o t place is_inner word.Ifnot first [] c inner among texts fronts is =
-    turn_ends site.is_quiet (is_mark mark.Semicolon t.kind) o t place is_inner first (asked c.declared o t ∷ []) c inner among texts fronts
-directive_same site o t place is_inner word.Ifnot first (n ∷ []) c inner among texts fronts is =
-    absurd (too_many_ends (is_mark mark.Semicolon n.token.kind) is)
-directive_same site o t place is_inner word.Ifnot first (n ∷ m ∷ others) c inner among texts fronts is = absurd (misfit_front is)
-directive_same site o t place is_inner word.Endif first [] c inner among texts fronts is =
-    close_ends site.is_quiet (is_mark mark.Semicolon t.kind) o t place is_inner first (asked c.declared o t ∷ []) c inner among texts fronts
-directive_same site o t place is_inner word.Endif first (n ∷ []) c inner among texts fronts is =
-    absurd (too_many_ends (is_mark mark.Semicolon n.token.kind) is)
-directive_same site o t place is_inner word.Endif first (n ∷ m ∷ others) c inner among texts fronts is = absurd (misfit_front is)
+directive_same site o t place is_inner ConditionalWord.Ifnot first [] c inner among texts fronts is =
+    turn_ends site.is_quiet (is_mark Mark.Semicolon t.kind) o t place is_inner first (asked c.declared o t ∷ []) c inner among texts fronts
+directive_same site o t place is_inner ConditionalWord.Ifnot first (n ∷ []) c inner among texts fronts is =
+    absurd (too_many_ends (is_mark Mark.Semicolon n.token.kind) is)
+directive_same site o t place is_inner ConditionalWord.Ifnot first (n ∷ m ∷ others) c inner among texts fronts is = absurd (misfit_front is)
+directive_same site o t place is_inner ConditionalWord.Endif first [] c inner among texts fronts is =
+    close_ends site.is_quiet (is_mark Mark.Semicolon t.kind) o t place is_inner first (asked c.declared o t ∷ []) c inner among texts fronts
+directive_same site o t place is_inner ConditionalWord.Endif first (n ∷ []) c inner among texts fronts is =
+    absurd (too_many_ends (is_mark Mark.Semicolon n.token.kind) is)
+directive_same site o t place is_inner ConditionalWord.Endif first (n ∷ m ∷ others) c inner among texts fronts is = absurd (misfit_front is)
 
 text_same : (site : Site) (o : Out) (t : SourceToken) (x : Text) (c : Conditions) (inner among : List Conditional) (texts : List Text)
     → AreFronts (x ∷ texts)
@@ -410,7 +403,7 @@ text_same : (site : Site) (o : Out) (t : SourceToken) (x : Text) (c : Conditions
 text_same site o t (Sign place) c inner among texts fronts =
     front_same site.is_quiet (word_of (keyword t)) t place c inner among texts fronts
 text_same site o t (Ended place) c inner among texts fronts =
-    ended_ends site.is_quiet (is_mark mark.Semicolon t.kind) t place c inner among texts fronts
+    ended_ends site.is_quiet (is_mark Mark.Semicolon t.kind) t place c inner among texts fronts
 text_same site o t (Directive place is_inner w first others) c inner among texts fronts =
     directive_same site o t place is_inner w first others c inner among texts fronts.1 fronts.0
 
@@ -459,4 +452,4 @@ pub offered_same : (is_front : Bool) (site : Site) (o : Out) (t : SourceToken) (
     → ComeToTheSame site.is_quiet t (offered_judged is_front site o t (reading c inner among texts))
     (offered is_front c.declared o t (staying inner among texts))
 offered_same is_front site o t c inner among texts fronts =
-    offered_by (is_mark mark.Hash t.kind) is_front site o t c inner among texts fronts
+    offered_by (is_mark Mark.Hash t.kind) is_front site o t c inner among texts fronts

@@ -1,22 +1,16 @@
 -- Where a side is left out, a token has the same result for conditionals and for sides; and so has the end of a piece.
-use Rattle.std.proofs.Common.{◌≡◌, ℕ, suc, ◌+◌, ◌-◌, ◌<◌, ◌≤◌, List, [], ◌∷◌, ◌++◌, length, Bool, true, false, not, ◌&&◌, Option, Some, None}
-use Rattle.std.proofs.Common.{refl, ◌∙◌, ap, arith, subst, sym}
-use Rattle.std.specs.Prelude.{◌==◌, if◌then◌else◌, min, nat_lt, unwrap_or}
-use Rattle.std.proofs.Math.Nat.{min-eq_left, min-eq_right}
-use Rattle.std.proofs.lemmas.Bool.{ltb-false, ltb-true, ne_eqb}
+use Rattle.std.proofs.Common.{◌≡◌, ℕ, suc, ◌+◌, ◌-◌, ◌<◌, ◌≤◌, List, [], ◌∷◌, ◌++◌, length, Bool, true, false, not, ◌&&◌, Option, Some}
+use Rattle.std.proofs.Common.{None, refl, ◌∙◌, ap, arith, subst, sym, ◌==◌, if◌then◌else◌, min, nat_lt, unwrap_or}
+use Rattle.std.proofs.{Math.Nat.min-eq_left, Math.Nat.min-eq_right, lemmas.Bool.ltb-false, lemmas.Bool.ltb-true, lemmas.Bool.ne_eqb}
 use Rattle.inf_scanner.specs.declared.tokens.Place.{Place}
 use Rattle.inf_sources.specs.declared.open_file.Conditional.{Conditional}
+use Rattle.inf_conditionals.specs.{declared.open.LeftOut.LeftOut, declared.pending.Awaits.Awaits, declared.pending.Effect.Effect}
+use Rattle.inf_conditionals.specs.{declared.words.ConditionalWord.ConditionalWord}
 use Rattle.inf_conditionals.specs.Judging.{awaiting, word_passed as word_judged}
 use Rattle.inf_conditionals.specs.Open.{Conditions, ended_by, ends_at, is_second, latest, levels_behind, most_levels}
-use Rattle.inf_conditionals.specs.declared.open.LeftOut.{LeftOut}
-use Rattle.inf_conditionals.specs.declared.pending.Awaits.TheVariants as awaits
-use Rattle.inf_conditionals.specs.declared.pending.Effect.TheVariants as effect
-use Rattle.inf_conditionals.specs.declared.words.ConditionalWord.{ConditionalWord}
-use Rattle.inf_conditionals.specs.declared.words.ConditionalWord.TheVariants as word
 use Rattle.inf_conditional_sides.specs.Sides.{Ended, Side, Sides, Text, all_stay, at_end, count_inside, most_inside, outer_sides, side_of}
 use Rattle.inf_conditional_sides.specs.Sides.{sides_behind, turned_over, with_inside, word_passed}
-use Rattle.inf_conditional_sides.specs.Judged.{Agree, AllAre, AreFronts, IsLeftOut, StandFor, conditions_of, open_sides}
-use Rattle.inf_conditional_sides.specs.Judged.{pendings}
+use Rattle.inf_conditional_sides.specs.Judged.{Agree, AllAre, AreFronts, IsLeftOut, StandFor, conditions_of, open_sides, pendings}
 use Rattle.inf_conditional_sides.proofs.Acts.{reading}
 
 -- Sides that stay, and sides of which one does not
@@ -101,17 +95,17 @@ one_deeper y inside place is_inner x around levels stay are count few =
 deeper : (w : ConditionalWord) (place : Place) (y : Side) (inside : List Side) (is_inner : Bool) (x : Conditional) (around : List Side)
     (levels : ℕ) → all_stay around ≡ true → AllAre is_inner (y ∷ inside) → length (y ∷ inside) ≡ levels → levels ≤ most_levels
     → IsLeftOut is_inner (levels_behind w levels) x around (sides_behind w place ((y ∷ inside) ++ side_of is_inner false x ∷ around))
-deeper word.Endif place y inside is_inner x around levels stay are count few =
+deeper ConditionalWord.Endif place y inside is_inner x around levels stay are count few =
     record { inside = inside; are = are.1; count = omega (arith, count); all = refl }
-deeper word.Ifnot place y inside is_inner x around levels stay are count few =
+deeper ConditionalWord.Ifnot place y inside is_inner x around levels stay are count few =
     record { inside = turned_over y ∷ inside; are = (turned_inner y ∙ are.0, are.1); count = count; all = refl }
-deeper word.Ifdef place y inside is_inner x around levels stay are count few =
+deeper ConditionalWord.Ifdef place y inside is_inner x around levels stay are count few =
     one_deeper y inside place is_inner x around levels stay are count few
-deeper word.Ifndef place y inside is_inner x around levels stay are count few =
+deeper ConditionalWord.Ifndef place y inside is_inner x around levels stay are count few =
     one_deeper y inside place is_inner x around levels stay are count few
-deeper word.Iftrue place y inside is_inner x around levels stay are count few =
+deeper ConditionalWord.Iftrue place y inside is_inner x around levels stay are count few =
     one_deeper y inside place is_inner x around levels stay are count few
-deeper word.Iffalse place y inside is_inner x around levels stay are count few =
+deeper ConditionalWord.Iffalse place y inside is_inner x around levels stay are count few =
     one_deeper y inside place is_inner x around levels stay are count few
 
 -- the first side inside of the one that is left out
@@ -166,7 +160,7 @@ goes_deeper w at c inner among texts sign is_inner levels x around y inside fron
     let now = sides_behind w place sides in
     let side = side_at is_inner levels in
     let before = leaving c inner among texts sign side in
-    let ended = awaiting place false (awaits.End effect.Nothing) (record (ended_by w before) { left_out = None; sign = None }) in
+    let ended = awaiting place false (Awaits.End Effect.Nothing) (record (ended_by w before) { left_out = None; sign = None }) in
     let goes_on = record before { left_out = Some (side_at is_inner (levels_behind w levels)); sign = None } in
     let not_all : all_stay now ≡ false = ap all_stay l.all ∙ one_left l.inside around is_inner x in
     subst (λ b. Agree (word_judged w at side before) (word_passed b place now (sided sides texts sign))) (sym not_all)
@@ -237,54 +231,54 @@ word_outer : (w : ConditionalWord) (at begins : Place) (is_second : Bool) (c : C
     (sign : Option Place) → AreFronts texts
     → let x = conditional begins is_second in
     WordsAgree w at c [] (x ∷ among) texts sign (side_at false 0) (side_of false false x ∷ outer_sides among)
-word_outer word.Endif at begins is_second c among texts sign fronts =
+word_outer ConditionalWord.Endif at begins is_second c among texts sign fronts =
     let sides = side_of false false (conditional begins is_second) ∷ outer_sides among in
     all_kept c [] among texts (unwrap_or sign at) sides sign (outer_sides among) refl fronts
-word_outer word.Ifnot at begins true c among texts sign fronts = record {
+word_outer ConditionalWord.Ifnot at begins true c among texts sign fronts = record {
   pending = refl;
   conditions = refl;
   sign = refl;
   sides = (refl, record { inside = []; are = tt; count = refl; all = refl });
   fronts = fronts;
 }
-word_outer word.Ifnot at begins false c among texts sign fronts =
+word_outer ConditionalWord.Ifnot at begins false c among texts sign fronts =
     let sides = side_of false false (conditional begins false) ∷ outer_sides among in
     let turned : List Conditional = conditional begins true ∷ among in
     all_kept c [] turned texts (unwrap_or sign at) sides sign (outer_sides turned) refl fronts
-word_outer word.Ifdef at begins is_second c among texts sign fronts =
+word_outer ConditionalWord.Ifdef at begins is_second c among texts sign fronts =
     opens_in_outer (unwrap_or sign at) begins is_second c among texts sign fronts
-word_outer word.Ifndef at begins is_second c among texts sign fronts =
+word_outer ConditionalWord.Ifndef at begins is_second c among texts sign fronts =
     opens_in_outer (unwrap_or sign at) begins is_second c among texts sign fronts
-word_outer word.Iftrue at begins is_second c among texts sign fronts =
+word_outer ConditionalWord.Iftrue at begins is_second c among texts sign fronts =
     opens_in_outer (unwrap_or sign at) begins is_second c among texts sign fronts
-word_outer word.Iffalse at begins is_second c among texts sign fronts =
+word_outer ConditionalWord.Iffalse at begins is_second c among texts sign fronts =
     opens_in_outer (unwrap_or sign at) begins is_second c among texts sign fronts
 
 word_inner : (w : ConditionalWord) (at begins : Place) (is_second : Bool) (c : Conditions) (inner among : List Conditional)
     (texts : List Text) (sign : Option Place) → AreFronts texts
     → let x = conditional begins is_second in
     WordsAgree w at c (x ∷ inner) among texts sign (side_at true 0) (side_of true false x ∷ open_sides inner among)
-word_inner word.Endif at begins is_second c inner among texts sign fronts =
+word_inner ConditionalWord.Endif at begins is_second c inner among texts sign fronts =
     let sides = side_of true false (conditional begins is_second) ∷ open_sides inner among in
     all_kept c inner among texts (unwrap_or sign at) sides sign (open_sides inner among) refl fronts
-word_inner word.Ifnot at begins true c inner among texts sign fronts = record {
+word_inner ConditionalWord.Ifnot at begins true c inner among texts sign fronts = record {
   pending = refl;
   conditions = refl;
   sign = refl;
   sides = record { inside = []; are = tt; count = refl; all = refl };
   fronts = fronts;
 }
-word_inner word.Ifnot at begins false c inner among texts sign fronts =
+word_inner ConditionalWord.Ifnot at begins false c inner among texts sign fronts =
     let sides = side_of true false (conditional begins false) ∷ open_sides inner among in
     let turned : List Conditional = conditional begins true ∷ inner in
     all_kept c turned among texts (unwrap_or sign at) sides sign (open_sides turned among) refl fronts
-word_inner word.Ifdef at begins is_second c inner among texts sign fronts =
+word_inner ConditionalWord.Ifdef at begins is_second c inner among texts sign fronts =
     opens_in_inner (unwrap_or sign at) begins is_second c inner among texts sign fronts
-word_inner word.Ifndef at begins is_second c inner among texts sign fronts =
+word_inner ConditionalWord.Ifndef at begins is_second c inner among texts sign fronts =
     opens_in_inner (unwrap_or sign at) begins is_second c inner among texts sign fronts
-word_inner word.Iftrue at begins is_second c inner among texts sign fronts =
+word_inner ConditionalWord.Iftrue at begins is_second c inner among texts sign fronts =
     opens_in_inner (unwrap_or sign at) begins is_second c inner among texts sign fronts
-word_inner word.Iffalse at begins is_second c inner among texts sign fronts =
+word_inner ConditionalWord.Iffalse at begins is_second c inner among texts sign fronts =
     opens_in_inner (unwrap_or sign at) begins is_second c inner among texts sign fronts
 
 -- a word has the same result in a side between directives, with `levels` open in it

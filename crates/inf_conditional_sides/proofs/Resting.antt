@@ -1,32 +1,18 @@
 -- Each token leaves directives seated, and sides settled but for a moment: where all sides stay, by the state in which a directive waits.
-use Rattle.std.proofs.Common.{◌≡◌, ℕ, inl, inr, List, [], ◌∷◌, Bool, true, false, not, Option, Some, None, refl, arith}
-use Rattle.std.specs.Prelude.{if◌then◌else◌}
-use Rattle.inf_scanner.specs.declared.tokens.Mark.TheVariants as mark
-use Rattle.inf_scanner.specs.declared.tokens.Place.{Place}
-use Rattle.inf_scanner.specs.declared.tokens.TokenKind.{TokenKind}
-use Rattle.inf_scanner.specs.declared.tokens.TokenKind.TheVariants as kind
+use Rattle.std.proofs.Common.{◌≡◌, ℕ, inl, inr, List, [], ◌∷◌, Bool, true, false, not, Option, Some, None, refl, arith, if◌then◌else◌}
+use Rattle.inf_scanner.specs.{declared.tokens.Mark.Mark, declared.tokens.Place.Place, declared.tokens.TokenKind.TokenKind}
 use Rattle.inf_machine.specs.Machine.{fits}
 use Rattle.inf_grammar.specs.Language.{grammar, known}
 use Rattle.inf_output.specs.Output.{Out}
 use Rattle.inf_sources.specs.declared.open_file.Conditional.{Conditional}
 use Rattle.inf_unit.specs.Tokens.{SourceToken, atom_of, is_mark, keyword}
 use Rattle.inf_unit.proofs.Cases.{of_both}
+use Rattle.inf_conditionals.specs.{Open.Conditions, Said.told_by, Words.word_of, declared.condition.Verdict.Verdict}
+use Rattle.inf_conditionals.specs.{declared.filtered.Site.Site, declared.pending.Awaits.Awaits, declared.pending.Effect.Effect}
+use Rattle.inf_conditionals.specs.{declared.pending.Pending.Pending, declared.words.ConditionalWord.ConditionalWord}
 use Rattle.inf_conditionals.specs.Condition.{Condition, condition_begun, condition_took, is_whole, verdict_of}
-use Rattle.inf_conditionals.specs.declared.condition.Verdict.{Verdict}
-use Rattle.inf_conditionals.specs.Judging.{asked, asked_first, asked_on, at_front, awaited, behind_front, begun}
-use Rattle.inf_conditionals.specs.Judging.{effected, held, kept, named, none_handed, offered, offered_to, passed}
-use Rattle.inf_conditionals.specs.Judging.{taken, unfit, went_on, asking, decided}
-use Rattle.inf_conditionals.specs.Open.{Conditions}
-use Rattle.inf_conditionals.specs.Said.{told_by}
-use Rattle.inf_conditionals.specs.Words.{word_of}
-use Rattle.inf_conditionals.specs.declared.filtered.Site.{Site}
-use Rattle.inf_conditionals.specs.declared.pending.Awaits.{Awaits}
-use Rattle.inf_conditionals.specs.declared.pending.Awaits.TheVariants as awaits
-use Rattle.inf_conditionals.specs.declared.pending.Effect.{Effect}
-use Rattle.inf_conditionals.specs.declared.pending.Effect.TheVariants as effect
-use Rattle.inf_conditionals.specs.declared.pending.Pending.{Pending}
-use Rattle.inf_conditionals.specs.declared.words.ConditionalWord.{ConditionalWord}
-use Rattle.inf_conditionals.specs.declared.words.ConditionalWord.TheVariants as word
+use Rattle.inf_conditionals.specs.Judging.{asked, asked_first, asked_on, at_front, awaited, behind_front, begun, effected, held, kept}
+use Rattle.inf_conditionals.specs.Judging.{named, none_handed, offered, offered_to, passed, taken, unfit, went_on, asking, decided}
 use Rattle.inf_conditional_sides.specs.Rests.{AreSeated, HandsNone, IsInside, IsOutermost, IsSeated, Rests}
 use Rattle.inf_conditional_sides.proofs.Acts.{state}
 
@@ -73,7 +59,7 @@ taken_rests b c inner among pending conditions p seat seated = record {
 opened_rests : (b : Bool) (c : Conditions) (is_quiet is_kept is_inner : Bool) (place : Place) (a : Awaits)
     (inner among : List Conditional) (pending : List Pending) (conditions : List Condition) → IsInside b pending is_inner
     → AreSeated b pending
-    → Rests b c.declared (effected (effect.Opens is_kept) is_quiet (record { place = place; is_inner = is_inner; awaits = a })
+    → Rests b c.declared (effected (Effect.Opens is_kept) is_quiet (record { place = place; is_inner = is_inner; awaits = a })
     (state c inner among pending conditions))
 opened_rests b c is_quiet true is_inner place a inner among pending conditions seat seated =
     record { seated = seated; quiet = inr (refl, λ t. refl); settled = inl refl; levels = tt; declared = refl }
@@ -95,7 +81,7 @@ latest_at place is_second = record { place = place; is_second = is_second }
 
 abbrev TurnRests : Bool → Conditions → Bool → Pending → List Conditional → List Conditional → List Pending → List Condition → Type 0
 TurnRests b c is_quiet p inner among pending conditions =
-    Rests b c.declared (effected effect.Turns is_quiet p (state c inner among pending conditions))
+    Rests b c.declared (effected Effect.Turns is_quiet p (state c inner among pending conditions))
 
 turned_outer : (is_second : Bool) (at : Place) (b : Bool) (c : Conditions) (is_quiet : Bool) (p : Pending)
     (among : List Conditional) (pending : List Pending) (conditions : List Condition) → AreSeated b pending
@@ -124,7 +110,7 @@ turned_rests b c is_quiet p (x ∷ inner) among pending conditions seated =
 
 closed_rests : (b : Bool) (c : Conditions) (is_quiet : Bool) (p : Pending) (inner among : List Conditional) (pending : List Pending)
     (conditions : List Condition) → AreSeated b pending
-    → Rests b c.declared (effected effect.Closes is_quiet p (state c inner among pending conditions))
+    → Rests b c.declared (effected Effect.Closes is_quiet p (state c inner among pending conditions))
 closed_rests b c is_quiet p [] [] pending conditions seated =
     record { seated = seated; quiet = inr (refl, λ t. refl); settled = inl refl; levels = tt; declared = refl }
 closed_rests b c is_quiet p [] (x ∷ among) pending conditions seated =
@@ -133,15 +119,15 @@ closed_rests b c is_quiet p (x ∷ inner) among pending conditions seated =
     record { seated = seated; quiet = inr (refl, λ t. refl); settled = inl refl; levels = tt; declared = refl }
 
 effected_rests : (e : Effect) (b : Bool) (c : Conditions) (is_quiet : Bool) (p : Pending) (inner among : List Conditional)
-    (pending : List Pending) (conditions : List Condition) → IsSeated b (awaits.End e) p.is_inner pending → AreSeated b pending
+    (pending : List Pending) (conditions : List Condition) → IsSeated b (Awaits.End e) p.is_inner pending → AreSeated b pending
     → Rests b c.declared (effected e is_quiet p (state c inner among pending conditions))
-effected_rests (effect.Opens is_kept) b c is_quiet p inner among pending conditions seat seated =
+effected_rests (Effect.Opens is_kept) b c is_quiet p inner among pending conditions seat seated =
     opened_rests b c is_quiet is_kept p.is_inner p.place p.awaits inner among pending conditions seat seated
-effected_rests effect.Turns b c is_quiet p inner among pending conditions seat seated =
+effected_rests Effect.Turns b c is_quiet p inner among pending conditions seat seated =
     turned_rests b c is_quiet p inner among pending conditions seated
-effected_rests effect.Closes b c is_quiet p inner among pending conditions seat seated =
+effected_rests Effect.Closes b c is_quiet p inner among pending conditions seat seated =
     closed_rests b c is_quiet p inner among pending conditions seated
-effected_rests effect.Nothing b c is_quiet p inner among pending conditions seat seated =
+effected_rests Effect.Nothing b c is_quiet p inner among pending conditions seat seated =
     record { seated = seated; quiet = inr (refl, λ t. refl); settled = inl refl; levels = tt; declared = refl }
 
 -- The word of a directive
@@ -154,26 +140,27 @@ asked_first_rests wanted b c t is_inner inner among pending conditions seat seat
     (passed (asking t.place is_inner wanted (condition_took t condition_begun) (state c inner among pending conditions)))
     (unfit (state c inner among pending conditions))
     (λ _. awaiting_rests b c inner among pending (condition_took t condition_begun ∷ conditions)
-    (record { place = t.place; is_inner = is_inner; awaits = awaits.Condition wanted }) seat seated)
+    (record { place = t.place; is_inner = is_inner; awaits = Awaits.Condition wanted }) seat seated)
     (λ _. unfit_rests b c inner among pending conditions)
 
 pub begun_rests : (w : ConditionalWord) (b : Bool) (c : Conditions) (t : SourceToken) (place : Place) (is_inner : Bool)
     (inner among : List Conditional) (pending : List Pending) (conditions : List Condition) → IsInside b pending is_inner
     → AreSeated b pending → Rests b c.declared (begun w t place is_inner (state c inner among pending conditions))
-begun_rests word.Ifdef b c t place is_inner inner among pending conditions seat seated =
-    awaiting_rests b c inner among pending conditions (record { place = place; is_inner = is_inner; awaits = awaits.Name true }) seat seated
-begun_rests word.Ifndef b c t place is_inner inner among pending conditions seat seated =
-    awaiting_rests b c inner among pending conditions (record { place = place; is_inner = is_inner; awaits = awaits.Name false }) seat seated
-begun_rests word.Iftrue b c t place is_inner inner among pending conditions seat seated =
+begun_rests ConditionalWord.Ifdef b c t place is_inner inner among pending conditions seat seated =
+    awaiting_rests b c inner among pending conditions (record { place = place; is_inner = is_inner; awaits = Awaits.Name true }) seat seated
+begun_rests ConditionalWord.Ifndef b c t place is_inner inner among pending conditions seat seated =
+    awaiting_rests b c inner among pending conditions
+    (record { place = place; is_inner = is_inner; awaits = Awaits.Name false }) seat seated
+begun_rests ConditionalWord.Iftrue b c t place is_inner inner among pending conditions seat seated =
     asked_first_rests true b c (record t { place = place }) is_inner inner among pending conditions seat seated
-begun_rests word.Iffalse b c t place is_inner inner among pending conditions seat seated =
+begun_rests ConditionalWord.Iffalse b c t place is_inner inner among pending conditions seat seated =
     asked_first_rests false b c (record t { place = place }) is_inner inner among pending conditions seat seated
-begun_rests word.Ifnot b c t place is_inner inner among pending conditions seat seated =
+begun_rests ConditionalWord.Ifnot b c t place is_inner inner among pending conditions seat seated =
     awaiting_rests b c inner among pending conditions
-    (record { place = place; is_inner = is_inner; awaits = awaits.End effect.Turns }) tt seated
-begun_rests word.Endif b c t place is_inner inner among pending conditions seat seated =
+    (record { place = place; is_inner = is_inner; awaits = Awaits.End Effect.Turns }) tt seated
+begun_rests ConditionalWord.Endif b c t place is_inner inner among pending conditions seat seated =
     awaiting_rests b c inner among pending conditions
-    (record { place = place; is_inner = is_inner; awaits = awaits.End effect.Closes }) tt seated
+    (record { place = place; is_inner = is_inner; awaits = Awaits.End Effect.Closes }) tt seated
 
 inside_of : (b is_inner : Bool) (pending : List Pending) → IsOutermost b pending → IsInside b pending is_inner
 inside_of b true pending seat = tt
@@ -192,7 +179,7 @@ behind_front_rests (Some w) b c t p inner among pending conditions seat seated =
 named_rests : (k : TokenKind) (bytes : List ℕ) (if_declared : Bool) (o : Out) (b : Bool) (c : Conditions) (p : Pending)
     (inner among : List Conditional) (pending : List Pending) (conditions : List Condition) → IsInside b pending p.is_inner
     → AreSeated b pending → Rests b c.declared (named k bytes if_declared o p (state c inner among pending conditions))
-named_rests kind.Name bytes if_declared o b c p inner among pending conditions seat seated =
+named_rests TokenKind.Name bytes if_declared o b c p inner among pending conditions seat seated =
     record { seated = (seat, seated); quiet = inr none_handed_on; settled = inl refl; levels = tt; declared = refl }
 named_rests k bytes if_declared o b c p inner among pending conditions seat seated =
     unfit_rests b c inner among pending conditions
@@ -212,7 +199,7 @@ went_on_rests wanted site o t k c p inner among pending conditions seat seated =
     let before : Conditions = state c inner among pending conditions in
     let v : Verdict = verdict_of c.declared o k in
     of_both (Rests site.is_between c.declared) (is_whole k) (decided v wanted site.is_quiet k p before) (asked_on wanted site t k p before)
-    (λ _. effected_rests (effect.Opens (if wanted then v.is_true else not v.is_true)) site.is_between
+    (λ _. effected_rests (Effect.Opens (if wanted then v.is_true else not v.is_true)) site.is_between
     (record c { said = if site.is_quiet then None else told_by p.place k v.finding }) site.is_quiet p inner among pending conditions seat seated)
     (λ _. asked_on_rests wanted site t k c p inner among pending conditions seat seated)
 
@@ -230,26 +217,27 @@ asked_rests (k ∷ conditions) wanted site o t c p inner among pending others se
     (λ _. unfit_rests site.is_between c inner among pending conditions)
 
 ends_rest : (e : Effect) (site : Site) (t : SourceToken) (c : Conditions) (p : Pending) (inner among : List Conditional)
-    (pending : List Pending) (conditions : List Condition) → IsSeated site.is_between (awaits.End e) p.is_inner pending
+    (pending : List Pending) (conditions : List Condition) → IsSeated site.is_between (Awaits.End e) p.is_inner pending
     → AreSeated site.is_between pending
-    → Rests site.is_between c.declared (if is_mark mark.Semicolon t.kind then effected e site.is_quiet p (state c inner among pending conditions)
+    → Rests site.is_between c.declared (if is_mark Mark.Semicolon t.kind then effected e site.is_quiet p
+    (state c inner among pending conditions)
     else unfit (state c inner among pending conditions))
 ends_rest e site t c p inner among pending conditions seat seated =
     let before : Conditions = state c inner among pending conditions in
-    of_both (Rests site.is_between c.declared) (is_mark mark.Semicolon t.kind) (effected e site.is_quiet p before) (unfit before)
+    of_both (Rests site.is_between c.declared) (is_mark Mark.Semicolon t.kind) (effected e site.is_quiet p before) (unfit before)
     (λ _. effected_rests e site.is_between c site.is_quiet p inner among pending conditions seat seated)
     (λ _. unfit_rests site.is_between c inner among pending conditions)
 
 awaited_rests : (a : Awaits) (site : Site) (o : Out) (t : SourceToken) (c : Conditions) (p : Pending) (inner among : List Conditional)
     (pending : List Pending) (conditions : List Condition) → IsSeated site.is_between a p.is_inner pending → AreSeated site.is_between pending
     → Rests site.is_between c.declared (awaited a site o t p (state c inner among pending conditions))
-awaited_rests awaits.Word site o t c p inner among pending conditions seat seated =
+awaited_rests Awaits.Word site o t c p inner among pending conditions seat seated =
     behind_front_rests (word_of (keyword t)) site.is_between c t p inner among pending conditions seat seated
-awaited_rests (awaits.Name if_declared) site o t c p inner among pending conditions seat seated =
+awaited_rests (Awaits.Name if_declared) site o t c p inner among pending conditions seat seated =
     named_rests t.kind t.bytes if_declared o site.is_between c p inner among pending conditions seat seated
-awaited_rests (awaits.Condition wanted) site o t c p inner among pending conditions seat seated =
+awaited_rests (Awaits.Condition wanted) site o t c p inner among pending conditions seat seated =
     asked_rests conditions wanted site o t c p inner among pending conditions seat seated
-awaited_rests (awaits.End e) site o t c p inner among pending conditions seat seated =
+awaited_rests (Awaits.End e) site o t c p inner among pending conditions seat seated =
     ends_rest e site t c p inner among pending conditions seat seated
 
 -- Any token, where all sides stay
@@ -286,7 +274,7 @@ pub offered_rests : (is_front : Bool) (site : Site) (o : Out) (t : SourceToken) 
     → Rests site.is_between c.declared (offered is_front site o t (state c inner among pending conditions))
 offered_rests is_front site o t c inner among pending conditions front seated =
     let before : Conditions = state c inner among pending conditions in
-    of_both (Rests site.is_between c.declared) (is_mark mark.Hash t.kind) (passed (held is_front t.place before))
+    of_both (Rests site.is_between c.declared) (is_mark Mark.Hash t.kind) (passed (held is_front t.place before))
     (offered_to pending is_front site o t before)
     (λ _. held_rests is_front site.is_between c t.place inner among pending conditions front seated)
     (λ _. offered_to_rests pending is_front site o t c inner among conditions front seated)

@@ -1,20 +1,14 @@
 -- Tokens are handed on by sides as by conditionals, one behind the other.
-use Rattle.std.proofs.Common.{◌≡◌, ◌≤◌, ℕ, ◌⊎◌, inl, inr, List, [], ◌∷◌, Bool, true, false, Option, Some, None}
-use Rattle.std.specs.Prelude.{if◌then◌else◌}
-use Rattle.std.proofs.Common.{refl, sym, ◌∙◌, ap, subst}
-use Rattle.std.specs.Prelude.{is_some}
-use Rattle.inf_conditionals.specs.Ends.{piece_ended as conditions_ended, side_kept}
-use Rattle.inf_conditionals.specs.Judging.{Behind}
-use Rattle.inf_conditionals.specs.Open.{Conditions, most_levels, no_conditions}
-use Rattle.inf_conditionals.specs.declared.open.LeftOut.{LeftOut}
-use Rattle.inf_conditionals.specs.declared.pending.Pending.{Pending}
+use Rattle.std.proofs.Common.{◌≡◌, ◌≤◌, ℕ, ◌⊎◌, inl, inr, List, [], ◌∷◌, Bool, true, false, Option, Some, None, refl, sym, ◌∙◌, ap, subst}
+use Rattle.std.specs.Prelude.{if◌then◌else◌, is_some}
+use Rattle.inf_conditionals.specs.{Ends.piece_ended as conditions_ended, Ends.side_kept, Judging.Behind, Open.Conditions, Open.most_levels}
+use Rattle.inf_conditionals.specs.{Open.no_conditions, declared.open.LeftOut.LeftOut, declared.pending.Pending.Pending}
 use Rattle.inf_conditional_sides.specs.Sides.{Given, Sides, Step, heard, no_sides, step}
 use Rattle.inf_conditional_sides.specs.Judged.{Agree, ComeToTheSame, FewIn, given_of, is_settled}
 use Rattle.inf_conditional_sides.specs.Rests.{AreSeated, HandsNone, Rests}
 use Rattle.inf_conditional_sides.specs.Runs.{AreRead, Event, NextIsAt, StandsStill, TokensGoBySides, all_given, all_judged, declared_behind}
 use Rattle.inf_conditional_sides.specs.Runs.{ended_by, judged_at, sides_ended}
-use Rattle.inf_conditional_sides.proofs.Same.{sides_are_judged}
-use Rattle.inf_conditional_sides.proofs.Seating.{tokens_rest}
+use Rattle.inf_conditional_sides.proofs.{Same.sides_are_judged, Seating.tokens_rest}
 
 -- The state before a token, by conditionals and by sides
 

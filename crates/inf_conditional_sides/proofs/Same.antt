@@ -1,27 +1,20 @@
 -- Conditionals and sides give the same result by any token, and at the end of a piece.
 use Rattle.std.proofs.Common.{◌≡◌, ℕ, ◌≤◌, List, [], ◌∷◌, ◌++◌, length, map, Bool, true, false, Option, Some, None, refl, sym, ◌∙◌, ap}
-use Rattle.std.proofs.Common.{subst}
-use Rattle.std.specs.Prelude.{◌&&◌, if◌then◌else◌}
+use Rattle.std.proofs.Common.{subst, ◌&&◌, if◌then◌else◌}
 use Rattle.inf_scanner.specs.declared.tokens.Place.{Place}
 use Rattle.inf_output.specs.Output.{Out}
 use Rattle.inf_sources.specs.declared.open_file.Conditional.{Conditional}
 use Rattle.inf_unit.specs.Tokens.{SourceToken, is_end, keyword}
-use Rattle.inf_conditionals.specs.Ends.{side_kept}
+use Rattle.inf_conditionals.specs.{Ends.side_kept, Open.Conditions, Open.most_levels, Words.word_of, declared.filtered.Site.Site}
+use Rattle.inf_conditionals.specs.{declared.open.LeftOut.LeftOut, declared.words.ConditionalWord.ConditionalWord}
 use Rattle.inf_conditionals.specs.Judging.{judged, judged_by, offered as offered_judged, passed, passed_by}
-use Rattle.inf_conditionals.specs.Open.{Conditions, most_levels}
-use Rattle.inf_conditionals.specs.Words.{word_of}
-use Rattle.inf_conditionals.specs.declared.filtered.Site.{Site}
-use Rattle.inf_conditionals.specs.declared.open.LeftOut.{LeftOut}
-use Rattle.inf_conditionals.specs.declared.words.ConditionalWord.{ConditionalWord}
 use Rattle.inf_conditional_sides.specs.Sides.{Side, Sides, Text, all_stay, at_end, giving, kept_step, left_step, offered, only_between}
 use Rattle.inf_conditional_sides.specs.Sides.{outer_sides, passed_over, side_of, step}
 use Rattle.inf_conditional_sides.specs.Judged.{Agree, AllAre, AreFronts, ComeToTheSame, FewIn, IsLeftOut, SidesAreJudged, StandFor}
 use Rattle.inf_conditional_sides.specs.Judged.{conditions_of, is_settled, is_settled_by, open_sides, pendings}
-use Rattle.inf_conditional_sides.proofs.Acts.{none_heard, reading}
-use Rattle.inf_conditional_sides.proofs.Kept.{offered_same}
+use Rattle.inf_conditional_sides.proofs.{Acts.none_heard, Acts.reading, Kept.offered_same, Signed.behind_sign_same}
 use Rattle.inf_conditional_sides.proofs.Left.{inner_words, leaving, left_at_end, one_left, open_stay, outer_stay, outer_words, side_at}
 use Rattle.inf_conditional_sides.proofs.Left.{sided}
-use Rattle.inf_conditional_sides.proofs.Signed.{behind_sign_same}
 
 -- Where all sides stay
 

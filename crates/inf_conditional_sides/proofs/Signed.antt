@@ -1,31 +1,20 @@
 -- Where all sides stay and a `#` waited, the next token has the same result for conditionals and for sides.
 use Rattle.std.proofs.Common.{◌≡◌, ℕ, List, [], ◌∷◌, ◌++◌, Bool, true, false, not, Option, Some, None, refl, sym, ◌∙◌, ap, subst}
 use Rattle.std.specs.Prelude.{if◌then◌else◌, is_some}
-use Rattle.inf_scanner.specs.declared.tokens.Mark.TheVariants as mark
-use Rattle.inf_scanner.specs.declared.tokens.Place.{Place}
-use Rattle.inf_scanner.specs.declared.tokens.TokenKind.{TokenKind}
-use Rattle.inf_scanner.specs.declared.tokens.TokenKind.TheVariants as kind
+use Rattle.inf_scanner.specs.{declared.tokens.Mark.Mark, declared.tokens.Place.Place, declared.tokens.TokenKind.TokenKind}
 use Rattle.inf_machine.specs.Machine.{fits}
 use Rattle.inf_grammar.specs.Language.{grammar, known}
 use Rattle.inf_output.specs.Output.{Out}
 use Rattle.inf_sources.specs.declared.open_file.Conditional.{Conditional}
 use Rattle.inf_unit.specs.Tokens.{SourceToken, atom_of, is_mark}
-use Rattle.inf_conditionals.specs.Condition.{Condition, condition_took, is_whole, verdict_of}
+use Rattle.inf_conditionals.specs.{Condition.Condition, Condition.condition_took, Condition.is_whole, Condition.verdict_of, Said.too_much}
+use Rattle.inf_conditionals.specs.declared.{filtered.Filtered.Filtered, filtered.Forwarded.Forwarded, filtered.Site.Site}
+use Rattle.inf_conditionals.specs.declared.{pending.Effect.Effect, pending.Pending.Pending, words.ConditionalWord.ConditionalWord}
 use Rattle.inf_conditionals.specs.Judging.{Behind, asked as token_asked, asked_on as asked_on_judged, awaited}
 use Rattle.inf_conditionals.specs.Judging.{behind_sign as behind_sign_judged, decided, effected, held as held_judged, kept, named}
 use Rattle.inf_conditionals.specs.Judging.{offered as offered_judged, passed, saying, sign_asked as sign_asked_judged, sign_awaited}
 use Rattle.inf_conditionals.specs.Judging.{sign_handed, taken, tokens_counted, unfit as unfit_judged, unmatched, went_on}
 use Rattle.inf_conditionals.specs.Open.{Conditions, closed, is_none_open, is_second, latest, turned}
-use Rattle.inf_conditionals.specs.Said.{too_much}
-use Rattle.inf_conditionals.specs.declared.filtered.Filtered.{Filtered}
-use Rattle.inf_conditionals.specs.declared.filtered.Forwarded.{Forwarded}
-use Rattle.inf_conditionals.specs.declared.filtered.Forwarded.TheVariants as handed
-use Rattle.inf_conditionals.specs.declared.filtered.Site.{Site}
-use Rattle.inf_conditionals.specs.declared.pending.Effect.{Effect}
-use Rattle.inf_conditionals.specs.declared.pending.Effect.TheVariants as effect
-use Rattle.inf_conditionals.specs.declared.pending.Pending.{Pending}
-use Rattle.inf_conditionals.specs.declared.words.ConditionalWord.{ConditionalWord}
-use Rattle.inf_conditionals.specs.declared.words.ConditionalWord.TheVariants as word
 use Rattle.inf_conditional_sides.specs.Sides.{Asked, Directive, Ended, Given, Kept, Sign, Step, Text, Unfit, asked, behind_sign}
 use Rattle.inf_conditional_sides.specs.Sides.{condition_form, condition_of, giving, goes_on, hash, heard, offered, sign_asked}
 use Rattle.inf_conditional_sides.specs.Judged.{AreFronts, ComeToTheSame, IsFront, as_handed, awaits_behind, conditions_of, end_given}
@@ -61,17 +50,17 @@ if_none true x y first second = first
 if_none false x y first second = second
 
 effect_none : (e : Effect) (is_quiet : Bool) (p : Pending) (c : Conditions) → (effected e is_quiet p c).judged.sign ≡ None
-effect_none (effect.Opens is_kept) is_quiet p c = refl
-effect_none effect.Turns is_quiet p c =
+effect_none (Effect.Opens is_kept) is_quiet p c = refl
+effect_none Effect.Turns is_quiet p c =
     if_none (is_second (latest c)) (unmatched is_quiet p.place c)
     (passed (record (turned c) { left_out = Some (record { is_inner = not (is_none_open c.inner); levels = 0 }) })) refl refl
-effect_none effect.Closes is_quiet p c =
+effect_none Effect.Closes is_quiet p c =
     if_none (is_none_open (latest c)) (unmatched is_quiet p.place c) (passed (closed c)) refl refl
-effect_none effect.Nothing is_quiet p c = refl
+effect_none Effect.Nothing is_quiet p c = refl
 
 named_none : (k : TokenKind) (bytes : List ℕ) (if_declared : Bool) (o : Out) (p : Pending) (c : Conditions)
     → (named k bytes if_declared o p c).judged.sign ≡ None
-named_none kind.Name bytes if_declared o p c = refl
+named_none TokenKind.Name bytes if_declared o p c = refl
 named_none _ bytes if_declared o p c = refl
 
 asked_none : (conditions : List Condition) (wanted : Bool) (site : Site) (o : Out) (t : SourceToken) (p : Pending) (c : Conditions)
@@ -86,22 +75,22 @@ asked_none (k ∷ conditions) wanted site o t p c =
 
 directive_none : (site : Site) (o : Out) (t : SourceToken) (w : ConditionalWord) (others : List Asked) (p : Pending) (c : Conditions)
     → (awaited (awaits_behind w others) site o t p c).judged.sign ≡ None
-directive_none site o t word.Ifdef [] p c = named_none t.kind t.bytes true o p c
-directive_none site o t word.Ifdef (n ∷ others) p c =
-    if_none (is_mark mark.Semicolon t.kind) (effected (effect.Opens n.is_declared) site.is_quiet p c) (unfit_judged c)
-    (effect_none (effect.Opens n.is_declared) site.is_quiet p c) refl
-directive_none site o t word.Ifndef [] p c = named_none t.kind t.bytes false o p c
-directive_none site o t word.Ifndef (n ∷ others) p c =
-    if_none (is_mark mark.Semicolon t.kind) (effected (effect.Opens (not n.is_declared)) site.is_quiet p c) (unfit_judged c)
-    (effect_none (effect.Opens (not n.is_declared)) site.is_quiet p c) refl
-directive_none site o t word.Iftrue others p c = asked_none c.conditions true site o t p c
-directive_none site o t word.Iffalse others p c = asked_none c.conditions false site o t p c
-directive_none site o t word.Ifnot others p c =
-    if_none (is_mark mark.Semicolon t.kind) (effected effect.Turns site.is_quiet p c) (unfit_judged c)
-    (effect_none effect.Turns site.is_quiet p c) refl
-directive_none site o t word.Endif others p c =
-    if_none (is_mark mark.Semicolon t.kind) (effected effect.Closes site.is_quiet p c) (unfit_judged c)
-    (effect_none effect.Closes site.is_quiet p c) refl
+directive_none site o t ConditionalWord.Ifdef [] p c = named_none t.kind t.bytes true o p c
+directive_none site o t ConditionalWord.Ifdef (n ∷ others) p c =
+    if_none (is_mark Mark.Semicolon t.kind) (effected (Effect.Opens n.is_declared) site.is_quiet p c) (unfit_judged c)
+    (effect_none (Effect.Opens n.is_declared) site.is_quiet p c) refl
+directive_none site o t ConditionalWord.Ifndef [] p c = named_none t.kind t.bytes false o p c
+directive_none site o t ConditionalWord.Ifndef (n ∷ others) p c =
+    if_none (is_mark Mark.Semicolon t.kind) (effected (Effect.Opens (not n.is_declared)) site.is_quiet p c) (unfit_judged c)
+    (effect_none (Effect.Opens (not n.is_declared)) site.is_quiet p c) refl
+directive_none site o t ConditionalWord.Iftrue others p c = asked_none c.conditions true site o t p c
+directive_none site o t ConditionalWord.Iffalse others p c = asked_none c.conditions false site o t p c
+directive_none site o t ConditionalWord.Ifnot others p c =
+    if_none (is_mark Mark.Semicolon t.kind) (effected Effect.Turns site.is_quiet p c) (unfit_judged c)
+    (effect_none Effect.Turns site.is_quiet p c) refl
+directive_none site o t ConditionalWord.Endif others p c =
+    if_none (is_mark Mark.Semicolon t.kind) (effected Effect.Closes site.is_quiet p c) (unfit_judged c)
+    (effect_none Effect.Closes site.is_quiet p c) refl
 
 -- A `#` was handed on in some way, and left some directives, of which the innermost waits for no word behind a `#`.
 
@@ -116,14 +105,14 @@ offered_none : (site : Site) (o : Out) (t : SourceToken) (c : Conditions) (inner
     → (offered_judged false site o t (reading c inner among texts)).judged.sign ≡ None
 offered_none site o t c inner among [] none =
     let now = reading c inner among [] in
-    if_none (is_mark mark.Hash t.kind) (passed (held_judged false t.place now)) (kept now) refl refl
+    if_none (is_mark Mark.Hash t.kind) (passed (held_judged false t.place now)) (kept now) refl refl
 offered_none site o t c inner among (Sign place ∷ texts) none = absurd none
 offered_none site o t c inner among (Ended place ∷ texts) none = absurd none
 offered_none site o t c inner among (Directive place is_inner w first others ∷ texts) none =
     let x = Directive place is_inner w first others in
     let now = reading c inner among (x ∷ texts) in
     let rest = record now { pending = pendings texts } in
-    if_none (is_mark mark.Hash t.kind) (passed (held_judged false t.place now))
+    if_none (is_mark Mark.Hash t.kind) (passed (held_judged false t.place now))
     (awaited (awaits_behind w others) site o t (pending_of x) rest) refl (directive_none site o t w others (pending_of x) rest)
 
 abbrev Signed : Site → Out → SourceToken → Place → Forwarded → List Given → Conditions → List Conditional → List Conditional → List Text
@@ -147,9 +136,9 @@ then_offered site o t place h before c inner among texts fronts none first =
     }
 
 unfit_sign : (site : Site) (o : Out) (t : SourceToken) (place : Place) (c : Conditions) (inner among : List Conditional)
-    → Signed site o t place handed.Unfit (Unfit (hash place) ∷ []) c inner among []
+    → Signed site o t place Forwarded.Unfit (Unfit (hash place) ∷ []) c inner among []
 unfit_sign site o t place c inner among =
-    then_offered site o t place handed.Unfit (Unfit (hash place) ∷ []) c inner among [] tt tt (unfit_heard site.is_quiet (hash place))
+    then_offered site o t place Forwarded.Unfit (Unfit (hash place) ∷ []) c inner among [] tt tt (unfit_heard site.is_quiet (hash place))
 
 -- The `#` may be one of a condition.
 
@@ -174,29 +163,29 @@ condition_sign false wanted site o t place begins is_inner first more k c inner 
     subst (λ f. Behinds site o t place c (goes_on (condition_form f) (hash place) x (staying inner among texts))
     (unfit_judged (reading c inner among texts))) (sym is) (unfit_sign site o t place c inner among)
 condition_sign true true site o t place begins is_inner first more k c inner among texts fronts is =
-    let x = Directive begins is_inner word.Iftrue first more in
+    let x = Directive begins is_inner ConditionalWord.Iftrue first more in
     let s = staying inner among texts in
     let c' = saying site.is_quiet (too_much site.longest (hash place) k) (tokens_counted site.is_quiet k c) in
-    let front : IsFront word.Iftrue first more = ap is_some is in
+    let front : IsFront ConditionalWord.Iftrue first more = ap is_some is in
     let read = λ (conditions : List Condition). λ (n : Step).
     Behinds site o t place c n (taken (state c' inner among (asking_pending begins is_inner true ∷ pendings texts) conditions)) in
     subst (λ n. read (k ∷ conditions_of texts) n)
     (sym (ap (λ f. goes_on (condition_form f) (hash place) x s) is ∙ goes_past (is_whole k) (hash place) x s))
     (subst (λ conditions. read conditions (giving (staying inner among (x ∷ texts)) []))
     (ap (λ f. with_condition f (conditions_of texts)) is)
-    (then_offered site o t place handed.Condition [] c' inner among (x ∷ texts) (front, fronts) tt (none_heard site.is_quiet)))
+    (then_offered site o t place Forwarded.Condition [] c' inner among (x ∷ texts) (front, fronts) tt (none_heard site.is_quiet)))
 condition_sign true false site o t place begins is_inner first more k c inner among texts fronts is =
-    let x = Directive begins is_inner word.Iffalse first more in
+    let x = Directive begins is_inner ConditionalWord.Iffalse first more in
     let s = staying inner among texts in
     let c' = saying site.is_quiet (too_much site.longest (hash place) k) (tokens_counted site.is_quiet k c) in
-    let front : IsFront word.Iffalse first more = ap is_some is in
+    let front : IsFront ConditionalWord.Iffalse first more = ap is_some is in
     let read = λ (conditions : List Condition). λ (n : Step).
     Behinds site o t place c n (taken (state c' inner among (asking_pending begins is_inner false ∷ pendings texts) conditions)) in
     subst (λ n. read (k ∷ conditions_of texts) n)
     (sym (ap (λ f. goes_on (condition_form f) (hash place) x s) is ∙ goes_past (is_whole k) (hash place) x s))
     (subst (λ conditions. read conditions (giving (staying inner among (x ∷ texts)) []))
     (ap (λ f. with_condition f (conditions_of texts)) is)
-    (then_offered site o t place handed.Condition [] c' inner among (x ∷ texts) (front, fronts) tt (none_heard site.is_quiet)))
+    (then_offered site o t place Forwarded.Condition [] c' inner among (x ∷ texts) (front, fronts) tt (none_heard site.is_quiet)))
 
 sign_of_condition : (r : Option Condition) (wanted : Bool) (site : Site) (o : Out) (t : SourceToken) (place begins : Place)
     (is_inner : Bool)
@@ -222,38 +211,38 @@ sign_of_text : (site : Site) (o : Out) (t : SourceToken) (place : Place) (x : Te
     (sign_awaited p.awaits place site p (state c inner among (pendings texts) (conditions_of (x ∷ texts))))
 sign_of_text site o t place (Sign begins) c inner among texts fronts = unfit_sign site o t place c inner among
 sign_of_text site o t place (Ended begins) c inner among texts fronts = unfit_sign site o t place c inner among
-sign_of_text site o t place (Directive begins is_inner word.Ifdef first []) c inner among texts fronts =
+sign_of_text site o t place (Directive begins is_inner ConditionalWord.Ifdef first []) c inner among texts fronts =
     unfit_sign site o t place c inner among
-sign_of_text site o t place (Directive begins is_inner word.Ifdef first (n ∷ [])) c inner among texts fronts =
+sign_of_text site o t place (Directive begins is_inner ConditionalWord.Ifdef first (n ∷ [])) c inner among texts fronts =
     unfit_sign site o t place c inner among
-sign_of_text site o t place (Directive begins is_inner word.Ifdef first (n ∷ m ∷ [])) c inner among texts fronts =
+sign_of_text site o t place (Directive begins is_inner ConditionalWord.Ifdef first (n ∷ m ∷ [])) c inner among texts fronts =
     unfit_sign site o t place c inner among
-sign_of_text site o t place (Directive begins is_inner word.Ifdef first (n ∷ m ∷ l ∷ others)) c inner among texts fronts =
+sign_of_text site o t place (Directive begins is_inner ConditionalWord.Ifdef first (n ∷ m ∷ l ∷ others)) c inner among texts fronts =
     unfit_sign site o t place c inner among
-sign_of_text site o t place (Directive begins is_inner word.Ifndef first []) c inner among texts fronts =
+sign_of_text site o t place (Directive begins is_inner ConditionalWord.Ifndef first []) c inner among texts fronts =
     unfit_sign site o t place c inner among
-sign_of_text site o t place (Directive begins is_inner word.Ifndef first (n ∷ [])) c inner among texts fronts =
+sign_of_text site o t place (Directive begins is_inner ConditionalWord.Ifndef first (n ∷ [])) c inner among texts fronts =
     unfit_sign site o t place c inner among
-sign_of_text site o t place (Directive begins is_inner word.Ifndef first (n ∷ m ∷ [])) c inner among texts fronts =
+sign_of_text site o t place (Directive begins is_inner ConditionalWord.Ifndef first (n ∷ m ∷ [])) c inner among texts fronts =
     unfit_sign site o t place c inner among
-sign_of_text site o t place (Directive begins is_inner word.Ifndef first (n ∷ m ∷ l ∷ others)) c inner among texts fronts =
+sign_of_text site o t place (Directive begins is_inner ConditionalWord.Ifndef first (n ∷ m ∷ l ∷ others)) c inner among texts fronts =
     unfit_sign site o t place c inner among
-sign_of_text site o t place (Directive begins is_inner word.Ifnot first []) c inner among texts fronts =
+sign_of_text site o t place (Directive begins is_inner ConditionalWord.Ifnot first []) c inner among texts fronts =
     unfit_sign site o t place c inner among
-sign_of_text site o t place (Directive begins is_inner word.Ifnot first (n ∷ [])) c inner among texts fronts =
+sign_of_text site o t place (Directive begins is_inner ConditionalWord.Ifnot first (n ∷ [])) c inner among texts fronts =
     unfit_sign site o t place c inner among
-sign_of_text site o t place (Directive begins is_inner word.Ifnot first (n ∷ m ∷ others)) c inner among texts fronts =
+sign_of_text site o t place (Directive begins is_inner ConditionalWord.Ifnot first (n ∷ m ∷ others)) c inner among texts fronts =
     unfit_sign site o t place c inner among
-sign_of_text site o t place (Directive begins is_inner word.Endif first []) c inner among texts fronts =
+sign_of_text site o t place (Directive begins is_inner ConditionalWord.Endif first []) c inner among texts fronts =
     unfit_sign site o t place c inner among
-sign_of_text site o t place (Directive begins is_inner word.Endif first (n ∷ [])) c inner among texts fronts =
+sign_of_text site o t place (Directive begins is_inner ConditionalWord.Endif first (n ∷ [])) c inner among texts fronts =
     unfit_sign site o t place c inner among
-sign_of_text site o t place (Directive begins is_inner word.Endif first (n ∷ m ∷ others)) c inner among texts fronts =
+sign_of_text site o t place (Directive begins is_inner ConditionalWord.Endif first (n ∷ m ∷ others)) c inner among texts fronts =
     unfit_sign site o t place c inner among
-sign_of_text site o t place (Directive begins is_inner word.Iftrue first others) c inner among texts fronts =
+sign_of_text site o t place (Directive begins is_inner ConditionalWord.Iftrue first others) c inner among texts fronts =
     sign_of_condition (condition_of first others) true site o t place begins is_inner first others c inner among texts fronts.1 refl
     fronts.0
-sign_of_text site o t place (Directive begins is_inner word.Iffalse first others) c inner among texts fronts =
+sign_of_text site o t place (Directive begins is_inner ConditionalWord.Iffalse first others) c inner among texts fronts =
     sign_of_condition (condition_of first others) false site o t place begins is_inner first others c inner among texts fronts.1 refl
     fronts.0
 
@@ -264,7 +253,7 @@ sign_same : (site : Site) (o : Out) (t : SourceToken) (place : Place) (c : Condi
     → ComeToTheSame site.is_quiet t (behind_sign_judged None place site o t (record (reading c inner among texts) { sign = Some place }))
     (behind_sign None place c.declared o t (record (staying inner among texts) { sign = Some place }))
 sign_same site o t place c inner among [] fronts =
-    then_offered site o t place handed.Kept (Kept (hash place) ∷ []) c inner among [] tt tt (kept_heard site.is_quiet (hash place))
+    then_offered site o t place Forwarded.Kept (Kept (hash place) ∷ []) c inner among [] tt tt (kept_heard site.is_quiet (hash place))
 sign_same site o t place c inner among (x ∷ texts) fronts = sign_of_text site o t place x c inner among texts fronts
 
 pub behind_sign_same : (w : Option ConditionalWord) (site : Site) (o : Out) (t : SourceToken) (place : Place) (c : Conditions)

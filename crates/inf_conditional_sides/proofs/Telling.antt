@@ -1,33 +1,23 @@
 -- Of each token the same is told of a condition by conditionals and by sides.
 use Rattle.std.proofs.Common.{◌≡◌, ℕ, List, [], ◌∷◌, ◌++◌, Bool, true, false, not, Option, Some, None, refl, sym, ◌∙◌, ap, subst}
 use Rattle.std.specs.Prelude.{◌&&◌, ◌==◌, if◌then◌else◌, is_some, unwrap_or}
-use Rattle.inf_scanner.specs.declared.tokens.Mark.TheVariants as mark
-use Rattle.inf_scanner.specs.declared.tokens.Place.{Place}
-use Rattle.inf_scanner.specs.declared.tokens.TokenKind.{TokenKind}
-use Rattle.inf_scanner.specs.declared.tokens.TokenKind.TheVariants as kind
+use Rattle.inf_scanner.specs.{declared.tokens.Mark.Mark, declared.tokens.Place.Place, declared.tokens.TokenKind.TokenKind}
 use Rattle.inf_machine.specs.Machine.{fits}
 use Rattle.inf_grammar.specs.Language.{grammar, known}
 use Rattle.inf_output.specs.Output.{Out}
 use Rattle.inf_sources.specs.declared.open_file.Conditional.{Conditional}
 use Rattle.inf_unit.specs.Tokens.{SourceToken, atom_of, is_end, is_mark, keyword}
 use Rattle.inf_unit.proofs.Cases.{of_both}
+use Rattle.inf_conditionals.specs.{Said.Said, Said.told_by, Said.too_much, Words.word_of, declared.filtered.Site.Site}
+use Rattle.inf_conditionals.specs.{declared.open.LeftOut.LeftOut, declared.pending.Awaits.Awaits, declared.pending.Effect.Effect}
+use Rattle.inf_conditionals.specs.{declared.pending.Pending.Pending, declared.words.ConditionalWord.ConditionalWord}
 use Rattle.inf_conditionals.specs.Condition.{Condition, condition_begun, condition_took, is_whole, verdict_of}
 use Rattle.inf_conditionals.specs.Judging.{Behind, asked as token_asked, asked_on, at_front, awaited, awaiting, asking as with_asking}
 use Rattle.inf_conditionals.specs.Judging.{behind_front, behind_sign, begun, decided, effected, held, judged, judged_by, named, offered}
-use Rattle.inf_conditionals.specs.Judging.{offered_to, passed, passed_by, saying, sign_asked, sign_awaited, tokens_counted}
-use Rattle.inf_conditionals.specs.Judging.{is_none_pending, taken, unfit, unmatched, went_on}
-use Rattle.inf_conditionals.specs.Open.{Conditions, closed, closed_by, ended_by, ends_at, is_none_open, is_second, latest}
-use Rattle.inf_conditionals.specs.Open.{levels_behind, turned, turned_by}
-use Rattle.inf_conditionals.specs.Said.{Said, told_by, too_much}
-use Rattle.inf_conditionals.specs.Words.{word_of}
-use Rattle.inf_conditionals.specs.declared.filtered.Site.{Site}
-use Rattle.inf_conditionals.specs.declared.open.LeftOut.{LeftOut}
-use Rattle.inf_conditionals.specs.declared.pending.Awaits.TheVariants as awaits
-use Rattle.inf_conditionals.specs.declared.pending.Effect.{Effect}
-use Rattle.inf_conditionals.specs.declared.pending.Effect.TheVariants as effect
-use Rattle.inf_conditionals.specs.declared.pending.Pending.{Pending}
-use Rattle.inf_conditionals.specs.declared.words.ConditionalWord.{ConditionalWord}
-use Rattle.inf_conditionals.specs.declared.words.ConditionalWord.TheVariants as word
+use Rattle.inf_conditionals.specs.Judging.{offered_to, passed, passed_by, saying, sign_asked, sign_awaited, tokens_counted, is_none_pending}
+use Rattle.inf_conditionals.specs.Judging.{taken, unfit, unmatched, went_on}
+use Rattle.inf_conditionals.specs.Open.{Conditions, closed, closed_by, ended_by, ends_at, is_none_open, is_second, latest, levels_behind}
+use Rattle.inf_conditionals.specs.Open.{turned, turned_by}
 use Rattle.inf_conditional_sides.specs.Sides.{Asked, Directive, Ended, Side, Sign, Step, Text, all_stay, asked, condition_form, condition_of}
 use Rattle.inf_conditional_sides.specs.Sides.{giving, goes_on, hash, outer_sides, sign_asked as sides_sign_asked}
 use Rattle.inf_conditional_sides.specs.Judged.{AreFronts, StandFor, conditions_of, is_settled_by, open_sides}
@@ -35,10 +25,8 @@ use Rattle.inf_conditional_sides.specs.Judged.{LeftInside, awaits_behind, pendin
 use Rattle.inf_conditional_sides.specs.Told.{Told, behind_hash, behind_sign_told, hash_in, kept_told, left_told, told_behind, told_first}
 use Rattle.inf_conditional_sides.specs.Told.{told_in, told_of, token_told, went_on as condition_went_on}
 use Rattle.inf_conditional_sides.specs.Tellings.{ConditionsAreTold, telling}
-use Rattle.inf_conditional_sides.proofs.Acts.{reading, state, staying}
-use Rattle.inf_conditional_sides.proofs.Kept.{asking, asking_pending, condition_more, goes_past}
-use Rattle.inf_conditional_sides.proofs.Left.{leaving, one_left, open_stay, sided}
-use Rattle.inf_conditional_sides.proofs.Same.{stated}
+use Rattle.inf_conditional_sides.proofs.{Acts.reading, Acts.state, Acts.staying, Kept.asking, Kept.asking_pending, Kept.condition_more}
+use Rattle.inf_conditional_sides.proofs.{Kept.goes_past, Left.leaving, Left.one_left, Left.open_stay, Left.sided, Same.stated}
 
 -- Among tokens that are passed over nothing is told.
 abbrev unless : Bool → Told → Told → Told
@@ -60,7 +48,7 @@ twice false before after f x e = ap f e
 
 named_tells : (k : TokenKind) (bytes : List ℕ) (if_declared : Bool) (o : Out) (p : Pending) (c : Conditions)
     → telling (named k bytes if_declared o p c).now ≡ telling c
-named_tells kind.Name bytes if_declared o p c = refl
+named_tells TokenKind.Name bytes if_declared o p c = refl
 named_tells _ bytes if_declared o p c = refl
 
 turned_tells : (inner : List Conditional) (c : Conditions) → telling (turned_by inner c) ≡ telling c
@@ -72,20 +60,20 @@ closed_tells [] c = refl
 closed_tells (x ∷ inner) c = refl
 
 effect_tells : (e : Effect) (is_quiet : Bool) (p : Pending) (c : Conditions) → telling (effected e is_quiet p c).now ≡ telling c
-effect_tells (effect.Opens is_kept) is_quiet p c = refl
-effect_tells effect.Turns is_quiet p c =
+effect_tells (Effect.Opens is_kept) is_quiet p c = refl
+effect_tells Effect.Turns is_quiet p c =
     of_both (λ (b : Behind). telling b.now ≡ telling c) (is_second (latest c)) (unmatched is_quiet p.place c)
     (passed (record (turned c) { left_out = Some (record { is_inner = not (is_none_open c.inner); levels = 0 }) })) (λ _. refl)
     (λ _. turned_tells c.inner c)
-effect_tells effect.Closes is_quiet p c =
+effect_tells Effect.Closes is_quiet p c =
     of_both (λ (b : Behind). telling b.now ≡ telling c) (is_none_open (latest c)) (unmatched is_quiet p.place c) (passed (closed c))
     (λ _. refl) (λ _. closed_tells c.inner c)
-effect_tells effect.Nothing is_quiet p c = refl
+effect_tells Effect.Nothing is_quiet p c = refl
 
 ended_tells : (e : Effect) (is_quiet : Bool) (t : SourceToken) (p : Pending) (c : Conditions)
-    → telling (if is_mark mark.Semicolon t.kind then effected e is_quiet p c else unfit c).now ≡ telling c
+    → telling (if is_mark Mark.Semicolon t.kind then effected e is_quiet p c else unfit c).now ≡ telling c
 ended_tells e is_quiet t p c =
-    of_both (λ (b : Behind). telling b.now ≡ telling c) (is_mark mark.Semicolon t.kind) (effected e is_quiet p c) (unfit c)
+    of_both (λ (b : Behind). telling b.now ≡ telling c) (is_mark Mark.Semicolon t.kind) (effected e is_quiet p c) (unfit c)
     (λ _. effect_tells e is_quiet p c) (λ _. refl)
 
 asked_first_tells : (wanted : Bool) (first : SourceToken) (is_inner : Bool) (c : Conditions)
@@ -98,12 +86,12 @@ asked_first_tells wanted first is_inner c =
 
 begun_tells : (w : ConditionalWord) (t : SourceToken) (place : Place) (is_inner : Bool) (c : Conditions)
     → telling (begun w t place is_inner c).now ≡ telling c
-begun_tells word.Iftrue t place is_inner c = asked_first_tells true (record t { place = place }) is_inner c
-begun_tells word.Iffalse t place is_inner c = asked_first_tells false (record t { place = place }) is_inner c
-begun_tells word.Ifdef t place is_inner c = refl
-begun_tells word.Ifndef t place is_inner c = refl
-begun_tells word.Ifnot t place is_inner c = refl
-begun_tells word.Endif t place is_inner c = refl
+begun_tells ConditionalWord.Iftrue t place is_inner c = asked_first_tells true (record t { place = place }) is_inner c
+begun_tells ConditionalWord.Iffalse t place is_inner c = asked_first_tells false (record t { place = place }) is_inner c
+begun_tells ConditionalWord.Ifdef t place is_inner c = refl
+begun_tells ConditionalWord.Ifndef t place is_inner c = refl
+begun_tells ConditionalWord.Ifnot t place is_inner c = refl
+begun_tells ConditionalWord.Endif t place is_inner c = refl
 
 front_tells : (w : Option ConditionalWord) (t : SourceToken) (p : Pending) (c : Conditions)
     → telling (behind_front w t p c).now ≡ telling c
@@ -173,36 +161,36 @@ directive_told : (site : Site) (o : Out) (t : SourceToken) (place : Place) (is_i
     → telling (awaited (awaits_behind w others) site o t (pending_of x)
     (state c inner among (pendings texts) (conditions_of (x ∷ texts)))).now
     ≡ unless site.is_quiet (telling c) (told_in site.longest c.declared o t x (telling c))
-directive_told site o t place is_inner word.Ifdef first [] c inner among texts none fronts =
-    let x = Directive place is_inner word.Ifdef first [] in
+directive_told site o t place is_inner ConditionalWord.Ifdef first [] c inner among texts none fronts =
+    let x = Directive place is_inner ConditionalWord.Ifdef first [] in
     named_tells t.kind t.bytes true o (pending_of x) (state c inner among (pendings texts) (conditions_of texts))
     ∙ either site.is_quiet (telling c)
-directive_told site o t place is_inner word.Ifdef first (n ∷ others) c inner among texts none fronts =
-    let x = Directive place is_inner word.Ifdef first (n ∷ others) in
-    ended_tells (effect.Opens n.is_declared) site.is_quiet t (pending_of x) (state c inner among (pendings texts) (conditions_of texts))
+directive_told site o t place is_inner ConditionalWord.Ifdef first (n ∷ others) c inner among texts none fronts =
+    let x = Directive place is_inner ConditionalWord.Ifdef first (n ∷ others) in
+    ended_tells (Effect.Opens n.is_declared) site.is_quiet t (pending_of x) (state c inner among (pendings texts) (conditions_of texts))
     ∙ either site.is_quiet (telling c)
-directive_told site o t place is_inner word.Ifndef first [] c inner among texts none fronts =
-    let x = Directive place is_inner word.Ifndef first [] in
+directive_told site o t place is_inner ConditionalWord.Ifndef first [] c inner among texts none fronts =
+    let x = Directive place is_inner ConditionalWord.Ifndef first [] in
     named_tells t.kind t.bytes false o (pending_of x) (state c inner among (pendings texts) (conditions_of texts))
     ∙ either site.is_quiet (telling c)
-directive_told site o t place is_inner word.Ifndef first (n ∷ others) c inner among texts none fronts =
-    let x = Directive place is_inner word.Ifndef first (n ∷ others) in
-    ended_tells (effect.Opens (not n.is_declared)) site.is_quiet t (pending_of x)
+directive_told site o t place is_inner ConditionalWord.Ifndef first (n ∷ others) c inner among texts none fronts =
+    let x = Directive place is_inner ConditionalWord.Ifndef first (n ∷ others) in
+    ended_tells (Effect.Opens (not n.is_declared)) site.is_quiet t (pending_of x)
     (state c inner among (pendings texts) (conditions_of texts))
     ∙ either site.is_quiet (telling c)
-directive_told site o t place is_inner word.Iftrue first others c inner among texts none fronts =
+directive_told site o t place is_inner ConditionalWord.Iftrue first others c inner among texts none fronts =
     condition_told (condition_of first others) true site o t (asking_pending place is_inner true) first others c inner among texts none refl
     fronts.0
-directive_told site o t place is_inner word.Iffalse first others c inner among texts none fronts =
+directive_told site o t place is_inner ConditionalWord.Iffalse first others c inner among texts none fronts =
     condition_told (condition_of first others) false site o t (asking_pending place is_inner false) first others c inner among texts none
     refl fronts.0
-directive_told site o t place is_inner word.Ifnot first others c inner among texts none fronts =
-    let x = Directive place is_inner word.Ifnot first others in
-    ended_tells effect.Turns site.is_quiet t (pending_of x) (state c inner among (pendings texts) (conditions_of texts))
+directive_told site o t place is_inner ConditionalWord.Ifnot first others c inner among texts none fronts =
+    let x = Directive place is_inner ConditionalWord.Ifnot first others in
+    ended_tells Effect.Turns site.is_quiet t (pending_of x) (state c inner among (pendings texts) (conditions_of texts))
     ∙ either site.is_quiet (telling c)
-directive_told site o t place is_inner word.Endif first others c inner among texts none fronts =
-    let x = Directive place is_inner word.Endif first others in
-    ended_tells effect.Closes site.is_quiet t (pending_of x) (state c inner among (pendings texts) (conditions_of texts))
+directive_told site o t place is_inner ConditionalWord.Endif first others c inner among texts none fronts =
+    let x = Directive place is_inner ConditionalWord.Endif first others in
+    ended_tells Effect.Closes site.is_quiet t (pending_of x) (state c inner among (pendings texts) (conditions_of texts))
     ∙ either site.is_quiet (telling c)
 
 text_told : (site : Site) (o : Out) (t : SourceToken) (x : Text) (c : Conditions) (inner among : List Conditional) (texts : List Text)
@@ -214,7 +202,7 @@ text_told site o t (Sign place) c inner among texts none fronts =
     front_tells (word_of (keyword t)) t (pending_of (Sign place)) (state c inner among (pendings texts) (conditions_of texts))
     ∙ either site.is_quiet (telling c)
 text_told site o t (Ended place) c inner among texts none fronts =
-    ended_tells effect.Nothing site.is_quiet t (pending_of (Ended place)) (state c inner among (pendings texts) (conditions_of texts))
+    ended_tells Effect.Nothing site.is_quiet t (pending_of (Ended place)) (state c inner among (pendings texts) (conditions_of texts))
     ∙ either site.is_quiet (telling c)
 text_told site o t (Directive place is_inner w first others) c inner among texts none fronts =
     directive_told site o t place is_inner w first others c inner among texts none fronts
@@ -245,7 +233,7 @@ offered_told : (is_front : Bool) (site : Site) (o : Out) (t : SourceToken) (c : 
     → telling (offered is_front site o t (reading c inner among texts)).now
     ≡ unless site.is_quiet (telling c) (token_told site.longest c.declared o t texts (telling c))
 offered_told is_front site o t c inner among texts none fronts =
-    offered_by (is_mark mark.Hash t.kind) is_front site o t c inner among texts none fronts
+    offered_by (is_mark Mark.Hash t.kind) is_front site o t c inner among texts none fronts
 
 -- A token behind a `#` that waited
 
@@ -273,7 +261,7 @@ taken_sign : (wanted : Bool) (site : Site) (o : Out) (t : SourceToken) (place be
     (asked_on wanted site (hash place) k (asking_pending begins is_inner wanted) (reading c inner among texts))
     (behind_hash site.longest place (condition_of first more) (telling c))
 taken_sign true site o t place begins is_inner first more k c inner among texts none fronts is =
-    let x = Directive begins is_inner word.Iftrue first more in
+    let x = Directive begins is_inner ConditionalWord.Iftrue first more in
     let s = staying inner among texts in
     let said = too_much site.longest (hash place) k in
     let c' = saying site.is_quiet said (tokens_counted site.is_quiet k c) in
@@ -289,7 +277,7 @@ taken_sign true site o t place begins is_inner first more k c inner among texts 
     (token_told site.longest c.declared o t (x ∷ texts)) (telling c')
     (on_told site.is_quiet site.longest (hash place) k c none))))
 taken_sign false site o t place begins is_inner first more k c inner among texts none fronts is =
-    let x = Directive begins is_inner word.Iffalse first more in
+    let x = Directive begins is_inner ConditionalWord.Iffalse first more in
     let s = staying inner among texts in
     let said = too_much site.longest (hash place) k in
     let c' = saying site.is_quiet said (tokens_counted site.is_quiet k c) in
@@ -350,38 +338,38 @@ sign_of_directive : (site : Site) (o : Out) (t : SourceToken) (place begins : Pl
     (first : SourceToken) (others : List Asked) (c : Conditions) (inner among : List Conditional) (texts : List Text)
     → IsSilent site.is_quiet c → AreFronts (Directive begins is_inner w first others ∷ texts)
     → TextSigned site o t place (Directive begins is_inner w first others) c inner among texts
-sign_of_directive site o t place begins is_inner word.Ifdef first [] c inner among texts none fronts =
+sign_of_directive site o t place begins is_inner ConditionalWord.Ifdef first [] c inner among texts none fronts =
     plain_sign site o t place c inner among none
-sign_of_directive site o t place begins is_inner word.Ifdef first (n ∷ []) c inner among texts none fronts =
+sign_of_directive site o t place begins is_inner ConditionalWord.Ifdef first (n ∷ []) c inner among texts none fronts =
     plain_sign site o t place c inner among none
-sign_of_directive site o t place begins is_inner word.Ifdef first (n ∷ m ∷ []) c inner among texts none fronts =
+sign_of_directive site o t place begins is_inner ConditionalWord.Ifdef first (n ∷ m ∷ []) c inner among texts none fronts =
     plain_sign site o t place c inner among none
-sign_of_directive site o t place begins is_inner word.Ifdef first (n ∷ m ∷ l ∷ others) c inner among texts none fronts =
+sign_of_directive site o t place begins is_inner ConditionalWord.Ifdef first (n ∷ m ∷ l ∷ others) c inner among texts none fronts =
     plain_sign site o t place c inner among none
-sign_of_directive site o t place begins is_inner word.Ifndef first [] c inner among texts none fronts =
+sign_of_directive site o t place begins is_inner ConditionalWord.Ifndef first [] c inner among texts none fronts =
     plain_sign site o t place c inner among none
-sign_of_directive site o t place begins is_inner word.Ifndef first (n ∷ []) c inner among texts none fronts =
+sign_of_directive site o t place begins is_inner ConditionalWord.Ifndef first (n ∷ []) c inner among texts none fronts =
     plain_sign site o t place c inner among none
-sign_of_directive site o t place begins is_inner word.Ifndef first (n ∷ m ∷ []) c inner among texts none fronts =
+sign_of_directive site o t place begins is_inner ConditionalWord.Ifndef first (n ∷ m ∷ []) c inner among texts none fronts =
     plain_sign site o t place c inner among none
-sign_of_directive site o t place begins is_inner word.Ifndef first (n ∷ m ∷ l ∷ others) c inner among texts none fronts =
+sign_of_directive site o t place begins is_inner ConditionalWord.Ifndef first (n ∷ m ∷ l ∷ others) c inner among texts none fronts =
     plain_sign site o t place c inner among none
-sign_of_directive site o t place begins is_inner word.Ifnot first [] c inner among texts none fronts =
+sign_of_directive site o t place begins is_inner ConditionalWord.Ifnot first [] c inner among texts none fronts =
     plain_sign site o t place c inner among none
-sign_of_directive site o t place begins is_inner word.Ifnot first (n ∷ []) c inner among texts none fronts =
+sign_of_directive site o t place begins is_inner ConditionalWord.Ifnot first (n ∷ []) c inner among texts none fronts =
     plain_sign site o t place c inner among none
-sign_of_directive site o t place begins is_inner word.Ifnot first (n ∷ m ∷ others) c inner among texts none fronts =
+sign_of_directive site o t place begins is_inner ConditionalWord.Ifnot first (n ∷ m ∷ others) c inner among texts none fronts =
     plain_sign site o t place c inner among none
-sign_of_directive site o t place begins is_inner word.Endif first [] c inner among texts none fronts =
+sign_of_directive site o t place begins is_inner ConditionalWord.Endif first [] c inner among texts none fronts =
     plain_sign site o t place c inner among none
-sign_of_directive site o t place begins is_inner word.Endif first (n ∷ []) c inner among texts none fronts =
+sign_of_directive site o t place begins is_inner ConditionalWord.Endif first (n ∷ []) c inner among texts none fronts =
     plain_sign site o t place c inner among none
-sign_of_directive site o t place begins is_inner word.Endif first (n ∷ m ∷ others) c inner among texts none fronts =
+sign_of_directive site o t place begins is_inner ConditionalWord.Endif first (n ∷ m ∷ others) c inner among texts none fronts =
     plain_sign site o t place c inner among none
-sign_of_directive site o t place begins is_inner word.Iftrue first others c inner among texts none fronts =
+sign_of_directive site o t place begins is_inner ConditionalWord.Iftrue first others c inner among texts none fronts =
     sign_of_condition (condition_of first others) true site o t place begins is_inner first others c inner among texts none fronts.1 refl
     fronts.0
-sign_of_directive site o t place begins is_inner word.Iffalse first others c inner among texts none fronts =
+sign_of_directive site o t place begins is_inner ConditionalWord.Iffalse first others c inner among texts none fronts =
     sign_of_condition (condition_of first others) false site o t place begins is_inner first others c inner among texts none fronts.1 refl
     fronts.0
 
@@ -415,19 +403,19 @@ kept_by (Some place) site o t c inner among texts none fronts =
 -- A side that is left out
 
 ended_by_tells : (w : ConditionalWord) (c : Conditions) → telling (ended_by w c) ≡ telling c
-ended_by_tells word.Endif c = closed_tells c.inner c
-ended_by_tells word.Ifnot c = turned_tells c.inner c
-ended_by_tells word.Ifdef c = turned_tells c.inner c
-ended_by_tells word.Ifndef c = turned_tells c.inner c
-ended_by_tells word.Iftrue c = turned_tells c.inner c
-ended_by_tells word.Iffalse c = turned_tells c.inner c
+ended_by_tells ConditionalWord.Endif c = closed_tells c.inner c
+ended_by_tells ConditionalWord.Ifnot c = turned_tells c.inner c
+ended_by_tells ConditionalWord.Ifdef c = turned_tells c.inner c
+ended_by_tells ConditionalWord.Ifndef c = turned_tells c.inner c
+ended_by_tells ConditionalWord.Iftrue c = turned_tells c.inner c
+ended_by_tells ConditionalWord.Iffalse c = turned_tells c.inner c
 
 passed_tells : (w : Option ConditionalWord) (t : SourceToken) (side : LeftOut) (c : Conditions)
     → telling (passed_by w t side c) ≡ telling c
 passed_tells None t side c = refl
 passed_tells (Some w) t side c =
     of_both (λ (x : Conditions). telling x ≡ telling c) ((side.levels == 0) && ends_at w (is_second (latest c)))
-    (awaiting (unwrap_or c.sign t.place) false (awaits.End effect.Nothing) (record (ended_by w c) { left_out = None; sign = None }))
+    (awaiting (unwrap_or c.sign t.place) false (Awaits.End Effect.Nothing) (record (ended_by w c) { left_out = None; sign = None }))
     (record c { left_out = Some (record side { levels = levels_behind w side.levels }); sign = None })
     (λ _. ended_by_tells w c) (λ _. refl)
 

@@ -3,10 +3,8 @@
 -- not reported.
 use Rattle.std.specs.Prelude.{◌≡◌, List, [], ◌∷◌, reverse, true, if◌then◌else◌}
 use Rattle.inf_unit.specs.Messages.{FileNames, Reported}
-use Rattle.inf_conditionals.specs.Ends.{file_told, piece_told, with_lone}
-use Rattle.inf_conditionals.specs.Open.{Conditions}
-use Rattle.inf_conditional_sides.specs.Sides.{Side, Sides, at_end, only_between}
-use Rattle.inf_conditional_sides.specs.Judged.{Agree, is_settled}
+use Rattle.inf_conditionals.specs.{Ends.file_told, Ends.piece_told, Ends.with_lone, Open.Conditions}
+use Rattle.inf_conditional_sides.specs.{Judged.Agree, Judged.is_settled, Sides.Side, Sides.Sides, Sides.at_end, Sides.only_between}
 
 -- the sides that were opened inside of the directive at hand
 abbrev pub inner_only : List Side → List Side

@@ -5,22 +5,11 @@ use Rattle.inf_scanner.specs.declared.tokens.Place.{Place}
 use Rattle.inf_output.specs.Output.{Out}
 use Rattle.inf_sources.specs.declared.open_file.Conditional.{Conditional}
 use Rattle.inf_unit.specs.Tokens.{SourceToken}
-use Rattle.inf_conditionals.specs.Condition.{Condition}
-use Rattle.inf_conditionals.specs.Ends.{piece_ended as conditions_ended}
-use Rattle.inf_conditionals.specs.Judging.{Behind, judged}
+use Rattle.inf_conditionals.specs.{Condition.Condition, Ends.piece_ended as conditions_ended, Judging.Behind, Judging.judged}
+use Rattle.inf_conditionals.specs.declared.{filtered.Filtered.Filtered, filtered.Forwarded.Forwarded, filtered.Sign.Sign as HandedSign}
+use Rattle.inf_conditionals.specs.declared.{filtered.Site.Site, open.LeftOut.LeftOut, pending.Awaits.Awaits, pending.Effect.Effect}
+use Rattle.inf_conditionals.specs.declared.{pending.Pending.Pending, words.ConditionalWord.ConditionalWord}
 use Rattle.inf_conditionals.specs.Open.{Conditions, most_levels, no_conditions}
-use Rattle.inf_conditionals.specs.declared.filtered.Filtered.{Filtered}
-use Rattle.inf_conditionals.specs.declared.filtered.Forwarded.{Forwarded}
-use Rattle.inf_conditionals.specs.declared.filtered.Forwarded.TheVariants as handed
-use Rattle.inf_conditionals.specs.declared.filtered.Sign.{Sign as HandedSign}
-use Rattle.inf_conditionals.specs.declared.filtered.Site.{Site}
-use Rattle.inf_conditionals.specs.declared.open.LeftOut.{LeftOut}
-use Rattle.inf_conditionals.specs.declared.pending.Awaits.{Awaits}
-use Rattle.inf_conditionals.specs.declared.pending.Awaits.TheVariants as awaits
-use Rattle.inf_conditionals.specs.declared.pending.Effect.TheVariants as effect
-use Rattle.inf_conditionals.specs.declared.pending.Pending.{Pending}
-use Rattle.inf_conditionals.specs.declared.words.ConditionalWord.{ConditionalWord}
-use Rattle.inf_conditionals.specs.declared.words.ConditionalWord.TheVariants as word
 use Rattle.inf_conditional_sides.specs.Sides.{Asked, Directive, Ended, Ends, Front, Given, Kept, Lone, Side, Sides, Sign, Step, Text, Unfit}
 use Rattle.inf_conditional_sides.specs.Sides.{condition_in, condition_of, end_form, hash, heard, name_form, no_sides, outer_sides, piece_ended}
 use Rattle.inf_conditional_sides.specs.Sides.{side_of, step}
@@ -29,18 +18,18 @@ use Rattle.inf_conditional_sides.specs.Sides.{side_of, step}
 
 -- the thing that a directive waits for, by its word and its tokens behind that
 abbrev pub awaits_behind : ConditionalWord → List Asked → Awaits
-awaits_behind word.Ifdef [] = awaits.Name true
-awaits_behind word.Ifdef (n ∷ others) = awaits.End (effect.Opens n.is_declared)
-awaits_behind word.Ifndef [] = awaits.Name false
-awaits_behind word.Ifndef (n ∷ others) = awaits.End (effect.Opens (not n.is_declared))
-awaits_behind word.Iftrue others = awaits.Condition true
-awaits_behind word.Iffalse others = awaits.Condition false
-awaits_behind word.Ifnot others = awaits.End effect.Turns
-awaits_behind word.Endif others = awaits.End effect.Closes
+awaits_behind ConditionalWord.Ifdef [] = Awaits.Name true
+awaits_behind ConditionalWord.Ifdef (n ∷ others) = Awaits.End (Effect.Opens n.is_declared)
+awaits_behind ConditionalWord.Ifndef [] = Awaits.Name false
+awaits_behind ConditionalWord.Ifndef (n ∷ others) = Awaits.End (Effect.Opens (not n.is_declared))
+awaits_behind ConditionalWord.Iftrue others = Awaits.Condition true
+awaits_behind ConditionalWord.Iffalse others = Awaits.Condition false
+awaits_behind ConditionalWord.Ifnot others = Awaits.End Effect.Turns
+awaits_behind ConditionalWord.Endif others = Awaits.End Effect.Closes
 
 abbrev pub pending_of : Text → Pending
-pending_of (Sign place) = record { place = place; is_inner = false; awaits = awaits.Word }
-pending_of (Ended place) = record { place = place; is_inner = false; awaits = awaits.End effect.Nothing }
+pending_of (Sign place) = record { place = place; is_inner = false; awaits = Awaits.Word }
+pending_of (Ended place) = record { place = place; is_inner = false; awaits = Awaits.End Effect.Nothing }
 pending_of (Directive place is_inner w first others) = record { place = place; is_inner = is_inner; awaits = awaits_behind w others }
 
 abbrev pub pendings : List Text → List Pending
@@ -59,12 +48,12 @@ conditions_of (Directive place is_inner w first others ∷ texts) = with_conditi
 
 -- The tokens of each directive that is being read begin such a directive. A condition is read as far as it goes.
 abbrev pub IsFront : ConditionalWord → SourceToken → List Asked → Type 0
-IsFront word.Ifdef first others = name_form others ≡ Front
-IsFront word.Ifndef first others = name_form others ≡ Front
-IsFront word.Iftrue first others = is_some (condition_of first others) ≡ true
-IsFront word.Iffalse first others = is_some (condition_of first others) ≡ true
-IsFront word.Ifnot first others = end_form others ≡ Front
-IsFront word.Endif first others = end_form others ≡ Front
+IsFront ConditionalWord.Ifdef first others = name_form others ≡ Front
+IsFront ConditionalWord.Ifndef first others = name_form others ≡ Front
+IsFront ConditionalWord.Iftrue first others = is_some (condition_of first others) ≡ true
+IsFront ConditionalWord.Iffalse first others = is_some (condition_of first others) ≡ true
+IsFront ConditionalWord.Ifnot first others = end_form others ≡ Front
+IsFront ConditionalWord.Endif first others = end_form others ≡ Front
 
 abbrev pub AreFronts : List Text → Type 0
 AreFronts [] = Unit {0}
@@ -132,9 +121,9 @@ FewIn (Some side) = side.levels ≤ most_levels
 -- The things that are given of a token
 
 abbrev pub as_handed : Forwarded → SourceToken → List Given
-as_handed handed.Kept t = Kept t ∷ []
-as_handed handed.Unfit t = Unfit t ∷ []
-as_handed handed.Condition t = []
+as_handed Forwarded.Kept t = Kept t ∷ []
+as_handed Forwarded.Unfit t = Unfit t ∷ []
+as_handed Forwarded.Condition t = []
 
 abbrev pub sign_given : Option HandedSign → List Given
 sign_given None = []

@@ -1,13 +1,9 @@
 -- The tokens that sides keep, and the directives that have no conditional.
 use Rattle.std.specs.Prelude.{◌≡◌, ℕ, List, [], ◌∷◌, Bool, true, false, not, Some, None, unwrap_or}
-use Rattle.inf_scanner.specs.declared.tokens.Mark.TheVariants as mark
-use Rattle.inf_scanner.specs.declared.tokens.Place.{Place}
+use Rattle.inf_scanner.specs.{declared.tokens.Mark.Mark, declared.tokens.Place.Place}
 use Rattle.inf_output.specs.Output.{Out}
 use Rattle.inf_unit.specs.Tokens.{SourceToken, is_end, is_mark, keyword}
-use Rattle.inf_conditionals.specs.Condition.{Condition, verdict_of}
-use Rattle.inf_conditionals.specs.Words.{word_of}
-use Rattle.inf_conditionals.specs.declared.words.ConditionalWord.{ConditionalWord}
-use Rattle.inf_conditionals.specs.declared.words.ConditionalWord.TheVariants as word
+use Rattle.inf_conditionals.specs.{Condition.Condition, Condition.verdict_of, Words.word_of, declared.words.ConditionalWord.ConditionalWord}
 use Rattle.inf_conditional_sides.specs.Sides.{Asked, condition_of, first_stays, sides_behind}
 use Rattle.inf_conditional_sides.specs.Sides.{Ends, Kept, Lone, Side, Sides, all_stay, closes, giving, has_any, has_first, step, turned_over, turns}
 
@@ -22,9 +18,9 @@ with_sides sides = record { sides = sides; texts = []; sign = None }
 pub record SidesKeepTokens : Type 0 where
   pub cut : (is_between : Bool) (declared : ℕ) (o : Out) (t : SourceToken) (s : Sides) → all_stay s.sides ≡ false → is_end t.kind ≡ false
       → (step is_between declared o t s).given ≡ []
-  pub within : (declared : ℕ) (o : Out) (t : SourceToken) (sides : List Side) → all_stay sides ≡ true → is_mark mark.Hash t.kind ≡ false
+  pub within : (declared : ℕ) (o : Out) (t : SourceToken) (sides : List Side) → all_stay sides ≡ true → is_mark Mark.Hash t.kind ≡ false
       → step false declared o t (with_sides sides) ≡ giving (with_sides sides) (Kept t ∷ [])
-  pub front : (declared : ℕ) (o : Out) (t : SourceToken) (sides : List Side) → all_stay sides ≡ true → is_mark mark.Hash t.kind ≡ false
+  pub front : (declared : ℕ) (o : Out) (t : SourceToken) (sides : List Side) → all_stay sides ≡ true → is_mark Mark.Hash t.kind ≡ false
       → word_of (keyword t) ≡ None → step true declared o t (with_sides sides) ≡ giving (with_sides sides) (Kept t ∷ [])
   pub turned : (x : Side) → x.is_second ≡ false → turned_over x ≡ record x { is_second = true; stays = not x.stays }
   pub lone_turn : (place : Place) (s : Sides) → has_first s.sides ≡ false → turns place s ≡ giving s (Lone place ∷ Ends place ∷ [])
@@ -35,13 +31,13 @@ pub record SidesKeepTokens : Type 0 where
 -- `Endif` ends it (`words`); any other token leaves the sides as they are (`others`).
 pub record DirectivesChooseSides : Type 0 where
   pub ifdef : (declared : ℕ) (o : Out) (first : SourceToken) (name : Asked) (others : List Asked)
-      → first_stays word.Ifdef declared o first (name ∷ others) ≡ name.is_declared
+      → first_stays ConditionalWord.Ifdef declared o first (name ∷ others) ≡ name.is_declared
   pub ifndef : (declared : ℕ) (o : Out) (first : SourceToken) (name : Asked) (others : List Asked)
-      → first_stays word.Ifndef declared o first (name ∷ others) ≡ not name.is_declared
+      → first_stays ConditionalWord.Ifndef declared o first (name ∷ others) ≡ not name.is_declared
   pub iftrue : (declared : ℕ) (o : Out) (first : SourceToken) (others : List Asked) (k : Condition) → condition_of first others ≡ Some k
-      → first_stays word.Iftrue declared o first others ≡ (verdict_of declared o k).is_true
+      → first_stays ConditionalWord.Iftrue declared o first others ≡ (verdict_of declared o k).is_true
   pub iffalse : (declared : ℕ) (o : Out) (first : SourceToken) (others : List Asked) (k : Condition) → condition_of first others ≡ Some k
-      → first_stays word.Iffalse declared o first others ≡ not (verdict_of declared o k).is_true
+      → first_stays ConditionalWord.Iffalse declared o first others ≡ not (verdict_of declared o k).is_true
   pub words : (is_between : Bool) (declared : ℕ) (o : Out) (t : SourceToken) (w : ConditionalWord) (s : Sides) → all_stay s.sides ≡ false
       → is_end t.kind ≡ false → word_of (keyword t) ≡ Some w
       → (step is_between declared o t s).now.sides ≡ sides_behind w (unwrap_or s.sign t.place) s.sides

@@ -2,14 +2,9 @@
 use Rattle.std.specs.Prelude.{◌≡◌, ◌⊎◌, ℕ, List, [], ◌∷◌, Bool, true, false, None}
 use Rattle.inf_output.specs.Output.{Out}
 use Rattle.inf_unit.specs.Tokens.{SourceToken}
+use Rattle.inf_conditionals.specs.{Open.Conditions, declared.filtered.Filtered.Filtered, declared.filtered.Site.Site}
+use Rattle.inf_conditionals.specs.{declared.pending.Awaits.Awaits, declared.pending.Effect.Effect, declared.pending.Pending.Pending}
 use Rattle.inf_conditionals.specs.Judging.{Behind, judged}
-use Rattle.inf_conditionals.specs.Open.{Conditions}
-use Rattle.inf_conditionals.specs.declared.filtered.Filtered.{Filtered}
-use Rattle.inf_conditionals.specs.declared.filtered.Site.{Site}
-use Rattle.inf_conditionals.specs.declared.pending.Awaits.{Awaits}
-use Rattle.inf_conditionals.specs.declared.pending.Awaits.TheVariants as awaits
-use Rattle.inf_conditionals.specs.declared.pending.Effect.TheVariants as effect
-use Rattle.inf_conditionals.specs.declared.pending.Pending.{Pending}
 use Rattle.inf_conditional_sides.specs.Judged.{FewIn, is_settled, sign_given, token_given}
 
 -- A directive that opens a conditional between the other directives is read between them, and no other is read around it.
@@ -21,13 +16,13 @@ IsInside is_between others true = Unit {0}
 IsInside is_between others false = IsOutermost is_between others
 
 abbrev pub IsSeated : Bool → Awaits → Bool → List Pending → Type 0
-IsSeated is_between awaits.Word is_inner others = IsOutermost is_between others
-IsSeated is_between (awaits.Name if_declared) is_inner others = IsInside is_between others is_inner
-IsSeated is_between (awaits.Condition wanted) is_inner others = IsInside is_between others is_inner
-IsSeated is_between (awaits.End (effect.Opens is_kept)) is_inner others = IsInside is_between others is_inner
-IsSeated is_between (awaits.End effect.Turns) is_inner others = Unit {0}
-IsSeated is_between (awaits.End effect.Closes) is_inner others = Unit {0}
-IsSeated is_between (awaits.End effect.Nothing) is_inner others = Unit {0}
+IsSeated is_between Awaits.Word is_inner others = IsOutermost is_between others
+IsSeated is_between (Awaits.Name if_declared) is_inner others = IsInside is_between others is_inner
+IsSeated is_between (Awaits.Condition wanted) is_inner others = IsInside is_between others is_inner
+IsSeated is_between (Awaits.End (Effect.Opens is_kept)) is_inner others = IsInside is_between others is_inner
+IsSeated is_between (Awaits.End Effect.Turns) is_inner others = Unit {0}
+IsSeated is_between (Awaits.End Effect.Closes) is_inner others = Unit {0}
+IsSeated is_between (Awaits.End Effect.Nothing) is_inner others = Unit {0}
 
 abbrev pub AreSeated : Bool → List Pending → Type 0
 AreSeated is_between [] = Unit {0}

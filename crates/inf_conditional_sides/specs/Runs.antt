@@ -3,13 +3,10 @@
 use Rattle.std.specs.Prelude.{◌≡◌, ℕ, List, [], ◌∷◌, Bool, true, Option, Some, None, is_some}
 use Rattle.inf_output.specs.Output.{Out}
 use Rattle.inf_unit.specs.Tokens.{SourceToken}
-use Rattle.inf_conditionals.specs.Ends.{piece_ended as conditions_ended}
-use Rattle.inf_conditionals.specs.Judging.{Behind, judged}
-use Rattle.inf_conditionals.specs.Open.{Conditions, no_conditions}
-use Rattle.inf_conditionals.specs.declared.filtered.Site.{Site}
+use Rattle.inf_conditionals.specs.{Ends.piece_ended as conditions_ended, Judging.Behind, Judging.judged, Open.Conditions}
+use Rattle.inf_conditionals.specs.{Open.no_conditions, declared.filtered.Site.Site}
+use Rattle.inf_conditional_sides.specs.{Judged.given_of, Rests.HandsNone}
 use Rattle.inf_conditional_sides.specs.Sides.{Given, Sides, heard, no_sides, piece_ended, step}
-use Rattle.inf_conditional_sides.specs.Judged.{given_of}
-use Rattle.inf_conditional_sides.specs.Rests.{HandsNone}
 
 -- A token, where it comes and what is known there; and the number of names that are declared, where a directive ends behind it.
 pub record Event : Type 0 where

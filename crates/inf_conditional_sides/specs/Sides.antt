@@ -3,20 +3,15 @@
 -- a directive, or are one, is asked of the tokens themselves.
 use Rattle.std.specs.Prelude.{ℕ, suc, codes, nat_lt, ◌&&◌, List, [], ◌∷◌, ◌++◌, map, Bool, true, false, not, if◌then◌else◌, Option, Some}
 use Rattle.std.specs.Prelude.{None, unwrap_or}
-use Rattle.inf_scanner.specs.declared.tokens.Mark.TheVariants as mark
-use Rattle.inf_scanner.specs.declared.tokens.Place.{Place}
-use Rattle.inf_scanner.specs.declared.tokens.TokenKind.{TokenKind}
-use Rattle.inf_scanner.specs.declared.tokens.TokenKind.TheVariants as kind
+use Rattle.inf_scanner.specs.{declared.tokens.Mark.Mark, declared.tokens.Place.Place, declared.tokens.TokenKind.TokenKind}
 use Rattle.inf_machine.specs.Machine.{fits}
 use Rattle.inf_grammar.specs.Language.{grammar, known}
 use Rattle.inf_names.specs.Symbols.{declared_before}
 use Rattle.inf_output.specs.Output.{Out}
 use Rattle.inf_sources.specs.declared.open_file.Conditional.{Conditional}
 use Rattle.inf_unit.specs.Tokens.{SourceToken, atom_of, is_end, is_mark, keyword}
+use Rattle.inf_conditionals.specs.{Words.word_of, declared.words.ConditionalWord.ConditionalWord}
 use Rattle.inf_conditionals.specs.Condition.{Condition, condition_begun, condition_took, is_whole, verdict_of}
-use Rattle.inf_conditionals.specs.Words.{word_of}
-use Rattle.inf_conditionals.specs.declared.words.ConditionalWord.{ConditionalWord}
-use Rattle.inf_conditionals.specs.declared.words.ConditionalWord.TheVariants as word
 
 -- The side at hand of a conditional that is open: the place where the conditional begins, and whether it is inside another directive;
 -- whether the side is the second; and whether it stays.
@@ -67,7 +62,7 @@ giving s given = record { now = s; given = given }
 
 -- a `#` at a place, as a token
 abbrev pub hash : Place → SourceToken
-hash place = record { kind = kind.Mark mark.Hash; bytes = codes "#"; place = place; is_class = false }
+hash place = record { kind = TokenKind.Mark Mark.Hash; bytes = codes "#"; place = place; is_class = false }
 
 -- The forms that tokens have as a conditional directive
 
@@ -78,20 +73,20 @@ pub data Form : Type 0 where
   Whole : Form
 
 abbrev pub is_name : TokenKind → Bool
-is_name kind.Name = true
+is_name TokenKind.Name = true
 is_name _ = false
 
 -- the form of the tokens behind `Ifdef` and `Ifndef`: a name and a semicolon
 abbrev pub name_form : List Asked → Form
 name_form [] = Front
 name_form (n ∷ []) = if is_name n.token.kind then Front else Misfit
-name_form (n ∷ t ∷ []) = if is_mark mark.Semicolon t.token.kind && is_name n.token.kind then Whole else Misfit
+name_form (n ∷ t ∷ []) = if is_mark Mark.Semicolon t.token.kind && is_name n.token.kind then Whole else Misfit
 name_form _ = Misfit
 
 -- the form of the tokens behind `Ifnot` and `Endif`: a semicolon
 abbrev pub end_form : List Asked → Form
 end_form [] = Front
-end_form (t ∷ []) = if is_mark mark.Semicolon t.token.kind then Whole else Misfit
+end_form (t ∷ []) = if is_mark Mark.Semicolon t.token.kind then Whole else Misfit
 end_form _ = Misfit
 
 -- the condition as the grammar reads some tokens of its directive, if it reads them all
@@ -111,17 +106,17 @@ condition_of first others = condition_read (first ∷ tokens_in others) conditio
 
 -- the condition of a directive, if it has one
 abbrev pub condition_in : ConditionalWord → SourceToken → List Asked → Option Condition
-condition_in word.Iftrue first others = condition_of first others
-condition_in word.Iffalse first others = condition_of first others
+condition_in ConditionalWord.Iftrue first others = condition_of first others
+condition_in ConditionalWord.Iffalse first others = condition_of first others
 condition_in _ first others = None
 
 abbrev pub form_of : ConditionalWord → SourceToken → List Asked → Form
-form_of word.Ifdef first others = name_form others
-form_of word.Ifndef first others = name_form others
-form_of word.Iftrue first others = condition_form (condition_of first others)
-form_of word.Iffalse first others = condition_form (condition_of first others)
-form_of word.Ifnot first others = end_form others
-form_of word.Endif first others = end_form others
+form_of ConditionalWord.Ifdef first others = name_form others
+form_of ConditionalWord.Ifndef first others = name_form others
+form_of ConditionalWord.Iftrue first others = condition_form (condition_of first others)
+form_of ConditionalWord.Iffalse first others = condition_form (condition_of first others)
+form_of ConditionalWord.Ifnot first others = end_form others
+form_of ConditionalWord.Endif first others = end_form others
 
 -- The effects of a whole directive on the sides
 
@@ -136,10 +131,10 @@ condition_holds declared o None = false
 condition_holds declared o (Some k) = (verdict_of declared o k).is_true
 
 abbrev pub first_stays : ConditionalWord → ℕ → Out → SourceToken → List Asked → Bool
-first_stays word.Ifdef declared o first others = name_declared others
-first_stays word.Ifndef declared o first others = not (name_declared others)
-first_stays word.Iftrue declared o first others = condition_holds declared o (condition_of first others)
-first_stays word.Iffalse declared o first others = not (condition_holds declared o (condition_of first others))
+first_stays ConditionalWord.Ifdef declared o first others = name_declared others
+first_stays ConditionalWord.Ifndef declared o first others = not (name_declared others)
+first_stays ConditionalWord.Iftrue declared o first others = condition_holds declared o (condition_of first others)
+first_stays ConditionalWord.Iffalse declared o first others = not (condition_holds declared o (condition_of first others))
 first_stays _ declared o first others = false
 
 -- the sides with a new one before all that are open; one that is opened between the directives comes behind those inside of the directive
@@ -183,8 +178,8 @@ closes place s =
     if has_any s.sides then giving (record s { sides = closed s.sides }) (Ends place ∷ []) else giving s (Lone place ∷ Ends place ∷ [])
 
 abbrev pub acts : ConditionalWord → ℕ → Out → Place → Bool → SourceToken → List Asked → Sides → Step
-acts word.Ifnot declared o place is_inner first others s = turns place s
-acts word.Endif declared o place is_inner first others s = closes place s
+acts ConditionalWord.Ifnot declared o place is_inner first others s = turns place s
+acts ConditionalWord.Endif declared o place is_inner first others s = closes place s
 acts w declared o place is_inner first others s = opens place is_inner (first_stays w declared o first others) s
 
 -- A token of a side that stays
@@ -220,7 +215,7 @@ behind_front (Some w) t place s = begun w t place false s
 -- the result of one token more of the innermost directive, which is apart from the others
 abbrev pub offered_to : ℕ → Out → SourceToken → Text → Sides → Step
 offered_to declared o t (Sign place) s = behind_front (word_of (keyword t)) t place s
-offered_to declared o t (Ended place) s = if is_mark mark.Semicolon t.kind then giving s (Ends place ∷ []) else unfit t s
+offered_to declared o t (Ended place) s = if is_mark Mark.Semicolon t.kind then giving s (Ends place ∷ []) else unfit t s
 offered_to declared o t (Directive place is_inner w first others) s =
     let more = others ++ asked declared o t ∷ [] in read_as (form_of w first more) w declared o t place is_inner first more s
 
@@ -240,7 +235,7 @@ held false place s = record s { sign = Some place }
 
 abbrev pub offered : Bool → ℕ → Out → SourceToken → Sides → Step
 offered is_front declared o t s =
-    if is_mark mark.Hash t.kind then giving (held is_front t.place s) [] else offered_in s.texts is_front declared o t s
+    if is_mark Mark.Hash t.kind then giving (held is_front t.place s) [] else offered_in s.texts is_front declared o t s
 
 -- A `#` that waited, and begins no conditional directive, is kept where none is being read. It may be one of a condition, and fits
 -- nowhere else in a directive.
@@ -295,8 +290,8 @@ with_inside place sides =
     then record { place = place; is_inner = first_is_inner sides; is_second = false; stays = true } ∷ sides else sides
 
 abbrev pub sides_behind : ConditionalWord → Place → List Side → List Side
-sides_behind word.Ifnot place sides = turned sides
-sides_behind word.Endif place sides = closed sides
+sides_behind ConditionalWord.Ifnot place sides = turned sides
+sides_behind ConditionalWord.Endif place sides = closed sides
 sides_behind w place sides = with_inside place sides
 
 abbrev pub word_passed : Bool → Place → List Side → Sides → Sides
@@ -304,7 +299,7 @@ word_passed true place sides s = record s { sides = sides; sign = None; texts = 
 word_passed false place sides s = record s { sides = sides; sign = None }
 
 abbrev pub passed_over : Option ConditionalWord → SourceToken → Sides → Sides
-passed_over None t s = record s { sign = if is_mark mark.Hash t.kind then Some t.place else None }
+passed_over None t s = record s { sign = if is_mark Mark.Hash t.kind then Some t.place else None }
 passed_over (Some w) t s =
     let place = unwrap_or s.sign t.place in let sides = sides_behind w place s.sides in word_passed (all_stay sides) place sides s
 

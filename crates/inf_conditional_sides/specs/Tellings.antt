@@ -2,12 +2,8 @@
 use Rattle.std.specs.Prelude.{◌≡◌, true, None}
 use Rattle.inf_output.specs.Output.{Out}
 use Rattle.inf_unit.specs.Tokens.{SourceToken}
-use Rattle.inf_conditionals.specs.Judging.{judged}
-use Rattle.inf_conditionals.specs.Open.{Conditions}
-use Rattle.inf_conditionals.specs.declared.filtered.Site.{Site}
-use Rattle.inf_conditional_sides.specs.Judged.{Agree, FewIn, is_settled}
-use Rattle.inf_conditional_sides.specs.Sides.{Sides}
-use Rattle.inf_conditional_sides.specs.Told.{Told, told_of}
+use Rattle.inf_conditionals.specs.{Judging.judged, Open.Conditions, declared.filtered.Site.Site}
+use Rattle.inf_conditional_sides.specs.{Judged.Agree, Judged.FewIn, Judged.is_settled, Sides.Sides, Told.Told, Told.told_of}
 
 abbrev pub telling : Conditions → Told
 telling c = record { said = c.said; most_tokens = c.most_tokens }

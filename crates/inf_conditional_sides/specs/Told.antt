@@ -1,15 +1,11 @@
 -- The messages about conditions, by the sides that are open: a token is told of where all sides stay and the innermost directive that is
 -- being read has a condition, which goes on with it or is whole.
 use Rattle.std.specs.Prelude.{ℕ, max, List, [], ◌∷◌, ◌++◌, Bool, if◌then◌else◌, Option, Some, None}
-use Rattle.inf_scanner.specs.declared.tokens.Mark.TheVariants as mark
-use Rattle.inf_scanner.specs.declared.tokens.Place.{Place}
+use Rattle.inf_scanner.specs.{declared.tokens.Mark.Mark, declared.tokens.Place.Place}
 use Rattle.inf_output.specs.Output.{Out}
-use Rattle.inf_unit.specs.Tokens.{SourceToken, is_end, is_mark, keyword}
-use Rattle.inf_unit.specs.Units.{outer_tokens}
-use Rattle.inf_conditionals.specs.Condition.{Condition, is_whole, verdict_of}
-use Rattle.inf_conditionals.specs.Said.{Said, told_by, too_much}
-use Rattle.inf_conditionals.specs.Words.{word_of}
-use Rattle.inf_conditionals.specs.declared.words.ConditionalWord.{ConditionalWord}
+use Rattle.inf_unit.specs.{Tokens.SourceToken, Tokens.is_end, Tokens.is_mark, Tokens.keyword, Units.outer_tokens}
+use Rattle.inf_conditionals.specs.{Condition.Condition, Condition.is_whole, Condition.verdict_of, Said.Said, Said.told_by, Said.too_much}
+use Rattle.inf_conditionals.specs.{Words.word_of, declared.words.ConditionalWord.ConditionalWord}
 use Rattle.inf_conditional_sides.specs.Sides.{Directive, Ended, Sides, Sign, Text, all_stay, asked, condition_in, hash, sign_offered}
 
 -- The message about a condition, if there is one, and the most tokens that a condition had so far.
@@ -39,7 +35,7 @@ told_first longest declared o t [] before = before
 told_first longest declared o t (x ∷ texts) before = told_in longest declared o t x before
 
 abbrev pub token_told : ℕ → ℕ → Out → SourceToken → List Text → Told → Told
-token_told longest declared o t texts before = if is_mark mark.Hash t.kind then before else told_first longest declared o t texts before
+token_told longest declared o t texts before = if is_mark Mark.Hash t.kind then before else told_first longest declared o t texts before
 
 -- A `#` that waited may be one of a condition, which goes on behind it.
 abbrev pub behind_hash : ℕ → Place → Option Condition → Told → Told

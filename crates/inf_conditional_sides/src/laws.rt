@@ -1,10 +1,6 @@
 //! Laws of tokens: their results are the same by the sides that are open as by the conditionals of the compiler.
-ghost use Rattle.inf_conditional_sides.specs.Ends.{EndsAreToldBySides};
-ghost use Rattle.inf_conditional_sides.specs.Judged.{SidesAreJudged};
-ghost use Rattle.inf_conditional_sides.specs.Keeping.{DirectivesChooseSides, SidesKeepTokens};
-ghost use Rattle.inf_conditional_sides.specs.Rests.{TokensRest};
-ghost use Rattle.inf_conditional_sides.specs.Runs.{TokensGoBySides};
-ghost use Rattle.inf_conditional_sides.specs.Tellings.{ConditionsAreTold};
+ghost use Rattle.inf_conditional_sides.specs.{Ends.EndsAreToldBySides, Judged.SidesAreJudged, Keeping.DirectivesChooseSides};
+ghost use Rattle.inf_conditional_sides.specs.{Keeping.SidesKeepTokens, Rests.TokensRest, Runs.TokensGoBySides, Tellings.ConditionsAreTold};
 
 /// Shows that no side is open before the first token, as no conditional is. Where sides agree with the conditionals
 /// that are open, a token is handed on in the same way by both, and both report the same directives that have ended, or

@@ -1,31 +1,22 @@
 -- The end of a file is always handed on.
 use Rattle.std.proofs.Common.{◌≡◌, ℕ, List, [], ◌∷◌, Bool, true, false, cond, Option, Some, None, refl, ap}
-use Rattle.inf_scanner.specs.declared.tokens.Place.{Place}
-use Rattle.inf_scanner.specs.declared.tokens.TokenKind.TheVariants as kind
+use Rattle.inf_scanner.specs.{declared.tokens.Place.Place, declared.tokens.TokenKind.TokenKind}
 use Rattle.inf_output.specs.Output.{Out}
 use Rattle.inf_unit.specs.Tokens.{SourceToken}
-use Rattle.inf_conditionals.specs.Condition.{Condition, condition_took}
-use Rattle.inf_conditionals.specs.Judging.{asked, awaited, judged, judged_by, offered_condition, offered_to, sign_offered, unfit}
-use Rattle.inf_conditionals.specs.Judging.{went_on}
-use Rattle.inf_conditionals.specs.Open.{Conditions}
-use Rattle.inf_conditionals.specs.declared.filtered.Forwarded.{Forwarded}
-use Rattle.inf_conditionals.specs.declared.filtered.Forwarded.TheVariants as handed
-use Rattle.inf_conditionals.specs.declared.filtered.Filtered.{Filtered}
-use Rattle.inf_conditionals.specs.declared.filtered.Site.{Site}
-use Rattle.inf_conditionals.specs.declared.open.LeftOut.{LeftOut}
-use Rattle.inf_conditionals.specs.declared.pending.Awaits.{Awaits}
-use Rattle.inf_conditionals.specs.declared.pending.Awaits.TheVariants as awaits
-use Rattle.inf_conditionals.specs.declared.pending.Pending.{Pending}
+use Rattle.inf_conditionals.specs.{Condition.Condition, Condition.condition_took, Open.Conditions, declared.filtered.Filtered.Filtered}
+use Rattle.inf_conditionals.specs.{declared.filtered.Forwarded.Forwarded, declared.filtered.Site.Site, declared.open.LeftOut.LeftOut}
+use Rattle.inf_conditionals.specs.{declared.pending.Awaits.Awaits, declared.pending.Pending.Pending}
+use Rattle.inf_conditionals.specs.Judging.{asked, awaited, judged, judged_by, offered_condition, offered_to, sign_offered, unfit, went_on}
 use Rattle.inf_conditionals.proofs.Misfits.{end_fits_nothing}
 
 abbrev pub end_of : List ℕ → Place → Bool → SourceToken
-end_of bytes place named = record { kind = kind.End; bytes = bytes; place = place; is_class = named }
+end_of bytes place named = record { kind = TokenKind.End; bytes = bytes; place = place; is_class = named }
 
 -- Tells whether a token that is handed on in this way reaches the grammar.
 abbrev pub is_on : Forwarded → Bool
-is_on handed.Kept = true
-is_on handed.Unfit = true
-is_on handed.Condition = false
+is_on Forwarded.Kept = true
+is_on Forwarded.Unfit = true
+is_on Forwarded.Condition = false
 
 -- A token is handed on to the grammar, in some way.
 pub record IsForwarded (j : Filtered) : Type 0 where
@@ -33,11 +24,11 @@ pub record IsForwarded (j : Filtered) : Type 0 where
   pub is : j.token ≡ Some handed
   pub on : is_on handed ≡ true
 
-as_kept : (j : Filtered) → j.token ≡ Some handed.Kept → IsForwarded j
-as_kept j e = record { handed = handed.Kept; is = e; on = refl }
+as_kept : (j : Filtered) → j.token ≡ Some Forwarded.Kept → IsForwarded j
+as_kept j e = record { handed = Forwarded.Kept; is = e; on = refl }
 
-as_unfit : (j : Filtered) → j.token ≡ Some handed.Unfit → IsForwarded j
-as_unfit j e = record { handed = handed.Unfit; is = e; on = refl }
+as_unfit : (j : Filtered) → j.token ≡ Some Forwarded.Unfit → IsForwarded j
+as_unfit j e = record { handed = Forwarded.Unfit; is = e; on = refl }
 
 -- the end of a file fits no condition
 to_offered_condition : (wanted : Bool) (q : Site) (out : Out) (bytes : List ℕ) (place : Place) (named : Bool) (k : Condition) (p : Pending)
@@ -57,10 +48,10 @@ to_asked (k ∷ conditions) wanted q out bytes place named p c =
 
 to_awaited : (a : Awaits) (q : Site) (out : Out) (bytes : List ℕ) (place : Place) (named : Bool) (p : Pending) (c : Conditions) →
     IsForwarded (awaited a q out (end_of bytes place named) p c).judged
-to_awaited awaits.Word q out bytes place named p c = as_kept _ refl
-to_awaited (awaits.Name b) q out bytes place named p c = as_unfit _ refl
-to_awaited (awaits.Condition wanted) q out bytes place named p c = to_asked c.conditions wanted q out bytes place named p c
-to_awaited (awaits.End e) q out bytes place named p c = as_unfit _ refl
+to_awaited Awaits.Word q out bytes place named p c = as_kept _ refl
+to_awaited (Awaits.Name b) q out bytes place named p c = as_unfit _ refl
+to_awaited (Awaits.Condition wanted) q out bytes place named p c = to_asked c.conditions wanted q out bytes place named p c
+to_awaited (Awaits.End e) q out bytes place named p c = as_unfit _ refl
 
 to_offered : (ps : List Pending) (front : Bool) (q : Site) (out : Out) (bytes : List ℕ) (place : Place) (named : Bool) (c : Conditions) →
     IsForwarded (offered_to ps front q out (end_of bytes place named) c).judged

@@ -1,16 +1,10 @@
 -- A token that is faulty by itself, and the end of a source, fit nowhere: their atoms are of no class and begin no rule.
+use Rattle.std.proofs.{Math.Bool.and-false, lemmas.List.get_or_past}
 use Rattle.std.proofs.Common.{◌≡◌, ℕ, ◌≤◌, List, [], ◌∷◌, length, ◌&&◌, ◌||◌, Bool, true, false, refl, ap, ◌∙◌, arith, inl, inr, lit≤}
-use Rattle.std.proofs.Math.Bool.{and-false}
 use Rattle.std.proofs.lemmas.Bool.{agree_below, agree_below_at, cases_lt}
-use Rattle.std.proofs.lemmas.List.{get_or_past}
-use Rattle.inf_syntax.specs.declared.actions.Action.{Action}
-use Rattle.inf_machine.specs.declared.symbols.Symbol.{Symbol}
-use Rattle.inf_machine.specs.declared.symbols.Symbol.TheVariants.{Token, Rule, Act}
-use Rattle.inf_machine.specs.Grammar.{has}
-use Rattle.inf_syntax.specs.Classes.{classes}
-use Rattle.inf_grammar.specs.Facts.{beginnings}
-use Rattle.inf_grammar.specs.Language.{grammar, known}
-use Rattle.inf_machine.specs.Machine.{fits}
+use Rattle.inf_syntax.specs.{Classes.classes, declared.actions.Action.Action}
+use Rattle.inf_machine.specs.{Grammar.has, Machine.fits, declared.symbols.Symbol.Symbol}
+use Rattle.inf_grammar.specs.{Facts.beginnings, Language.grammar, Language.known}
 use Rattle.inf_unit.specs.Atoms.{bad_atom, end_atom}
 
 abbrev never : ℕ → Bool
@@ -67,9 +61,9 @@ out atom c r z = record {
 
 fits_nothing : (atom : ℕ) → IsOut atom → (symbols : List (Symbol Action)) → fits grammar known atom symbols ≡ false
 fits_nothing atom o [] = refl
-fits_nothing atom o (Token class ∷ symbols) = o.classes class
-fits_nothing atom o (Act a ∷ symbols) = fits_nothing atom o symbols
-fits_nothing atom o (Rule rule ∷ symbols) =
+fits_nothing atom o (Symbol.Token class ∷ symbols) = o.classes class
+fits_nothing atom o (Symbol.Act a ∷ symbols) = fits_nothing atom o symbols
+fits_nothing atom o (Symbol.Rule rule ∷ symbols) =
     ap (λ b. b || (known.is_empty rule && fits grammar known atom symbols)) (o.rules rule)
     ∙ ap (λ b. known.is_empty rule && b) (fits_nothing atom o symbols)
     ∙ and-false (known.is_empty rule)

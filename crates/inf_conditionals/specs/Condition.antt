@@ -1,24 +1,14 @@
 -- The condition of a conditional directive. The grammar reads the directive as it reads any other, from its word to its semicolon,
 -- by a machine of its own; at its end the condition is judged as a constant that has to be known.
 use Rattle.std.specs.Prelude.{ℕ, ◌==◌, List, [], ◌∷◌, map, Bool, true, false, not, Option, Some, None}
-use Rattle.inf_machine.specs.declared.symbols.Symbol.{Symbol}
-use Rattle.inf_machine.specs.declared.symbols.Symbol.TheVariants.{Rule}
-use Rattle.inf_machine.specs.Machine.{taken as read}
+use Rattle.inf_machine.specs.{Machine.taken as read, declared.symbols.Symbol.Symbol}
 use Rattle.inf_syntax.specs.declared.actions.Action.{Action}
 use Rattle.inf_grammar.specs.Language.{grammar, known}
-use Rattle.inf_expressions.specs.declared.findings.Finding.{Finding}
-use Rattle.inf_expressions.specs.declared.operators.Operand.{Operand}
-use Rattle.inf_expressions.specs.declared.operators.Operand.TheVariants.{Known}
-use Rattle.inf_expressions.specs.declared.units.Wanted.TheVariants.{Constant}
-use Rattle.inf_expressions.specs.Findings.{no_constant}
-use Rattle.inf_expressions.specs.Rooted.{Rooted}
-use Rattle.inf_expressions.specs.Trees.{Tree, Leaf}
-use Rattle.inf_expressions.specs.Units.{judged, trees_of}
+use Rattle.inf_expressions.specs.{Findings.no_constant, Rooted.Rooted, Trees.Leaf, Trees.Tree, Units.judged, Units.trees_of}
+use Rattle.inf_expressions.specs.{declared.findings.Finding.Finding, declared.operators.Operand.Operand, declared.units.Wanted.Wanted}
 use Rattle.inf_output.specs.Output.{Out}
-use Rattle.inf_unit.specs.Tokens.{SourceToken, atom_of}
-use Rattle.inf_unit.specs.Units.{Unit, acted, no_unit, taken}
-use Rattle.inf_conditionals.specs.Operands.{operands_of}
-use Rattle.inf_conditionals.specs.declared.condition.Verdict.{Verdict}
+use Rattle.inf_unit.specs.{Tokens.SourceToken, Tokens.atom_of, Units.Unit, Units.acted, Units.no_unit, Units.taken}
+use Rattle.inf_conditionals.specs.{Operands.operands_of, declared.condition.Verdict.Verdict}
 
 -- A condition: the rest of its directive that is still to be read, and the unit that was read.
 pub record Condition : Type 0 where
@@ -32,7 +22,7 @@ abbrev pub piece_rule : ℕ
 piece_rule = 1
 
 abbrev pub condition_begun : Condition
-condition_begun = record { stack = Rule piece_rule ∷ []; unit = no_unit }
+condition_begun = record { stack = Symbol.Rule piece_rule ∷ []; unit = no_unit }
 
 abbrev pub all_acted : List Action → Unit → Unit
 all_acted [] u = u
@@ -59,7 +49,7 @@ tree_in r = r.tree
 
 -- the known number that the first of some trees is, if it is one
 abbrev pub number_of : List Tree → Option ℕ
-number_of ((Leaf (Known number)) ∷ trees) = Some number
+number_of ((Leaf (Operand.Known number)) ∷ trees) = Some number
 number_of _ = None
 
 -- the finding about a condition, which is also that its number is not known
@@ -78,8 +68,8 @@ verdict_by number found = record { is_true = is_true_by number found; finding = 
 
 abbrev pub verdict_with : List Operand → Condition → Verdict
 verdict_with operands k =
-    verdict_by (number_of (map tree_in (trees_of Constant 0 operands k.unit.gathering.symbols)))
-    (judged Constant 0 operands k.unit.gathering.symbols)
+    verdict_by (number_of (map tree_in (trees_of Wanted.Constant 0 operands k.unit.gathering.symbols)))
+    (judged Wanted.Constant 0 operands k.unit.gathering.symbols)
 
 -- the verdict on a condition, where `declared` names were declared by the directives before
 abbrev pub verdict_of : ℕ → Out → Condition → Verdict

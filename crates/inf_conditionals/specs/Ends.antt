@@ -4,8 +4,7 @@ use Rattle.inf_scanner.specs.declared.tokens.Place.{Place}
 use Rattle.inf_report.specs.Messages.{LoneConditional}
 use Rattle.inf_unit.specs.Messages.{FileNames, Reported, location, with_error}
 use Rattle.inf_sources.specs.declared.open_file.Conditional.{Conditional}
-use Rattle.inf_conditionals.specs.declared.open.LeftOut.{LeftOut}
-use Rattle.inf_conditionals.specs.Open.{Conditions}
+use Rattle.inf_conditionals.specs.{Open.Conditions, declared.open.LeftOut.LeftOut}
 
 -- the messages with a conditional directive without its other end, which is reported where it begins
 abbrev pub with_lone : FileNames → Place → Reported → Reported

@@ -3,32 +3,17 @@
 -- does not fit is the bad token of the directive around it. In a side that is left out only the words of conditionals are looked at.
 use Rattle.std.specs.Prelude.{ℕ, codes, max, ◌&&◌, ◌||◌, ◌==◌, List, [], ◌∷◌, Bool, true, false, not, if◌then◌else◌, Option, Some, None}
 use Rattle.std.specs.Prelude.{is_none, unwrap_or}
-use Rattle.inf_scanner.specs.declared.tokens.Mark.TheVariants as mark
-use Rattle.inf_scanner.specs.declared.tokens.Place.{Place}
-use Rattle.inf_scanner.specs.declared.tokens.TokenKind.{TokenKind}
-use Rattle.inf_scanner.specs.declared.tokens.TokenKind.TheVariants as kind
+use Rattle.inf_scanner.specs.{declared.tokens.Mark.Mark, declared.tokens.Place.Place, declared.tokens.TokenKind.TokenKind}
 use Rattle.inf_machine.specs.Machine.{fits}
 use Rattle.inf_grammar.specs.Language.{grammar, known}
 use Rattle.inf_names.specs.Symbols.{declared_before}
 use Rattle.inf_output.specs.Output.{Out}
-use Rattle.inf_unit.specs.Tokens.{SourceToken, atom_of, is_end, is_mark, keyword}
-use Rattle.inf_unit.specs.Units.{outer_tokens}
-use Rattle.inf_conditionals.specs.declared.condition.Verdict.{Verdict}
-use Rattle.inf_conditionals.specs.declared.filtered.Forwarded.{Forwarded}
-use Rattle.inf_conditionals.specs.declared.filtered.Forwarded.TheVariants as handed
-use Rattle.inf_conditionals.specs.declared.filtered.Sign.{Sign}
-use Rattle.inf_conditionals.specs.declared.filtered.Filtered.{Filtered}
-use Rattle.inf_conditionals.specs.declared.filtered.Site.{Site}
-use Rattle.inf_conditionals.specs.declared.open.LeftOut.{LeftOut}
-use Rattle.inf_conditionals.specs.declared.pending.Awaits.{Awaits}
-use Rattle.inf_conditionals.specs.declared.pending.Awaits.TheVariants as awaits
-use Rattle.inf_conditionals.specs.declared.pending.Effect.{Effect}
-use Rattle.inf_conditionals.specs.declared.pending.Effect.TheVariants as effect
-use Rattle.inf_conditionals.specs.declared.pending.Pending.{Pending}
-use Rattle.inf_conditionals.specs.declared.words.ConditionalWord.{ConditionalWord}
+use Rattle.inf_unit.specs.{Tokens.SourceToken, Tokens.atom_of, Tokens.is_end, Tokens.is_mark, Tokens.keyword, Units.outer_tokens}
+use Rattle.inf_conditionals.specs.{Said.Said, Said.told_by, Said.too_much, Words.awaits_of, Words.word_of}
+use Rattle.inf_conditionals.specs.declared.{condition.Verdict.Verdict, filtered.Filtered.Filtered, filtered.Forwarded.Forwarded}
+use Rattle.inf_conditionals.specs.declared.{filtered.Sign.Sign, filtered.Site.Site, open.LeftOut.LeftOut, pending.Awaits.Awaits}
+use Rattle.inf_conditionals.specs.declared.{pending.Effect.Effect, pending.Pending.Pending, words.ConditionalWord.ConditionalWord}
 use Rattle.inf_conditionals.specs.Condition.{Condition, condition_begun, condition_took, is_whole, verdict_of}
-use Rattle.inf_conditionals.specs.Said.{Said, too_much, told_by}
-use Rattle.inf_conditionals.specs.Words.{awaits_of, word_of}
 use Rattle.inf_conditionals.specs.Open.{Conditions, closed, ended_by, ends_at, is_none_open, is_second, latest, levels_behind, opened}
 use Rattle.inf_conditionals.specs.Open.{turned}
 
@@ -46,11 +31,11 @@ passed c = record { now = c; judged = none_handed }
 
 -- the result of a token that is kept
 abbrev pub kept : Conditions → Behind
-kept c = record { now = c; judged = record none_handed { token = Some handed.Kept } }
+kept c = record { now = c; judged = record none_handed { token = Some Forwarded.Kept } }
 
 -- the result of a token that a condition takes
 abbrev pub taken : Conditions → Behind
-taken c = record { now = c; judged = record none_handed { token = Some handed.Condition } }
+taken c = record { now = c; judged = record none_handed { token = Some Forwarded.Condition } }
 
 -- the conditionals where the conditional directives that are being read are given up
 abbrev pub given_up : Conditions → Conditions
@@ -58,7 +43,7 @@ given_up c = record c { pending = []; conditions = [] }
 
 -- the result of a token that does not fit the conditional directives that are being read
 abbrev pub unfit : Conditions → Behind
-unfit c = record { now = given_up c; judged = record none_handed { token = Some handed.Unfit } }
+unfit c = record { now = given_up c; judged = record none_handed { token = Some Forwarded.Unfit } }
 
 -- The end of a conditional directive
 
@@ -76,10 +61,10 @@ abbrev pub closing : Bool → Place → Conditions → Behind
 closing is_quiet place c = if is_none_open (latest c) then unmatched is_quiet place c else passed (closed c)
 
 abbrev pub effected_by : Effect → Bool → Pending → Conditions → Behind
-effected_by (effect.Opens is_kept) is_quiet p c = passed (opened is_kept p c)
-effected_by effect.Turns is_quiet p c = turning is_quiet p.place c
-effected_by effect.Closes is_quiet p c = closing is_quiet p.place c
-effected_by effect.Nothing is_quiet p c = passed c
+effected_by (Effect.Opens is_kept) is_quiet p c = passed (opened is_kept p c)
+effected_by Effect.Turns is_quiet p c = turning is_quiet p.place c
+effected_by Effect.Closes is_quiet p c = closing is_quiet p.place c
+effected_by Effect.Nothing is_quiet p c = passed c
 
 -- the result where a directive ends: it is a unit that has ended, but among tokens that are passed over
 abbrev pub effected : Effect → Bool → Pending → Conditions → Behind
@@ -95,7 +80,7 @@ awaiting place is_inner a c = record c { pending = record { place = place; is_in
 
 -- the conditionals with one more directive that is being read and has a condition
 abbrev pub asking : Place → Bool → Bool → Condition → Conditions → Conditions
-asking place is_inner wanted k c = record (awaiting place is_inner (awaits.Condition wanted) c) { conditions = k ∷ c.conditions }
+asking place is_inner wanted k c = record (awaiting place is_inner (Awaits.Condition wanted) c) { conditions = k ∷ c.conditions }
 
 -- the result where a directive with a condition begins: its word is its first token for the grammar
 abbrev pub asked_first : Bool → SourceToken → Bool → Conditions → Behind
@@ -104,7 +89,7 @@ asked_first wanted word is_inner c =
     then passed (asking word.place is_inner wanted (condition_took word condition_begun) c) else unfit c
 
 abbrev pub begun_by : Awaits → SourceToken → Bool → Conditions → Behind
-begun_by (awaits.Condition wanted) t is_inner c = asked_first wanted t is_inner c
+begun_by (Awaits.Condition wanted) t is_inner c = asked_first wanted t is_inner c
 begun_by a t is_inner c = passed (awaiting t.place is_inner a c)
 
 -- the result where a directive begins with a word, at a place, inside another or not
@@ -116,8 +101,8 @@ abbrev pub behind_front : Option ConditionalWord → SourceToken → Pending →
 behind_front None t p c = record {
   now = c;
   judged = record none_handed {
-    sign = Some (record { place = p.place; handed = handed.Kept });
-    token = Some handed.Kept;
+    sign = Some (record { place = p.place; handed = Forwarded.Kept });
+    token = Some Forwarded.Kept;
   };
 }
 behind_front (Some word) t p c = begun word t p.place p.is_inner c
@@ -129,8 +114,8 @@ is_kept if_declared o declared bytes =
     if if_declared then declared_before bytes declared o.names else not (declared_before bytes declared o.names)
 
 abbrev pub named : TokenKind → List ℕ → Bool → Out → Pending → Conditions → Behind
-named kind.Name bytes if_declared o p c =
-    passed (awaiting p.place p.is_inner (awaits.End (effect.Opens (is_kept if_declared o c.declared bytes))) c)
+named TokenKind.Name bytes if_declared o p c =
+    passed (awaiting p.place p.is_inner (Awaits.End (Effect.Opens (is_kept if_declared o c.declared bytes))) c)
 named _ bytes if_declared o p c = unfit c
 
 -- A token of a condition
@@ -146,7 +131,7 @@ tokens_counted is_quiet k c = record c { most_tokens = if is_quiet then c.most_t
 -- the result where the condition is whole, by the verdict on it
 abbrev pub decided : Verdict → Bool → Bool → Condition → Pending → Conditions → Behind
 decided v wanted is_quiet k p c =
-    effected (effect.Opens (if wanted then v.is_true else not v.is_true)) is_quiet p (saying is_quiet (told_by p.place k v.finding) c)
+    effected (Effect.Opens (if wanted then v.is_true else not v.is_true)) is_quiet p (saying is_quiet (told_by p.place k v.finding) c)
 
 -- the result where the directive goes on behind a token of its condition
 abbrev pub asked_on : Bool → Site → SourceToken → Condition → Pending → Conditions → Behind
@@ -170,16 +155,16 @@ asked (k ∷ conditions) wanted site o t p c = offered_condition wanted site o t
 
 -- the result of a token for a directive that waits for this; the conditionals are those without it
 abbrev pub awaited : Awaits → Site → Out → SourceToken → Pending → Conditions → Behind
-awaited awaits.Word site o t p c = behind_front (word_of (keyword t)) t p c
-awaited (awaits.Name if_declared) site o t p c = named t.kind t.bytes if_declared o p c
-awaited (awaits.Condition wanted) site o t p c = asked c.conditions wanted site o t p c
-awaited (awaits.End e) site o t p c = if is_mark mark.Semicolon t.kind then effected e site.is_quiet p c else unfit c
+awaited Awaits.Word site o t p c = behind_front (word_of (keyword t)) t p c
+awaited (Awaits.Name if_declared) site o t p c = named t.kind t.bytes if_declared o p c
+awaited (Awaits.Condition wanted) site o t p c = asked c.conditions wanted site o t p c
+awaited (Awaits.End e) site o t p c = if is_mark Mark.Semicolon t.kind then effected e site.is_quiet p c else unfit c
 
 -- A token of a kept side
 
 -- the conditionals with a `#` that is held back
 abbrev pub held : Bool → Place → Conditions → Conditions
-held true place c = awaiting place false awaits.Word c
+held true place c = awaiting place false Awaits.Word c
 held false place c = record c { sign = Some place }
 
 -- the result of a token at the front of a piece
@@ -194,7 +179,7 @@ offered_to (p ∷ pending) is_front site o t c = awaited p.awaits site o t p (re
 
 abbrev pub offered : Bool → Site → Out → SourceToken → Conditions → Behind
 offered is_front site o t c =
-    if is_mark mark.Hash t.kind then passed (held is_front t.place c) else offered_to c.pending is_front site o t c
+    if is_mark Mark.Hash t.kind then passed (held is_front t.place c) else offered_to c.pending is_front site o t c
 
 abbrev pub is_none_pending : List Pending → Bool
 is_none_pending [] = true
@@ -202,7 +187,7 @@ is_none_pending (p ∷ pending) = false
 
 -- a `#` at a place, as a token
 abbrev pub hash : Place → SourceToken
-hash place = record { kind = kind.Mark mark.Hash; bytes = codes "#"; place = place; is_class = false }
+hash place = record { kind = TokenKind.Mark Mark.Hash; bytes = codes "#"; place = place; is_class = false }
 
 -- The condition of the innermost directive takes a `#` that fits, and goes on behind it: no directive ends with a `#`.
 abbrev pub sign_asked : List Condition → Bool → Place → Site → Pending → Conditions → Behind
@@ -215,7 +200,7 @@ sign_asked (k ∷ conditions) wanted place site p c =
 -- A `#` that was held back inside a directive, and has no word of a conditional behind it, is kept where no conditional directive is
 -- being read. It may belong to the condition of the innermost one; it fits no other part of one.
 abbrev pub sign_awaited : Awaits → Place → Site → Pending → Conditions → Behind
-sign_awaited (awaits.Condition wanted) place site p c = sign_asked c.conditions wanted place site p c
+sign_awaited (Awaits.Condition wanted) place site p c = sign_asked c.conditions wanted place site p c
 sign_awaited _ place site p c = unfit c
 
 abbrev pub sign_offered : List Pending → Place → Site → Conditions → Behind
@@ -240,11 +225,11 @@ behind_sign None place site o t c =
 abbrev pub word_passed : ConditionalWord → Place → LeftOut → Conditions → Conditions
 word_passed word place side c =
     if (side.levels == 0) && ends_at word (is_second (latest c))
-    then awaiting (unwrap_or c.sign place) false (awaits.End effect.Nothing) (record (ended_by word c) { left_out = None; sign = None })
+    then awaiting (unwrap_or c.sign place) false (Awaits.End Effect.Nothing) (record (ended_by word c) { left_out = None; sign = None })
     else record c { left_out = Some (record side { levels = levels_behind word side.levels }); sign = None }
 
 abbrev pub passed_by : Option ConditionalWord → SourceToken → LeftOut → Conditions → Conditions
-passed_by None t side c = record c { sign = if is_mark mark.Hash t.kind then Some t.place else None }
+passed_by None t side c = record c { sign = if is_mark Mark.Hash t.kind then Some t.place else None }
 passed_by (Some word) t side c = word_passed word t.place side c
 
 -- the result of a token in a side that is left out: at the end of the file nothing is left out any more
@@ -267,7 +252,7 @@ judged site o t c = judged_by c.left_out c.sign site o t c
 
 -- Tells whether the word of this directive has acted already.
 abbrev pub has_acted : Awaits → Bool
-has_acted (awaits.End effect.Nothing) = true
+has_acted (Awaits.End Effect.Nothing) = true
 has_acted _ = false
 
 -- Tells whether the word that was taken last ended a side.

@@ -1,13 +1,9 @@
 -- The conditionals that are open.
 use Rattle.std.specs.Prelude.{ℕ, ◌-◌, ◌+◌, List, [], ◌∷◌, drop, min, Bool, true, false, not, if◌then◌else◌, Option, Some, None}
 use Rattle.inf_scanner.specs.declared.tokens.Place.{Place}
-use Rattle.inf_conditionals.specs.Condition.{Condition}
-use Rattle.inf_conditionals.specs.Said.{Said}
+use Rattle.inf_conditionals.specs.{Condition.Condition, Said.Said, declared.open.LeftOut.LeftOut, declared.pending.Pending.Pending}
+use Rattle.inf_conditionals.specs.{declared.words.ConditionalWord.ConditionalWord}
 use Rattle.inf_sources.specs.declared.open_file.Conditional.{Conditional}
-use Rattle.inf_conditionals.specs.declared.open.LeftOut.{LeftOut}
-use Rattle.inf_conditionals.specs.declared.pending.Pending.{Pending}
-use Rattle.inf_conditionals.specs.declared.words.ConditionalWord.{ConditionalWord}
-use Rattle.inf_conditionals.specs.declared.words.ConditionalWord.TheVariants as word
 
 -- The conditionals of the file that is read that were opened between its directives, and those that were opened inside the directive at
 -- hand, the latest first; the conditional directives that are being read, the inner ones first, and the conditions of those that have
@@ -95,17 +91,17 @@ most_levels = 4294967295
 
 -- the number of levels that are open in a side that is left out, behind a word
 abbrev pub levels_behind : ConditionalWord → ℕ → ℕ
-levels_behind word.Endif n = n - 1
-levels_behind word.Ifnot n = n
+levels_behind ConditionalWord.Endif n = n - 1
+levels_behind ConditionalWord.Ifnot n = n
 levels_behind _ n = min (n + 1) most_levels
 
 -- Tells whether a word ends a side that is left out, at its own level.
 abbrev pub ends_at : ConditionalWord → Bool → Bool
-ends_at word.Endif is_second = true
-ends_at word.Ifnot is_second = not is_second
+ends_at ConditionalWord.Endif is_second = true
+ends_at ConditionalWord.Ifnot is_second = not is_second
 ends_at _ is_second = false
 
 -- the conditionals behind a word that ends a side, which acts at once
 abbrev pub ended_by : ConditionalWord → Conditions → Conditions
-ended_by word.Endif c = closed c
+ended_by ConditionalWord.Endif c = closed c
 ended_by _ c = turned c

@@ -1,24 +1,18 @@
 -- The operands of a condition's names: those names have values that were declared by the directives before its own.
 use Rattle.std.specs.Prelude.{ℕ, List, [], ◌∷◌, ◌++◌, false, if◌then◌else◌, Option, Some, None}
 use Rattle.inf_settings.specs.Bounds.{Limits}
-use Rattle.inf_area.specs.declared.targets.Target.TheVariants as target
-use Rattle.inf_area.specs.declared.scale.Scale.{Scale}
+use Rattle.inf_area.specs.{declared.scale.Scale.Scale, declared.targets.Target.Target}
 use Rattle.inf_scanner.specs.declared.tokens.Place.{Place}
 use Rattle.inf_expressions.specs.declared.operators.Operand.{Operand}
-use Rattle.inf_expressions.specs.declared.operators.Operand.TheVariants as operand
 use Rattle.inf_gathering.specs.declared.gathering.Leaf.{Leaf}
-use Rattle.inf_gathering.specs.declared.gathering.Leaf.TheVariants as leaf
-use Rattle.inf_names.specs.Symbols.{Table, declared_before, found_in, no_names}
-use Rattle.inf_output.specs.Actions.{action_of}
-use Rattle.inf_output.specs.Output.{Code, Out}
+use Rattle.inf_names.specs.{Spellings.Name, Symbols.Table, Symbols.declared_before, Symbols.found_in, Symbols.no_names}
+use Rattle.inf_output.specs.{Actions.action_of, Output.Code, Output.Out}
 use Rattle.inf_operands.specs.Operands.{found_operand, looked_action, system_operand}
-use Rattle.inf_names.specs.Spellings.{Name}
-use Rattle.inf_unit.specs.Tokens.{SourceToken}
-use Rattle.inf_unit.specs.Units.{bytes_at, name_at}
+use Rattle.inf_unit.specs.{Tokens.SourceToken, Units.bytes_at, Units.name_at}
 
 -- the operand of every other name, which is known later: no code asks for its number
 abbrev pub later : Operand
-later = operand.Later (target.Name 0)
+later = Operand.Later (Target.Name 0)
 
 -- the operand of a name, where `declared` names were declared by the directives before
 abbrev pub name_operand : ℕ → Table Place → List ℕ → Operand
@@ -31,18 +25,18 @@ bytes_of (Some n) = n.bytes
 
 -- the operand of a leaf that is no action, in a story of a version
 abbrev pub leaf_operand : ℕ → Table Place → Scale → List SourceToken → Leaf → Operand
-leaf_operand declared names scale tokens (leaf.Name at) = name_operand declared names (bytes_of (name_at tokens at))
-leaf_operand declared names scale tokens (leaf.Alone at) = name_operand declared names (bytes_of (name_at tokens at))
-leaf_operand declared names scale tokens (leaf.Number number) = operand.Known number
-leaf_operand declared names scale tokens (leaf.Char zscii) = operand.Known zscii
-leaf_operand declared names scale tokens (leaf.Word word) = later
-leaf_operand declared names scale tokens (leaf.Text at) = later
-leaf_operand declared names scale tokens (leaf.Action at) = operand.Unknown
-leaf_operand declared names scale tokens (leaf.System at) = system_operand (bytes_at tokens at) scale
+leaf_operand declared names scale tokens (Leaf.Name at) = name_operand declared names (bytes_of (name_at tokens at))
+leaf_operand declared names scale tokens (Leaf.Alone at) = name_operand declared names (bytes_of (name_at tokens at))
+leaf_operand declared names scale tokens (Leaf.Number number) = Operand.Known number
+leaf_operand declared names scale tokens (Leaf.Char zscii) = Operand.Known zscii
+leaf_operand declared names scale tokens (Leaf.Word word) = later
+leaf_operand declared names scale tokens (Leaf.Text at) = later
+leaf_operand declared names scale tokens (Leaf.Action at) = Operand.Unknown
+leaf_operand declared names scale tokens (Leaf.System at) = system_operand (bytes_at tokens at) scale
 
 -- the operand of a leaf: an action has its number, and one that did not appear is the next, behind new ones of its condition
 abbrev pub operand_behind : ℕ → Out → List SourceToken → Leaf → Table Place → Table Place × Operand
-operand_behind declared o tokens (leaf.Action at) ahead = looked_action (name_at tokens at) o ahead
+operand_behind declared o tokens (Leaf.Action at) ahead = looked_action (name_at tokens at) o ahead
 operand_behind declared o tokens l ahead = (ahead, leaf_operand declared o.names o.code.scale tokens l)
 
 -- the operands of leaves, behind others
@@ -60,7 +54,7 @@ appeared_by limits None o = o
 appeared_by limits (Some n) o = (action_of limits n.bytes n.place o).0
 
 abbrev pub action_added : Limits → List SourceToken → Leaf → Code
-action_added limits tokens (leaf.Action at) o = appeared_by limits (name_at tokens at) o
+action_added limits tokens (Leaf.Action at) o = appeared_by limits (name_at tokens at) o
 action_added limits tokens _ o = o
 
 abbrev pub actions_added : Limits → List SourceToken → List Leaf → Code

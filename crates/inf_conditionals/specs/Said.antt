@@ -1,19 +1,14 @@
 -- The messages about a condition.
 use Rattle.std.specs.Prelude.{ℕ, List, [], nat_lt, slice_get, ◌&&◌, if◌then◌else◌, Option, Some, None}
-use Rattle.inf_settings.specs.Bounds.{Limits}
+use Rattle.inf_settings.specs.{Bounds.Limits, declared.setting.Setting.Setting}
 use Rattle.inf_gathering.specs.declared.gathering.Leaf.{Leaf}
 use Rattle.inf_output.specs.Output.{Code}
-use Rattle.inf_scanner.specs.declared.tokens.Mark.TheVariants as mark
-use Rattle.inf_scanner.specs.declared.tokens.Place.{Place}
-use Rattle.inf_settings.specs.declared.setting.Setting.TheVariants.{ExpressionNodes}
-use Rattle.inf_expressions.specs.declared.findings.Finding.{Finding}
-use Rattle.inf_expressions.specs.declared.findings.UnitError.{UnitError}
+use Rattle.inf_scanner.specs.{declared.tokens.Mark.Mark, declared.tokens.Place.Place}
+use Rattle.inf_expressions.specs.{declared.findings.Finding.Finding, declared.findings.UnitError.UnitError}
 use Rattle.inf_report.specs.Messages.{DeepNesting, End, Exceeded}
+use Rattle.inf_unit.specs.{Tokens.SourceToken, Tokens.is_mark, Tokens.told, Units.long_at}
 use Rattle.inf_unit.specs.Messages.{Diagnostic, FileNames, Reported, location, message_of, with_error, with_fatal}
-use Rattle.inf_unit.specs.Tokens.{SourceToken, is_mark, told}
-use Rattle.inf_unit.specs.Units.{long_at}
-use Rattle.inf_conditionals.specs.Condition.{Condition}
-use Rattle.inf_conditionals.specs.Operands.{actions_added}
+use Rattle.inf_conditionals.specs.{Condition.Condition, Operands.actions_added}
 
 -- The judgement of a condition: it is right, and the actions of its leaves appear; or it has an error, and its directive begins at a
 -- place; or it has too many tokens, of which the first is at a place; or a bracket is too deep in others.
@@ -27,7 +22,7 @@ abbrev pub with_said : FileNames → Option Said → Reported → Reported
 with_said files None r = r
 with_said files (Some (Right tokens leaves)) r = r
 with_said files (Some (Wrong directive b)) r = with_error (location files b.place) (location files directive) b.message r
-with_said files (Some (Long place)) r = with_fatal (location files place) (Exceeded ExpressionNodes) r
+with_said files (Some (Long place)) r = with_fatal (location files place) (Exceeded Setting.ExpressionNodes) r
 with_said files (Some (Deep place)) r = with_fatal (location files place) DeepNesting r
 
 -- the output with the actions of a condition that is right
@@ -62,7 +57,7 @@ abbrev pub most_nested : ℕ
 most_nested = 64
 
 abbrev pub too_deep : SourceToken → ℕ → Option Said
-too_deep t depth = if is_mark mark.OpenParenthesis t.kind && nat_lt most_nested depth then Some (Deep t.place) else None
+too_deep t depth = if is_mark Mark.OpenParenthesis t.kind && nat_lt most_nested depth then Some (Deep t.place) else None
 
 abbrev pub too_much_by : Option Place → SourceToken → ℕ → Option Said
 too_much_by (Some place) t depth = Some (Long place)

@@ -23,10 +23,8 @@ fn hash(place: Place) -> SourceToken<'static>
 }
 
 impl Conditionals {
+    ghost use Rattle.inf_conditionals.specs.{Condition.verdict_of, Meant.condition as condition_of, Meant.said_of, Said.told_by};
     ghost use Rattle.inf_conditionals.specs.Judging.{asked, asked_first, asked_on, asking, decided, saying, sign_asked, tokens_counted};
-    ghost use Rattle.inf_conditionals.specs.Condition.{verdict_of};
-    ghost use Rattle.inf_conditionals.specs.Meant.{condition as condition_of, said_of};
-    ghost use Rattle.inf_conditionals.specs.Said.{told_by};
 
     /// Begins a conditional directive with a condition, by its word.
     pub(crate) fn begin_asking(

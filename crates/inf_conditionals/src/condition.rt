@@ -6,9 +6,7 @@ ghost use Rattle.inf_conditionals.specs.Meant.{condition};
 ghost use Rattle.inf_expressions.specs.Forests.{trees_in};
 ghost use Rattle.inf_grammar.specs.Language.{grammar, known};
 ghost use Rattle.inf_machine.specs.Machine.{fits};
-ghost use Rattle.inf_unit.specs.AtHand.{unit as unit_of};
-ghost use Rattle.inf_unit.specs.Spelled.{spelled};
-ghost use Rattle.inf_unit.specs.Tokens.{atom_of};
+ghost use Rattle.inf_unit.specs.{AtHand.unit as unit_of, Spelled.spelled, Tokens.atom_of};
 
 use crate::operands::operands_of;
 use inf_area::Value;

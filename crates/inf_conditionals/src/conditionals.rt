@@ -1,9 +1,7 @@
 //! The conditionals of the file that is read.
 ghost use Rattle.std.specs.Prelude.{◌≡◌, ◌≤◌, [], length, IfOk, OnOk, IsErr, IsSome, is_none, reverse, true};
-ghost use Rattle.inf_conditionals.specs.Judging.{sign_handed};
-ghost use Rattle.inf_conditionals.specs.Words.{word_of};
-ghost use Rattle.inf_unit.specs.Tokens.{keyword};
-ghost use Rattle.inf_unit.specs.Spelled.{spelled};
+ghost use Rattle.inf_conditionals.specs.{Judging.sign_handed, Words.word_of};
+ghost use Rattle.inf_unit.specs.{Spelled.spelled, Tokens.keyword};
 
 use crate::condition::Condition;
 use crate::ends::tell_all;
@@ -52,8 +50,7 @@ pub struct Conditionals {
 
 impl Model for Conditionals {
     ghost use Rattle.std.specs.Prelude.{map, option_map, reverse};
-    ghost use Rattle.inf_conditionals.specs.Meant.{condition, said_of};
-    ghost use Rattle.inf_conditionals.specs.Open.{Conditions};
+    ghost use Rattle.inf_conditionals.specs.{Meant.condition, Meant.said_of, Open.Conditions};
 
     ghost Value = { Conditions };
 
@@ -85,8 +82,7 @@ impl Conditionals {
     ghost use Rattle.inf_conditionals.specs.Judging.{awaited, awaiting, begun, behind_front, behind_sign, held, in_side, is_behind_side};
     ghost use Rattle.inf_conditionals.specs.Judging.{is_none_pending, judged, kept, may_part, offered, sign_offered, unfit, word_passed};
     ghost use Rattle.inf_output.specs.Output.{Out};
-    ghost use Rattle.inf_conditionals.specs.Open.{no_conditions, silent};
-    ghost use Rattle.inf_conditionals.specs.Said.{with_right, with_said};
+    ghost use Rattle.inf_conditionals.specs.{Open.no_conditions, Open.silent, Said.with_right, Said.with_said};
 
     /// Returns the conditionals of a source of which none was read. Memory is taken only when one is read.
     pub fn new(alloc: Global) -> Conditionals

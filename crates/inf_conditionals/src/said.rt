@@ -1,7 +1,6 @@
 //! The messages about a condition.
 ghost use Rattle.std.specs.Prelude.{◌≡◌, OnOk, None, Some, if◌then◌else◌, option_map};
-ghost use Rattle.inf_unit.specs.Diagnostics.{blamed};
-ghost use Rattle.inf_unit.specs.Spelled.{spelled};
+ghost use Rattle.inf_unit.specs.{Diagnostics.blamed, Spelled.spelled};
 ghost use Rattle.inf_conditionals.specs.Meant.{condition as condition_of, said_of};
 ghost use Rattle.inf_conditionals.specs.Said.{blame_of, too_deep, too_much, with_right, with_said};
 

@@ -1,7 +1,6 @@
 //! The words of conditional directives.
 ghost use Rattle.std.specs.Prelude.{◌≡◌};
-ghost use Rattle.inf_conditionals.specs.Open.{ends_at, levels_behind};
-ghost use Rattle.inf_conditionals.specs.Words.{awaits_of, word_of};
+ghost use Rattle.inf_conditionals.specs.{Open.ends_at, Open.levels_behind, Words.awaits_of, Words.word_of};
 
 use crate::pending::{Awaits, Effect};
 use inf_syntax::Keyword;

@@ -1,16 +1,11 @@
 -- The map of the code has the labels of the definitions' list.
 use Rattle.std.proofs.Common.{◌≡◌, ◌<◌, ◌+◌, ℕ, suc, zero, Bool, true, false, cond, List, [], ◌∷◌, drop, length, map, Option, None, Some}
-use Rattle.std.proofs.Common.{refl, sym, ap, ◌∙◌, arith}
-use Rattle.std.specs.Prelude.{option_map, slice_get}
-use Rattle.std.specs.Borrow.{Bor}
-use Rattle.std.specs.Option.{option_copied}
-use Rattle.std.specs.Map.{lookup}
-use Rattle.std.specs.Str.{bytes_eq}
+use Rattle.std.proofs.Common.{refl, sym, ap, ◌∙◌, arith, option_copied, bytes_eq, option_map, slice_get}
+use Rattle.std.specs.{Borrow.Bor, Map.lookup}
 use Rattle.arrayvec.specs.declared.array_vec.ArrayVec.{ArrayVec}
 use Rattle.indexmap.specs.IndexMap.{insert_entry}
-use Rattle.inf_constructs.specs.Entries.{as_named, known}
+use Rattle.inf_constructs.specs.{Entries.as_named, Entries.known, declared.labels.Entry.Entry}
 use Rattle.inf_constructs.specs.Labels.{NamedLabel, known_at, known_of, missing, missing_at, put}
-use Rattle.inf_constructs.specs.declared.labels.Entry.{Entry}
 
 abbrev pub Key : Type 0
 Key = ArrayVec ℕ 32 Unit

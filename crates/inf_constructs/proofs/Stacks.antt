@@ -1,11 +1,9 @@
 -- A stack, the last first.
-use Rattle.std.proofs.Common.{◌≡◌, ℕ, zero, suc, ◌-◌, ◌<◌, List, [], ◌∷◌, ◌++◌, ap, arith}
-use Rattle.std.specs.Prelude.{reverse}
+use Rattle.std.proofs.Common.{◌≡◌, ℕ, zero, suc, ◌-◌, ◌<◌, List, [], ◌∷◌, ◌++◌, ap, arith, reverse}
 use Rattle.std.proofs.lemmas.List.{reverse-append}
 use Rattle.inf_settings.specs.Bounds.{Limits}
 use Rattle.inf_output.specs.Output.{Out}
-use Rattle.inf_constructs.specs.Constructs.{all_ended, ended}
-use Rattle.inf_constructs.specs.declared.constructs.Construct.{Construct}
+use Rattle.inf_constructs.specs.{Constructs.all_ended, Constructs.ended, declared.constructs.Construct.Construct}
 
 pub reversed : {A : Type 0} (items : List A) (last : A) → reverse (items ++ last ∷ []) ≡ last ∷ reverse items
 reversed items last = reverse-append items (last ∷ [])

@@ -1,15 +1,11 @@
 -- The tests of a case. Designer's Manual, fourth edition, section 1.8.
 use Rattle.std.specs.Prelude.{ℕ, nat_lt, Bool, true, false, List, [], ◌∷◌, ◌++◌, length, Option, Some, None, if◌then◌else◌}
 use Rattle.inf_settings.specs.Bounds.{Limits}
-use Rattle.inf_opcode.specs.declared.instructions.Label.{Label}
-use Rattle.inf_opcode.specs.declared.opcodes.Opcode.TheVariants as opcode
-use Rattle.inf_expressions.specs.Questions.{range_of}
-use Rattle.inf_expressions.specs.Trees.{Tree}
+use Rattle.inf_opcode.specs.{declared.instructions.Label.Label, declared.opcodes.Opcode.Opcode}
+use Rattle.inf_expressions.specs.{Questions.range_of, Trees.Tree}
 use Rattle.inf_output.specs.declared.operands.Simple.{Simple}
-use Rattle.inf_output.specs.declared.operands.Simple.TheVariants.{Variable}
 use Rattle.inf_output.specs.Output.{Code, instruction, marked, nothing, to, with_label, ◌▸◌}
-use Rattle.inf_templates.specs.Meaning.{meaning}
-use Rattle.inf_templates.specs.Parts.{operand_by}
+use Rattle.inf_templates.specs.{Meaning.meaning, Parts.operand_by}
 
 -- the variable that holds the value of a `switch`
 abbrev pub SWITCHED : ℕ
@@ -22,20 +18,20 @@ operand_in limits t = operand_by (meaning limits t).operand
 -- a test of a group of up to three values, as a branch to `label` where its truth is `sense`
 unfoldable pub group_tested : Limits → List Simple → Bool → Label → Code
 group_tested limits [] sense label = nothing
-group_tested limits (a ∷ others) sense label = instruction limits opcode.Je (Variable SWITCHED ∷ a ∷ others) None (to sense label)
+group_tested limits (a ∷ others) sense label = instruction limits Opcode.Je (Simple.Variable SWITCHED ∷ a ∷ others) None (to sense label)
 
 -- A range: the last value of a case branches to the next case where it fails, and another value to the body of the case
 -- where it holds.
 abbrev pub beside : Limits → Simple → Simple → Label → Code
 beside limits a b next =
-    instruction limits opcode.Jl (Variable SWITCHED ∷ a ∷ []) None (to true next)
-    ▸ instruction limits opcode.Jg (Variable SWITCHED ∷ b ∷ []) None (to true next)
+    instruction limits Opcode.Jl (Simple.Variable SWITCHED ∷ a ∷ []) None (to true next)
+    ▸ instruction limits Opcode.Jg (Simple.Variable SWITCHED ∷ b ∷ []) None (to true next)
 
 abbrev pub within : Limits → Simple → Simple → Label → Code
 within limits a b here =
     with_label (λ beyond.
-    instruction limits opcode.Jl (Variable SWITCHED ∷ a ∷ []) None (to true beyond)
-    ▸ instruction limits opcode.Jg (Variable SWITCHED ∷ b ∷ []) None (to false here)
+    instruction limits Opcode.Jl (Simple.Variable SWITCHED ∷ a ∷ []) None (to true beyond)
+    ▸ instruction limits Opcode.Jg (Simple.Variable SWITCHED ∷ b ∷ []) None (to false here)
     ▸ marked limits beyond)
 
 unfoldable pub range_tested : Limits → Bool → Simple → Simple → Label → Label → Code

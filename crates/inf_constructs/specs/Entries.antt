@@ -1,8 +1,7 @@
 -- The labels with names, by the entries of the code's map.
 use Rattle.std.specs.Prelude.{ℕ}
 use Rattle.arrayvec.specs.declared.array_vec.ArrayVec.{ArrayVec}
-use Rattle.inf_constructs.specs.Labels.{Known, NamedLabel}
-use Rattle.inf_constructs.specs.declared.labels.Entry.{Entry}
+use Rattle.inf_constructs.specs.{Labels.Known, Labels.NamedLabel, declared.labels.Entry.Entry}
 
 abbrev pub known : Entry → Known
 known e = record { spelling = e.spelling.items; label = e.label; is_given = e.is_given }

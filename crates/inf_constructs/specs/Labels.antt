@@ -1,6 +1,5 @@
 -- The labels of a routine that have names.
-use Rattle.std.specs.Prelude.{ℕ, zero, suc, List, [], ◌∷◌, Bool, true, false, if◌then◌else◌, Option, Some, None}
-use Rattle.std.specs.Str.{bytes_eq}
+use Rattle.std.specs.Prelude.{ℕ, zero, suc, List, [], ◌∷◌, Bool, true, false, if◌then◌else◌, Option, Some, None, bytes_eq}
 use Rattle.inf_names.specs.Symbols.{folded}
 use Rattle.inf_opcode.specs.declared.instructions.Label.{Label}
 

@@ -1,9 +1,6 @@
 -- The trees of a unit.
 use Rattle.std.specs.Prelude.{List, map}
-use Rattle.inf_expressions.specs.declared.trees.Root.{Root}
-use Rattle.inf_expressions.specs.Nodes.{rooted_at}
-use Rattle.inf_expressions.specs.Rooted.{Rooted}
-use Rattle.inf_expressions.specs.Trees.{Tree}
+use Rattle.inf_expressions.specs.{Nodes.rooted_at, Rooted.Rooted, Trees.Tree, declared.trees.Root.Root}
 
 -- the trees of a unit, by their places among its nodes
 abbrev pub tree_in : Rooted → Tree

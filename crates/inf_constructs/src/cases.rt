@@ -1,8 +1,6 @@
 //! The tests of a case.
 ghost use Rattle.std.specs.Prelude.{◌≡◌, ◌≤◌, [], List, OnOk, length, map, option_map};
-ghost use Rattle.inf_expressions.specs.Forests.{trees_in};
-ghost use Rattle.inf_expressions.specs.Nodes.{tree_at, trees_at};
-ghost use Rattle.inf_expressions.specs.Trees.{Tree};
+ghost use Rattle.inf_expressions.specs.{Forests.trees_in, Nodes.tree_at, Nodes.trees_at, Trees.Tree};
 ghost use Rattle.inf_constructs.specs.Cases.{beside, case_code, case_tested, group_tested, grouped, is_empty, laid_before, operand_in};
 ghost use Rattle.inf_constructs.specs.Cases.{range_tested, value_grouped, value_laid, within};
 ghost use Rattle.inf_constructs.specs.Roots.{tree_in, trees_from};

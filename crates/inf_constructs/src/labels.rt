@@ -28,8 +28,7 @@ pub struct Labels {
 
 impl Model for Labels {
     ghost use Rattle.std.specs.Prelude.{List, map};
-    ghost use Rattle.inf_constructs.specs.Labels.{NamedLabel};
-    ghost use Rattle.inf_constructs.specs.Entries.{as_named};
+    ghost use Rattle.inf_constructs.specs.{Entries.as_named, Labels.NamedLabel};
 
     ghost Value = { List NamedLabel };
 

@@ -1,7 +1,6 @@
 //! The code of loops over objects.
 ghost use Rattle.std.specs.Prelude.{◌≡◌, IfOk, OnOk};
-ghost use Rattle.inf_expressions.specs.Nodes.{tree_at};
-ghost use Rattle.inf_expressions.specs.Questions.{children_of};
+ghost use Rattle.inf_expressions.specs.{Nodes.tree_at, Questions.children_of};
 ghost use Rattle.inf_templates.specs.Tasks.{at};
 ghost use Rattle.inf_constructs.specs.Constructs.{looped_by, looped_on, over_all, over_children, tested_over};
 

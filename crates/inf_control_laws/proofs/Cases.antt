@@ -3,43 +3,28 @@ use Rattle.std.proofs.Common.{◌≡◌, ℕ, List, [], ◌∷◌, ◌++◌, Opt
 use Rattle.std.proofs.lemmas.List.{map-append}
 use Rattle.std.specs.Prelude.{map, not, ◌==◌, ◌&&◌, ◌||◌, if◌then◌else◌}
 use Rattle.inf_settings.specs.Bounds.{Limits}
-use Rattle.inf_opcode.specs.declared.instructions.Label.{Label}
-use Rattle.inf_opcode.specs.declared.opcodes.Opcode.{Opcode}
-use Rattle.inf_opcode.specs.declared.opcodes.Opcode.TheVariants as opcode
-use Rattle.inf_opcode.specs.Instructions.{Parts}
-use Rattle.inf_expressions.specs.declared.operators.Binary.TheVariants as binary
-use Rattle.inf_expressions.specs.declared.operators.Operand.{Operand}
-use Rattle.inf_expressions.specs.Numbers.{same}
+use Rattle.inf_opcode.specs.{Instructions.Parts, declared.instructions.Label.Label, declared.opcodes.Opcode.Opcode}
+use Rattle.inf_expressions.specs.{Numbers.same, declared.operators.Binary.Binary, declared.operators.Operand.Operand}
 use Rattle.inf_expressions.specs.Trees.{Tree, Leaf, Two}
-use Rattle.inf_output.specs.declared.items.Item.TheVariants.{Instruction}
-use Rattle.inf_output.specs.declared.operands.Simple.TheVariants.{Variable}
-use Rattle.inf_output.specs.Operands.{written}
-use Rattle.inf_output.specs.Output as output
+use Rattle.inf_output.specs.{Operands.written, declared.items.Item.Item, declared.operands.Simple.Simple}
 use Rattle.inf_output.specs.Output.{Out, instruction, marked, nothing, to, ◌▸◌}
+use Rattle.inf_output.specs.Output as output
 use Rattle.inf_templates.specs.Parts.{simple}
+use Rattle.inf_constructs.specs.{declared.constructs.Case.Case, declared.constructs.Construct.Construct, declared.constructs.Kind.Kind}
 use Rattle.inf_constructs.specs.Cases.{SWITCHED, beside, case_code, case_tested, group_tested, grouped, is_open, range_tested}
 use Rattle.inf_constructs.specs.Cases.{value_grouped, value_laid, within}
 use Rattle.inf_constructs.specs.Constructs.{break_of, case_closed, case_entered, continue_of, entered, entered_by, found_or, left_to}
 use Rattle.inf_constructs.specs.Constructs.{next_case}
-use Rattle.inf_constructs.specs.declared.constructs.Case.{Case}
-use Rattle.inf_constructs.specs.declared.constructs.Case.TheVariants as case
-use Rattle.inf_constructs.specs.declared.constructs.Construct.{Construct}
-use Rattle.inf_constructs.specs.declared.constructs.Kind.{Kind}
-use Rattle.inf_constructs.specs.declared.constructs.Kind.TheVariants as kind
 use Rattle.inf_interpreter.specs.Machine.{World, Store, State, Place, ◌then◌, acted, action_of, and_first, branched, first_is_any, is_any}
 use Rattle.inf_interpreter.specs.Machine.{less, operand_values, test_of_two}
-use Rattle.inf_interpreter.specs.Machine as machine
 use Rattle.inf_interpreter.specs.Claims.{Claim, Comes, state}
+use Rattle.inf_interpreter.specs.Machine as machine
 use Rattle.inf_interpreter.proofs.Laying.{Always, Marks, Then, instruction_, instruction_of, labelled, marked_, nothing_, so, then_}
 use Rattle.inf_interpreter.proofs.Running.{comes_then, here, none_some, not_kept, opened, same_some, stepping}
-use Rattle.inf_meaning_laws.specs.Laws.{Branches}
-use Rattle.inf_meaning_laws.specs.Values.{read}
-use Rattle.inf_meaning_laws.proofs.Instructions.{begun, goes, mark_comes, moved}
-use Rattle.inf_meaning_laws.proofs.Working.{looked_up}
-use Rattle.inf_control_laws.specs.Carrying.{CaseBegins}
-use Rattle.inf_control_laws.specs.Cases.{AreValues, case_truth, is_one_of, is_value, is_within}
-use Rattle.inf_control_laws.specs.Parts.{EndsCase, TestsCase, case_in}
-use Rattle.inf_control_laws.specs.Runs.{Exits, LaysNone, exits}
+use Rattle.inf_meaning_laws.specs.{Laws.Branches, Values.read}
+use Rattle.inf_meaning_laws.proofs.{Instructions.begun, Instructions.goes, Instructions.mark_comes, Instructions.moved, Working.looked_up}
+use Rattle.inf_control_laws.specs.{Carrying.CaseBegins, Cases.AreValues, Cases.case_truth, Cases.is_one_of, Cases.is_value, Cases.is_within}
+use Rattle.inf_control_laws.specs.{Parts.EndsCase, Parts.TestsCase, Parts.case_in, Runs.Exits, Runs.LaysNone, Runs.exits}
 use Rattle.inf_control_laws.proofs.Laying.{lays_code, lays_then, none_alike, none_then, then_none}
 use Rattle.inf_control_laws.proofs.Walking.{ends_case}
 
@@ -101,7 +86,7 @@ turned false p q = refl
 
 -- Jumps that compare the value with constants
 switched_values : (w : World) (xs : List Operand) (now : State) (ns : List ℕ) → reads w xs now.store ≡ Some ns →
-    operand_values w (map written (Variable SWITCHED ∷ map simple xs)) now ≡ Some (now.store.variables SWITCHED ∷ ns, now)
+    operand_values w (map written (Simple.Variable SWITCHED ∷ map simple xs)) now ≡ Some (now.store.variables SWITCHED ∷ ns, now)
 switched_values w xs now ns e = ap (and_first (now.store.variables SWITCHED)) (all_read w xs now ns e)
 
 abbrev Jumps : World → List Operand → Bool → Label → Claim
@@ -114,12 +99,12 @@ group_jumps : (w : World) (limits : Limits) (x : Operand) (xs : List Operand) (s
 unfolding group_tested
 group_jumps w limits x xs sense label =
     so (λ at from rest place now ns e.
-    let all = Variable SWITCHED ∷ map simple (x ∷ xs) in
+    let all = Simple.Variable SWITCHED ∷ map simple (x ∷ xs) in
     let there = same (is_any (now.store.variables SWITCHED) ns) sense in
-    stepping w at (instruction_of opcode.Je all None (to sense label)) from rest now (if there then at label else rest, now) place
+    stepping w at (instruction_of Opcode.Je all None (to sense label)) from rest now (if there then at label else rest, now) place
     (ap (λ k. k then λ p. first_is_any p.0 then λ b. branched (to sense label) b at rest p.1) (switched_values w (x ∷ xs) now ns e)
     ∙ goes there label at rest now))
-    (instruction_ limits opcode.Je (Variable SWITCHED ∷ map simple (x ∷ xs)) None (to sense label))
+    (instruction_ limits Opcode.Je (Simple.Variable SWITCHED ∷ map simple (x ∷ xs)) None (to sense label))
 
 -- The numbers of an open group lead to the body.
 abbrev LeadsTo : World → List Operand → Label → Claim
@@ -147,23 +132,23 @@ Compares w f x sense label at from rest =
 
 range_jumps : (w : World) (limits : Limits) (op : Opcode) (f : ℕ → ℕ → Bool) → action_of w op ≡ machine.Tests (λ s. test_of_two f) →
     (x : Operand) (sense : Bool) (label : Label) →
-    Always w (instruction limits op (Variable SWITCHED ∷ simple x ∷ []) None (to sense label)) (Compares w f x sense label)
+    Always w (instruction limits op (Simple.Variable SWITCHED ∷ simple x ∷ []) None (to sense label)) (Compares w f x sense label)
 range_jumps w limits op f act x sense label =
     so (λ at from rest place now m e.
     let item : Parts = record {
       opcode = op;
-      operands = map written (Variable SWITCHED ∷ simple x ∷ []);
+      operands = map written (Simple.Variable SWITCHED ∷ simple x ∷ []);
       store = None;
       branch = to sense label;
       text = [];
     } in
     let there = same (f (now.store.variables SWITCHED) m) sense in
-    stepping w at (Instruction item) from rest now (if there then at label else rest, now) place
+    stepping w at (Item.Instruction item) from rest now (if there then at label else rest, now) place
     (ap (λ a. acted w at a item rest now) act
     ∙ ap (λ k. k then λ p. test_of_two f p.0 then λ b. branched (to sense label) b at rest p.1) (switched_values w (x ∷ []) now (m ∷ [])
     (one_read w x now.store m e))
     ∙ goes there label at rest now))
-    (instruction_ limits op (Variable SWITCHED ∷ simple x ∷ []) None (to sense label))
+    (instruction_ limits op (Simple.Variable SWITCHED ∷ simple x ∷ []) None (to sense label))
 
 -- Both ends decide, and lead to a label where the number is in the range or where it is not.
 abbrev Ranges : World → Operand → Operand → (Bool → (Label → Place) → Place → Place) → Claim
@@ -184,8 +169,8 @@ beside_tests w limits x y next =
     so (λ at from rest p now m k e f.
     let n = now.store.variables SWITCHED in
     beside_by w at from p.0 rest next now (less n m) (less k n) (p.1 now m e) (p.2 now k f))
-    (then_ (range_jumps w limits opcode.Jl (λ a b. less a b) refl x true next)
-    (range_jumps w limits opcode.Jg (λ a b. less b a) refl y true next))
+    (then_ (range_jumps w limits Opcode.Jl (λ a b. less a b) refl x true next)
+    (range_jumps w limits Opcode.Jg (λ a b. less b a) refl y true next))
 
 within_by : (w : World) (at : Label → Place) (from m l rest : Place) (beyond body : Label) (now : State) (a b : Bool) →
     Comes w at from now (if same a true then at beyond else m) now → Comes w at m now (if same b false then at body else l) now →
@@ -200,8 +185,8 @@ within_tests w limits x y body =
     labelled λ beyond. so (λ at from rest p now m k e f.
     let n = now.store.variables SWITCHED in
     within_by w at from p.0 p.2.0 rest beyond body now (less n m) (less k n) (p.1 now m e) (p.2.1 now k f) p.2.2)
-    (then_ (range_jumps w limits opcode.Jl (λ a b. less a b) refl x true beyond)
-    (then_ (range_jumps w limits opcode.Jg (λ a b. less b a) refl y false body) (marked_ limits beyond)))
+    (then_ (range_jumps w limits Opcode.Jl (λ a b. less a b) refl x true beyond)
+    (then_ (range_jumps w limits Opcode.Jg (λ a b. less b a) refl y false body) (marked_ limits beyond)))
 
 -- All values: an open group and the values behind it lead to the next case where none of them is the one that is kept. Where neither is
 -- there, the last value has decided.
@@ -290,7 +275,7 @@ constant_tested w limits y trees xs body next false on =
 
 -- A range ends the group that is open. The last one leads to the next case, and another one to the body.
 abbrev range_tree : Operand → Operand → Tree
-range_tree x y = Two binary.To (Leaf x) (Leaf y)
+range_tree x y = Two Binary.To (Leaf x) (Leaf y)
 
 range_opened : (w : World) (x y : Operand) (trees : List Tree) (n : ℕ) (s : Store) (c : Bool) →
     is_one_of w (range_tree x y ∷ trees) n s ≡ Some c →
@@ -358,9 +343,9 @@ all_tested w limits [] h (x ∷ xs) body next =
     (then_ (group_jumps w limits x xs false next) (marked_ limits body))
 all_tested w limits ((Leaf y) ∷ trees) h xs body next =
     constant_tested w limits y trees xs body next (is_open (map simple xs)) (λ ys. all_tested w limits trees h.1 ys body next)
-all_tested w limits ((Two binary.To (Leaf x) (Leaf y)) ∷ []) h xs body next =
+all_tested w limits ((Two Binary.To (Leaf x) (Leaf y)) ∷ []) h xs body next =
     last_range w limits x y xs body next (all_tested w limits [] tt [] body next)
-all_tested w limits ((Two binary.To (Leaf x) (Leaf y)) ∷ t ∷ trees) h xs body next =
+all_tested w limits ((Two Binary.To (Leaf x) (Leaf y)) ∷ t ∷ trees) h xs body next =
     other_range w limits x y t trees xs body next (all_tested w limits (t ∷ trees) h.1 [] body next)
 all_tested w limits (t ∷ trees) h xs body next = absurd h.0
 
@@ -379,7 +364,7 @@ case_tests w limits (t ∷ trees) h next =
     ))
     (all_tested w limits (t ∷ trees) h [] body next)
 
-default_tests : (w : World) (trees : List Tree) → Always w nothing (TestsCase w (case_truth w true trees) case.Default)
+default_tests : (w : World) (trees : List Tree) → Always w nothing (TestsCase w (case_truth w true trees) Case.Default)
 default_tests w trees =
     so (λ at from rest place stack temp s b t e. (
       temp,
@@ -395,23 +380,23 @@ exits_by k c around = record {
   continues = found_or (continue_of c k) (left_to true around);
 }
 
-switch_exits : (c : Construct) (around : List Construct) (old : Case) (had_default : Bool) → c.kind ≡ kind.Switch old had_default →
+switch_exits : (c : Construct) (around : List Construct) (old : Case) (had_default : Bool) → c.kind ≡ Kind.Switch old had_default →
     exits (c ∷ around) ≡ record { breaks = Some c.end; continues = left_to true around }
 switch_exits c around old had_default which = ap (λ k. exits_by k c around) which
 
 case_enters : (w : World) (limits : Limits) (is_default : Bool) (trees : List Tree) → AreValues trees → (c : Construct)
-    (around : List Construct) (old : Case) (had_default : Bool) → c.kind ≡ kind.Switch old had_default → (before o : Out) →
+    (around : List Construct) (old : Case) (had_default : Bool) → c.kind ≡ Kind.Switch old had_default → (before o : Out) →
     let e = case_entered limits false is_default old had_default c before in
     LaysNone e.1 o →
     CaseBegins w (case_truth w is_default trees) (c ∷ around) (e.0 ∷ around) before (case_code limits (next_case (e.0 ∷ around)) trees o)
 unfolding case_code
 case_enters w limits true trees h c around old had_default which before o still =
     let E = EndsCase old c.end in
-    let T = TestsCase w (case_truth w true trees) case.Default in
+    let T = TestsCase w (case_truth w true trees) Case.Default in
     let ends = lays_code w (case_closed limits old c.end) E (ends_case w limits old c.end) before in
     let closed = case_closed limits old c.end before in record {
       old = old;
-      new = case.Default;
+      new = Case.Default;
       end = c.end;
       was = ap case_in which;
       is = refl;
@@ -423,12 +408,12 @@ case_enters w limits false trees h c around old had_default which before o still
     let next : Label = record { number = before.next } in
     let handed = record before { next = output.behind before.next } in
     let E = EndsCase old c.end in
-    let T = TestsCase w (case_truth w false trees) (case.Values next) in
+    let T = TestsCase w (case_truth w false trees) (Case.Values next) in
     let ends = lays_code w (case_closed limits old c.end) E (ends_case w limits old c.end) handed in
     let closed = case_closed limits old c.end handed in
     let now = case_tested limits trees next o in record {
       old = old;
-      new = case.Values next;
+      new = Case.Values next;
       end = c.end;
       was = ap case_in which;
       is = refl;
@@ -441,13 +426,13 @@ case_enters w limits false trees h c around old had_default which before o still
     }
 
 entered_is : (limits : Limits) (is_default : Bool) (c : Construct) (old : Case) (had_default : Bool) →
-    c.kind ≡ kind.Switch old had_default → (before : Out) →
+    c.kind ≡ Kind.Switch old had_default → (before : Out) →
     entered limits is_default c before ≡ case_entered limits false is_default old had_default c before
 unfolding entered
 entered_is limits is_default c old had_default which before = ap (λ k. entered_by limits k is_default c before) which
 
 pub case_begins : (w : World) (limits : Limits) (is_default : Bool) (trees : List Tree) → AreValues trees → (c : Construct)
-    (around : List Construct) (old : Case) (had_default : Bool) → c.kind ≡ kind.Switch old had_default → (before o : Out) →
+    (around : List Construct) (old : Case) (had_default : Bool) → c.kind ≡ Kind.Switch old had_default → (before o : Out) →
     let e = entered limits is_default c before in
     LaysNone e.1 o →
     CaseBegins w (case_truth w is_default trees) (c ∷ around) (e.0 ∷ around) before (case_code limits (next_case (e.0 ∷ around)) trees o)

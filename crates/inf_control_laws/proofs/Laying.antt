@@ -2,14 +2,10 @@
 use Rattle.std.proofs.Common.{◌≡◌, List, [], ◌∷◌, ◌++◌, Option, None, refl, sym, subst, append_assoc, append-nil}
 use Rattle.inf_settings.specs.Bounds.{Limits}
 use Rattle.inf_opcode.specs.declared.instructions.Label.{Label}
-use Rattle.inf_output.specs.declared.items.Item.{Item}
-use Rattle.inf_output.specs.Output.{Code, Out, items_of, laid, laid_all}
-use Rattle.inf_interpreter.specs.Machine.{World, Place}
-use Rattle.inf_interpreter.specs.Claims.{Claim, Laid}
-use Rattle.inf_interpreter.specs.Supplied.{NamesStay}
+use Rattle.inf_output.specs.{Output.Code, Output.Out, Output.items_of, Output.laid, Output.laid_all, declared.items.Item.Item}
+use Rattle.inf_interpreter.specs.{Claims.Claim, Claims.Laid, Machine.Place, Machine.World, Supplied.NamesStay}
 use Rattle.inf_interpreter.proofs.Naming.{names_equal, names_then, supplies_before}
-use Rattle.inf_interpreter.proofs.Laying.{Always, Then, code_none, item_laid, item_names, kept_none, laid_then, stands_back}
-use Rattle.inf_interpreter.proofs.Laying.{stands_front}
+use Rattle.inf_interpreter.proofs.Laying.{Always, Then, code_none, item_laid, item_names, kept_none, laid_then, stands_back, stands_front}
 use Rattle.inf_control_laws.specs.Runs.{KeepsApart, Lays, LaysNone}
 
 pub lays_code : (w : World) (c : Code) (P : Claim) → Always w c P → (o : Out) → Lays w P o (c o)

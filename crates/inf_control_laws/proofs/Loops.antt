@@ -3,54 +3,33 @@ use Rattle.std.proofs.Common.{◌≡◌, ℕ, List, [], ◌∷◌, Option, Some,
 use Rattle.std.proofs.lemmas.Bool.{eq-eqb}
 use Rattle.std.specs.Prelude.{map, not, ◌==◌, ◌||◌, ◌+◌, ◌%◌, if◌then◌else◌}
 use Rattle.inf_settings.specs.Bounds.{Limits}
-use Rattle.inf_area.specs.declared.targets.SystemConstant.TheVariants as constant
-use Rattle.inf_area.specs.declared.targets.Target.{Target}
-use Rattle.inf_area.specs.declared.targets.Target.TheVariants as target
-use Rattle.inf_opcode.specs.declared.instructions.Label.{Label}
-use Rattle.inf_opcode.specs.declared.opcodes.Opcode.{Opcode}
-use Rattle.inf_opcode.specs.declared.opcodes.Opcode.TheVariants as opcode
-use Rattle.inf_opcode.specs.Instructions.{Parts}
-use Rattle.inf_expressions.specs.declared.operators.Binary.{Binary}
-use Rattle.inf_expressions.specs.declared.operators.Binary.TheVariants as binary
-use Rattle.inf_expressions.specs.declared.operators.Direction.{Direction}
-use Rattle.inf_expressions.specs.declared.operators.Direction.TheVariants as step
-use Rattle.inf_expressions.specs.declared.operators.Operand.TheVariants as operand
-use Rattle.inf_expressions.specs.declared.operators.Single.TheVariants as single
-use Rattle.inf_expressions.specs.declared.operators.Test.TheVariants as test
-use Rattle.inf_expressions.specs.declared.operators.Unary.{Unary}
-use Rattle.inf_expressions.specs.declared.operators.Unary.TheVariants as unary
-use Rattle.inf_expressions.specs.Numbers.{same}
-use Rattle.inf_expressions.specs.Questions.{children_of, is_list}
-use Rattle.inf_expressions.specs.Rooted.{Rooted}
+use Rattle.inf_area.specs.{declared.targets.SystemConstant.SystemConstant, declared.targets.Target.Target}
+use Rattle.inf_opcode.specs.{Instructions.Parts, declared.instructions.Label.Label, declared.opcodes.Opcode.Opcode}
+use Rattle.inf_expressions.specs.{Numbers.same, Questions.children_of, Questions.is_list, Rooted.Rooted, declared.operators.Binary.Binary}
+use Rattle.inf_expressions.specs.{declared.operators.Direction.Direction, declared.operators.Operand.Operand}
+use Rattle.inf_expressions.specs.{declared.operators.Single.Single, declared.operators.Test.Test, declared.operators.Unary.Unary}
 use Rattle.inf_expressions.specs.Trees.{Tree, Leaf, One, Two}
-use Rattle.inf_output.specs.declared.items.Item.TheVariants.{Instruction}
-use Rattle.inf_output.specs.declared.operands.Simple.TheVariants.{Known, Later}
-use Rattle.inf_output.specs.Operands.{written}
+use Rattle.inf_output.specs.{Operands.written, declared.items.Item.Item, declared.operands.Simple.Simple}
 use Rattle.inf_output.specs.Output.{Out, naming, to}
-use Rattle.inf_templates.specs.Parts.{SP, operands, worked}
-use Rattle.inf_templates.specs.Meaning.{Meaning, meaning, part}
+use Rattle.inf_templates.specs.{Meaning.Meaning, Meaning.meaning, Meaning.part, Parts.SP, Parts.operands, Parts.worked}
+use Rattle.inf_constructs.specs.{declared.constructs.Construct.Construct, declared.constructs.Over.Over}
 use Rattle.inf_constructs.specs.Constructs.{looped, looped_by, over_all, over_children, tested_over}
-use Rattle.inf_constructs.specs.declared.constructs.Construct.{Construct}
-use Rattle.inf_constructs.specs.declared.constructs.Over.TheVariants as over
 use Rattle.inf_interpreter.specs.Machine.{World, Store, State, Place, ◌then◌, acted, action_of, given, less, put_in, with_top}
 use Rattle.inf_interpreter.specs.Machine.{with_variable}
-use Rattle.inf_interpreter.specs.Machine as machine
 use Rattle.inf_interpreter.specs.Claims.{Comes, state}
+use Rattle.inf_interpreter.specs.Machine as machine
 use Rattle.inf_interpreter.proofs.Laying.{Always, instruction_, marked_, naming_, naming_of, nothing_, so, then_}
 use Rattle.inf_interpreter.proofs.Running.{comes_then, here, none_some, not_kept, opened, same_some, stepping}
-use Rattle.inf_meaning_laws.specs.Covered.{Covered}
-use Rattle.inf_meaning_laws.specs.Laws.{Branches}
+use Rattle.inf_meaning_laws.specs.{Covered.Covered, Laws.Branches}
 use Rattle.inf_meaning_laws.specs.Values.{Aim, Arg, Bytes, Element, Named, Nowhere, Properties, Sense, Words, answer, arg, is_own, nobody}
 use Rattle.inf_meaning_laws.specs.Values.{sense, truth_of}
 use Rattle.inf_meaning_laws.specs.Values as values
 use Rattle.inf_meaning_laws.proofs.Expressions.{branches_are_taken, values_are_computed}
 use Rattle.inf_meaning_laws.proofs.Instructions.{given_is, goes, moved, named_is, same_not}
 use Rattle.inf_meaning_laws.proofs.Working.{IsPart, leaf_simple, looks}
+use Rattle.inf_control_laws.specs.{Parts.BeginsLoop, Runs.LaysNone}
 use Rattle.inf_control_laws.specs.Loops.{LoopBegins, first_by, holds_by, in_variable, loop_variable, next_by}
-use Rattle.inf_control_laws.specs.Parts.{BeginsLoop}
-use Rattle.inf_control_laws.specs.Runs.{LaysNone}
-use Rattle.inf_control_laws.proofs.Laying.{lays_code, none_then}
-use Rattle.inf_control_laws.proofs.Plain.{one_operand, two_operand}
+use Rattle.inf_control_laws.proofs.{Laying.lays_code, Laying.none_then, Plain.one_operand, Plain.two_operand}
 
 -- truths, and values with the store behind them, that are the same
 abbrev SameTruth : Bool × Store → Bool × Store → Type 0
@@ -115,30 +94,30 @@ called_leaf w (Element Words parts) a arguments = refl
 called_leaf w (Element Properties parts) a arguments = refl
 
 one_leaf : (w : World) (op : Unary) (a : Sense) → (values.one w op a).leaf ≡ None
-one_leaf w unary.Negate a = refl
-one_leaf w unary.Not a = refl
-one_leaf w (unary.Single single.Complement) a = refl
-one_leaf w (unary.Single single.Parent) a = refl
-one_leaf w (unary.Single single.Random) a = refl
-one_leaf w (unary.Relative how) a = refl
-one_leaf w (unary.Before how) a = before_leaf w how a.aim
-one_leaf w (unary.Behind how) a = behind_leaf w how a.aim
-one_leaf w unary.Children a = refl
-one_leaf w unary.Call a = called_leaf w a.aim a []
-one_leaf w unary.Indirect a = refl
+one_leaf w Unary.Negate a = refl
+one_leaf w Unary.Not a = refl
+one_leaf w (Unary.Single Single.Complement) a = refl
+one_leaf w (Unary.Single Single.Parent) a = refl
+one_leaf w (Unary.Single Single.Random) a = refl
+one_leaf w (Unary.Relative how) a = refl
+one_leaf w (Unary.Before how) a = before_leaf w how a.aim
+one_leaf w (Unary.Behind how) a = behind_leaf w how a.aim
+one_leaf w Unary.Children a = refl
+one_leaf w Unary.Call a = called_leaf w a.aim a []
+one_leaf w Unary.Indirect a = refl
 
 two_leaf : (w : World) (op : Binary) (a b : Sense) → (values.two w op a b).leaf ≡ None
-two_leaf w (binary.Operation o) a b = refl
-two_leaf w (binary.Property p) a b = refl
-two_leaf w (binary.Test t) a b = refl
-two_leaf w (binary.Fails t) a b = refl
-two_leaf w binary.Assign a b = assigned_leaf w a.aim b
-two_leaf w binary.Comma a b = refl
-two_leaf w binary.And a b = refl
-two_leaf w binary.Or a b = refl
-two_leaf w binary.Call a b = called_leaf w a.aim a (values.args b)
-two_leaf w binary.Then a b = refl
-two_leaf w binary.To a b = refl
+two_leaf w (Binary.Operation o) a b = refl
+two_leaf w (Binary.Property p) a b = refl
+two_leaf w (Binary.Test t) a b = refl
+two_leaf w (Binary.Fails t) a b = refl
+two_leaf w Binary.Assign a b = assigned_leaf w a.aim b
+two_leaf w Binary.Comma a b = refl
+two_leaf w Binary.And a b = refl
+two_leaf w Binary.Or a b = refl
+two_leaf w Binary.Call a b = called_leaf w a.aim a (values.args b)
+two_leaf w Binary.Then a b = refl
+two_leaf w Binary.To a b = refl
 
 leaf_is : (w : World) (limits : Limits) (t : Tree) → (meaning limits t).operand ≡ leaf_simple (sense w t).leaf
 leaf_is w limits (Leaf x) = refl
@@ -180,7 +159,7 @@ found_branches w limits op f m a act h v sense label =
     ∙ ap (λ k. k then λ n. machine.branched_with (Some v) branch n at rest ready) q.1
     ∙ goes there label at rest (given v q.0 ready)
     ∙ ap (λ u. Some (if there then at label else rest, u)) (given_is v q.0 ready g.0) in
-    let c = comes_then l.5 (stepping w at (Instruction item) p.0 rest l.2 (if there then at label else rest, now) p.2 moves) in (
+    let c = comes_then l.5 (stepping w at (Item.Instruction item) p.0 rest l.2 (if there then at label else rest, now) p.2 moves) in (
       l.0,
       not_kept,
       subst (λ (y : Bool × Store). Comes w at from (state stack temp s) (if same y.0 sense then at label else rest) (state stack l.0 y.1))
@@ -204,25 +183,25 @@ first_child : (w : World) (limits : Limits) (e t : Tree) → Covered false e →
     Always w (over_children limits e v c) (BeginsLoop w (truth_of w (first_by (Some e) v)) (holds_by w (Some e) t) c.top c.next c.end)
 first_child w limits e t h v c =
     so (λ at from rest p. (p.0, rest, p.1, p.2, always_holds w at rest c.next))
-    (then_ (found_branches w limits opcode.GetChild w.child (meaning limits e) (sense w e) refl (part_is w limits e h) v false c.end)
+    (then_ (found_branches w limits Opcode.GetChild w.child (meaning limits e) (sense w e) refl (part_is w limits e h) v false c.end)
     (marked_ limits c.top))
 
 -- All objects, from number 5 on
 first_number : (w : World) (limits : Limits) (v : ℕ) (end : Label) →
-    Always w (naming limits opcode.Store v (Known 5 ∷ []) None None) (Branches false w (truth_of w (first_by None v)) false end)
+    Always w (naming limits Opcode.Store v (Simple.Known 5 ∷ []) None None) (Branches false w (truth_of w (first_by None v)) false end)
 first_number w limits v end =
     so (λ at from rest place stack temp s b t e.
-    let g = assigned_opened w v (is_own v) (values.leaf w (operand.Known 5)) s b t e in
+    let g = assigned_opened w v (is_own v) (values.leaf w (Operand.Known 5)) s b t e in
     let start = state stack temp s in
     let now = state stack temp (with_variable v 5 s) in
     let moves = ap (λ u. Some (rest, u)) (put_is v 5 start g.0) in
-    let c = stepping w at (naming_of opcode.Store v (Known 5 ∷ []) None None) from rest start (rest, now) place moves in (
+    let c = stepping w at (naming_of Opcode.Store v (Simple.Known 5 ∷ []) None None) from rest start (rest, now) place moves in (
       temp,
       not_kept,
       subst (λ (y : Bool × Store). Comes w at from start (if same y.0 false then at end else rest) (state stack temp y.1))
           (stored_is v 5 s g.1 b t (same_some g.2) g.3) c,
     ))
-    (naming_ limits opcode.Store v (Known 5 ∷ []) None None)
+    (naming_ limits Opcode.Store v (Simple.Known 5 ∷ []) None None)
 
 condition_tested : (w : World) (limits : Limits) (t : Tree) → Covered false t → (next : Label) →
     Always w (tested_over (meaning limits t).operand (meaning limits t) next) (Branches false w (holds_by w None t) false next)
@@ -245,35 +224,37 @@ first_object w limits t h v c =
 
 -- The next number is compared with the last one.
 stepped_opened : (w : World) (v : ℕ) (own : Bool) (last : Target) (s : Store) (b : Bool) (t : Store) →
-    values.compared w test.AtMost (values.stepped_before w step.Up (values.aim_at v own)).leaf
-    (values.stepped_before w step.Up (values.aim_at v own)) (values.args (values.leaf w (operand.Later last))) s ≡ Some (b, t) →
-    (own ≡ false) × SameTruth (not (less (w.later last) (values.next step.Up v s)), values.with_step step.Up v s) (b, t)
+    values.compared w Test.AtMost (values.stepped_before w Direction.Up (values.aim_at v own)).leaf
+    (values.stepped_before w Direction.Up (values.aim_at v own)) (values.args (values.leaf w (Operand.Later last))) s ≡ Some (b, t) →
+    (own ≡ false) × SameTruth (not (less (w.later last) (values.next Direction.Up v s)), values.with_step Direction.Up v s) (b, t)
 stepped_opened w v true last s b t e = none_some e
 stepped_opened w v false last s b t e = (refl, same_some e)
 
 next_number : (w : World) (limits : Limits) (v : ℕ) (last : Target) (top : Label) →
-    Always w (naming limits opcode.IncChk v (Later last ∷ []) None (to false top))
-    (Branches false w (truth_of w (Two (binary.Test test.AtMost) (One (unary.Before step.Up) (in_variable v)) (Leaf (operand.Later last))))
+    Always w (naming limits Opcode.IncChk v (Simple.Later last ∷ []) None (to false top))
+    (Branches false w (truth_of w (Two (Binary.Test Test.AtMost) (One (Unary.Before Direction.Up) (in_variable v))
+    (Leaf (Operand.Later last))))
     true top)
 next_number w limits v last top =
     so (λ at from rest place stack temp s b t e.
     let g = stepped_opened w v (is_own v) last s b t e in
     let start = state stack temp s in
-    let n = values.next step.Up v s in
+    let n = values.next Direction.Up v s in
     let is_past = less (w.later last) n in
     let there = if same is_past false then at top else rest in
-    let now = state stack temp (values.with_step step.Up v s) in
+    let now = state stack temp (values.with_step Direction.Up v s) in
     let moves =
     ap (λ k. k then λ m. machine.checked v ((m + 1) % 65536) (w.later last ∷ []) (to false top) at rest start) (named_is v start g.0)
     ∙ goes (same is_past false) top at rest (put_in v n start)
     ∙ ap (λ u. Some (there, u)) (put_is v n start g.0) in
-    let c = stepping w at (naming_of opcode.IncChk v (Later last ∷ []) None (to false top)) from rest start (there, now) place moves in (
+    let c =
+    stepping w at (naming_of Opcode.IncChk v (Simple.Later last ∷ []) None (to false top)) from rest start (there, now) place moves in (
       temp,
       not_kept,
       subst (λ (y : Bool × Store). Comes w at from start (if same y.0 true then at top else rest) (state stack temp y.1)) g.1
           (moved (ap (λ k. if k then at top else rest) (same_not is_past true)) c),
     ))
-    (naming_ limits opcode.IncChk v (Later last ∷ []) None (to false top))
+    (naming_ limits Opcode.IncChk v (Simple.Later last ∷ []) None (to false top))
 
 -- A loop begins, by its form.
 abbrev CoversLoop : Option Tree → Tree → Type 0
@@ -281,9 +262,9 @@ CoversLoop (Some e) t = Covered false e
 CoversLoop None t = Covered false t
 
 covers_loop : (t : Tree) → Covered false t → CoversLoop (children_of t) t
-covers_loop (Two (binary.Test test.In) (Leaf v) e) h = by_list (is_list e)
+covers_loop (Two (Binary.Test Test.In) (Leaf v) e) h = by_list (is_list e)
   where
-    by_list : (b : Bool) → CoversLoop (if b then None else Some e) (Two (binary.Test test.In) (Leaf v) e)
+    by_list : (b : Bool) → CoversLoop (if b then None else Some e) (Two (Binary.Test Test.In) (Leaf v) e)
     by_list true = h
     by_list false = h.2
 covers_loop t h = h
@@ -294,15 +275,15 @@ loop_laid : (w : World) (limits : Limits) (x : Option Tree) (t : Tree) (v : ℕ)
     LoopBegins w limits x t v c before (l.0 ∷ around) l.1
 loop_laid w limits (Some e) t v c around before o h still =
     let P = BeginsLoop w (truth_of w (first_by (Some e) v)) (holds_by w (Some e) t) c.top c.next c.end in
-    let goes_on = found_branches w limits opcode.GetSibling w.sibling (meaning limits (in_variable v)) (sense w (in_variable v)) refl
+    let goes_on = found_branches w limits Opcode.GetSibling w.sibling (meaning limits (in_variable v)) (sense w (in_variable v)) refl
     (part_is w limits (in_variable v) tt) v true c.top in record {
       goes = record {
-        how = over.Children;
+        how = Over.Children;
         variable = v;
         is = refl;
         some = tt;
         steps =
-            λ u. lays_code w (worked limits opcode.GetSibling (part (meaning limits (in_variable v)) ∷ []) (Some v) (to true c.top))
+            λ u. lays_code w (worked limits Opcode.GetSibling (part (meaning limits (in_variable v)) ∷ []) (Some v) (to true c.top))
             (Branches false w (truth_of w (next_by (Some e) v)) true c.top) goes_on u;
       };
       begins =
@@ -311,14 +292,14 @@ loop_laid w limits (Some e) t v c around before o h still =
     }
 loop_laid w limits None t v c around before o h still =
     let P = BeginsLoop w (truth_of w (first_by None v)) (holds_by w None t) c.top c.next c.end in
-    let last = target.System constant.HighestObjectNumber in record {
+    let last = Target.System SystemConstant.HighestObjectNumber in record {
       goes = record {
-        how = over.All;
+        how = Over.All;
         variable = v;
         is = refl;
         some = tt;
         steps =
-            λ u. lays_code w (naming limits opcode.IncChk v (Later last ∷ []) None (to false c.top))
+            λ u. lays_code w (naming limits Opcode.IncChk v (Simple.Later last ∷ []) None (to false c.top))
             (Branches false w (truth_of w (next_by None v)) true c.top) (next_number w limits v last c.top) u;
       };
       begins =

@@ -4,18 +4,14 @@ use Rattle.inf_settings.specs.Bounds.{Limits}
 use Rattle.inf_opcode.specs.declared.instructions.Label.{Label}
 use Rattle.inf_output.specs.declared.items.Item.{Item}
 use Rattle.inf_output.specs.Output.{Out, items_of, jumped, laid_all, marked, ◌▸◌}
-use Rattle.inf_constructs.specs.Constructs.{case_closed, looped_on}
-use Rattle.inf_constructs.specs.declared.constructs.Case.{Case}
-use Rattle.inf_constructs.specs.declared.constructs.Case.TheVariants as case
-use Rattle.inf_constructs.specs.declared.constructs.Over.{Over}
+use Rattle.inf_constructs.specs.{Constructs.case_closed, Constructs.looped_on, declared.constructs.Case.Case, declared.constructs.Over.Over}
 use Rattle.inf_interpreter.specs.Machine.{World, ◌then◌}
 use Rattle.inf_interpreter.proofs.Laying.{Lies, Marks, Then, jump_to, jumped_, marked_, then_}
 use Rattle.inf_interpreter.proofs.Naming.{names_then}
 use Rattle.inf_meaning_laws.specs.Laws.{Branches, GivesNothing}
-use Rattle.inf_control_laws.specs.Parts.{BeginsLoop, EndsCase}
+use Rattle.inf_control_laws.specs.{Parts.BeginsLoop, Parts.EndsCase, Runs.Exits, Runs.KeepsApart, Runs.Lays, Runs.LaysNone, Runs.Runs}
 use Rattle.inf_control_laws.specs.Control.{Change, Effect, Truth, both_run, else_run, for_run, found_run, if_run, objects_run, until_run}
 use Rattle.inf_control_laws.specs.Control.{Walk, walk_run, while_run}
-use Rattle.inf_control_laws.specs.Runs.{Exits, KeepsApart, Lays, LaysNone, Runs}
 use Rattle.inf_control_laws.proofs.Laying.{kept_laid, lays_code, lays_so, lays_then, none_then, then_none}
 use Rattle.inf_control_laws.proofs.Reaching.{both_runs, else_runs, if_runs}
 use Rattle.inf_control_laws.proofs.Turning.{for_runs, inside, objects_runs, until_runs, while_runs}
@@ -151,7 +147,7 @@ objects_laid w limits x top next end begins holds step body how variable n o0 o1
 
 pub switch_laid : (w : World) (limits : Limits) (x y : Exits) (end : Label) (new : Case) (keeps : Change) (walk : Walk)
     (o0 o1 o2 o3 o4 o5 o6 o7 : Out) → y.breaks ≡ Some end → y.continues ≡ x.continues →
-    LaysNone o0 o1 → LaysNone o1 o2 → Lays w (GivesNothing w keeps) o2 o3 → Lays w (Walks w y case.Nothing new walk) o3 o4 →
+    LaysNone o0 o1 → LaysNone o1 o2 → Lays w (GivesNothing w keeps) o2 o3 → Lays w (Walks w y Case.Nothing new walk) o3 o4 →
     LaysNone o4 o5 → (case_closed limits new end ▸ marked limits end) o5 ≡ o6 → LaysNone o6 o7 →
     Lays w (Runs w x (λ s. keeps s then λ t. walk_run walk t)) o0 o7
 switch_laid w limits x y end new keeps walk o0 o1 o2 o3 o4 o5 o6 o7 breaks continues opens still a b c closes last =
@@ -160,8 +156,8 @@ switch_laid w limits x y end new keeps walk o0 o1 o2 o3 o4 o5 o6 o7 breaks conti
     let mark = lays_code w (marked limits end) (Marks end) (marked_ limits end) m1 in
     let P3 = Then (EndsCase new end) (Marks end) in
     let l3 = subst (λ o. Lays w P3 o5 o) closes (lays_then w (EndsCase new end) (Marks end) o5 m1 (marked limits end m1) ends mark) in
-    let P2 = Then (Walks w y case.Nothing new walk) P3 in
-    let l2 = lays_then w (Walks w y case.Nothing new walk) P3 o3 o4 o6 b (none_then w P3 o4 o5 o6 c l3) in
+    let P2 = Then (Walks w y Case.Nothing new walk) P3 in
+    let l2 = lays_then w (Walks w y Case.Nothing new walk) P3 o3 o4 o6 b (none_then w P3 o4 o5 o6 c l3) in
     let P1 = Then (GivesNothing w keeps) P2 in
     let l1 = lays_then w (GivesNothing w keeps) P2 o2 o3 o6 a l2 in
     let R = Runs w x (λ s. keeps s then λ t. walk_run walk t) in

@@ -1,42 +1,28 @@
 -- Statements that hold no others.
-use Rattle.std.proofs.Common.{◌≡◌, ℕ, List, [], ◌∷◌, Option, Some, None, Bool, true, false, refl, ◌∙◌, ap, sym, subst}
+use Rattle.std.proofs.Common.{◌≡◌, ℕ, List, [], ◌∷◌, Option, Some, None, Bool, true, false, refl, ◌∙◌, ap, sym, subst, ◌==◌, if◌then◌else◌}
 use Rattle.std.proofs.lemmas.Bool.{eqb-true}
-use Rattle.std.specs.Prelude.{◌==◌, if◌then◌else◌}
 use Rattle.inf_settings.specs.Bounds.{Limits}
-use Rattle.inf_opcode.specs.declared.instructions.Label.{Label}
-use Rattle.inf_opcode.specs.declared.opcodes.Opcode.TheVariants as opcode
-use Rattle.inf_expressions.specs.declared.operators.Binary.{Binary}
-use Rattle.inf_expressions.specs.declared.operators.Binary.TheVariants as binary
-use Rattle.inf_expressions.specs.declared.operators.Operand.{Operand}
-use Rattle.inf_expressions.specs.declared.operators.Operand.TheVariants as operand
-use Rattle.inf_expressions.specs.declared.operators.Unary.{Unary}
-use Rattle.inf_expressions.specs.declared.operators.Unary.TheVariants as unary
+use Rattle.inf_opcode.specs.{declared.instructions.Label.Label, declared.opcodes.Opcode.Opcode}
+use Rattle.inf_expressions.specs.{declared.operators.Binary.Binary, declared.operators.Operand.Operand, declared.operators.Unary.Unary}
 use Rattle.inf_expressions.specs.Trees.{Tree, Leaf, One, Two}
-use Rattle.inf_output.specs.declared.items.Item.{Item}
-use Rattle.inf_output.specs.declared.operands.Simple.{Simple}
-use Rattle.inf_output.specs.declared.operands.Simple.TheVariants.{Known}
-use Rattle.inf_output.specs.Output.{instruction, nothing}
-use Rattle.inf_templates.specs.Parts.{SP, simple}
-use Rattle.inf_templates.specs.Meaning.{Meaning, meaning}
+use Rattle.inf_output.specs.{Output.instruction, Output.nothing, declared.items.Item.Item, declared.operands.Simple.Simple}
+use Rattle.inf_templates.specs.{Meaning.Meaning, Meaning.meaning, Parts.SP, Parts.simple}
 use Rattle.inf_templates.specs.Meaning as code
 use Rattle.inf_statements.specs.Statements.{alone, jumped_to, plain, returned, returned_by}
-use Rattle.inf_statements.specs.declared.statements.Statement.TheVariants as statement
+use Rattle.inf_statements.specs.declared.statements.Statement.{Statement}
 use Rattle.inf_constructs.specs.Constructs.{left_to}
-use Rattle.inf_interpreter.specs.Machine.{World, Store, State, Place, ◌then◌}
-use Rattle.inf_interpreter.specs.Claims.{Comes, state}
+use Rattle.inf_interpreter.specs.{Claims.Comes, Claims.state, Machine.Place, Machine.State, Machine.Store, Machine.World, Machine.◌then◌}
 use Rattle.inf_interpreter.proofs.Laying.{Always, Lies, instruction_, instruction_of, jumped_, nothing_, so, then_}
 use Rattle.inf_interpreter.proofs.Running.{here, none_some, opened, same_some}
 use Rattle.inf_meaning_laws.specs.Covered.{Covered}
 use Rattle.inf_meaning_laws.specs.Values.{answer, leaf_value, nobody, read, sense, value_of}
-use Rattle.inf_meaning_laws.proofs.Expressions.{effects_are_done, values_are_computed}
+use Rattle.inf_meaning_laws.proofs.{Expressions.effects_are_done, Expressions.values_are_computed, Working.looked_up}
 use Rattle.inf_meaning_laws.proofs.Instructions.{jump_comes, moved, one_value}
-use Rattle.inf_meaning_laws.proofs.Working.{looked_up}
 use Rattle.inf_control_laws.specs.Control.{Broke, Continued, Done, Returned}
 use Rattle.inf_control_laws.specs.Plain.{IsCovered, PlainStatementsRun, alone_run, left_run, return_run}
 use Rattle.inf_control_laws.specs.Runs.{Exits, GoesTo, Leaves, Runs, exits, only_value}
 use Rattle.inf_control_laws.specs.Runs as runs
-use Rattle.inf_control_laws.proofs.Laying.{lays_code}
-use Rattle.inf_control_laws.proofs.Reaching.{SameEnd, ends_as}
+use Rattle.inf_control_laws.proofs.{Laying.lays_code, Reaching.SameEnd, Reaching.ends_as}
 
 -- Nothing is done.
 stays_done : (w : World) (x : Exits) → Always w nothing (Runs w x (λ s. Some (Done, s)))
@@ -84,24 +70,24 @@ leaves_at w at from m to item start now n t c place e =
     record { item = item; rest = to; now = now; comes = moved place c; returns = e }
 
 fixed_runs : (w : World) (limits : Limits) (x : Exits) →
-    Always w (plain limits opcode.Rtrue) (Runs w x (λ s. Some (Returned 1, s)))
-    × Always w (plain limits opcode.Rfalse) (Runs w x (λ s. Some (Returned 0, s)))
+    Always w (plain limits Opcode.Rtrue) (Runs w x (λ s. Some (Returned 1, s)))
+    × Always w (plain limits Opcode.Rfalse) (Runs w x (λ s. Some (Returned 0, s)))
 fixed_runs w limits x = (
   so (λ at from to place stack temp s r t e.
       let now = state stack temp s in
       ends_as w x at from to now stack temp (Returned 1) r s t e
-      (leaves_at w at from from to (instruction_of opcode.Rtrue [] None None) now now 1 s (here w at from now) place refl))
-      (instruction_ limits opcode.Rtrue [] None None),
+      (leaves_at w at from from to (instruction_of Opcode.Rtrue [] None None) now now 1 s (here w at from now) place refl))
+      (instruction_ limits Opcode.Rtrue [] None None),
   so (λ at from to place stack temp s r t e.
       let now = state stack temp s in
       ends_as w x at from to now stack temp (Returned 0) r s t e
-      (leaves_at w at from from to (instruction_of opcode.Rfalse [] None None) now now 0 s (here w at from now) place refl))
-      (instruction_ limits opcode.Rfalse [] None None),
+      (leaves_at w at from from to (instruction_of Opcode.Rfalse [] None None) now now 0 s (here w at from now) place refl))
+      (instruction_ limits Opcode.Rfalse [] None None),
 )
 
 -- a leaf, which is returned as an operand
 operand_returned : (w : World) (limits : Limits) (x : Exits) (a : Operand) →
-    Always w (instruction limits opcode.Ret (simple a ∷ []) None None)
+    Always w (instruction limits Opcode.Ret (simple a ∷ []) None None)
     (Runs w x (λ s. leaf_value w a nobody s then λ p. Some (Returned p.0, p.1)))
 operand_returned w limits x a =
     so (λ at from to place stack temp s r t e.
@@ -110,56 +96,56 @@ operand_returned w limits x a =
     let q = opened (read w a s) (λ n. answer nobody n s) o.0 o.1 in
     let same : SameEnd (Some (Returned q.0, s)) (Some (r, t)) = ap (λ p. Some (Returned p.0, p.1)) (same_some q.2) ∙ o.2 in
     ends_as w x at from to now stack temp (Returned q.0) r s t same
-    (leaves_at w at from from to (instruction_of opcode.Ret (simple a ∷ []) None None) now now q.0 s (here w at from now) place
+    (leaves_at w at from from to (instruction_of Opcode.Ret (simple a ∷ []) None None) now now q.0 s (here w at from now) place
     (ap (λ m. m then λ p. only_value p.0 p.1.store) (one_value w (simple a) now now q.0 (looked_up w a now q.0 q.1)))))
-    (instruction_ limits opcode.Ret (simple a ∷ []) None None)
+    (instruction_ limits Opcode.Ret (simple a ∷ []) None None)
 
 -- a number that is known, of which 1 and 0 have instructions of their own
 number_returned : (w : World) (limits : Limits) (x : Exits) (n : ℕ) (a b : Bool) → (n == 1) ≡ a → (n == 0) ≡ b →
-    Always w (if a then plain limits opcode.Rtrue else if b then plain limits opcode.Rfalse else instruction limits opcode.Ret
-    (Known n ∷ []) None None) (Runs w x (λ s. Some (Returned n, s)))
+    Always w (if a then plain limits Opcode.Rtrue else if b then plain limits Opcode.Rfalse else instruction limits Opcode.Ret
+    (Simple.Known n ∷ []) None None) (Runs w x (λ s. Some (Returned n, s)))
 number_returned w limits x n true b e f =
-    subst (λ k. Always w (plain limits opcode.Rtrue) (Runs w x (λ s. Some (Returned k, s)))) (sym (eqb-true n 1 e))
+    subst (λ k. Always w (plain limits Opcode.Rtrue) (Runs w x (λ s. Some (Returned k, s)))) (sym (eqb-true n 1 e))
     (fixed_runs w limits x).0
 number_returned w limits x n false true e f =
-    subst (λ k. Always w (plain limits opcode.Rfalse) (Runs w x (λ s. Some (Returned k, s)))) (sym (eqb-true n 0 f))
+    subst (λ k. Always w (plain limits Opcode.Rfalse) (Runs w x (λ s. Some (Returned k, s)))) (sym (eqb-true n 0 f))
     (fixed_runs w limits x).1
-number_returned w limits x n false false e f = operand_returned w limits x (operand.Known n)
+number_returned w limits x n false false e f = operand_returned w limits x (Operand.Known n)
 
 leaf_returned : (w : World) (limits : Limits) (x : Exits) (a : Operand) (m : Meaning) →
     Always w (returned_by limits (Some (simple a)) m) (Runs w x (λ s. leaf_value w a nobody s then λ p. Some (Returned p.0, p.1)))
-leaf_returned w limits x (operand.Known n) m = number_returned w limits x n (n == 1) (n == 0) refl refl
-leaf_returned w limits x (operand.Variable v) m = operand_returned w limits x (operand.Variable v)
-leaf_returned w limits x (operand.Later t) m = operand_returned w limits x (operand.Later t)
-leaf_returned w limits x (operand.Function f) m =
+leaf_returned w limits x (Operand.Known n) m = number_returned w limits x n (n == 1) (n == 0) refl refl
+leaf_returned w limits x (Operand.Variable v) m = operand_returned w limits x (Operand.Variable v)
+leaf_returned w limits x (Operand.Later t) m = operand_returned w limits x (Operand.Later t)
+leaf_returned w limits x (Operand.Function f) m =
     so (λ at from to g stack temp s r t e. none_some e) (fixed_runs w limits x).1
-leaf_returned w limits x operand.Unknown m =
+leaf_returned w limits x Operand.Unknown m =
     so (λ at from to g stack temp s r t e. none_some e) (fixed_runs w limits x).1
 
 -- any other tree has no operand of its own, and is returned from the stack
 pub one_operand : (limits : Limits) (op : Unary) (m : Meaning) → (code.one limits op m).operand ≡ None
-one_operand limits unary.Negate m = refl
-one_operand limits unary.Not m = refl
-one_operand limits (unary.Single how) m = refl
-one_operand limits (unary.Before how) m = refl
-one_operand limits (unary.Behind how) m = refl
-one_operand limits (unary.Relative how) m = refl
-one_operand limits unary.Children m = refl
-one_operand limits unary.Call m = refl
-one_operand limits unary.Indirect m = refl
+one_operand limits Unary.Negate m = refl
+one_operand limits Unary.Not m = refl
+one_operand limits (Unary.Single how) m = refl
+one_operand limits (Unary.Before how) m = refl
+one_operand limits (Unary.Behind how) m = refl
+one_operand limits (Unary.Relative how) m = refl
+one_operand limits Unary.Children m = refl
+one_operand limits Unary.Call m = refl
+one_operand limits Unary.Indirect m = refl
 
 pub two_operand : (limits : Limits) (op : Binary) (m n : Meaning) → (code.two limits op m n).operand ≡ None
-two_operand limits (binary.Operation o) m n = refl
-two_operand limits (binary.Property p) m n = refl
-two_operand limits (binary.Test t) m n = refl
-two_operand limits (binary.Fails t) m n = refl
-two_operand limits binary.Assign m n = refl
-two_operand limits binary.Comma m n = refl
-two_operand limits binary.And m n = refl
-two_operand limits binary.Or m n = refl
-two_operand limits binary.Call m n = refl
-two_operand limits binary.Then m n = refl
-two_operand limits binary.To m n = refl
+two_operand limits (Binary.Operation o) m n = refl
+two_operand limits (Binary.Property p) m n = refl
+two_operand limits (Binary.Test t) m n = refl
+two_operand limits (Binary.Fails t) m n = refl
+two_operand limits Binary.Assign m n = refl
+two_operand limits Binary.Comma m n = refl
+two_operand limits Binary.And m n = refl
+two_operand limits Binary.Or m n = refl
+two_operand limits Binary.Call m n = refl
+two_operand limits Binary.Then m n = refl
+two_operand limits Binary.To m n = refl
 
 pushed_returned : (w : World) (limits : Limits) (x : Exits) (t : Tree) → Covered false t → (o : Option Simple) → o ≡ None →
     Always w (returned_by limits o (meaning limits t)) (Runs w x (λ s. value_of w t s then λ p. Some (Returned p.0, p.1)))
@@ -170,9 +156,9 @@ pushed_returned w limits x t h o absent =
     let v = opened (value_of w t s) (λ p. Some (Returned p.0, p.1)) (r, u) e in
     let c = p.1 stack temp s v.0.0 v.0.1 v.1 in
     ends_as w x at from to (state stack temp s) stack c.0 (Returned v.0.0) r v.0.1 u v.2
-    (leaves_at w at from p.0 to (instruction_of opcode.RetPopped [] None None) (state stack temp s) (state (v.0.0 ∷ stack) c.0 v.0.1) v.0.0
+    (leaves_at w at from p.0 to (instruction_of Opcode.RetPopped [] None None) (state stack temp s) (state (v.0.0 ∷ stack) c.0 v.0.1) v.0.0
     v.0.1 c.2 p.2 refl))
-    (then_ (values_are_computed false w limits t h SP) (instruction_ limits opcode.RetPopped [] None None)))
+    (then_ (values_are_computed false w limits t h SP) (instruction_ limits Opcode.RetPopped [] None None)))
 
 return_runs : (w : World) (limits : Limits) (x : Exits) (trees : List Tree) → IsCovered trees →
     Always w (returned limits trees) (Runs w x (return_run w trees))
@@ -185,25 +171,25 @@ return_runs w limits x ((Two op a b) ∷ trees) h =
     (two_operand limits op (meaning limits a) (meaning limits b))
 
 pub plain_statements_run : PlainStatementsRun
-plain_statements_run w limits site trees statement.Empty plainly h o =
+plain_statements_run w limits site trees Statement.Empty plainly h o =
     lays_code w nothing (Runs w (exits site.constructs) (λ s. Some (Done, s))) (stays_done w (exits site.constructs)) o
-plain_statements_run w limits site trees statement.Expression plainly h o =
+plain_statements_run w limits site trees Statement.Expression plainly h o =
     lays_code w (alone limits trees) (Runs w (exits site.constructs) (alone_run w trees))
     (alone_runs w limits (exits site.constructs) trees h) o
-plain_statements_run w limits site trees statement.Return plainly h o =
+plain_statements_run w limits site trees Statement.Return plainly h o =
     lays_code w (returned limits trees) (Runs w (exits site.constructs) (return_run w trees))
     (return_runs w limits (exits site.constructs) trees h) o
-plain_statements_run w limits site trees statement.ReturnTrue plainly h o =
-    lays_code w (plain limits opcode.Rtrue) (Runs w (exits site.constructs) (λ s. Some (Returned 1, s)))
+plain_statements_run w limits site trees Statement.ReturnTrue plainly h o =
+    lays_code w (plain limits Opcode.Rtrue) (Runs w (exits site.constructs) (λ s. Some (Returned 1, s)))
     (fixed_runs w limits (exits site.constructs)).0 o
-plain_statements_run w limits site trees statement.ReturnFalse plainly h o =
-    lays_code w (plain limits opcode.Rfalse) (Runs w (exits site.constructs) (λ s. Some (Returned 0, s)))
+plain_statements_run w limits site trees Statement.ReturnFalse plainly h o =
+    lays_code w (plain limits Opcode.Rfalse) (Runs w (exits site.constructs) (λ s. Some (Returned 0, s)))
     (fixed_runs w limits (exits site.constructs)).1 o
-plain_statements_run w limits site trees statement.Break plainly h o =
+plain_statements_run w limits site trees Statement.Break plainly h o =
     let l = left_to false site.constructs in
     lays_code w (jumped_to limits l) (Runs w (exits site.constructs) (left_run l Broke))
     (break_runs w limits (exits site.constructs) l refl) o
-plain_statements_run w limits site trees statement.Continue plainly h o =
+plain_statements_run w limits site trees Statement.Continue plainly h o =
     let l = left_to true site.constructs in
     lays_code w (jumped_to limits l) (Runs w (exits site.constructs) (left_run l Continued))
     (continue_runs w limits (exits site.constructs) l refl) o

@@ -1,10 +1,8 @@
 -- Where control comes to, by the outcome of a statement.
-use Rattle.std.proofs.Common.{◌≡◌, ℕ, List, Option, Some, None, Bool, true, false, subst}
-use Rattle.std.specs.Prelude.{if◌then◌else◌}
+use Rattle.std.proofs.Common.{◌≡◌, ℕ, List, Option, Some, None, Bool, true, false, subst, if◌then◌else◌}
 use Rattle.inf_opcode.specs.declared.instructions.Label.{Label}
 use Rattle.inf_expressions.specs.Numbers.{same}
-use Rattle.inf_interpreter.specs.Machine.{World, Store, State, Place, ◌then◌}
-use Rattle.inf_interpreter.specs.Claims.{Comes, state}
+use Rattle.inf_interpreter.specs.{Claims.Comes, Claims.state, Machine.Place, Machine.State, Machine.Store, Machine.World, Machine.◌then◌}
 use Rattle.inf_interpreter.proofs.Laying.{Lies, Marks, Then, jump_to}
 use Rattle.inf_interpreter.proofs.Running.{comes_then, opened, same_some}
 use Rattle.inf_meaning_laws.specs.Laws.{Branches}

@@ -1,40 +1,24 @@
 -- The names of a unit are used, and its texts, words and actions are added: nothing is laid.
 use Rattle.std.proofs.Common.{◌≡◌, ℕ, List, [], ◌∷◌, Option, Some, None, Bool, true, false, refl}
-use Rattle.inf_settings.specs.Bounds.{Limits}
-use Rattle.inf_characters.specs.declared.characters.CharSet.{CharSet}
-use Rattle.inf_characters.specs.declared.texts.TextItem.{TextItem}
-use Rattle.inf_dictionary.specs.declared.dictionary.AddFault.{AddFault}
-use Rattle.inf_dictionary.specs.declared.dictionary.AddFault.TheVariants as word_fault
-use Rattle.inf_dictionary.specs.declared.uses.WordUse.{WordUse}
-use Rattle.inf_dictionary.specs.declared.uses.WordUse.TheVariants as word_use
-use Rattle.inf_dictionary.specs.Texts.{Text}
+use Rattle.inf_settings.specs.Bounds.{Limits, unbounded}
+use Rattle.inf_characters.specs.{declared.characters.CharSet.CharSet, declared.texts.TextItem.TextItem}
+use Rattle.inf_dictionary.specs.{Texts.Text, declared.dictionary.AddFault.AddFault, declared.uses.WordUse.WordUse}
 use Rattle.inf_dictionary.specs.Words.{add_fault, word_of}
 use Rattle.inf_scanner.specs.declared.tokens.Place.{Place}
 use Rattle.inf_text.specs.Packing.{packed}
 use Rattle.inf_expressions.specs.declared.operators.Operand.{Operand}
-use Rattle.inf_expressions.specs.declared.operators.Operand.TheVariants as operand
 use Rattle.inf_gathering.specs.declared.gathering.Leaf.{Leaf}
-use Rattle.inf_gathering.specs.declared.gathering.Leaf.TheVariants as leaf
-use Rattle.inf_names.specs.Locals.{Local, number_of}
-use Rattle.inf_names.specs.Spellings.{Name}
-use Rattle.inf_names.specs.Symbols.{declare_fault, refer_fault}
-use Rattle.inf_names.specs.declared.symbols.DeclareFault.{DeclareFault}
-use Rattle.inf_names.specs.declared.symbols.ReferFault.{ReferFault}
-use Rattle.inf_settings.specs.Bounds.{unbounded}
+use Rattle.inf_names.specs.{Locals.Local, Locals.local_number, Spellings.Name, Symbols.declare_fault, Symbols.refer_fault}
+use Rattle.inf_names.specs.{declared.symbols.DeclareFault.DeclareFault, declared.symbols.ReferFault.ReferFault}
 use Rattle.inf_unit.proofs.Cases.{of_both}
-use Rattle.inf_unit.specs.Tokens.{SourceToken}
-use Rattle.inf_unit.specs.Units.{bytes_at, name_at}
-use Rattle.inf_verbs.specs.Routines.{action_fault}
-use Rattle.inf_verbs.specs.declared.routines.ActionFault.{ActionFault}
-use Rattle.inf_output.specs.Actions.{action_by, appeared, fake_number, key_of, numbered_as, numbered_by, routine_name, routine_of}
-use Rattle.inf_output.specs.Actions.{seen_by}
+use Rattle.inf_unit.specs.{Tokens.SourceToken, Units.bytes_at, Units.name_at}
+use Rattle.inf_verbs.specs.{Routines.action_fault, declared.routines.ActionFault.ActionFault}
+use Rattle.inf_output.specs.{Strings.fits, Texts.used_in}
+use Rattle.inf_output.specs.Actions.{action_by, appeared, fake_number, key_of, numbered_as, numbered_by, routine_name, routine_of, seen_by}
 use Rattle.inf_output.specs.Output.{Out, referred, referred_as, referred_by, with_text, with_text_by, with_word, with_word_by}
-use Rattle.inf_output.specs.Strings.{fits}
-use Rattle.inf_output.specs.Texts.{used_in}
 use Rattle.inf_operands.specs.Operands.{Settled, is_stack, settled, settled_action, settled_alone, settled_by, settled_leaf, settled_name}
 use Rattle.inf_operands.specs.Operands.{settled_text, with_settled}
-use Rattle.inf_operands.specs.Texts.{text_at}
-use Rattle.inf_operands.specs.Texts.{text_packed}
+use Rattle.inf_operands.specs.Texts.{text_at, text_packed}
 use Rattle.inf_interpreter.proofs.Naming.{name_stays, names_equal}
 use Rattle.inf_control_laws.specs.Runs.{LaysNone}
 use Rattle.inf_control_laws.proofs.Laying.{none_alike, none_both, none_past}
@@ -64,13 +48,13 @@ by_local limits None name place o = referred_none limits name place o
 
 name_none : (limits : Limits) (locals : List Local) (name : Option Name) (o : Out) → LaysNone o (settled_name limits locals name o).0
 name_none limits locals None o = none_self o
-name_none limits locals (Some n) o = by_local limits (number_of n.bytes locals) n.bytes n.place o
+name_none limits locals (Some n) o = by_local limits (local_number n.bytes locals) n.bytes n.place o
 
 alone_none : (limits : Limits) (locals : List Local) (tokens : List SourceToken) (at : ℕ) (o : Out) →
     LaysNone o (settled_alone limits locals tokens at o).0
 alone_none limits locals tokens at o =
-    of_both (λ (r : Out × Operand). LaysNone o r.0) (is_stack (bytes_at tokens at) (number_of (bytes_at tokens at) locals))
-    (o, operand.Variable 0) (settled_name limits locals (name_at tokens at) o) (λ _. none_self o)
+    of_both (λ (r : Out × Operand). LaysNone o r.0) (is_stack (bytes_at tokens at) (local_number (bytes_at tokens at) locals))
+    (o, Operand.Variable 0) (settled_name limits locals (name_at tokens at) o) (λ _. none_self o)
     (λ _. name_none limits locals (name_at tokens at) o)
 
 -- a text
@@ -91,11 +75,11 @@ text_none limits (Some items) o =
 by_word : (limits : Limits) (f : Option AddFault) (text : Text) (how : WordUse) (is_plural : Bool) (o : Out) →
     LaysNone o (with_word_by limits f text how is_plural o)
 by_word limits None text how is_plural o = none_alike o (with_word_by limits None text how is_plural o) refl refl refl refl
-by_word limits (Some word_fault.Full) text how is_plural o =
-    none_past o (with_word_by limits (Some word_fault.Full) text how is_plural o) refl (λ e. passed e) refl
-    (names_equal o (with_word_by limits (Some word_fault.Full) text how is_plural o) refl)
-by_word limits (Some word_fault.OtherVerb) text how is_plural o = none_self o
-by_word limits (Some word_fault.Memory) text how is_plural o = none_self o
+by_word limits (Some AddFault.Full) text how is_plural o =
+    none_past o (with_word_by limits (Some AddFault.Full) text how is_plural o) refl (λ e. passed e) refl
+    (names_equal o (with_word_by limits (Some AddFault.Full) text how is_plural o) refl)
+by_word limits (Some AddFault.OtherVerb) text how is_plural o = none_self o
+by_word limits (Some AddFault.Memory) text how is_plural o = none_self o
 
 word_none : (limits : Limits) (text : Text) (how : WordUse) (is_plural : Bool) (o : Out) →
     LaysNone o (with_word limits text how is_plural o)
@@ -134,14 +118,14 @@ action_none limits (Some n) o = by_fake limits (fake_number (key_of n.bytes) o) 
 -- each leaf, and all leaves of a unit
 leaf_none : (limits : Limits) (set : CharSet) (locals : List Local) (tokens : List SourceToken) (l : Leaf) (o : Out) →
     LaysNone o (settled_leaf limits set locals tokens l o).0
-leaf_none limits set locals tokens (leaf.Name at) o = name_none limits locals (name_at tokens at) o
-leaf_none limits set locals tokens (leaf.Alone at) o = alone_none limits locals tokens at o
-leaf_none limits set locals tokens (leaf.Number number) o = none_self o
-leaf_none limits set locals tokens (leaf.Char zscii) o = none_self o
-leaf_none limits set locals tokens (leaf.Word word) o = word_none limits word.text word_use.Other word.is_plural o
-leaf_none limits set locals tokens (leaf.Text at) o = text_none limits (text_at set tokens at) o
-leaf_none limits set locals tokens (leaf.Action at) o = action_none limits (name_at tokens at) o
-leaf_none limits set locals tokens (leaf.System at) o = none_self o
+leaf_none limits set locals tokens (Leaf.Name at) o = name_none limits locals (name_at tokens at) o
+leaf_none limits set locals tokens (Leaf.Alone at) o = alone_none limits locals tokens at o
+leaf_none limits set locals tokens (Leaf.Number number) o = none_self o
+leaf_none limits set locals tokens (Leaf.Char zscii) o = none_self o
+leaf_none limits set locals tokens (Leaf.Word word) o = word_none limits word.text WordUse.Other word.is_plural o
+leaf_none limits set locals tokens (Leaf.Text at) o = text_none limits (text_at set tokens at) o
+leaf_none limits set locals tokens (Leaf.Action at) o = action_none limits (name_at tokens at) o
+leaf_none limits set locals tokens (Leaf.System at) o = none_self o
 
 pub settled_none : (limits : Limits) (set : CharSet) (locals : List Local) (tokens : List SourceToken) (leaves : List Leaf) (s : Settled) →
     LaysNone s.out (settled limits set locals tokens leaves s).out

@@ -1,41 +1,31 @@
 -- Nested statements run as their control flow says, by induction on their nesting.
 use Rattle.std.proofs.Common.{◌≡◌, ◌⊎◌, ℕ, List, [], ◌∷◌, Some, Bool, true, false, refl, ◌∙◌, ap, sym, subst, inl, inr}
 use Rattle.inf_settings.specs.Bounds.{Limits}
-use Rattle.inf_syntax.specs.declared.actions.Action.TheVariants as action
+use Rattle.inf_syntax.specs.declared.actions.Action.{Action}
 use Rattle.inf_output.specs.Output.{Out}
-use Rattle.inf_compilation.specs.Context.{Context}
-use Rattle.inf_compilation.specs.Actions.{Compilation}
+use Rattle.inf_compilation.specs.{Actions.Compilation, Context.Context}
+use Rattle.inf_constructs.specs.{declared.constructs.Case.Case as CaseKind, declared.constructs.Construct.Construct}
+use Rattle.inf_constructs.specs.{declared.constructs.Kind.Kind, declared.constructs.Over.Over}
 use Rattle.inf_constructs.specs.Constructs.{between, closed, left_to, opened}
-use Rattle.inf_constructs.specs.declared.constructs.Case.{Case as CaseKind}
-use Rattle.inf_constructs.specs.declared.constructs.Case.TheVariants as case
-use Rattle.inf_constructs.specs.declared.constructs.Construct.{Construct}
-use Rattle.inf_constructs.specs.declared.constructs.Kind.TheVariants as kind
-use Rattle.inf_constructs.specs.declared.constructs.Over.TheVariants as over
 use Rattle.inf_statement_laws.specs.Happenings.{Acts}
 use Rattle.inf_statement_laws.specs.Nested.{Case, Do, For, If, IfElse, Nested, NoStep, Objectloop, Plain, Step, StepEnds, Switch, Then}
-use Rattle.inf_statement_laws.specs.Nested.{While}
-use Rattle.inf_statement_laws.specs.Nested.{step_happenings}
+use Rattle.inf_statement_laws.specs.Nested.{While, step_happenings}
 use Rattle.inf_statement_laws.specs.Laid.{happens, holding, laid, opened_at, run, with_kind_in, with_step_in}
-use Rattle.inf_statement_laws.proofs.Acts.{inside_act, quiet_run}
-use Rattle.inf_statement_laws.proofs.Laying.{Holds, laid_as, run_then}
+use Rattle.inf_statement_laws.proofs.{Acts.inside_act, Acts.quiet_run, Laying.Holds, Laying.laid_as, Laying.run_then}
 use Rattle.inf_interpreter.specs.Machine.{World}
 use Rattle.inf_interpreter.proofs.Laying as pieces
 use Rattle.inf_interpreter.proofs.Running.{same_some}
+use Rattle.inf_control_laws.specs.{Carrying.Carries, Laws.StatementsRun, Parts.BeginsCase, Parts.open_case}
 use Rattle.inf_control_laws.specs.Control.{Both, CaseOf, Control, Does, DoUntil, Effect, Either, ForEach, IfTrue, Objects, WhileTrue}
-use Rattle.inf_control_laws.specs.Control.{ByCases}
-use Rattle.inf_control_laws.specs.Control.{both_walk, case_walk, effect, own_walk, ways}
-use Rattle.inf_control_laws.specs.Carrying.{Carries}
-use Rattle.inf_control_laws.specs.Parts.{BeginsCase, open_case}
-use Rattle.inf_control_laws.specs.Laws.{StatementsRun}
+use Rattle.inf_control_laws.specs.Control.{ByCases, both_walk, case_walk, effect, own_walk, ways}
 use Rattle.inf_control_laws.specs.Runs.{Exits, Lays, LaysNone, Runs, exits}
+use Rattle.inf_control_laws.proofs.{Laying.lays_so, Laying.lays_then, Laying.none_then, Turning.inside}
 use Rattle.inf_control_laws.proofs.Opening.{do_closed, do_exits, do_joined, do_opened, else_closed, else_exits, for_closed, for_exits}
 use Rattle.inf_control_laws.proofs.Opening.{for_joined, for_opened, if_closed, if_exits, if_joined, if_opened, while_closed, while_exits}
 use Rattle.inf_control_laws.proofs.Opening.{objects_closed, objects_exits, objects_joined, objects_opened, switch_begins, switch_closed}
 use Rattle.inf_control_laws.proofs.Opening.{switch_exits, switch_opened, while_opened}
-use Rattle.inf_control_laws.proofs.Laying.{lays_so, lays_then, none_then}
 use Rattle.inf_control_laws.proofs.Walking.{Walks, both_walks, case_walks, own_walks}
 use Rattle.inf_control_laws.proofs.Pieces.{both_laid, do_laid, else_laid, for_laid, if_laid, objects_laid, switch_laid, while_laid}
-use Rattle.inf_control_laws.proofs.Turning.{inside}
 
 -- Statements where they stand
 
@@ -52,8 +42,8 @@ step_none : (limits : Limits) (context : Context) (step : Step) (v : Compilation
 step_none limits context NoStep v e = e
 step_none limits context (StepEnds step ends) v e =
     let front = run limits context step.all v in
-    ap (λ (u : Compilation). u.closed) (run_then limits context step.all (Acts ends action.EndForStep ∷ []) v)
-    ∙ inside_act limits context ends.place action.EndForStep front refl ((quiet_run limits context step.all v step.are).1 ∙ e)
+    ap (λ (u : Compilation). u.closed) (run_then limits context step.all (Acts ends Action.EndForStep ∷ []) v)
+    ∙ inside_act limits context ends.place Action.EndForStep front refl ((quiet_run limits context step.all v step.are).1 ∙ e)
 
 -- Statements that are neither a case nor several
 abbrev pub IsSingle : {b : Bool} → Nested b → Type 0
@@ -133,7 +123,7 @@ acts_as w limits context turns (Then {b} first second) (Both p q) v e0 h =
           };
     }
 acts_as w limits context turns (If opens test body closes) (IfTrue holds p) v e0 h =
-    let c = opened limits kind.If v.output in
+    let c = opened limits Kind.If v.output in
     let inner = opened_at context opens c v in
     let tested = run limits context test.all inner in
     let same = quiet_run limits context test.all inner test.are in
@@ -147,7 +137,7 @@ acts_as w limits context turns (If opens test body closes) (IfTrue holds p) v e0
     (closes.behind.output (closed limits c.0 done)) (if_opened limits v.output) (h.0 c.1) h.1 runs (if_closed w limits v.output done)
     (h.3 (closed limits c.0 done)))
 acts_as w limits context turns (IfElse opens test body joins word other closes) (Either holds p q) v e0 h =
-    let c = opened limits kind.If v.output in
+    let c = opened limits Kind.If v.output in
     let inner = opened_at context opens c v in
     let tested = run limits context test.all inner in
     let same = quiet_run limits context test.all inner test.are in
@@ -170,7 +160,7 @@ acts_as w limits context turns (IfElse opens test body joins word other closes) 
     (if_opened limits v.output) (h.0 c.1) h.1 runs (if_joined w limits v.output first.output) (h.3 joined.1) h.4 runs2
     (else_closed w limits v.output first.output done) (h.6 (closed limits joined.0 done)))
 acts_as w limits context turns (While opens test body closes) (WhileTrue holds p) v e0 h =
-    let c = opened limits kind.While v.output in
+    let c = opened limits Kind.While v.output in
     let inner = opened_at context opens c v in
     let tested = run limits context test.all inner in
     let same = quiet_run limits context test.all inner test.are in
@@ -183,7 +173,7 @@ acts_as w limits context turns (While opens test body closes) (WhileTrue holds p
     (closed limits c.0 done) (closes.behind.output (closed limits c.0 done)) (while_opened w limits v.output) (h.0 c.1) h.1 runs
     (while_closed w limits v.output done) (h.3 (closed limits c.0 done)))
 acts_as w limits context turns (Do opens body word joins test closes) (DoUntil p holds) v e0 h =
-    let c = opened limits kind.Do v.output in
+    let c = opened limits Kind.Do v.output in
     let inner = opened_at context opens c v in
     let first = laid limits context body inner in
     let ready = run limits context word.all first in
@@ -198,7 +188,7 @@ acts_as w limits context turns (Do opens body word joins test closes) (DoUntil p
     (do_opened w limits v.output) (h.0 c.1) runs h.2 (do_joined w limits v.output ready.output) (h.3 joined.1) h.4
     (do_closed w limits v.output ready.output tested) (h.5 (closed limits joined.0 tested)))
 acts_as w limits context turns (For opens start joins test step bracket body closes) (ForEach begins holds next p) v e0 h =
-    let c = opened limits kind.For v.output in
+    let c = opened limits Kind.For v.output in
     let inner = opened_at context opens c v in
     let started = run limits context start.all inner in
     let top = between limits c.0 started.output in
@@ -223,17 +213,17 @@ acts_as w limits context turns (For opens start joins test step bracket body clo
     (for_joined w limits v.output started.output) (h.2 top.1) h.3 h.4 h.5 runs
     (for_closed limits v.output started.output done stepped.constructs) (h.7 (closed limits own done)))
 acts_as w limits context turns (Objectloop opens loop ends joins bracket body closes) (Objects first holds next p) v e0 h =
-    let c = opened limits (kind.Objects over.Nothing 0) v.output in
+    let c = opened limits (Kind.Objects Over.Nothing 0) v.output in
     let inner = opened_at context opens c v in
     let unit = run limits context loop.all inner in
-    let looped = happens limits context (Acts ends action.EndObjectloop) unit in
+    let looped = happens limits context (Acts ends Action.EndObjectloop) unit in
     let own = with_kind_in looped.constructs c.0 in
     let joined = between limits own looped.output in
     let behind = holding joins joined v.constructs looped in
     let ready = run limits context bracket.all behind in
     let same = quiet_run limits context bracket.all behind bracket.are in
     let e1 : unit.closed ≡ 0 = (quiet_run limits context loop.all inner loop.are).1 ∙ e0 in
-    let e2 : looped.closed ≡ 0 = inside_act limits context ends.place action.EndObjectloop unit refl e1 in
+    let e2 : looped.closed ≡ 0 = inside_act limits context ends.place Action.EndObjectloop unit refl e1 in
     let how = h.0.how in
     let variable = h.0.variable in
     let joins_as = objects_joined limits own how variable h.0.some h.0.is looped.output in
@@ -251,7 +241,7 @@ acts_as w limits context turns (Objectloop opens loop ends joins bracket body cl
     ∙ ap (λ (j : Construct × Out). closed limits j.0 done) (sym joins_as)) (h.6 (closed limits joined.0 done)))
 acts_as w limits context turns (Case values ends) (CaseOf holds) v e0 h =
     let before = run limits context values.all v in
-    let now = happens limits context (Acts ends action.EndCase) before in
+    let now = happens limits context (Acts ends Action.EndCase) before in
     let b = h.1 in
     let x = exits v.constructs in record {
       runs = λ how. no_case how;
@@ -267,7 +257,7 @@ acts_as w limits context turns (Case values ends) (CaseOf holds) v e0 h =
           });
     }
 acts_as w limits context turns (Switch opens value cases brace closes) (ByCases keeps p) v e0 h =
-    let c = opened limits (kind.Switch case.Nothing false) v.output in
+    let c = opened limits (Kind.Switch CaseKind.Nothing false) v.output in
     let inner = opened_at context opens c v in
     let valued = run limits context value.all inner in
     let done = laid limits context cases valued in
@@ -276,11 +266,11 @@ acts_as w limits context turns (Switch opens value cases brace closes) (ByCases 
     let after = quiet_run limits context brace.all done brace.are in
     let e1 : valued.closed ≡ 0 = same.1 ∙ e0 in
     let known = ap open_case same.0 ∙ switch_begins limits v.output v.constructs in
-    let k = (acts_as w limits context turns cases p valued e1 h.2).walks case.Nothing known in
+    let k = (acts_as w limits context turns cases p valued e1 h.2).walks CaseKind.Nothing known in
     let y : Exits = record { breaks = Some c.0.end; continues = left_to true v.constructs } in
     let alike = ap exits same.0 ∙ switch_exits limits v.output v.constructs in
     let walk = (ways turns p).walk in
-    let walked = subst (λ z. Lays w (Walks w z case.Nothing k.new walk) valued.output done.output) alike k.walks in
+    let walked = subst (λ z. Lays w (Walks w z CaseKind.Nothing k.new walk) valued.output done.output) alike k.walks in
     let own = with_kind_in ready.constructs c.0 in
     let ends = switch_closed limits c.0 ready.constructs k.new ready.output (ap open_case after.0 ∙ k.is) in
     single w limits context turns (Switch opens value cases brace closes) (ByCases keeps p) v refl refl

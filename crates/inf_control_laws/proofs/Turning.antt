@@ -1,18 +1,15 @@
 -- Loops, turn by turn.
-use Rattle.std.proofs.Common.{◌≡◌, ℕ, zero, suc, List, Some, Bool, true, false}
-use Rattle.std.specs.Prelude.{if◌then◌else◌}
+use Rattle.std.proofs.Common.{◌≡◌, ℕ, zero, suc, List, Some, Bool, true, false, if◌then◌else◌}
 use Rattle.inf_opcode.specs.declared.instructions.Label.{Label}
 use Rattle.inf_expressions.specs.Numbers.{same}
-use Rattle.inf_interpreter.specs.Machine.{World, Store, State, Place, ◌then◌}
-use Rattle.inf_interpreter.specs.Claims.{Comes, state}
+use Rattle.inf_interpreter.specs.{Claims.Comes, Claims.state, Machine.Place, Machine.State, Machine.Store, Machine.World, Machine.◌then◌}
 use Rattle.inf_interpreter.proofs.Laying.{Lies, Marks, Then, jump_to}
 use Rattle.inf_interpreter.proofs.Running.{comes_then, none_some, opened}
 use Rattle.inf_meaning_laws.specs.Laws.{Branches, GivesNothing}
 use Rattle.inf_meaning_laws.proofs.Instructions.{jump_comes, mark_comes, moved}
+use Rattle.inf_control_laws.specs.{Parts.BeginsLoop, Runs.Exits, Runs.Reaches, Runs.Runs}
 use Rattle.inf_control_laws.specs.Control.{Broke, Change, Continued, Done, Effect, Outcome, Returned, Truth, behind_turn, for_run}
-use Rattle.inf_control_laws.specs.Parts.{BeginsLoop}
 use Rattle.inf_control_laws.specs.Control.{found_run, objects_run, until_by, until_run, while_run}
-use Rattle.inf_control_laws.specs.Runs.{Exits, Reaches, Runs}
 use Rattle.inf_control_laws.proofs.Reaching.{ends_as, reaches_behind}
 
 -- the labels to which a loop's body leads

@@ -1,21 +1,17 @@
 -- Cases of a `switch`, one behind the other.
-use Rattle.std.proofs.Common.{◌≡◌, ℕ, List, ◌∷◌, Option, Some, Bool, true, false, refl, ◌∙◌, ap, sym, subst}
-use Rattle.std.specs.Prelude.{if◌then◌else◌}
+use Rattle.std.proofs.Common.{◌≡◌, ℕ, List, ◌∷◌, Option, Some, Bool, true, false, refl, ◌∙◌, ap, sym, subst, if◌then◌else◌}
 use Rattle.inf_settings.specs.Bounds.{Limits}
 use Rattle.inf_opcode.specs.declared.instructions.Label.{Label}
 use Rattle.inf_expressions.specs.Numbers.{same}
-use Rattle.inf_constructs.specs.Constructs.{case_closed}
-use Rattle.inf_constructs.specs.declared.constructs.Case.{Case}
-use Rattle.inf_constructs.specs.declared.constructs.Case.TheVariants as case
+use Rattle.inf_constructs.specs.{Constructs.case_closed, declared.constructs.Case.Case}
 use Rattle.inf_interpreter.specs.Machine.{World, Store, State, Place, ◌then◌}
 use Rattle.inf_interpreter.specs.Claims.{Claim, Comes, state}
 use Rattle.inf_interpreter.proofs.Laying.{Always, Marks, Then, jumped_, marked_, nothing_, then_}
 use Rattle.inf_interpreter.proofs.Running.{comes_then, here, opened, same_some}
 use Rattle.inf_meaning_laws.specs.Laws.{GivesNothing}
 use Rattle.inf_meaning_laws.proofs.Instructions.{begun, jump_comes, mark_comes, moved}
-use Rattle.inf_control_laws.specs.Control.{Before, Broke, Change, Continued, Done, Effect, Mode, Outcome, Returned, Seeks, Truth}
-use Rattle.inf_control_laws.specs.Control.{Walk, Within, behind_switch, both_walk, case_by, case_tested, case_walk, own_walk, walk_run}
-use Rattle.inf_control_laws.specs.Control.{walked_on}
+use Rattle.inf_control_laws.specs.Control.{Before, Broke, Change, Continued, Done, Effect, Mode, Outcome, Returned, Seeks, Truth, Walk}
+use Rattle.inf_control_laws.specs.Control.{Within, behind_switch, both_walk, case_by, case_tested, case_walk, own_walk, walk_run, walked_on}
 use Rattle.inf_control_laws.specs.Parts.{BeginsCase, EndsCase, TestsCase, jump}
 use Rattle.inf_control_laws.specs.Runs.{Exits, GoesTo, Leaves, Reaches, Runs}
 use Rattle.inf_control_laws.proofs.Reaching.{ends_as, goes_behind, leaves_behind, reaches_behind}
@@ -23,10 +19,10 @@ use Rattle.inf_control_laws.proofs.Reaching.{ends_as, goes_behind, leaves_behind
 -- The place of control between two pieces of a `switch`, by its mode and the case that is open there: between the pieces, or behind the
 -- mark of the label that the tests of this case lead to, which is to come.
 abbrev pub StandsAt : Mode → Case → (Label → Place) → Place → Place → Type 0
-StandsAt Before case.Nothing at p q = q ≡ p
-StandsAt Seeks (case.Values next) at p q = q ≡ at next
-StandsAt Within (case.Values next) at p q = q ≡ p
-StandsAt Within case.Default at p q = q ≡ p
+StandsAt Before Case.Nothing at p q = q ≡ p
+StandsAt Seeks (Case.Values next) at p q = q ≡ at next
+StandsAt Within (Case.Values next) at p q = q ≡ p
+StandsAt Within Case.Default at p q = q ≡ p
 StandsAt m old at p q = ⊥
 
 abbrev pub Walked : World → Exits → (Label → Place) → Place → State → Place → Case → Mode → Outcome → State → Type 0
@@ -63,21 +59,21 @@ walked_behind w x at a b to new s u now m (Returned n) c g = leaves_behind w at 
 -- Statements of a case
 
 seeks_on : (old : Case) (at : Label → Place) (from to q : Place) → StandsAt Seeks old at from q → StandsAt Seeks old at to q
-seeks_on case.Nothing at from to q h = absurd h
-seeks_on (case.Values next) at from to q h = h
-seeks_on case.Default at from to q h = absurd h
+seeks_on Case.Nothing at from to q h = absurd h
+seeks_on (Case.Values next) at from to q h = h
+seeks_on Case.Default at from to q h = absurd h
 
 before_on : (old : Case) (at : Label → Place) (from to q : Place) → StandsAt Before old at from q →
     (q ≡ from) × StandsAt Before old at to to
-before_on case.Nothing at from to q h = (h, refl)
-before_on (case.Values next) at from to q h = absurd h
-before_on case.Default at from to q h = absurd h
+before_on Case.Nothing at from to q h = (h, refl)
+before_on (Case.Values next) at from to q h = absurd h
+before_on Case.Default at from to q h = absurd h
 
 within_on : (old : Case) (at : Label → Place) (from to q : Place) → StandsAt Within old at from q →
     (q ≡ from) × StandsAt Within old at to to
-within_on case.Nothing at from to q h = absurd h
-within_on (case.Values next) at from to q h = (h, refl)
-within_on case.Default at from to q h = (h, refl)
+within_on Case.Nothing at from to q h = absurd h
+within_on (Case.Values next) at from to q h = (h, refl)
+within_on Case.Default at from to q h = (h, refl)
 
 own_walked : (w : World) (x : Exits) (at : Label → Place) (from to q : Place) (old : Case) (m : Mode) (start : State) (r : Outcome)
     (now : State) → q ≡ from → StandsAt m old at to to → Reaches w x at from start to r now → Walked w x at q start to old m r now
@@ -131,8 +127,8 @@ tests_begin : (w : World) (x : Exits) (at : Label → Place) (q m to : Place) (h
     q ≡ m → (stack : List ℕ) (temp : ℕ) (s : Store) (z : Mode) (r : Outcome) (t : Store) →
     case_tested holds s ≡ Some (z, r, t) →
     (left : ℕ) × Walked w x at q (state stack temp s) to new z r (state stack left t)
-tests_begin w x at q m to holds case.Nothing h there stack temp s z r t e = absurd h
-tests_begin w x at q m to holds (case.Values next) h there stack temp s z r t e =
+tests_begin w x at q m to holds Case.Nothing h there stack temp s z r t e = absurd h
+tests_begin w x at q m to holds (Case.Values next) h there stack temp s z r t e =
     let o = opened (holds s) (λ p. case_by p.0 p.1) (z, r, t) e in
     let g = h stack temp s o.0.0 o.0.1 o.1 in
     lead o.0.0 g.0 o.0.1 (begun (sym there) g.2) o.2
@@ -140,15 +136,15 @@ tests_begin w x at q m to holds (case.Values next) h there stack temp s z r t e 
     lead : (b : Bool) (left : ℕ) (u : Store) →
         Comes w at q (state stack temp s) (if same b false then at next else to) (state stack left u) →
         case_by b u ≡ Some (z, r, t) →
-        (left' : ℕ) × Walked w x at q (state stack temp s) to (case.Values next) z r (state stack left' t)
+        (left' : ℕ) × Walked w x at q (state stack temp s) to (Case.Values next) z r (state stack left' t)
     lead true left u c f =
-        walked_as w x at q to (case.Values next) (state stack temp s) stack left Within z Done r u t f (to, refl, c)
+        walked_as w x at q to (Case.Values next) (state stack temp s) stack left Within z Done r u t f (to, refl, c)
     lead false left u c f =
-        walked_as w x at q to (case.Values next) (state stack temp s) stack left Seeks z Done r u t f (at next, refl, c)
-tests_begin w x at q m to holds case.Default h there stack temp s z r t e =
+        walked_as w x at q to (Case.Values next) (state stack temp s) stack left Seeks z Done r u t f (at next, refl, c)
+tests_begin w x at q m to holds Case.Default h there stack temp s z r t e =
     let o = opened (holds s) (λ p. case_by p.0 p.1) (z, r, t) e in
     let g = h stack temp s o.0.0 o.0.1 o.1 in
-    walked_as w x at q to case.Default (state stack temp s) stack g.0 Within z Done r o.0.1 t
+    walked_as w x at q to Case.Default (state stack temp s) stack g.0 Within z Done r o.0.1 t
     (ap (λ b. case_by b o.0.1) (sym g.1) ∙ o.2) (to, refl, begun (sym there) g.2)
 
 jumps_out : (w : World) (x : Exits) (at : Label → Place) (from to q : Place) (end : Label) (new : Case) (m : Place) →
@@ -161,23 +157,23 @@ jumps_out w x at from to q end new m breaks there place stack temp s z r t e =
 
 pub case_walks : (w : World) (x : Exits) (holds : Truth) (old new : Case) (end : Label) → x.breaks ≡ Some end → (at : Label → Place)
     (from to : Place) → BeginsCase w holds old new end at from to → Walks w x old new (case_walk holds) at from to
-case_walks w x holds case.Nothing new end breaks at from to b Before q h stack temp s z r t e =
+case_walks w x holds Case.Nothing new end breaks at from to b Before q h stack temp s z r t e =
     tests_begin w x at q b.0 to holds new b.2 (h ∙ b.1) stack temp s z r t e
-case_walks w x holds (case.Values next) new end breaks at from to b Seeks q h stack temp s z r t e =
+case_walks w x holds (Case.Values next) new end breaks at from to b Seeks q h stack temp s z r t e =
     tests_begin w x at q b.0 to holds new b.2 (h ∙ b.1.2.1) stack temp s z r t e
-case_walks w x holds (case.Values next) new end breaks at from to b Within q h stack temp s z r t e =
+case_walks w x holds (Case.Values next) new end breaks at from to b Within q h stack temp s z r t e =
     jumps_out w x at from to q end new b.1.0 breaks h b.1.1 stack temp s z r t e
-case_walks w x holds case.Default new end breaks at from to b Within q h stack temp s z r t e =
+case_walks w x holds Case.Default new end breaks at from to b Within q h stack temp s z r t e =
     jumps_out w x at from to q end new b.0 breaks h b.1 stack temp s z r t e
 case_walks w x holds old new end breaks at from to b m q h stack temp s z r t e = absurd h
 
 -- The end of a `switch`: the case that is open ends, and the label of the end is marked.
 closes : (w : World) (at : Label → Place) (m1 m2 to q : Place) (end : Label) (new : Case) (m : Mode) (now : State) →
     StandsAt m new at m1 q → EndsCase new end at m1 m2 → Marks end at m2 to → Comes w at q now to now
-closes w at m1 m2 to q end case.Nothing Before now h e k = begun (sym (h ∙ e)) (mark_comes w at end m2 to now k)
-closes w at m1 m2 to q end (case.Values next) Seeks now h e k = begun (sym (h ∙ e.2.1)) (mark_comes w at end m2 to now k)
-closes w at m1 m2 to q end (case.Values next) Within now h e k = begun (sym h) (moved k.1 (jump_comes w at end m1 e.0 now e.1))
-closes w at m1 m2 to q end case.Default Within now h e k = begun (sym h) (moved k.1 (jump_comes w at end m1 m2 now e))
+closes w at m1 m2 to q end Case.Nothing Before now h e k = begun (sym (h ∙ e)) (mark_comes w at end m2 to now k)
+closes w at m1 m2 to q end (Case.Values next) Seeks now h e k = begun (sym (h ∙ e.2.1)) (mark_comes w at end m2 to now k)
+closes w at m1 m2 to q end (Case.Values next) Within now h e k = begun (sym h) (moved k.1 (jump_comes w at end m1 e.0 now e.1))
+closes w at m1 m2 to q end Case.Default Within now h e k = begun (sym h) (moved k.1 (jump_comes w at end m1 m2 now e))
 closes w at m1 m2 to q end new m now h e k = absurd h
 
 ends_by : (w : World) (x y : Exits) (at : Label → Place) (from m1 m2 to : Place) (end : Label) (new : Case) → y.breaks ≡ Some end →
@@ -197,7 +193,7 @@ ends_by w x y at from m1 m2 to end new breaks continues ends mark start stack le
 
 pub switch_runs : (w : World) (x y : Exits) (end : Label) (new : Case) (keeps : Change) (walk : Walk) → y.breaks ≡ Some end →
     y.continues ≡ x.continues → (at : Label → Place) (from to : Place) →
-    Then (GivesNothing w keeps) (Then (Walks w y case.Nothing new walk) (Then (EndsCase new end) (Marks end))) at from to →
+    Then (GivesNothing w keeps) (Then (Walks w y Case.Nothing new walk) (Then (EndsCase new end) (Marks end))) at from to →
     Runs w x (λ s. keeps s then λ t. walk_run walk t) at from to
 switch_runs w x y end new keeps walk breaks continues at from to p stack temp s q t e =
     let o = opened (keeps s) (λ u. walk_run walk u) (q, t) e in
@@ -211,6 +207,6 @@ switch_runs w x y end new keeps walk breaks continues at from to p stack temp s 
     (r.0, reaches_behind w x at from p.0 to (state stack temp s) (state stack g.0 o.0) (state stack r.0 t) q g.1 r.1)
 
 pub ends_case : (w : World) (limits : Limits) (new : Case) (end : Label) → Always w (case_closed limits new end) (EndsCase new end)
-ends_case w limits case.Nothing end = nothing_
-ends_case w limits (case.Values next) end = then_ (jumped_ limits end) (marked_ limits next)
-ends_case w limits case.Default end = jumped_ limits end
+ends_case w limits Case.Nothing end = nothing_
+ends_case w limits (Case.Values next) end = then_ (jumped_ limits end) (marked_ limits next)
+ends_case w limits Case.Default end = jumped_ limits end

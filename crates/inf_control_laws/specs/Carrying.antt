@@ -2,19 +2,13 @@
 use Rattle.std.specs.Prelude.{◌≡◌, Bool, false, List, ◌∷◌, Some}
 use Rattle.inf_settings.specs.Bounds.{Limits}
 use Rattle.inf_opcode.specs.declared.instructions.Label.{Label}
-use Rattle.inf_syntax.specs.declared.actions.Action.TheVariants as action
+use Rattle.inf_syntax.specs.declared.actions.Action.{Action}
 use Rattle.inf_output.specs.Output.{Out}
-use Rattle.inf_compilation.specs.Context.{Context}
-use Rattle.inf_compilation.specs.Actions.{Compilation}
-use Rattle.inf_constructs.specs.Constructs.{between, opened}
-use Rattle.inf_constructs.specs.declared.constructs.Case.{Case as CaseKind}
-use Rattle.inf_constructs.specs.declared.constructs.Case.TheVariants as case
-use Rattle.inf_constructs.specs.declared.constructs.Construct.{Construct}
-use Rattle.inf_constructs.specs.declared.constructs.Kind.TheVariants as kind
-use Rattle.inf_constructs.specs.declared.constructs.Over.TheVariants as over
+use Rattle.inf_compilation.specs.{Actions.Compilation, Context.Context}
+use Rattle.inf_constructs.specs.{Constructs.between, Constructs.opened, declared.constructs.Case.Case as CaseKind}
+use Rattle.inf_constructs.specs.{declared.constructs.Construct.Construct, declared.constructs.Kind.Kind, declared.constructs.Over.Over}
 use Rattle.inf_statement_laws.specs.Happenings.{Acts, Moment}
-use Rattle.inf_statement_laws.specs.Nested.{Case, Do, For, If, IfElse, Nested, Objectloop, Plain, Switch, Then, While}
-use Rattle.inf_statement_laws.specs.Nested.{step_happenings}
+use Rattle.inf_statement_laws.specs.Nested.{Case, Do, For, If, IfElse, Nested, Objectloop, Plain, Switch, Then, While, step_happenings}
 use Rattle.inf_statement_laws.specs.Laid.{happens, holding, laid, opened_at, run, with_kind_in, with_step_in}
 use Rattle.inf_interpreter.specs.Machine.{World}
 use Rattle.inf_meaning_laws.specs.Laws.{Branches, GivesNothing}
@@ -49,12 +43,12 @@ Carries w limits context (Plain plain) (Does e) v = Lays w (Runs w (exits v.cons
 Carries w limits context (Then first second) (Both p q) v =
     Carries w limits context first p v × Carries w limits context second q (laid limits context first v)
 Carries w limits context (If opens test body closes) (IfTrue holds p) v =
-    let c = opened limits kind.If v.output in
+    let c = opened limits Kind.If v.output in
     let inside = opened_at context opens c v in
     let tested = run limits context test.all inside in
     IsStill opens × Tests w holds c.0.next inside tested × Carries w limits context body p tested × IsStill closes
 Carries w limits context (IfElse opens test body joins word other closes) (Either holds p q) v =
-    let c = opened limits kind.If v.output in
+    let c = opened limits Kind.If v.output in
     let inside = opened_at context opens c v in
     let tested = run limits context test.all inside in
     let first = laid limits context body tested in
@@ -64,12 +58,12 @@ Carries w limits context (IfElse opens test body joins word other closes) (Eithe
     IsStill opens × Tests w holds c.0.next inside tested × Carries w limits context body p tested × IsStill joins
     × LaysNone behind.output ready.output × Carries w limits context other q ready × IsStill closes
 Carries w limits context (While opens test body closes) (WhileTrue holds p) v =
-    let c = opened limits kind.While v.output in
+    let c = opened limits Kind.While v.output in
     let inside = opened_at context opens c v in
     let tested = run limits context test.all inside in
     IsStill opens × Tests w holds c.0.end inside tested × Carries w limits context body p tested × IsStill closes
 Carries w limits context (Do opens body word joins test closes) (DoUntil p holds) v =
-    let c = opened limits kind.Do v.output in
+    let c = opened limits Kind.Do v.output in
     let inside = opened_at context opens c v in
     let first = laid limits context body inside in
     let ready = run limits context word.all first in
@@ -78,7 +72,7 @@ Carries w limits context (Do opens body word joins test closes) (DoUntil p holds
     IsStill opens × Carries w limits context body p inside × LaysNone first.output ready.output × IsStill joins
     × Tests w holds c.0.top behind (run limits context test.all behind) × IsStill closes
 Carries w limits context (For opens start joins test step bracket body closes) (ForEach begins holds next p) v =
-    let c = opened limits kind.For v.output in
+    let c = opened limits Kind.For v.output in
     let inside = opened_at context opens c v in
     let started = run limits context start.all inside in
     let top = between limits c.0 started.output in
@@ -91,9 +85,9 @@ Carries w limits context (For opens start joins test step bracket body closes) (
     × KeepsApart w (GivesNothing w next) tested.output stepped.output own.step × LaysNone stepped.output ready.output
     × Carries w limits context body p ready × IsStill closes
 Carries w limits context (Objectloop opens loop ends joins bracket body closes) (Objects first holds next p) v =
-    let c = opened limits (kind.Objects over.Nothing 0) v.output in
+    let c = opened limits (Kind.Objects Over.Nothing 0) v.output in
     let inside = opened_at context opens c v in
-    let looped = happens limits context (Acts ends action.EndObjectloop) (run limits context loop.all inside) in
+    let looped = happens limits context (Acts ends Action.EndObjectloop) (run limits context loop.all inside) in
     let own = with_kind_in looped.constructs c.0 in
     let joined = between limits own looped.output in
     let behind = holding joins joined v.constructs looped in
@@ -102,7 +96,7 @@ Carries w limits context (Objectloop opens loop ends joins bracket body closes) 
     × Lays w (BeginsLoop w first holds c.0.top c.0.next c.0.end) inside.output looped.output × IsStill joins
     × LaysNone behind.output ready.output × Carries w limits context body p ready × IsStill closes
 Carries w limits context (Switch opens value cases brace closes) (ByCases keeps p) v =
-    let c = opened limits (kind.Switch case.Nothing false) v.output in
+    let c = opened limits (Kind.Switch CaseKind.Nothing false) v.output in
     let inside = opened_at context opens c v in
     let valued = run limits context value.all inside in
     let done = laid limits context cases valued in
@@ -111,6 +105,6 @@ Carries w limits context (Switch opens value cases brace closes) (ByCases keeps 
     × LaysNone done.output ready.output × IsStill closes
 Carries w limits context (Case values ends) (CaseOf holds) v =
     let before = run limits context values.all v in
-    let now = happens limits context (Acts ends action.EndCase) before in
+    let now = happens limits context (Acts ends Action.EndCase) before in
     LaysNone v.output before.output × CaseBegins w holds v.constructs now.constructs before.output now.output
 Carries w limits context n p v = ⊥

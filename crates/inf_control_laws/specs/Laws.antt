@@ -1,14 +1,10 @@
 -- Statements that hold others do what they mean, where their parts do.
 use Rattle.std.specs.Prelude.{◌≡◌, ℕ, false}
 use Rattle.inf_settings.specs.Bounds.{Limits}
-use Rattle.inf_compilation.specs.Context.{Context}
-use Rattle.inf_compilation.specs.Actions.{Compilation}
-use Rattle.inf_statement_laws.specs.Nested.{Nested}
-use Rattle.inf_statement_laws.specs.Laid.{laid}
+use Rattle.inf_compilation.specs.{Actions.Compilation, Context.Context}
+use Rattle.inf_statement_laws.specs.{Laid.laid, Nested.Nested}
 use Rattle.inf_interpreter.specs.Machine.{World}
-use Rattle.inf_control_laws.specs.Control.{Control, effect}
-use Rattle.inf_control_laws.specs.Carrying.{Carries}
-use Rattle.inf_control_laws.specs.Runs.{Lays, Runs, exits}
+use Rattle.inf_control_laws.specs.{Carrying.Carries, Control.Control, Control.effect, Runs.Lays, Runs.Runs, Runs.exits}
 
 -- The code that is laid for a nested statement has the effect of its control flow, for any number of turns that loops may make, and leads
 -- where this says: behind the statement, to the labels of the statements around it, or out of the routine.

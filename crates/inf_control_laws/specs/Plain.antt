@@ -5,12 +5,9 @@ use Rattle.inf_settings.specs.Bounds.{Limits}
 use Rattle.inf_opcode.specs.declared.instructions.Label.{Label}
 use Rattle.inf_expressions.specs.Trees.{Tree}
 use Rattle.inf_output.specs.Output.{Out}
-use Rattle.inf_statements.specs.Effects.{Site, statement_code}
-use Rattle.inf_statements.specs.declared.statements.Statement.{Statement}
-use Rattle.inf_statements.specs.declared.statements.Statement.TheVariants as statement
+use Rattle.inf_statements.specs.{Effects.Site, Effects.statement_code, declared.statements.Statement.Statement}
 use Rattle.inf_interpreter.specs.Machine.{World, ◌then◌}
-use Rattle.inf_meaning_laws.specs.Covered.{Covered}
-use Rattle.inf_meaning_laws.specs.Values.{sense, value_of}
+use Rattle.inf_meaning_laws.specs.{Covered.Covered, Values.sense, Values.value_of}
 use Rattle.inf_control_laws.specs.Control.{Broke, Continued, Done, Effect, Outcome, Returned}
 use Rattle.inf_control_laws.specs.Runs.{Exits, Lays, Runs, exits}
 
@@ -29,23 +26,23 @@ return_run w [] s = Some (Returned 1, s)
 return_run w (t ∷ trees) s = value_of w t s then λ p. Some (Returned p.0, p.1)
 
 abbrev pub plain_run : World → Exits → List Tree → Statement → Effect
-plain_run w x trees statement.Expression = alone_run w trees
-plain_run w x trees statement.Return = return_run w trees
-plain_run w x trees statement.ReturnTrue = λ s. Some (Returned 1, s)
-plain_run w x trees statement.ReturnFalse = λ s. Some (Returned 0, s)
-plain_run w x trees statement.Break = left_run x.breaks Broke
-plain_run w x trees statement.Continue = left_run x.continues Continued
+plain_run w x trees Statement.Expression = alone_run w trees
+plain_run w x trees Statement.Return = return_run w trees
+plain_run w x trees Statement.ReturnTrue = λ s. Some (Returned 1, s)
+plain_run w x trees Statement.ReturnFalse = λ s. Some (Returned 0, s)
+plain_run w x trees Statement.Break = left_run x.breaks Broke
+plain_run w x trees Statement.Continue = left_run x.continues Continued
 plain_run w x trees _ = λ s. Some (Done, s)
 
 -- Statements of which the law speaks. The expression is one that is covered.
 abbrev pub IsPlain : Statement → Type 0
-IsPlain statement.Empty = Unit {0}
-IsPlain statement.Expression = Unit {0}
-IsPlain statement.Return = Unit {0}
-IsPlain statement.ReturnTrue = Unit {0}
-IsPlain statement.ReturnFalse = Unit {0}
-IsPlain statement.Break = Unit {0}
-IsPlain statement.Continue = Unit {0}
+IsPlain Statement.Empty = Unit {0}
+IsPlain Statement.Expression = Unit {0}
+IsPlain Statement.Return = Unit {0}
+IsPlain Statement.ReturnTrue = Unit {0}
+IsPlain Statement.ReturnFalse = Unit {0}
+IsPlain Statement.Break = Unit {0}
+IsPlain Statement.Continue = Unit {0}
 IsPlain _ = ⊥
 
 abbrev pub IsCovered : List Tree → Type 0

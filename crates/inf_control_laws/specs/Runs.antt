@@ -1,17 +1,10 @@
 -- Claims about code of statements, and code that is laid between two moments of a compilation.
 use Rattle.std.specs.Prelude.{◌≡◌, ℕ, true, false, List, [], ◌∷◌, ◌++◌, Option, Some, None}
-use Rattle.inf_opcode.specs.declared.instructions.Label.{Label}
-use Rattle.inf_opcode.specs.declared.opcodes.Opcode.{Opcode}
-use Rattle.inf_opcode.specs.declared.opcodes.Opcode.TheVariants as opcode
-use Rattle.inf_opcode.specs.Instructions.{Parts}
-use Rattle.inf_constructs.specs.Constructs.{left_to}
-use Rattle.inf_constructs.specs.declared.constructs.Construct.{Construct}
-use Rattle.inf_output.specs.declared.items.Item.{Item}
-use Rattle.inf_output.specs.declared.items.Item.TheVariants.{Instruction, Mark}
-use Rattle.inf_output.specs.Output.{Out, items_of}
+use Rattle.inf_opcode.specs.{Instructions.Parts, declared.instructions.Label.Label, declared.opcodes.Opcode.Opcode}
+use Rattle.inf_constructs.specs.{Constructs.left_to, declared.constructs.Construct.Construct}
+use Rattle.inf_output.specs.{Output.Out, Output.items_of, declared.items.Item.Item}
+use Rattle.inf_interpreter.specs.{Claims.Claim, Claims.Comes, Claims.Laid, Claims.state, Supplied.NamesStay, Supplied.Supplies}
 use Rattle.inf_interpreter.specs.Machine.{World, Store, State, Place, Stands, ◌then◌, operand_values, popped}
-use Rattle.inf_interpreter.specs.Claims.{Claim, Comes, Laid, state}
-use Rattle.inf_interpreter.specs.Supplied.{NamesStay, Supplies}
 use Rattle.inf_control_laws.specs.Control.{Broke, Continued, Done, Effect, Outcome, Returned}
 
 -- An instruction that leaves the routine, with the value that it returns and the store (Z-Machine Standard 1.1, section 15).
@@ -20,15 +13,15 @@ only_value (n ∷ []) s = Some (n, s)
 only_value _ s = None
 
 abbrev pub returned_by : World → Opcode → Parts → State → Option (ℕ × Store)
-returned_by w opcode.Rtrue i s = Some (1, s.store)
-returned_by w opcode.Rfalse i s = Some (0, s.store)
-returned_by w opcode.Ret i s = operand_values w i.operands s then λ p. only_value p.0 p.1.store
-returned_by w opcode.RetPopped i s = popped s.stack s then λ p. Some (p.0, p.1.store)
+returned_by w Opcode.Rtrue i s = Some (1, s.store)
+returned_by w Opcode.Rfalse i s = Some (0, s.store)
+returned_by w Opcode.Ret i s = operand_values w i.operands s then λ p. only_value p.0 p.1.store
+returned_by w Opcode.RetPopped i s = popped s.stack s then λ p. Some (p.0, p.1.store)
 returned_by w _ i s = None
 
 abbrev pub returned : World → Item → State → Option (ℕ × Store)
-returned w (Mark l) s = None
-returned w (Instruction i) s = returned_by w i.opcode i s
+returned w (Item.Mark l) s = None
+returned w (Item.Instruction i) s = returned_by w i.opcode i s
 
 pub record Leaves (w : World) (at : Label → Place) (from : Place) (start : State) (n : ℕ) (t : Store) : Type 0 where
   pub item : Item

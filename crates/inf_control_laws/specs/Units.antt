@@ -3,35 +3,20 @@
 use Rattle.std.specs.Prelude.{◌≡◌, Bool, false, List, [], ◌∷◌, Option, Some, None, map}
 use Rattle.inf_settings.specs.Bounds.{Limits}
 use Rattle.inf_scanner.specs.declared.tokens.Place.{Place}
-use Rattle.inf_expressions.specs.Questions.{children_of}
-use Rattle.inf_expressions.specs.Rooted.{Rooted}
-use Rattle.inf_expressions.specs.Trees.{Tree}
+use Rattle.inf_expressions.specs.{Questions.children_of, Rooted.Rooted, Trees.Tree}
 use Rattle.inf_syntax.specs.declared.actions.Action.{Action}
-use Rattle.inf_unit.specs.Roles.{role_of}
-use Rattle.inf_unit.specs.declared.roles.Ending.TheVariants as ending
-use Rattle.inf_unit.specs.declared.roles.Role.TheVariants as role
-use Rattle.inf_constructs.specs.Cases.{SWITCHED}
-use Rattle.inf_constructs.specs.Constructs.{otherwise}
-use Rattle.inf_constructs.specs.Roots.{tree_in}
-use Rattle.inf_constructs.specs.declared.constructs.Case.{Case as CaseKind}
-use Rattle.inf_constructs.specs.declared.constructs.Construct.{Construct}
-use Rattle.inf_constructs.specs.declared.constructs.Kind.TheVariants as kind
-use Rattle.inf_compilation.specs.Context.{Context}
-use Rattle.inf_compilation.specs.Actions.{Compilation, named, settled_of, trees_at}
+use Rattle.inf_unit.specs.{Roles.role_of, declared.roles.Ending.Ending, declared.roles.Role.Role}
+use Rattle.inf_constructs.specs.{Cases.SWITCHED, Constructs.otherwise, Roots.tree_in, declared.constructs.Case.Case as CaseKind}
+use Rattle.inf_constructs.specs.{declared.constructs.Construct.Construct, declared.constructs.Kind.Kind}
+use Rattle.inf_compilation.specs.{Actions.Compilation, Actions.named, Actions.settled_of, Actions.trees_at, Context.Context}
 use Rattle.inf_parts.specs.Parts.{case_prepared, found_in, is_default, order_of, part_begun, part_prepared, statement_at, wanted_of}
 use Rattle.inf_parts.specs.declared.parts.Part.{Part}
-use Rattle.inf_parts.specs.declared.parts.Part.TheVariants as part
 use Rattle.inf_reader.specs.Acting.{act}
 use Rattle.inf_output.specs.declared.items.Item.{Item}
 use Rattle.inf_interpreter.specs.Machine.{World, ◌then◌, with_variable}
-use Rattle.inf_meaning_laws.specs.Covered.{Covered}
-use Rattle.inf_meaning_laws.specs.Laws.{Branches, GivesNothing}
-use Rattle.inf_meaning_laws.specs.Values.{sense, truth_of}
-use Rattle.inf_control_laws.specs.Carrying.{CaseBegins}
-use Rattle.inf_control_laws.specs.Cases.{AreValues, case_truth}
-use Rattle.inf_control_laws.specs.Control.{Change}
-use Rattle.inf_control_laws.specs.Loops.{LoopBegins, loop_variable}
-use Rattle.inf_control_laws.specs.Plain.{IsCovered, IsPlain, plain_run}
+use Rattle.inf_meaning_laws.specs.{Covered.Covered, Laws.Branches, Laws.GivesNothing, Values.sense, Values.truth_of}
+use Rattle.inf_control_laws.specs.{Carrying.CaseBegins, Cases.AreValues, Cases.case_truth, Control.Change, Loops.LoopBegins}
+use Rattle.inf_control_laws.specs.{Loops.loop_variable, Plain.IsCovered, Plain.IsPlain, Plain.plain_run}
 use Rattle.inf_control_laws.specs.Runs.{KeepsApart, Lays, Runs, exits}
 
 -- A unit ends: one that is a case is prepared as such.
@@ -64,35 +49,35 @@ step_of (c ∷ constructs) = c.step
 -- A condition branches where it is not true; the start of a `for` and the value of a `switch` change the store; a plain statement has its
 -- effect; the step of a `for` is kept apart, where nothing else is; a loop over objects begins; and so does a case of a `switch`.
 pub record UnitsRun (w : World) (limits : Limits) (context : Context) (place : Place) (v : Compilation) : Type 0 where
-  pub conditions : (a : Action) → role_of a ≡ role.End ending.Condition → IsSound limits context part.Condition v → (c : Construct)
+  pub conditions : (a : Action) → role_of a ≡ Role.End Ending.Condition → IsSound limits context Part.Condition v → (c : Construct)
       (around : List Construct) → v.constructs ≡ c ∷ around → (t : Tree) (trees : List Tree) →
-      trees_of limits context part.Condition v ≡ t ∷ trees → Covered false t →
+      trees_of limits context Part.Condition v ≡ t ∷ trees → Covered false t →
       Lays w (Branches false w (truth_of w t) false (otherwise c c.kind)) v.output (act limits context place a v).output
-  pub starts : (a : Action) → role_of a ≡ role.End ending.Start → IsSound limits context part.Start v → (t : Tree) (trees : List Tree) →
-      trees_of limits context part.Start v ≡ t ∷ trees → Covered false t →
+  pub starts : (a : Action) → role_of a ≡ Role.End Ending.Start → IsSound limits context Part.Start v → (t : Tree) (trees : List Tree) →
+      trees_of limits context Part.Start v ≡ t ∷ trees → Covered false t →
       Lays w (GivesNothing w (sense w t).alone) v.output (act limits context place a v).output
-  pub values : (a : Action) → role_of a ≡ role.End ending.Switched → IsSound limits context part.Switched v → (t : Tree)
-      (trees : List Tree) → trees_of limits context part.Switched v ≡ t ∷ trees → Covered false t →
+  pub values : (a : Action) → role_of a ≡ Role.End Ending.Switched → IsSound limits context Part.Switched v → (t : Tree)
+      (trees : List Tree) → trees_of limits context Part.Switched v ≡ t ∷ trees → Covered false t →
       Lays w (GivesNothing w (kept_value w t)) v.output (act limits context place a v).output
-  pub steps : (a : Action) → role_of a ≡ role.End ending.Step → IsSound limits context part.Step v → v.output.kept ≡ None →
+  pub steps : (a : Action) → role_of a ≡ Role.End Ending.Step → IsSound limits context Part.Step v → v.output.kept ≡ None →
       (c : Construct) (around : List Construct) → v.constructs ≡ c ∷ around → (t : Tree) (trees : List Tree) →
-      trees_of limits context part.Step v ≡ t ∷ trees → Covered false t →
+      trees_of limits context Part.Step v ≡ t ∷ trees → Covered false t →
       let now = act limits context place a v in
       KeepsApart w (GivesNothing w (sense w t).alone) v.output now.output (step_of now.constructs)
-  pub statements : (a : Action) → role_of a ≡ role.End ending.Statement → IsSound limits context (part.Statement (statement_at v)) v →
-      IsPlain (statement_at v) → IsCovered (trees_of limits context (part.Statement (statement_at v)) v) →
+  pub statements : (a : Action) → role_of a ≡ Role.End Ending.Statement → IsSound limits context (Part.Statement (statement_at v)) v →
+      IsPlain (statement_at v) → IsCovered (trees_of limits context (Part.Statement (statement_at v)) v) →
       Lays w (Runs w (exits v.constructs) (plain_run w (exits v.constructs)
-      (trees_of limits context (part.Statement (statement_at v)) v) (statement_at v))) v.output (act limits context place a v).output
-  pub loops : (a : Action) → role_of a ≡ role.End ending.Loop → IsSound limits context part.Loop v → (c : Construct)
+      (trees_of limits context (Part.Statement (statement_at v)) v) (statement_at v))) v.output (act limits context place a v).output
+  pub loops : (a : Action) → role_of a ≡ Role.End Ending.Loop → IsSound limits context Part.Loop v → (c : Construct)
       (around : List Construct) → v.constructs ≡ c ∷ around → (r : Rooted) (others : List Rooted) →
-      rooted_of limits context part.Loop v ≡ r ∷ others → Covered false r.tree →
+      rooted_of limits context Part.Loop v ≡ r ∷ others → Covered false r.tree →
       let now = act limits context place a v in
       LoopBegins w limits (children_of r.tree) r.tree (loop_variable r) c v.output now.constructs now.output
-  pub cases : (a : Action) → role_of a ≡ role.End ending.Case → IsSound limits context part.Case v → (c : Construct)
+  pub cases : (a : Action) → role_of a ≡ Role.End Ending.Case → IsSound limits context Part.Case v → (c : Construct)
       (around : List Construct) → v.constructs ≡ c ∷ around → (old : CaseKind) (had_default : Bool) →
-      c.kind ≡ kind.Switch old had_default → AreValues (trees_of limits context part.Case v) →
+      c.kind ≡ Kind.Switch old had_default → AreValues (trees_of limits context Part.Case v) →
       let now = act limits context place a v in
-      CaseBegins w (case_truth w (is_default (ready_for limits part.Case v).unit.items) (trees_of limits context part.Case v)) v.constructs
+      CaseBegins w (case_truth w (is_default (ready_for limits Part.Case v).unit.items) (trees_of limits context Part.Case v)) v.constructs
       now.constructs v.output now.output
 
 abbrev pub AllUnitsRun : Type 0

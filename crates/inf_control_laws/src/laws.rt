@@ -1,8 +1,5 @@
 //! Statements that hold others do what they mean.
-ghost use Rattle.inf_control_laws.specs.Laws.{StatementsRun};
-ghost use Rattle.inf_control_laws.specs.Plain.{PlainStatementsRun};
-ghost use Rattle.inf_control_laws.specs.Premises.{AllPremisesHold};
-ghost use Rattle.inf_control_laws.specs.Units.{AllUnitsRun};
+ghost use Rattle.inf_control_laws.specs.{Laws.StatementsRun, Plain.PlainStatementsRun, Premises.AllPremisesHold, Units.AllUnitsRun};
 
 /// States that the items which are laid for `if`, `else`, `while`, `do`, `for`, `objectloop` and `switch`, however
 /// they are nested, do what the statements mean (`effect`), on a machine that runs them by the Z-Machine Standard

@@ -2,12 +2,10 @@
 use Rattle.std.proofs.Common.{◌≡◌, ◌==◌, ℕ, length, Bool, true, false, cond, Option, None, refl, sym, ap, ◌∙◌}
 use Rattle.inf_settings.specs.Bounds.{Limits}
 use Rattle.inf_area.specs.declared.targets.Value.{Value}
-use Rattle.inf_expressions.specs.Findings.{least_of_both}
-use Rattle.inf_expressions.specs.declared.units.Wanted.TheVariants as wanted
+use Rattle.inf_expressions.specs.{Findings.least_of_both, declared.units.Wanted.Wanted}
 use Rattle.inf_output.specs.Output.{Out}
 use Rattle.inf_operands.specs.Uses.{LeavesStay}
-use Rattle.inf_compilation.specs.Actions.{Compilation, finding_at, operands_of, settled_of}
-use Rattle.inf_compilation.specs.Context.{Context}
+use Rattle.inf_compilation.specs.{Actions.Compilation, Actions.finding_at, Actions.operands_of, Actions.settled_of, Context.Context}
 use Rattle.inf_declarations.specs.Arrays.{added, added_finding, adding, bare_leaf, bare_text, entry_added, entry_added_by}
 use Rattle.inf_declarations.specs.Arrays.{entry_finding, one_more, own_finding, value_added}
 use Rattle.inf_named_values.specs.Values.{looked_value}
@@ -20,10 +18,10 @@ no_text false w several = refl
 
 pub several_found : (limits : Limits) (context : Context) (alone : Bool) (w : Compilation)
     → (length w.unit.gathering.symbols == 1) ≡ false
-    → least_of_both (finding_at 0 wanted.Constant w) (added_finding limits (adding alone (looked_value w)) w)
+    → least_of_both (finding_at 0 Wanted.Constant w) (added_finding limits (adding alone (looked_value w)) w)
     ≡ entry_finding limits context alone w
 several_found limits context alone w several =
-    sym (ap (λ (text : Option ℕ). least_of_both (finding_at 0 wanted.Constant w) (own_finding limits context text alone w))
+    sym (ap (λ (text : Option ℕ). least_of_both (finding_at 0 Wanted.Constant w) (own_finding limits context text alone w))
     (no_text alone w several))
 
 -- The finding about an entry of several leaves does not depend on whether there were entries before it.

@@ -1,54 +1,38 @@
 -- The directive `Array`: its header, and its entries one by one. Designer's Manual, fourth edition, section 2.4.
-use Rattle.std.specs.Prelude.{ℕ, ◌+◌, ◌==◌, List, [], ◌∷◌, length, map, codes, Bool, true, false, not, ◌&&◌, if◌then◌else◌, Option}
+use Rattle.std.specs.Prelude.{◌≡◌, ℕ, ◌+◌, ◌==◌, List, [], ◌∷◌, length, map, codes, Bool, true, false, not, ◌&&◌, ◌||◌, if◌then◌else◌, Option}
 use Rattle.std.specs.Prelude.{Some, None}
 use Rattle.std.specs.Str.{str_eq_ignore_ascii_case}
-use Rattle.inf_settings.specs.Bounds.{Limits, unbounded}
+use Rattle.inf_settings.specs.{Bounds.Limits, Bounds.unbounded, declared.setting.Setting.Setting}
 use Rattle.inf_area.specs.declared.targets.Value.{Value}
-use Rattle.inf_area.specs.declared.targets.Value.TheVariants as value
+use Rattle.inf_arrays.specs.{declared.arrays.ArrayFault.ArrayFault, declared.kinds.ArrayKind.ArrayKind}
 use Rattle.inf_arrays.specs.Arrays.{Adding, One, Zeros, Characters, AllArrays, added_fault, all_of, arrays_size, no_arrays, open_fault}
 use Rattle.inf_arrays.specs.Arrays.{opened, values_in, with_entries}
-use Rattle.inf_arrays.specs.declared.arrays.ArrayFault.{ArrayFault}
-use Rattle.inf_arrays.specs.declared.arrays.ArrayFault.TheVariants as fault
-use Rattle.inf_arrays.specs.declared.kinds.ArrayKind.{ArrayKind}
-use Rattle.inf_arrays.specs.declared.kinds.ArrayKind.TheVariants as array_kind_of
 use Rattle.inf_characters.specs.declared.texts.TextItem.{TextItem}
-use Rattle.inf_characters.specs.declared.texts.TextItem.TheVariants as text_item
-use Rattle.inf_expressions.specs.declared.findings.Finding.{Finding}
-use Rattle.inf_expressions.specs.declared.units.Wanted.TheVariants as wanted
+use Rattle.inf_expressions.specs.{declared.findings.Finding.Finding, declared.symbols.Symbol.Symbol, declared.units.Wanted.Wanted}
 use Rattle.inf_expressions.specs.Findings.{least_of_both, out_of_range}
 use Rattle.inf_gathering.specs.declared.gathering.Leaf.{Leaf}
-use Rattle.inf_gathering.specs.declared.gathering.Leaf.TheVariants as leaf
-use Rattle.inf_names.specs.declared.meanings.Meaning.TheVariants as meaning
+use Rattle.inf_names.specs.{Spellings.Name, declared.meanings.Meaning.Meaning}
 use Rattle.inf_output.specs.Output.{Code, passed_table}
-use Rattle.inf_report.specs.declared.messages.FixedLimit.TheVariants as countable
-use Rattle.inf_scanner.specs.declared.tokens.Mark.TheVariants as mark
-use Rattle.inf_scanner.specs.declared.tokens.Place.{Place}
-use Rattle.inf_scanner.specs.declared.tokens.TokenKind.{TokenKind}
-use Rattle.inf_scanner.specs.declared.tokens.TokenKind.TheVariants as kind
-use Rattle.inf_settings.specs.declared.setting.Setting.TheVariants as setting
+use Rattle.inf_report.specs.declared.messages.FixedLimit.{FixedLimit}
+use Rattle.inf_scanner.specs.{declared.tokens.Mark.Mark, declared.tokens.Place.Place, declared.tokens.TokenKind.TokenKind}
 use Rattle.inf_operands.specs.Texts.{text_at}
-use Rattle.inf_names.specs.Spellings.{Name}
-use Rattle.inf_compilation.specs.Context.{Context}
-use Rattle.inf_unit.specs.Tokens.{SourceToken}
-use Rattle.inf_unit.specs.Units.{bytes_at, first_place, kind_at, name_order}
+use Rattle.inf_compilation.specs.{Context.Context, Findings.found_alone, Findings.nothing_found}
 use Rattle.inf_compilation.specs.Actions.{Compilation, finding_at, passed, settled_of, unit_ended}
-use Rattle.inf_named_values.specs.Declarations.{declared_ended, name_declared, plainly_known}
-use Rattle.inf_named_values.specs.Values.{value_of}
-use Rattle.inf_compilation.specs.Findings.{found_alone, nothing_found}
-use Rattle.inf_named_values.specs.declared.declarations.Declared.{Declared}
-use Rattle.inf_named_values.specs.Values.{looked_value, variables_from}
+use Rattle.inf_unit.specs.{Tokens.SourceToken, Units.bytes_at, Units.first_place, Units.kind_at, Units.name_order}
+use Rattle.inf_named_values.specs.{Declarations.declared_ended, Declarations.name_declared, Declarations.plainly_known, Values.looked_value}
+use Rattle.inf_named_values.specs.{Values.value_of, Values.variables_from, declared.declarations.Declared.Declared}
 
 -- The header
 
 -- the kind of an array, by the token behind its name
 abbrev pub kind_named : List ℕ → ArrayKind
-kind_named bytes = if str_eq_ignore_ascii_case bytes (codes "string") then array_kind_of.String else array_kind_of.Table
+kind_named bytes = if str_eq_ignore_ascii_case bytes (codes "string") then ArrayKind.String else ArrayKind.Table
 
 abbrev pub array_kind : Option TokenKind → List ℕ → ArrayKind
-array_kind (Some (kind.Mark mark.Arrow)) bytes = array_kind_of.Bytes
-array_kind (Some (kind.Mark m)) bytes = array_kind_of.Words
+array_kind (Some (TokenKind.Mark Mark.Arrow)) bytes = ArrayKind.Bytes
+array_kind (Some (TokenKind.Mark m)) bytes = ArrayKind.Words
 array_kind (Some k) bytes = kind_named bytes
-array_kind None bytes = array_kind_of.Words
+array_kind None bytes = ArrayKind.Words
 
 abbrev pub kind_in : List SourceToken → ArrayKind
 kind_in tokens = let at = name_order tokens + 1 in array_kind (kind_at tokens at) (bytes_at tokens at)
@@ -58,12 +42,12 @@ with_arrays arrays o = record o { tables = record o.tables { arrays = arrays } }
 
 -- the name of an array is declared, which begins at `place`
 abbrev pub array_declared : Limits → Name → ℕ → Code
-array_declared limits name place o = name_declared limits name (meaning.Array place) o
+array_declared limits name place o = name_declared limits name (Meaning.Array place) o
 
 -- An array that would pass the limit is not opened, and has its name all the same: that may pass a limit before that of
 -- arrays.
 abbrev pub array_refused : Limits → Name → Code
-array_refused limits name o = array_declared limits name 0 (passed_table limits setting.Arrays o)
+array_refused limits name o = array_declared limits name 0 (passed_table limits Setting.Arrays o)
 
 -- One more array of the story, with its name.
 abbrev pub array_opened_by : Limits → Option ArrayFault → ArrayKind → Name → Code
@@ -89,7 +73,7 @@ listed limits (Some f) k name w = record w { listing = record { is_lost = true; 
 
 abbrev pub header_with : Limits → Context → Place → Name → Declared → Compilation → Compilation
 header_with limits context first name d w =
-    declared_ended limits context first false name countable.Globals d (listed limits d.finding (kind_in w.unit.tokens) name w)
+    declared_ended limits context first false name FixedLimit.Globals d (listed limits d.finding (kind_in w.unit.tokens) name w)
 
 abbrev pub array_header : Limits → Context → Place → Name → Compilation → Compilation
 array_header limits context first name w = header_with limits context first name (plainly_known name (name_order w.unit.tokens) w) w
@@ -107,27 +91,47 @@ is_alone is_last w = is_last && not w.listing.has_entries
 
 -- the place of the text that an expression is by itself
 abbrev pub bare_leaf : List Leaf → Option ℕ
-bare_leaf ((leaf.Text at) ∷ []) = Some at
+bare_leaf ((Leaf.Text at) ∷ []) = Some at
 bare_leaf _ = None
+
+-- the number that a leaf is: a character is a number, too
+abbrev pub number_in : Leaf → Option ℕ
+number_in (Leaf.Number number) = Some number
+number_in (Leaf.Char zscii) = Some zscii
+number_in _ = None
+
+-- the number that an expression with these leaves is by itself, where it is the first of them
+abbrev pub number_leaf : List Leaf → Option ℕ
+number_leaf (l ∷ []) = number_in l
+number_leaf _ = None
+
+-- Tells whether an expression with these symbols is its first leaf and nothing else.
+abbrev pub is_first : Symbol → Bool
+is_first (Symbol.Leaf first token place) = place == 0
+is_first _ = false
+
+abbrev pub is_first_leaf : List Symbol → Bool
+is_first_leaf (s ∷ []) = is_first s
+is_first_leaf _ = false
 
 abbrev pub bare_text : Bool → Compilation → Option ℕ
 bare_text alone w = if alone && (length w.unit.gathering.symbols == 1) then bare_leaf w.unit.gathering.leaves else None
 
 -- the codes of characters, of which none may be that of a string variable
 abbrev pub code_of : TextItem → ℕ
-code_of (text_item.Variable n) = 0
-code_of (text_item.Character z) = z
+code_of (TextItem.Variable n) = 0
+code_of (TextItem.Character z) = z
 
 abbrev pub codes_of : List TextItem → List ℕ
 codes_of items = map code_of items
 
 -- The finding about an entry that its array refuses. It is no error of the unit that there are too many bytes.
 abbrev pub refused : Option ArrayFault → Option Finding
-refused (Some fault.TooMany) = Some (out_of_range 0)
-refused (Some fault.NotAByte) = Some (out_of_range 0)
-refused (Some fault.NoEntries) = Some (out_of_range 0)
-refused (Some fault.Full) = None
-refused (Some fault.Memory) = None
+refused (Some ArrayFault.TooMany) = Some (out_of_range 0)
+refused (Some ArrayFault.NotAByte) = Some (out_of_range 0)
+refused (Some ArrayFault.NoEntries) = Some (out_of_range 0)
+refused (Some ArrayFault.Full) = None
+refused (Some ArrayFault.Memory) = None
 refused None = None
 
 abbrev pub added_finding : Limits → Adding → Compilation → Option Finding
@@ -143,9 +147,14 @@ text_finding limits None w = Some (out_of_range 0)
 text_finding limits (Some items) w = items_finding limits (variables_from items false) items w
 
 abbrev pub adding : Bool → Value → Adding
-adding true (value.Known count) = Zeros count
+adding true (Value.Known count) = Zeros count
 adding true v = One v
 adding false v = One v
+
+-- The unit's expression is this number by itself.
+pub record IsNumber (number : ℕ) (w : Compilation) : Type 0 where
+  pub leaf : number_leaf w.unit.gathering.leaves ≡ Some number
+  pub alone : is_first_leaf w.unit.gathering.symbols ≡ true
 
 abbrev pub own_finding : Limits → Context → Option ℕ → Bool → Compilation → Option Finding
 own_finding limits context (Some at) alone w = text_finding limits (text_at context.set w.unit.tokens at) w
@@ -153,12 +162,12 @@ own_finding limits context None alone w = added_finding limits (adding alone (lo
 
 abbrev pub entry_finding : Limits → Context → Bool → Compilation → Option Finding
 entry_finding limits context alone w =
-    least_of_both (finding_at 0 wanted.Constant w) (own_finding limits context (bare_text alone w) alone w)
+    least_of_both (finding_at 0 Wanted.Constant w) (own_finding limits context (bare_text alone w) alone w)
 
 -- more entries of the open array of the story, or of the one that is kept apart
 abbrev pub story_added : Limits → Option ArrayFault → Adding → Code
 story_added limits None a o = with_arrays (with_entries (values_in a) o.tables.arrays) o
-story_added limits (Some f) a o = passed_table limits setting.Arrays o
+story_added limits (Some f) a o = passed_table limits Setting.Arrays o
 
 abbrev pub lost_added : Option ArrayFault → Adding → AllArrays → AllArrays
 lost_added None a arrays = with_entries (values_in a) arrays

@@ -3,9 +3,8 @@ use Rattle.std.specs.Prelude.{List, true, None, if◌then◌else◌}
 use Rattle.inf_settings.specs.Bounds.{Limits}
 use Rattle.inf_scanner.specs.declared.tokens.Place.{Place}
 use Rattle.inf_names.specs.Spellings.{Name}
-use Rattle.inf_compilation.specs.Context.{Context}
+use Rattle.inf_compilation.specs.{Context.Context, Findings.nothing_found}
 use Rattle.inf_compilation.specs.Actions.{Compilation, constant, is_first_declared, unit_ended}
-use Rattle.inf_compilation.specs.Findings.{nothing_found}
 
 -- a constant, unless its name is declared
 abbrev pub default : Limits → Context → Place → List Name → Compilation → Compilation

@@ -3,23 +3,19 @@ use Rattle.std.specs.Prelude.{ℕ, ◌==◌, nat_le, List, [], ◌∷◌, length
 use Rattle.std.specs.List.{list_all}
 use Rattle.inf_settings.specs.Bounds.{Limits}
 use Rattle.inf_scanner.specs.declared.tokens.Place.{Place}
-use Rattle.inf_expressions.specs.declared.findings.Finding.{Finding}
-use Rattle.inf_expressions.specs.declared.operators.Operand.TheVariants as operand
-use Rattle.inf_expressions.specs.declared.units.Wanted.TheVariants as wanted
-use Rattle.inf_expressions.specs.Findings.{no_constant, out_of_range}
-use Rattle.inf_expressions.specs.Trees.{Tree, Leaf}
+use Rattle.inf_expressions.specs.{Findings.no_constant, Findings.out_of_range, Trees.Leaf, Trees.Tree, declared.findings.Finding.Finding}
+use Rattle.inf_expressions.specs.{declared.operators.Operand.Operand, declared.units.Wanted.Wanted}
 use Rattle.inf_constructs.specs.Roots.{tree_in}
 use Rattle.inf_operands.specs.Operands.{leaf_added}
 use Rattle.inf_unit.specs.Units.{quoted_in}
-use Rattle.inf_compilation.specs.Context.{Context}
+use Rattle.inf_compilation.specs.{Context.Context, Findings.found_alone}
 use Rattle.inf_compilation.specs.Actions.{Compilation, finding_at, operands_of, trees_at, unit_ended}
-use Rattle.inf_compilation.specs.Findings.{found_alone}
 
 -- Releases
 
 -- the number of an expression, where it is known
 abbrev pub known_number : List Tree → Option ℕ
-known_number ((Leaf (operand.Known number)) ∷ trees) = Some number
+known_number ((Leaf (Operand.Known number)) ∷ trees) = Some number
 known_number _ = None
 
 -- the finding about a release: that about its expression, or else that its number is not known
@@ -45,8 +41,8 @@ release_with limits context first number found w = release_ended limits context 
 
 abbrev pub release : Limits → Context → Place → Compilation → Compilation
 release limits context first w =
-    release_with limits context first (known_number (map tree_in (trees_at 0 wanted.Constant (operands_of w) w)))
-    (finding_at 0 wanted.Constant w) w
+    release_with limits context first (known_number (map tree_in (trees_at 0 Wanted.Constant (operands_of w) w)))
+    (finding_at 0 Wanted.Constant w) w
 
 -- Serial numbers
 

@@ -4,20 +4,15 @@ use Rattle.inf_settings.specs.Bounds.{Limits}
 use Rattle.inf_area.specs.declared.targets.Value.{Value}
 use Rattle.inf_scanner.specs.declared.tokens.Place.{Place}
 use Rattle.inf_expressions.specs.declared.findings.Finding.{Finding}
-use Rattle.inf_names.specs.declared.meanings.Meaning.TheVariants as meaning
+use Rattle.inf_names.specs.{Spellings.Name, declared.meanings.Meaning.Meaning}
 use Rattle.inf_output.specs.Output.{Code, Out}
-use Rattle.inf_report.specs.declared.messages.FixedLimit.TheVariants as countable
-use Rattle.inf_names.specs.Spellings.{Name}
-use Rattle.inf_compilation.specs.Context.{Context}
-use Rattle.inf_unit.specs.Tokens.{SourceToken}
-use Rattle.inf_unit.specs.Units.{name_order, order}
-use Rattle.inf_tables.specs.declared.faults.WorldFault.{WorldFault}
-use Rattle.inf_tables.specs.World.{property_fault, with_property}
-use Rattle.inf_compilation.specs.Actions.{Compilation, passed, settled_of}
-use Rattle.inf_named_values.specs.declared.declarations.Declared.{Declared}
+use Rattle.inf_report.specs.declared.messages.FixedLimit.{FixedLimit}
+use Rattle.inf_compilation.specs.{Actions.Compilation, Actions.passed, Actions.settled_of, Context.Context}
+use Rattle.inf_unit.specs.{Tokens.SourceToken, Units.name_order, Units.order}
+use Rattle.inf_tables.specs.{World.property_fault, World.with_property, declared.faults.WorldFault.WorldFault}
+use Rattle.inf_named_values.specs.{Values.value_of, declared.declarations.Declared.Declared}
 use Rattle.inf_named_values.specs.Declarations.{alias_told, declaration_ended, is_additive, is_alias, name_declared, nothing_of, valued}
 use Rattle.inf_named_values.specs.Declarations.{with_world}
-use Rattle.inf_named_values.specs.Values.{value_of}
 
 -- one more property of the world, unless there are as many as there may be
 abbrev pub new_property_by : Option WorldFault → Bool → Value → Code
@@ -31,18 +26,18 @@ abbrev pub property_number : Out → ℕ
 property_number o = 4 + length o.tables.world.declared % 252
 
 abbrev pub property_added : Limits → Context → Option Finding → Name → Bool → Compilation → Out
-property_added limits context (Some f) name is_additive w = name_declared limits name (nothing_of countable.Properties) w.output
+property_added limits context (Some f) name is_additive w = name_declared limits name (nothing_of FixedLimit.Properties) w.output
 property_added limits context None name is_additive w =
     let o = (settled_of limits context w).out in
     new_property is_additive (value_of limits context w)
-    (name_declared limits name (meaning.Property (property_number o) is_additive) o)
+    (name_declared limits name (Meaning.Property (property_number o) is_additive) o)
 
 abbrev pub property_order : List SourceToken → Bool → ℕ
 property_order tokens is_additive = if is_additive then min (name_order tokens + 1) 4294967295 else name_order tokens
 
 abbrev pub property_ended : Limits → Context → Place → Bool → Name → Declared → Compilation → Compilation
 property_ended limits context first is_additive name d w =
-    declaration_ended limits context first name countable.Properties d
+    declaration_ended limits context first name FixedLimit.Properties d
     (record w { output = property_added limits context d.finding name is_additive w })
 
 abbrev pub has_most_properties : Out → Bool
@@ -57,7 +52,7 @@ abbrev pub property_named : Limits → Context → Place → Bool → List Name 
 property_named limits context first is_additive [] w = passed true w
 property_named limits context first is_additive (name ∷ names) w =
     if is_alias names w.unit.gathering.leaves then alias_told limits context first name (property_order w.unit.tokens is_additive)
-    countable.Properties w
+    FixedLimit.Properties w
     else property_with limits context first is_additive name w
 
 abbrev pub names_behind : Bool → List Name → List Name

@@ -2,20 +2,17 @@
 use Rattle.std.specs.Prelude.{ℕ, nat_lt, List, [], ◌∷◌, Bool, true, if◌then◌else◌, Option, Some, None}
 use Rattle.inf_settings.specs.Bounds.{Limits}
 use Rattle.inf_scanner.specs.declared.tokens.Place.{Place}
-use Rattle.inf_expressions.specs.declared.findings.Finding.{Finding}
-use Rattle.inf_expressions.specs.declared.findings.UnitError.TheVariants as unit_error
-use Rattle.inf_letters.specs.Letters.{ignores, set_of, with_letters}
-use Rattle.inf_letters.specs.declared.letters.Letters.{Letters}
+use Rattle.inf_expressions.specs.{declared.findings.Finding.Finding, declared.findings.UnitError.UnitError}
+use Rattle.inf_letters.specs.{Letters.ignores, Letters.set_of, Letters.with_letters, declared.letters.Letters.Letters}
 use Rattle.inf_names.specs.Spellings.{Name}
 use Rattle.inf_code.specs.Code.{Routines, routine_count}
 use Rattle.inf_unit.specs.Directives.{Characters}
-use Rattle.inf_compilation.specs.Context.{Context}
+use Rattle.inf_compilation.specs.{Context.Context, Findings.found_alone, Findings.nothing_found}
 use Rattle.inf_compilation.specs.Actions.{Compilation, letters_chosen, passed, unit_ended}
-use Rattle.inf_compilation.specs.Findings.{found_alone, nothing_found}
 
 -- the finding about the first token that the directive comes behind another unit, or has letters that are unknown
 abbrev pub misplaced : Finding
-misplaced = record { order = 0; error = unit_error.MisplacedSwitches }
+misplaced = record { order = 0; error = UnitError.MisplacedSwitches }
 
 -- whether code has begun: then a routine counts
 abbrev pub has_code : Routines → Bool

@@ -1,12 +1,9 @@
 //! The directives `Abbreviate` and `Lowstring`.
 ghost use Rattle.std.specs.Prelude.{IfOk, OnOk, map, ◌≡◌};
 ghost use Rattle.inf_characters.specs.Reading.{text_of as read_in};
-ghost use Rattle.inf_text.specs.Declaring.{declared_number};
-ghost use Rattle.inf_text.specs.Packing.{packed};
+ghost use Rattle.inf_text.specs.{Declaring.declared_number, Packing.packed};
 ghost use Rattle.inf_names.specs.Spellings.{as_name};
-ghost use Rattle.inf_compilation.specs.Context.{handed};
-ghost use Rattle.inf_compilation.specs.Meant.{found_as};
-ghost use Rattle.inf_compilation.specs.Works.{work};
+ghost use Rattle.inf_compilation.specs.{Context.handed, Meant.found_as, Works.work};
 ghost use Rattle.inf_declarations.specs.Abbreviations.{abbreviate_header, abbreviation, abbreviation_added, abbreviation_ended};
 ghost use Rattle.inf_declarations.specs.Abbreviations.{abbreviation_error, abbreviation_findings, abbreviation_with};
 ghost use Rattle.inf_declarations.specs.Abbreviations.{has_most_abbreviations, low_added, low_named, low_named_by, low_string};

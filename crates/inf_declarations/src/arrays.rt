@@ -1,24 +1,20 @@
 //! The directive `Array`: its header, and its entries one by one.
-ghost use Rattle.inf_compilation.specs.Context.{Context as Standing, handed};
+ghost use Rattle.inf_compilation.specs.{Actions.operands_of, Context.Context as Standing, Context.handed, Works.work};
 ghost use Rattle.std.specs.Prelude.{IfOk, IfSome, OnOk, false, length, map, ◌==◌, ◌≡◌};
-ghost use Rattle.inf_arrays.specs.Adding.{added as adding_of};
-ghost use Rattle.inf_arrays.specs.Arrays.{Characters, added_fault};
+ghost use Rattle.inf_arrays.specs.{Adding.added as adding_of, Arrays.Characters, Arrays.added_fault};
 ghost use Rattle.inf_names.specs.Spellings.{as_name};
 ghost use Rattle.inf_operands.specs.Texts.{text_at};
 ghost use Rattle.inf_declarations.specs.Arrays.{added, added_finding, adding, apart, array_declared, array_header, array_kind, array_named};
 ghost use Rattle.inf_declarations.specs.Arrays.{array_opened, array_refused, bare_leaf, bare_text, code_of, codes_of, entry_added};
-ghost use Rattle.inf_declarations.specs.Arrays.{entry_ended};
-ghost use Rattle.inf_declarations.specs.Arrays.{entry_finding, entry_judged, entry_with, header_with, is_alone, items_finding};
-ghost use Rattle.inf_declarations.specs.Arrays.{kind_in, kind_named, listed, lost_added, own_finding, refused, story_added};
-ghost use Rattle.inf_declarations.specs.Arrays.{text_added, text_finding, value_added};
+ghost use Rattle.inf_declarations.specs.Arrays.{entry_ended, IsNumber, entry_finding, entry_judged, entry_with, header_with, is_alone};
+ghost use Rattle.inf_declarations.specs.Arrays.{is_first_leaf, items_finding, number_leaf, kind_in, kind_named, listed, lost_added};
+ghost use Rattle.inf_declarations.specs.Arrays.{own_finding, refused, story_added, text_added, text_finding, value_added};
 ghost use Rattle.inf_named_values.specs.Values.{variables_from};
-ghost use Rattle.inf_compilation.specs.Actions.{operands_of};
-ghost use Rattle.inf_compilation.specs.Works.{work};
 
 use inf_area::Value;
 use inf_compilation::compilation::{Compilation, Listing};
 use inf_compilation::context::Context;
-use inf_expressions::{Finding, Operand, Wanted, least_of_both};
+use inf_expressions::{Finding, Operand, Symbol, Wanted, least_of_both};
 use inf_gathering::gathering::Leaf;
 use inf_lexer::Place;
 use inf_named_values::declarations::{Declared, declare, end_declared, plainly_known};
@@ -510,6 +506,59 @@ fn judge_several<B: Bounds>(
     end_several(compilation, context, first, is_alone, found, known)
 }
 
+/// Returns the number that an expression with these leaves is by itself, where it is the first of them; `None` where it is more than a
+/// number or a character.
+fn number_leaf(leaves: &[Leaf]) -> Option<u16>
+    ensures { result ≡ number_leaf leaves.now }
+{
+    match leaves {
+        [Leaf::Number(number)] => Some(*number),
+        [Leaf::Char(zscii)] => Some(u16::from(zscii.code())),
+        _ => None,
+    }
+}
+
+/// Returns whether an expression with these symbols is its first leaf and nothing else.
+fn is_first_leaf(symbols: &[Symbol]) -> bool
+    ensures { result ≡ is_first_leaf symbols.now }
+{
+    match symbols {
+        [Symbol::Leaf { leaf, .. }] => *leaf == 0,
+        _ => false,
+    }
+}
+
+/// Returns the number that the entry at hand is by itself; `None` for any other entry.
+#[tactic(auto, using(crate::proofs::Numbers::number_is))]
+fn number_alone<B: Bounds>(compilation: &Compilation<B>) -> Option<u16>
+    ensures { IfSome result (λ number. IsNumber number (work compilation.now)) }
+{
+    let gathering = &compilation.unit.gathering;
+    if is_first_leaf(gathering.symbols()) {
+        number_leaf(gathering.leaves())
+    } else {
+        None
+    }
+}
+
+/// Judges the entry that begins at `first`, which is `number` by itself, and ends it; `is_alone` is whether it is alone. It has no name to look
+/// up, and nothing is wrong with it but what its array refuses.
+fn judge_number<B: Bounds>(
+    compilation: &mut Compilation<B>,
+    context: &Context<'_>,
+    first: Place,
+    is_alone: bool,
+    number: u16,
+) -> Result<(), AllocError>
+    requires { IsNumber number (work compilation.now) }
+    ensures { OnOk result (work compilation.new ≡ entry_judged B.most (handed context.now) first is_alone (work compilation.old)) }
+{
+    let value = Value::Known(number);
+    let found = added_finding(compilation, adding(is_alone, value));
+    compilation.listing.has_entries = true;
+    end_several(compilation, context, first, is_alone, found, Some(value))
+}
+
 /// Judges the entry that begins at `first`, and ends it; `is_alone` is whether it is alone.
 fn judge_entry<B: Bounds>(
     compilation: &mut Compilation<B>,
@@ -521,6 +570,9 @@ fn judge_entry<B: Bounds>(
 {
     if compilation.unit.gathering.symbols().len() != 1 {
         return judge_several(compilation, context, first, is_alone);
+    }
+    if let Some(number) = number_alone(compilation) {
+        return judge_number(compilation, context, first, is_alone, number);
     }
     let found = entry_finding(compilation, context, is_alone)?;
     compilation.listing.has_entries = true;

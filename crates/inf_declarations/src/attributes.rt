@@ -1,11 +1,10 @@
 //! The directive `Attribute`.
-ghost use Rattle.inf_compilation.specs.Context.{handed};
+ghost use Rattle.inf_compilation.specs.{Context.handed, Works.work};
 ghost use Rattle.std.specs.Prelude.{OnOk, map, ◌≡◌};
 ghost use Rattle.inf_names.specs.Spellings.{as_name};
 ghost use Rattle.inf_declarations.specs.Attributes.{attribute, attribute_added, attribute_ended, attribute_number, attribute_with};
-ghost use Rattle.inf_named_values.specs.Declarations.{is_alias, name_known};
 ghost use Rattle.inf_declarations.specs.Attributes.{has_most_attributes, new_attribute};
-ghost use Rattle.inf_compilation.specs.Works.{work};
+ghost use Rattle.inf_named_values.specs.Declarations.{is_alias, name_known};
 
 use inf_compilation::compilation::Compilation;
 use inf_compilation::context::Context;

@@ -1,22 +1,17 @@
 //! The directives that are one unit.
-ghost use Rattle.inf_compilation.specs.Context.{handed};
-ghost use Rattle.std.specs.Prelude.{IfOk, OnOk, length, map, option_map, ◌≡◌, ◌≤◌};
-ghost use Rattle.inf_expressions.specs.Forests.{trees_in as rooted_in};
-ghost use Rattle.inf_names.specs.NameSets.{with_name};
-ghost use Rattle.inf_names.specs.Symbols.{found_in};
-ghost use Rattle.inf_constructs.specs.Roots.{tree_in};
-ghost use Rattle.inf_names.specs.Spellings.{as_name};
-ghost use Rattle.inf_output.specs.Output.{referred};
-ghost use Rattle.inf_unit.specs.Messages.{location, with_words};
-ghost use Rattle.inf_unit.specs.Units.{quoted_in};
+ghost use Rattle.inf_compilation.specs.{Context.handed, Meant.again_as, Meant.found_as, Works.work};
 ghost use Rattle.inf_compilation.specs.Actions.{as_constant, constant, constant_ended, constant_finding, constant_findings};
 ghost use Rattle.inf_compilation.specs.Actions.{constant_meaning, constant_of, constant_with, declared_meaning, is_declared};
 ghost use Rattle.inf_compilation.specs.Actions.{is_first_declared, leaf_meaning, named_leaf, new_stub, replace, stub, stub_locals, stubbed};
 ghost use Rattle.inf_compilation.specs.Actions.{words_of};
+ghost use Rattle.std.specs.Prelude.{IfOk, OnOk, length, map, option_map, ◌≡◌, ◌≤◌};
+ghost use Rattle.inf_expressions.specs.Forests.{trees_in as rooted_in};
+ghost use Rattle.inf_names.specs.{NameSets.with_name, Spellings.as_name, Symbols.found_in};
+ghost use Rattle.inf_constructs.specs.Roots.{tree_in};
+ghost use Rattle.inf_output.specs.Output.{referred};
+ghost use Rattle.inf_unit.specs.{Messages.location, Messages.with_words, Units.quoted_in};
 ghost use Rattle.inf_unit.specs.Directives.{Include, asked, weight_of};
 ghost use Rattle.inf_declarations.specs.Defaults.{default};
-ghost use Rattle.inf_compilation.specs.Meant.{again_as, found_as};
-ghost use Rattle.inf_compilation.specs.Works.{work};
 
 use inf_area::Value;
 use inf_assembler::RoutineKind;

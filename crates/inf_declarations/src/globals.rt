@@ -1,11 +1,9 @@
 //! The directive `Global`.
-ghost use Rattle.inf_compilation.specs.Context.{handed};
+ghost use Rattle.inf_compilation.specs.{Context.handed, Works.work};
 ghost use Rattle.std.specs.Prelude.{OnOk, map, ◌≡◌};
 ghost use Rattle.inf_names.specs.Spellings.{as_name};
-ghost use Rattle.inf_declarations.specs.Globals.{global_added, global_ended, global_variable, global_with, has_most_globals};
+ghost use Rattle.inf_declarations.specs.Globals.{global_added, global_ended, global_variable, global_with, has_most_globals, new_global};
 ghost use Rattle.inf_named_values.specs.Declarations.{nothing_of, valued};
-ghost use Rattle.inf_declarations.specs.Globals.{new_global};
-ghost use Rattle.inf_compilation.specs.Works.{work};
 
 use inf_area::Value;
 use inf_compilation::compilation::Compilation;

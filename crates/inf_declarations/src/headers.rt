@@ -3,8 +3,7 @@ ghost use Rattle.std.specs.Prelude.{OnOk, map, ◌≡◌};
 ghost use Rattle.std.specs.List.{list_all};
 ghost use Rattle.inf_expressions.specs.Forests.{trees_in as rooted_in};
 ghost use Rattle.inf_constructs.specs.Roots.{tree_in};
-ghost use Rattle.inf_compilation.specs.Context.{handed};
-ghost use Rattle.inf_compilation.specs.Works.{work};
+ghost use Rattle.inf_compilation.specs.{Context.handed, Works.work};
 ghost use Rattle.inf_declarations.specs.Headers.{is_digit, known_number, release, release_ended, release_finding, release_told};
 ghost use Rattle.inf_declarations.specs.Headers.{release_with, serial, serial_by, serial_in};
 

@@ -1,14 +1,10 @@
 //! The directive `Property`.
-ghost use Rattle.inf_compilation.specs.Context.{handed};
+ghost use Rattle.inf_compilation.specs.{Context.handed, Works.work};
 ghost use Rattle.std.specs.Prelude.{IfOk, OnOk, map, ◌≡◌};
 ghost use Rattle.inf_names.specs.Spellings.{as_name};
-ghost use Rattle.inf_named_values.specs.Declarations.{is_additive, is_additive_word, is_alias, name_known};
-ghost use Rattle.inf_declarations.specs.Properties.{has_most_properties};
-ghost use Rattle.inf_named_values.specs.Declarations.{nothing_of};
-ghost use Rattle.inf_declarations.specs.Properties.{new_property, property, property_added, property_ended, property_named};
-ghost use Rattle.inf_named_values.specs.Declarations.{valued};
-ghost use Rattle.inf_declarations.specs.Properties.{property_names, property_number, property_order, property_with};
-ghost use Rattle.inf_compilation.specs.Works.{work};
+ghost use Rattle.inf_named_values.specs.Declarations.{is_additive, is_additive_word, is_alias, name_known, nothing_of, valued};
+ghost use Rattle.inf_declarations.specs.Properties.{has_most_properties, new_property, property, property_added, property_ended};
+ghost use Rattle.inf_declarations.specs.Properties.{property_named, property_names, property_number, property_order, property_with};
 
 use inf_area::Value;
 use inf_compilation::compilation::Compilation;

@@ -1,15 +1,10 @@
 -- The different names under which sources were opened.
 use Rattle.std.proofs.Common.{◌≡◌, ◌<◌, ◌||◌, ℕ, zero, suc, Bool, true, false, cond, List, [], ◌∷◌, ◌++◌, length, map, get_or, String}
-use Rattle.std.proofs.Common.{Result, Ok, Err, IsOk, OnOk, refl, ap, arith}
-use Rattle.std.specs.Prelude.{slice_set}
-use Rattle.std.specs.List.{list_any}
-use Rattle.std.specs.Str.{bytes_eq}
-use Rattle.std.specs.String.{string_bytes, string_eq}
-use Rattle.std.specs.declared.alloc.Global.{Global}
+use Rattle.std.proofs.Common.{Result, Ok, Err, IsOk, OnOk, refl, ap, arith, bytes_eq, string_bytes, string_eq, slice_set}
+use Rattle.std.specs.{List.list_any, declared.alloc.Global.Global}
 use Rattle.indexmap.specs.IndexSet.{insert_key}
-use Rattle.inf_devices.specs.declared.memory_files.Opened.{Opened}
+use Rattle.inf_devices.specs.{MemoryFiles.given_more, MemoryFiles.opening_of, declared.memory_files.Opened.Opened}
 use Rattle.inf_devices.specs.Files.{Opening, Sources, names_from, with_name}
-use Rattle.inf_devices.specs.MemoryFiles.{given_more, opening_of}
 
 -- a test of names passes one of these strings
 pub any_in : (test : List ℕ → Bool) (keys : List (String Global)) →

@@ -1,20 +1,12 @@
 -- Files in memory and the openings that they state.
 use Rattle.std.proofs.Common.{◌≡◌, ℕ, zero, suc, ◌-◌, ◌<◌, ◌≤◌, List, [], ◌∷◌, ◌++◌, length, map, take, drop, get_or, Bool, true, false}
 use Rattle.std.proofs.Common.{cond, Option, Some, None, String, Vec, Global, Bor, unwrap_or, arith, add-zero, append_assoc, ap, refl, sym}
-use Rattle.std.proofs.Common.{◌∙◌}
-use Rattle.std.specs.Prelude.{slice_set}
-use Rattle.std.specs.Option.{option_map, option_copied, is_some}
-use Rattle.std.specs.Map.{lookup}
-use Rattle.std.specs.Ordering.{is_eq, nat_cmp}
-use Rattle.std.specs.Cmp.Lexicographic.{slice_cmp}
-use Rattle.std.specs.BTreeMap.{BTreeMap, get_by_text}
-use Rattle.std.specs.String.{string_bytes}
+use Rattle.std.proofs.Common.{◌∙◌, BTreeMap, option_copied, option_map, is_eq, nat_cmp, string_bytes, slice_set}
+use Rattle.std.proofs.{Math.Dec.eqb-suc-zero, Math.Seq.take-add, Math.Seq.take-length, Math.Seq.take-suc, lemmas.List.Elements.All-append}
+use Rattle.std.proofs.{lemmas.List.Elements.All-set, lemmas.Option.slice_get-get_or, lemmas.Option.slice_get-map}
 use Rattle.std.proofs.lemmas.List.{map-append, length-map, map-set, length-append, length-set, length-take, length-drop, take-append-drop}
 use Rattle.std.proofs.lemmas.List.{nil_from_length}
-use Rattle.std.proofs.lemmas.List.Elements.{All-append, All-set}
-use Rattle.std.proofs.lemmas.Option.{slice_get-map, slice_get-get_or}
-use Rattle.std.proofs.Math.Dec.{eqb-suc-zero}
-use Rattle.std.proofs.Math.Seq.{take-add, take-suc, take-length}
+use Rattle.std.specs.{BTreeMap.get_by_text, Cmp.Lexicographic.slice_cmp, Map.lookup, Option.is_some}
 use Rattle.inf_devices.specs.declared.memory_files.Opened.{Opened}
 use Rattle.inf_devices.specs.Files.{Sources, opened, GivesNext, GivesInnermost, after_bytes}
 use Rattle.inf_devices.specs.MemoryFiles.{kept_in, sources_of, opening_of, openings_of, given_more, IsOpening, AreOpenings}

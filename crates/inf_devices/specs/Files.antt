@@ -1,11 +1,8 @@
 -- The statements of a reader of files: the sources that there are, the openings, and the outcome of each.
+use Rattle.std.specs.{List.list_any, Str.bytes_eq}
 use Rattle.std.specs.Prelude.{◌≡◌, ℕ, ◌<◌, ◌⊎◌, List, [], ◌∷◌, ◌++◌, length, take, Bool, true, false, Option, Some, None, Result, Ok, Err}
 use Rattle.std.specs.Prelude.{IsSome, slice_get, slice_set, ◌+◌, ◌&&◌, drop, if◌then◌else◌, min, nat_lt, not}
-use Rattle.std.specs.List.{list_any}
-use Rattle.std.specs.Str.{bytes_eq}
-use Rattle.inf_devices.specs.declared.files.OpenFault.{OpenFault}
-use Rattle.inf_devices.specs.declared.files.OpenFault.TheVariants as fault
-use Rattle.inf_devices.specs.declared.files.ReadFault.{ReadFault}
+use Rattle.inf_devices.specs.{declared.files.OpenFault.OpenFault, declared.files.ReadFault.ReadFault}
 
 -- An opening that succeeded: the name, the bytes that were given of the source, and whether its end was read.
 pub record Opening : Type 0 where
@@ -69,7 +66,7 @@ counts_given n c = record { each = each_given n c.each; too_long = too_long_give
 
 -- whether an attempt to open a source says that the device failed
 abbrev pub tells_failure : Result Unit OpenFault → Bool
-tells_failure (Err fault.Device) = true
+tells_failure (Err OpenFault.Device) = true
 tells_failure _ = false
 
 -- names with one more, behind the others where it is not among them
@@ -90,7 +87,7 @@ pub record Openings : Type 0 where
 abbrev pub Opens : Sources → List ℕ → Openings → Openings → Result Unit OpenFault → Type 0
 Opens sources name old new (Ok _) =
     IsSome (sources name) × (new ≡ record { all = old.all ++ opened name ∷ []; open_places = old.open_places ++ length old.all ∷ [] })
-Opens sources name old new (Err fault.Absent) = (sources name ≡ None) × (new ≡ old)
+Opens sources name old new (Err OpenFault.Absent) = (sources name ≡ None) × (new ≡ old)
 Opens sources name old new (Err _) = new ≡ old
 
 -- The source at this place gives these bytes next: those that follow the ones given before, and none only at its end.

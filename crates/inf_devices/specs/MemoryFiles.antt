@@ -1,13 +1,8 @@
 -- Files in memory: their sources, and the openings of their records.
+use Rattle.std.specs.{BTreeMap.BTreeMap, Cmp.Lexicographic.slice_cmp, Map.lookup, String.string_bytes, declared.alloc.Global.Global}
 use Rattle.std.specs.Prelude.{◌≡◌, ℕ, ◌+◌, ◌<◌, ◌≤◌, ◌==◌, ◌||◌, List, map, length, take, Some, unwrap_or, All, [], String, Vec}
-use Rattle.std.specs.Map.{lookup}
 use Rattle.std.specs.Ordering.{is_eq, nat_cmp}
-use Rattle.std.specs.Cmp.Lexicographic.{slice_cmp}
-use Rattle.std.specs.BTreeMap.{BTreeMap}
-use Rattle.std.specs.String.{string_bytes}
-use Rattle.std.specs.declared.alloc.Global.{Global}
-use Rattle.inf_devices.specs.declared.memory_files.Opened.{Opened}
-use Rattle.inf_devices.specs.Files.{Counts, Opening, Openings, Sources}
+use Rattle.inf_devices.specs.{Files.Counts, Files.Opening, Files.Openings, Files.Sources, declared.memory_files.Opened.Opened}
 
 -- a map from names to bytes, as the list of its entries in the names' order
 abbrev pub kept_in : BTreeMap (String Global) (Vec ℕ Global) → List (List ℕ × List ℕ)

@@ -27,8 +27,7 @@ pub struct GivenBytes {
 
 impl Model for GivenBytes {
     ghost use Rattle.std.specs.Prelude.{◌≡◌, [], None};
-    ghost use Rattle.inf_devices.specs.Files.{Counts};
-    ghost use Rattle.inf_devices.specs.Given.{each_of};
+    ghost use Rattle.inf_devices.specs.{Files.Counts, Given.each_of};
 
     ghost Value = { Counts };
 

@@ -1,7 +1,6 @@
 ghost use Rattle.std.specs.Prelude.{◌≡◌, ◌+◌, ◌^◌, ◌<◌, ◌++◌, ◌∷◌, min, length, take, drop, unwrap_or, [], false, OnErr, OnOk};
 ghost use Rattle.std.specs.String.{string_bytes};
-ghost use Rattle.inf_devices.specs.Files.{counts_opened};
-ghost use Rattle.inf_devices.specs.MemoryFiles.{sources_of, kept_in, IsOpening};
+ghost use Rattle.inf_devices.specs.{Files.counts_opened, MemoryFiles.IsOpening, MemoryFiles.kept_in, MemoryFiles.sources_of};
 
 use crate::files::{Files, OpenFault, ReadFault};
 use crate::given_bytes::GivenBytes;
@@ -68,11 +67,9 @@ impl Model for MemoryFiles {
 }
 
 impl MemoryFiles {
+    ghost use Rattle.std.specs.{BTreeMap.get_by_text, Option.option_map};
     ghost use Rattle.std.specs.Prelude.{ℕ, ◌≡◌, List, []};
-    ghost use Rattle.std.specs.Option.{option_map};
-    ghost use Rattle.std.specs.BTreeMap.{get_by_text};
-    ghost use Rattle.inf_devices.specs.Files.{nothing_given};
-    ghost use Rattle.inf_devices.specs.MemoryFiles.{sources_of};
+    ghost use Rattle.inf_devices.specs.{Files.nothing_given, MemoryFiles.sources_of};
 
     /// Makes files of these sources, by their names, of which none was opened yet.
     pub fn new(alloc: Global, sources: BTreeMap<String, Vec<u8>>) -> MemoryFiles
@@ -131,8 +128,7 @@ fn copy_front(to: &mut [u8], from: &[u8]) -> usize
 
 impl Files for MemoryFiles {
     ghost use Rattle.std.specs.Prelude.{[], length, true};
-    ghost use Rattle.inf_devices.specs.Files.{names_from};
-    ghost use Rattle.inf_devices.specs.MemoryFiles.{sources_of};
+    ghost use Rattle.inf_devices.specs.{Files.names_from, MemoryFiles.sources_of};
 
     ghost faults = { λ _. 0 };
 

@@ -1,6 +1,5 @@
+ghost use Rattle.std.specs.{List.list_any, Str.bytes_eq};
 ghost use Rattle.std.specs.Prelude.{◌≡◌, [], length, OnOk, OnErr};
-ghost use Rattle.std.specs.List.{list_any};
-ghost use Rattle.std.specs.Str.{bytes_eq};
 ghost use Rattle.inf_devices.specs.Files.{with_name};
 
 use indexmap::IndexSet;

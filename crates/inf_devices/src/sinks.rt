@@ -1,6 +1,5 @@
 ghost use Rattle.std.specs.Prelude.{◌≡◌, ℕ, ◌<◌, ◌≤◌, List, Option, IsErr, IfOk, OnOk, IfErr, length, take};
-ghost use Rattle.inf_devices.specs.Sinks.{Takes, Writes};
-ghost use Rattle.inf_devices.specs.Files.{Rose};
+ghost use Rattle.inf_devices.specs.{Files.Rose, Sinks.Takes, Sinks.Writes};
 
 /// Why a sink took nothing.
 #[derive(Clone, Copy, Debug, PartialEq, Eq)]

@@ -1,15 +1,10 @@
 -- A word is found by halves where it stands, and none is found that is not there.
 use Rattle.std.proofs.Common.{◌≡◌, ◌∷◌, ◌≤◌, ◌<◌, ◌+◌, ◌∙◌, ℕ, zero, suc, List, [], Bool, true, false, cond, refl, arith, ap, inl, inr}
-use Rattle.std.proofs.Common.{Ordering, length, slice_index_or, Less, Equal, Greater, Option, Some, None}
-use Rattle.std.specs.Prelude.{if◌then◌else◌}
-use Rattle.std.specs.Ordering.{is_eq, match_ordering, ordering_reverse}
-use Rattle.std.specs.Cmp.{IsTotalOrder}
-use Rattle.std.specs.Map.{lookup}
-use Rattle.std.specs.BTreeMap.{is_at}
+use Rattle.std.proofs.Common.{Ordering, length, slice_index_or, Less, Equal, Greater, Option, Some, None, is_eq, if◌then◌else◌}
 use Rattle.std.proofs.lemmas.Bool.{cases_lt, le-leb, lt-leb}
-use Rattle.inf_dictionary.specs.declared.uses.Word.{Word}
-use Rattle.inf_dictionary.specs.Lookup.{found_by_halves, half_way, text_written}
-use Rattle.inf_dictionary.specs.Texts.{AreRising, Text, texts_of}
+use Rattle.std.specs.{BTreeMap.is_at, Cmp.IsTotalOrder, Map.lookup, Ordering.match_ordering, Ordering.ordering_reverse}
+use Rattle.inf_dictionary.specs.{Lookup.found_by_halves, Lookup.half_way, Lookup.text_written, Texts.AreRising, Texts.Text, Texts.texts_of}
+use Rattle.inf_dictionary.specs.{declared.uses.Word.Word}
 use Rattle.inf_dictionary.proofs.Ranks.{later_is_above, order}
 
 half_from : (first end : ℕ) → first ≤ half_way first end

@@ -1,16 +1,9 @@
 -- Uses of other words leave the facts known of a word as they are.
+use Rattle.std.proofs.{lemmas.Cmp.alike_right, lemmas.Map.Lookups.exact_bytes}
 use Rattle.std.proofs.Common.{◌≡◌, ◌∷◌, ◌∙◌, List, [], Bool, true, false, cond, refl, ap, sym, Ordering, Less, Equal, Greater, Option, Some}
-use Rattle.std.specs.Ordering.{is_eq, match_ordering}
-use Rattle.std.specs.Cmp.{IsTotalOrder}
-use Rattle.std.proofs.lemmas.Cmp.{alike_right}
-use Rattle.std.proofs.lemmas.Map.Lookups.{exact_bytes}
-use Rattle.std.specs.Map.{lookup}
-use Rattle.std.specs.BTreeMap.{is_at, insert_entry}
-use Rattle.inf_dictionary.specs.declared.uses.Word.{Word}
-use Rattle.inf_dictionary.specs.declared.uses.WordUse.{WordUse}
-use Rattle.inf_dictionary.specs.Texts.{Text}
-use Rattle.inf_dictionary.specs.Uses.{UseOf, said_of, with_uses}
-use Rattle.inf_dictionary.specs.Words.{Words, joined, with_use, word_of}
+use Rattle.std.specs.{BTreeMap.insert_entry, BTreeMap.is_at, Cmp.IsTotalOrder, Map.lookup, Ordering.is_eq, Ordering.match_ordering}
+use Rattle.inf_dictionary.specs.{Texts.Text, Uses.UseOf, Uses.said_of, Uses.with_uses, Words.Words, Words.joined, Words.with_use}
+use Rattle.inf_dictionary.specs.{Words.word_of, declared.uses.Word.Word, declared.uses.WordUse.WordUse}
 use Rattle.inf_dictionary.proofs.Ranks.{order}
 
 is_equal : (o : Ordering) → is_eq o ≡ true → o ≡ Equal

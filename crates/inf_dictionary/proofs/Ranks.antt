@@ -1,14 +1,9 @@
 -- In rising texts those below one stand in front, so their number is where it is found by halves.
+use Rattle.std.proofs.{lemmas.Bool.cases_lt, lemmas.Map.Keys.sorted_tail, lemmas.Map.Views.All-after_first}
 use Rattle.std.proofs.Common.{◌≡◌, ◌∷◌, ◌≤◌, ◌<◌, ◌∙◌, ℕ, zero, suc, List, [], true, false, refl, sym, subst, arith, ap, inl, inr, Ordering}
 use Rattle.std.proofs.Common.{length, slice_index_or, Less, Equal, Greater}
-use Rattle.std.specs.Ordering.{nat_cmp, is_lt, ordering_reverse}
-use Rattle.std.specs.Cmp.{IsTotalOrder}
-use Rattle.std.specs.Cmp.Lexicographic.{slice_cmp}
-use Rattle.std.specs.List.{AllWithin}
-use Rattle.std.specs.List.Sorted.{IsPartitionPoint, IsPartitionedBy}
-use Rattle.std.proofs.lemmas.Map.Views.{All-after_first}
-use Rattle.std.proofs.lemmas.Map.Keys.{sorted_tail}
-use Rattle.std.proofs.lemmas.Bool.{cases_lt}
+use Rattle.std.specs.{Cmp.IsTotalOrder, Cmp.Lexicographic.slice_cmp, List.AllWithin, List.Sorted.IsPartitionPoint}
+use Rattle.std.specs.{List.Sorted.IsPartitionedBy, Ordering.is_lt, Ordering.nat_cmp, Ordering.ordering_reverse}
 use Rattle.inf_dictionary.specs.Texts.{AreRising, Text, is_below, rank_of}
 
 abbrev pub order : Text → Text → Ordering

@@ -2,11 +2,8 @@
 use Rattle.std.proofs.Common.{◌≡◌, ◌∷◌, ◌++◌, ◌+◌, ◌*◌, ◌<◌, ℕ, zero, suc, List, [], ap, ◌∙◌, arith, length, take, drop, slice_index_or}
 use Rattle.std.proofs.Common.{Ordering, Less, Equal, Greater, length-append, append_assoc, ◌/◌, ◌%◌}
 use Rattle.std.proofs.lemmas.List.{take_at}
-use Rattle.std.specs.Ordering.{nat_cmp, match_ordering}
-use Rattle.std.specs.Cmp.Lexicographic.{slice_cmp}
-use Rattle.std.specs.BTreeMap.{insert_entry}
-use Rattle.inf_dictionary.specs.declared.uses.Word.{Word}
-use Rattle.inf_dictionary.specs.Texts.{AreWhole, Text, texts_of}
+use Rattle.std.specs.{BTreeMap.insert_entry, Cmp.Lexicographic.slice_cmp, Ordering.match_ordering, Ordering.nat_cmp}
+use Rattle.inf_dictionary.specs.{Texts.AreWhole, Texts.Text, Texts.texts_of, declared.uses.Word.Word}
 use Rattle.inf_dictionary.specs.Words.{dictionary_bytes, entries_bytes, entry_bytes, verb_byte}
 
 -- a word more

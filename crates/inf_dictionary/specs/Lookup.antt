@@ -1,8 +1,7 @@
 -- How an interpreter looks for a word in a dictionary that is written: by halves, since the entries rise (Z-Machine Standard 1.1,
 -- section 13.5).
+use Rattle.std.specs.{Cmp.Lexicographic.slice_cmp, Ordering.match_ordering, Ordering.nat_cmp}
 use Rattle.std.specs.Prelude.{ℕ, zero, suc, ◌+◌, ◌-◌, ◌*◌, ◌/◌, List, Option, Some, None, take, drop, nat_le, if◌then◌else◌}
-use Rattle.std.specs.Ordering.{nat_cmp, match_ordering}
-use Rattle.std.specs.Cmp.Lexicographic.{slice_cmp}
 use Rattle.inf_dictionary.specs.Texts.{Text}
 
 -- the text of the entry at a place, behind the seven bytes of the head

@@ -1,10 +1,7 @@
 -- All uses of words in a source, and the facts that they say of each word.
+use Rattle.std.specs.{Cmp.Lexicographic.slice_cmp, Ordering.is_eq, Ordering.nat_cmp}
 use Rattle.std.specs.Prelude.{List, [], ◌∷◌, Option, Some, Bool, if◌then◌else◌}
-use Rattle.std.specs.Ordering.{nat_cmp, is_eq}
-use Rattle.std.specs.Cmp.Lexicographic.{slice_cmp}
-use Rattle.inf_dictionary.specs.declared.uses.Word.{Word}
-use Rattle.inf_dictionary.specs.declared.uses.WordUse.{WordUse}
-use Rattle.inf_dictionary.specs.Texts.{Text}
+use Rattle.inf_dictionary.specs.{Texts.Text, declared.uses.Word.Word, declared.uses.WordUse.WordUse}
 use Rattle.inf_dictionary.specs.Words.{Words, joined, with_use}
 
 -- a use of the word with a text

@@ -1,18 +1,9 @@
 -- The words of a story: each text once, in rising order, with what all its uses say together.
+use Rattle.std.specs.{BTreeMap.insert_entry, BTreeMap.is_at, Cmp.Lexicographic.slice_cmp, Map.lookup, Ordering.nat_cmp}
 use Rattle.std.specs.Prelude.{ℕ, List, [], ◌∷◌, ◌++◌, Option, Some, None, length, bit_or, ◌+◌, ◌-◌, ◌/◌, ◌%◌, ◌==◌, ◌||◌, not, Bool, false}
 use Rattle.std.specs.Prelude.{if◌then◌else◌, is_some, is_none, nat_le, ◌&&◌}
-use Rattle.std.specs.Ordering.{nat_cmp}
-use Rattle.std.specs.Cmp.Lexicographic.{slice_cmp}
-use Rattle.std.specs.Map.{lookup}
-use Rattle.std.specs.BTreeMap.{is_at, insert_entry}
-use Rattle.inf_settings.specs.Bounds.{Limits}
-use Rattle.inf_settings.specs.declared.setting.Setting.TheVariants as setting
-use Rattle.inf_dictionary.specs.declared.dictionary.AddFault.{AddFault}
-use Rattle.inf_dictionary.specs.declared.dictionary.AddFault.TheVariants as fault
-use Rattle.inf_dictionary.specs.declared.uses.Word.{Word}
-use Rattle.inf_dictionary.specs.declared.uses.WordUse.{WordUse}
-use Rattle.inf_dictionary.specs.declared.uses.WordUse.TheVariants as word_use
-use Rattle.inf_dictionary.specs.Texts.{Text}
+use Rattle.inf_settings.specs.{Bounds.Limits, declared.setting.Setting.Setting}
+use Rattle.inf_dictionary.specs.{Texts.Text, declared.dictionary.AddFault.AddFault, declared.uses.Word.Word, declared.uses.WordUse.WordUse}
 
 -- the words in rising order of their texts
 pub record Words : Type 0 where
@@ -32,16 +23,16 @@ verb_of text words = verb_in_word (word_of text words)
 
 -- the bits of a use: 1 verb, 2 meta, 4 plural, 8 preposition, 128 any other
 abbrev pub flags_of : WordUse → Bool → ℕ
-flags_of (word_use.Verb number) is_plural = bit_or 1 (if is_plural then 4 else 0)
-flags_of (word_use.MetaVerb number) is_plural = bit_or 3 (if is_plural then 4 else 0)
-flags_of word_use.Preposition is_plural = bit_or 8 (if is_plural then 4 else 0)
-flags_of word_use.Other is_plural = bit_or 128 (if is_plural then 4 else 0)
+flags_of (WordUse.Verb number) is_plural = bit_or 1 (if is_plural then 4 else 0)
+flags_of (WordUse.MetaVerb number) is_plural = bit_or 3 (if is_plural then 4 else 0)
+flags_of WordUse.Preposition is_plural = bit_or 8 (if is_plural then 4 else 0)
+flags_of WordUse.Other is_plural = bit_or 128 (if is_plural then 4 else 0)
 
 abbrev pub verb_in : WordUse → Option ℕ
-verb_in (word_use.Verb number) = Some number
-verb_in (word_use.MetaVerb number) = Some number
-verb_in word_use.Preposition = None
-verb_in word_use.Other = None
+verb_in (WordUse.Verb number) = Some number
+verb_in (WordUse.MetaVerb number) = Some number
+verb_in WordUse.Preposition = None
+verb_in WordUse.Other = None
 
 abbrev pub or_verb : Option ℕ → Option ℕ → Option ℕ
 or_verb None old = old
@@ -69,8 +60,8 @@ is_of_other_verb word how = are_other (verb_in_word word) (verb_in how)
 -- as many words as there may be
 abbrev pub add_fault : Limits → Option Word → WordUse → Words → Option AddFault
 add_fault limits word how words =
-    if is_of_other_verb word how then Some fault.OtherVerb
-    else if is_none word && nat_le (limits setting.DictionaryEntries) (length words.list) then Some fault.Full else None
+    if is_of_other_verb word how then Some AddFault.OtherVerb
+    else if is_none word && nat_le (limits Setting.DictionaryEntries) (length words.list) then Some AddFault.Full else None
 
 -- Tells whether a text cannot become a word of a new verb behind the texts of `before`: it is a word of a verb already, or is among
 -- these.

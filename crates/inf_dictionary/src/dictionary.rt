@@ -1,10 +1,9 @@
 //! The words of a story, and how they are written.
 ghost use Rattle.std.specs.Prelude.{◌≡◌, ◌<◌, ◌≤◌, ◌++◌, ◌∷◌, [], None, OnOk, OnErr, IfErr, IfOk, IfNone, IfSome, IsNone, MatchResult};
 ghost use Rattle.std.specs.Prelude.{length, unwrap_or};
+ghost use Rattle.inf_dictionary.specs.{Texts.AreRising, Texts.AreWhole, Texts.texts_of, declared.dictionary.AddFault.TheVariants.Memory};
 ghost use Rattle.inf_dictionary.specs.Words.{add_fault, dictionary_bytes, entry_bytes, first_misfit, is_misfit, verb_of, with_use, word_of};
-ghost use Rattle.inf_dictionary.specs.declared.dictionary.AddFault.TheVariants.{Memory};
-ghost use Rattle.inf_dictionary.specs.Texts.{AreRising, AreWhole, texts_of};
-ghost use Rattle.inf_settings.specs.declared.setting.Setting.TheVariants as setting;
+ghost use Rattle.inf_settings.specs.declared.setting.Setting.{Setting};
 
 use crate::places::Places;
 use crate::uses::{Word, WordUse, is_of_other_verb, joined};
@@ -39,13 +38,12 @@ pub struct Dictionary<B: Bounds> {
     words: BTreeMap<[u8; 6], Word>,
     limit: usize,
     of: PhantomData<B>,
-    ghost is_most: { limit ≡ B.most setting.DictionaryEntries },
+    ghost is_most: { limit ≡ B.most Setting.DictionaryEntries },
 }
 
 impl<B: Bounds> Model for Dictionary<B> {
     ghost use Rattle.std.specs.Prelude.{◌≤◌, length};
-    ghost use Rattle.inf_dictionary.specs.Words.{Words};
-    ghost use Rattle.inf_dictionary.specs.Texts.{AreRising, AreWhole, texts_of};
+    ghost use Rattle.inf_dictionary.specs.{Texts.AreRising, Texts.AreWhole, Texts.texts_of, Words.Words};
 
     ghost Value = { Words };
 
@@ -67,7 +65,7 @@ impl<B: Bounds> Dictionary<B> {
     /// Returns a dictionary without words, which takes `limit` words at most. It takes no memory until the first one
     /// comes.
     pub fn new(alloc: Global, limit: usize) -> Dictionary<B>
-        requires { limit ≡ B.most setting.DictionaryEntries }
+        requires { limit ≡ B.most Setting.DictionaryEntries }
         ensures { result ≡ record { list = [] } }
     {
         Dictionary {
@@ -80,7 +78,7 @@ impl<B: Bounds> Dictionary<B> {
     /// Returns the number of words, which is never more than there may be.
     pub fn len(&self) -> usize
         ensures value { result ≡ length self.now.list }
-        ensures limited { result ≤ B.most setting.DictionaryEntries }
+        ensures limited { result ≤ B.most Setting.DictionaryEntries }
     {
         self.words.len()
     }
@@ -123,7 +121,7 @@ impl<B: Bounds> Dictionary<B> {
     // Returns the reason why a use cannot be added of a word, of which `before` is known, whatever memory there is.
     fn add_fault(&self, before: Option<Word>, word_use: WordUse) -> Option<AddFault>
         ensures value { result ≡ add_fault B.most before word_use self.now }
-        ensures room { IfNone result (IsNone before → length self.now.list < B.most setting.DictionaryEntries) }
+        ensures room { IfNone result (IsNone before → length self.now.list < B.most Setting.DictionaryEntries) }
         ensures never { IfSome result (λ fault. fault ≡ Memory → ⊥) }
     {
         if is_of_other_verb(before, word_use) {

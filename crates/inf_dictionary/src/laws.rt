@@ -1,9 +1,8 @@
 //! Laws that an author may rely on, and an interpreter when it looks for a word (Z-Machine Standard 1.1, section 13.2).
 ghost use Rattle.std.specs.Prelude.{◌≡◌, ◌<◌, ℕ, List, [], None, Some, length, slice_index_or};
-ghost use Rattle.inf_dictionary.specs.Lookup.{found_by_halves, text_written};
+ghost use Rattle.inf_dictionary.specs.{Lookup.found_by_halves, Lookup.text_written, Uses.UseOf, Uses.said_of, Uses.with_uses, Words.Words};
+ghost use Rattle.inf_dictionary.specs.{Words.dictionary_bytes, Words.word_of};
 ghost use Rattle.inf_dictionary.specs.Texts.{AreRising, Text, rank_of, texts_of};
-ghost use Rattle.inf_dictionary.specs.Uses.{UseOf, said_of, with_uses};
-ghost use Rattle.inf_dictionary.specs.Words.{Words, dictionary_bytes, word_of};
 
 use crate::dictionary::Dictionary;
 use inf_settings::bounds::Bounds;

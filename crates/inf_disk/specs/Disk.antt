@@ -1,23 +1,19 @@
 -- Devices of the system: the answers of their calls, by the answers of the system.
+use Rattle.std.specs.{List.ends_with, declared.fs.options.OpenOptions.OpenOptions, declared.io.ErrorKind.ErrorKind}
 use Rattle.std.specs.Prelude.{◌≡◌, ◌⊎◌, ⊤, ℕ, ◌-◌, length, slice_get, slice_set, List, [], ◌∷◌, ◌++◌, Option, Some, None, Result, Ok, Err}
 use Rattle.std.specs.Prelude.{Bool, true, ◌==◌, ◌||◌, codes}
-use Rattle.std.specs.List.{ends_with}
 use Rattle.std.specs.Fs.{new_options, with_write, with_create, with_truncate, with_create_new}
-use Rattle.std.specs.declared.fs.options.OpenOptions.{OpenOptions}
 use Rattle.std.specs.Io.KnownBytes.{ReadConsumes, WriteAppends}
-use Rattle.std.specs.declared.io.ErrorKind.{ErrorKind}
-use Rattle.std.specs.declared.io.ErrorKind.TheVariants as kind
 use Rattle.inf_devices.specs.declared.files.OpenFault.{OpenFault}
-use Rattle.inf_devices.specs.declared.files.OpenFault.TheVariants as fault
 
 -- the fault of a file that cannot be opened: it is absent where none has the name, or none can have it
 abbrev pub fault_of_kind : ErrorKind → OpenFault
-fault_of_kind kind.NotFound = fault.Absent
-fault_of_kind kind.NotADirectory = fault.Absent
-fault_of_kind kind.InvalidInput = fault.Absent
-fault_of_kind kind.InvalidFilename = fault.Absent
-fault_of_kind kind.OutOfMemory = fault.Memory
-fault_of_kind _ = fault.Device
+fault_of_kind ErrorKind.NotFound = OpenFault.Absent
+fault_of_kind ErrorKind.NotADirectory = OpenFault.Absent
+fault_of_kind ErrorKind.InvalidInput = OpenFault.Absent
+fault_of_kind ErrorKind.InvalidFilename = OpenFault.Absent
+fault_of_kind ErrorKind.OutOfMemory = OpenFault.Memory
+fault_of_kind _ = OpenFault.Device
 
 -- A file is taken for a source by the end of its name: `.inf` or `.h`.
 abbrev pub is_named_as_source : List ℕ → Bool
@@ -34,8 +30,8 @@ story_options name =
 -- that was kept before stays.
 abbrev pub OpensFile : {F : Type 0} → List F → List F → Option ErrorKind → Option ErrorKind → Result Unit OpenFault → Type 0
 OpensFile {F} old new before reason (Ok _) = (reason ≡ None) × (file : F) × (new ≡ old ++ file ∷ [])
-OpensFile old new before reason (Err fault.Memory) =
-    (new ≡ old) × ((reason ≡ before) ⊎ ((kind : ErrorKind) × (reason ≡ Some kind) × (fault_of_kind kind ≡ fault.Memory)))
+OpensFile old new before reason (Err OpenFault.Memory) =
+    (new ≡ old) × ((reason ≡ before) ⊎ ((kind : ErrorKind) × (reason ≡ Some kind) × (fault_of_kind kind ≡ OpenFault.Memory)))
 OpensFile old new before reason (Err refused) =
     (new ≡ old) × (kind : ErrorKind) × (reason ≡ Some kind) × (refused ≡ fault_of_kind kind)
 

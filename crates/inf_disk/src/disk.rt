@@ -1,8 +1,6 @@
-ghost use Rattle.std.specs.Prelude.{◌≡◌, ◌==◌, ◌&&◌, IsTrue, ◌+◌, ◌<◌, ◌≤◌, [], ◌∷◌, ◌++◌, None, Some, Ok, Err};
-ghost use Rattle.std.specs.Prelude.{true, false, IsErr, IsOk, IsSome, IsErrOf, IfOk, OnOk, OnErr};
-ghost use Rattle.std.specs.Prelude.{is_ok, length, min, if◌then◌else◌};
-ghost use Rattle.std.specs.Io.KnownBytes.{ReadConsumes, WriteAppends};
-ghost use Rattle.std.specs.IoError.{error_kind, raw_os_error};
+ghost use Rattle.std.specs.{Io.KnownBytes.ReadConsumes, Io.KnownBytes.WriteAppends, IoError.error_kind, IoError.raw_os_error};
+ghost use Rattle.std.specs.Prelude.{◌≡◌, ◌==◌, ◌&&◌, IsTrue, ◌+◌, ◌<◌, ◌≤◌, [], ◌∷◌, ◌++◌, None, Some, Ok, Err, true, false, IsErr, IsOk};
+ghost use Rattle.std.specs.Prelude.{IsSome, IsErrOf, IfOk, OnOk, OnErr, is_ok, length, min, if◌then◌else◌};
 ghost use Rattle.inf_devices.specs.Files.{Rose, counts_closed, counts_given, counts_opened, last_count, nothing_given, tells_failure};
 ghost use Rattle.inf_devices.specs.Files.{with_name};
 ghost use Rattle.inf_disk.specs.Disk.{fault_of_kind, is_named_as_source, story_options, OpensFile, ReadsLast, WritesMade};

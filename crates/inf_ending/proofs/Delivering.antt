@@ -1,17 +1,13 @@
 -- The lines that were written of the last ones, and of all.
-use Rattle.std.specs.Prelude.{option_map, IsSome}
-use Rattle.std.proofs.Common.{◌≡◌, ℕ, List, [], ◌++◌, take, drop, take-append-drop, append_assoc, arith, Option, Some, None, Result, Ok}
-use Rattle.std.proofs.Common.{Err, IfOk, refl, sym, ap, subst, ◌∙◌, ◌+◌, append-nil}
+use Rattle.std.proofs.Common.{option_map, IsSome, ◌≡◌, ℕ, List, [], ◌++◌, take, drop, take-append-drop, append_assoc, arith, Option, Some}
+use Rattle.std.proofs.Common.{None, Result, Ok, Err, IfOk, refl, sym, ap, subst, ◌∙◌, ◌+◌, append-nil}
 use Rattle.inf_report.specs.Reports.{closing}
-use Rattle.inf_devices.specs.Sinks.{Takes}
-use Rattle.inf_devices.specs.declared.sinks.Sink.{Ghosts as Sink}
+use Rattle.inf_devices.specs.{Sinks.Takes, declared.sinks.Sink.Ghosts as Sink}
 use Rattle.inf_settings.specs.Bounds.{Limits}
 use Rattle.inf_unit.specs.Messages.{FileNames}
 use Rattle.inf_compilation.specs.Actions.{Compilation}
+use Rattle.inf_ending.specs.{Ending.Outcome, Ending.finished, declared.compiled.Compiled.Compiled, declared.compiled.Status.Status}
 use Rattle.inf_ending.specs.Delivered.{Appends, Delivers, EndsClean, EndsCleanOf, TakesFront, story_in}
-use Rattle.inf_ending.specs.Ending.{Outcome, finished}
-use Rattle.inf_ending.specs.declared.compiled.Compiled.{Compiled}
-use Rattle.inf_ending.specs.declared.compiled.Status.TheVariants as status
 use Rattle.inf_ending.proofs.Endings.{success_clean}
 
 pub takes_then : (old mid new : Option (List ℕ)) (xs ys : List ℕ) → Takes old mid xs → Takes mid new ys → Takes old new (xs ++ ys)
@@ -76,7 +72,7 @@ ends_behind m a b c serial story p q = record {
 
 -- the ending of a compilation without an error has the story of its work, and its last line is the one that tells none
 pub ends_clean : (limits : Limits) (serial : List ℕ) (files : FileNames) (w : Compilation) (c : Compiled) (old new : Option (List ℕ))
-    → Delivers (finished limits serial files w) c old new → c.status ≡ status.Success
+    → Delivers (finished limits serial files w) c old new → c.status ≡ Status.Success
     → EndsCleanOf limits serial files w (story_in c) old new
 ends_clean limits serial files w c old new d is =
     let k = success_clean limits serial files w (sym d.status ∙ is) in
@@ -96,8 +92,8 @@ mapped_none f None e = refl
 mapped_none f (Some x) e = let never : Some (f x) ≡ None = e in cc
 
 -- an ending with an error has no story
-pub has_none : (e : Outcome) (c : Compiled) (old new : Option (List ℕ)) → (e.status ≡ status.Errors → e.story ≡ None) → Delivers e c old new
-    → c.status ≡ status.Errors → c.story ≡ None
+pub has_none : (e : Outcome) (c : Compiled) (old new : Option (List ℕ)) → (e.status ≡ Status.Errors → e.story ≡ None) → Delivers e c old new
+    → c.status ≡ Status.Errors → c.story ≡ None
 has_none e c old new none d is = mapped_none (λ v. v.items) c.story (d.story ∙ none (sym d.status ∙ is))
 
 pub if_ok_more : {T E : Type 0} (r : Result T E) (P Q : T → Type 0) → ((x : T) → P x → Q x) → IfOk r P → IfOk r Q

@@ -1,40 +1,27 @@
 -- The ends of compilations: one with an error has no story, and the messages of another end with the line that tells no error.
-use Rattle.std.specs.Prelude.{not, ◌&&◌, ◌==◌, Result, IfOk}
-use Rattle.std.proofs.Common.{◌≡◌, ◌⊎◌, inl, inr, ℕ, ◌%◌, [], Bool, true, false, cond, List, ◌++◌, Option, Some, None, refl, sym, ap, subst}
-use Rattle.std.proofs.Common.{◌∙◌}
+use Rattle.std.proofs.Common.{not, ◌&&◌, ◌==◌, Result, IfOk, ◌≡◌, ◌⊎◌, inl, inr, ℕ, ◌%◌, [], Bool, true, false, cond, List, ◌++◌, Option}
+use Rattle.std.proofs.Common.{Some, None, refl, sym, ap, subst, ◌∙◌}
 use Rattle.std.proofs.lemmas.Bool.{eqb-true}
 use Rattle.inf_settings.specs.Bounds.{Limits}
-use Rattle.inf_area.specs.declared.targets.Value.{Value}
-use Rattle.inf_area.specs.Scales.{most_bytes}
-use Rattle.inf_area.specs.declared.scale.Scale.{Scale}
-use Rattle.inf_area.specs.declared.scale.Scale.TheVariants as scale
+use Rattle.inf_area.specs.{Scales.most_bytes, declared.scale.Scale.Scale, declared.targets.Value.Value}
 use Rattle.inf_code.specs.Code.{Routines}
 use Rattle.inf_link.specs.declared.link.LinkFault.{LinkFault}
-use Rattle.inf_link.specs.declared.link.LinkFault.TheVariants as link_fault
-use Rattle.inf_story.specs.Names.{values_of}
-use Rattle.inf_story.specs.Statistics.{counts_of}
-use Rattle.inf_story.specs.Stories.{too_long}
-use Rattle.inf_story.specs.declared.statistics.Statistics.{Statistics}
+use Rattle.inf_story.specs.{Names.values_of, Statistics.counts_of, Stories.too_long, declared.statistics.Statistics.Statistics}
 use Rattle.inf_compilation.specs.Actions.{Compilation, begun_at}
 use Rattle.inf_unit.proofs.Cases.{of_both}
 use Rattle.inf_unit.specs.Messages.{FileNames, Reported, with_closing, with_fatal}
 use Rattle.inf_unit.specs.Names.{main_of, with_all_undeclared}
-use Rattle.inf_output.specs.Output.{Out}
-use Rattle.inf_output.specs.Strings.{StringArea}
-use Rattle.inf_report.specs.Messages.{StoryTooLong}
-use Rattle.inf_report.specs.Reports.{closing}
-use Rattle.inf_ending.specs.declared.ending.Outcome.{Outcome as CodeOutcome}
+use Rattle.inf_output.specs.{Output.Out, Strings.StringArea}
+use Rattle.inf_report.specs.{Messages.StoryTooLong, Reports.closing}
+use Rattle.inf_ending.specs.declared.{compiled.Status.Status, ending.Outcome.Outcome as CodeOutcome, ending.Telling.Telling}
 use Rattle.inf_ending.specs.Ending.{Outcome, begun, bytes_of, counted, fields_of, finished, first_line, is_clean, laid, linked, named}
-use Rattle.inf_ending.specs.Ending.{refused, seen, sizes_of, statistics_by, told_of}
-use Rattle.inf_ending.specs.declared.ending.Telling.{Telling}
-use Rattle.inf_ending.specs.Ending.{first_place}
-use Rattle.inf_ending.specs.declared.compiled.Status.TheVariants as status
+use Rattle.inf_ending.specs.Ending.{refused, seen, sizes_of, statistics_by, told_of, first_place}
 use Rattle.inf_tables.specs.Tables.{AllTables}
 
 -- the most bytes of a story fit a number of four bytes
 pub most_is_small : (s : Scale) → most_bytes s % 4294967296 ≡ most_bytes s
-most_is_small scale.Four = refl
-most_is_small scale.Eight = refl
+most_is_small Scale.Four = refl
+most_is_small Scale.Eight = refl
 
 -- The outcome of a compilation whose last names are told is its outcome.
 pub told_is_finished : {E : Type 0} (limits : Limits) (serial : List ℕ) (files : FileNames) (w told : Compilation)
@@ -52,8 +39,8 @@ told_is_finished limits serial files w told result same given =
 pub longest_told : {E : Type 0} (t : Telling) (files : FileNames) (main : ℕ) (names : List Value) (code : Routines)
     (strings : StringArea) (tables : AllTables) (r : Reported)
     (s : Scale) (bytes : List ℕ) (most : ℕ) (fault : LinkFault)
-    (result : Result CodeOutcome E) → s ≡ code.scale → bytes ≡ strings.bytes → most ≡ most_bytes s → fault ≡ link_fault.StoryTooLong
-    → (fault ≡ link_fault.Memory)
+    (result : Result CodeOutcome E) → s ≡ code.scale → bytes ≡ strings.bytes → most ≡ most_bytes s → fault ≡ LinkFault.StoryTooLong
+    → (fault ≡ LinkFault.Memory)
     ⊎ (too_long (record { release = t.release; serial = t.serial; scale = s }) main code.finished bytes tables ≡ Some fault)
     → IfOk result (λ e. seen e ≡ refused (with_fatal (first_line files) (StoryTooLong most) r))
     → IfOk result (λ e. seen e ≡ linked t files main names code strings tables r
@@ -61,8 +48,8 @@ pub longest_told : {E : Type 0} (t : Telling) (files : FileNames) (main : ℕ) (
 longest_told t files main names code strings tables r s bytes most fault result same all longest is why given =
     let long : Scale → List ℕ → Option LinkFault =
     λ q a. too_long (record { release = t.release; serial = t.serial; scale = q }) main code.finished a tables in
-    let found : long code.scale strings.bytes ≡ Some link_fault.StoryTooLong = elim why [
-      | inl memory ↦ (let never : link_fault.Memory ≡ link_fault.StoryTooLong = sym memory ∙ is in cc)
+    let found : long code.scale strings.bytes ≡ Some LinkFault.StoryTooLong = elim why [
+      | inl memory ↦ (let never : LinkFault.Memory ≡ LinkFault.StoryTooLong = sym memory ∙ is in cc)
       | inr told ↦ sym (ap (λ q. long q strings.bytes) same) ∙ sym (ap (λ a. long s a) all) ∙ told ∙ ap (λ f. Some f) is
     ] in
     subst (λ o. IfOk result (λ e. seen e ≡ o))
@@ -71,14 +58,14 @@ longest_told t files main names code strings tables r s bytes most fault result 
     given
 
 abbrev HasNone : Outcome → Type 0
-HasNone e = e.status ≡ status.Errors → e.story ≡ None
+HasNone e = e.status ≡ Status.Errors → e.story ≡ None
 
 linked_none : (t : Telling) (files : FileNames) (main : ℕ) (names : List Value) (code : Routines) (strings : StringArea)
     (tables : AllTables) (r : Reported) (long : Option LinkFault) → HasNone (linked t files main names code strings tables r long)
 linked_none t files main names code strings tables r None = λ e. cc
-linked_none t files main names code strings tables r (Some link_fault.ReadableTooLong) = λ _. refl
-linked_none t files main names code strings tables r (Some link_fault.StoryTooLong) = λ _. refl
-linked_none t files main names code strings tables r (Some link_fault.Memory) = λ _. refl
+linked_none t files main names code strings tables r (Some LinkFault.ReadableTooLong) = λ _. refl
+linked_none t files main names code strings tables r (Some LinkFault.StoryTooLong) = λ _. refl
+linked_none t files main names code strings tables r (Some LinkFault.Memory) = λ _. refl
 
 named_none : (t : Telling) (files : FileNames) (main : ℕ) (code : Routines) (strings : StringArea) (tables : AllTables) (r : Reported)
     (names : Option (List Value)) → HasNone (named t files main code strings tables r names)
@@ -95,7 +82,7 @@ begun_none t files o r (Some main) =
     of_both HasNone (is_clean r) (laid t files main o r) (refused r) (λ _. laid_none t files main o r) (λ _ _. refl)
 
 pub errors_none : (limits : Limits) (serial : List ℕ) (files : FileNames) (w : Compilation) →
-    (finished limits serial files w).status ≡ status.Errors →
+    (finished limits serial files w).status ≡ Status.Errors →
     (finished limits serial files w).story ≡ None
 errors_none limits serial files w =
     let b = begun_at limits files first_place w in
@@ -131,7 +118,7 @@ closes_clean r e =
     }
 
 abbrev EndsSo : Reported → Outcome → Type 0
-EndsSo r e = e.status ≡ status.Success → IsClean r e
+EndsSo r e = e.status ≡ Status.Success → IsClean r e
 
 -- statistics count no error
 statistics_clean : (wanted : Bool) (s : Statistics) (r : Reported) → is_clean r ≡ true → is_clean (statistics_by wanted s r) ≡ true
@@ -149,9 +136,9 @@ linked_clean t files main names code strings tables r clean None =
       bytes = bytes_of t main names code strings tables;
       story = refl;
     }
-linked_clean t files main names code strings tables r clean (Some link_fault.ReadableTooLong) = λ e. cc
-linked_clean t files main names code strings tables r clean (Some link_fault.StoryTooLong) = λ e. cc
-linked_clean t files main names code strings tables r clean (Some link_fault.Memory) = λ e. cc
+linked_clean t files main names code strings tables r clean (Some LinkFault.ReadableTooLong) = λ e. cc
+linked_clean t files main names code strings tables r clean (Some LinkFault.StoryTooLong) = λ e. cc
+linked_clean t files main names code strings tables r clean (Some LinkFault.Memory) = λ e. cc
 
 named_clean : (t : Telling) (files : FileNames) (main : ℕ) (code : Routines) (strings : StringArea) (tables : AllTables) (r : Reported)
     →
@@ -170,7 +157,7 @@ begun_clean t files o r (Some main) =
     of_both (EndsSo r) (is_clean r) (laid t files main o r) (refused r) (λ clean. laid_clean t files main o r clean) (λ _ e. cc)
 
 pub success_clean : (limits : Limits) (serial : List ℕ) (files : FileNames) (w : Compilation) →
-    (finished limits serial files w).status ≡ status.Success →
+    (finished limits serial files w).status ≡ Status.Success →
     IsClean (counted limits files w) (finished limits serial files w)
 success_clean limits serial files w =
     let b = begun_at limits files first_place w in

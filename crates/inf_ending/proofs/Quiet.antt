@@ -1,29 +1,25 @@
 -- Failures to write messages are not told as anything else.
-use Rattle.std.proofs.Common.{◌≡◌, ℕ, Option, refl, ◌∙◌, subst, Result, Ok, Err, IfErr, IsErr}
-use Rattle.std.specs.Prelude.{IsErrAnd}
+use Rattle.std.proofs.Common.{◌≡◌, ℕ, Option, refl, ◌∙◌, subst, Result, Ok, Err, IfErr, IsErr, IsErrAnd}
+use Rattle.inf_ending.specs.{declared.faults.Fault.Fault, declared.faults.Halt.Halt}
 use Rattle.inf_ending.specs.Faults.{HaltHidesNone, HidesNoFailure, UnlessMessages, fault_of}
-use Rattle.inf_ending.specs.declared.faults.Fault.{Fault}
-use Rattle.inf_ending.specs.declared.faults.Fault.TheVariants as fault
-use Rattle.inf_ending.specs.declared.faults.Halt.{Halt}
-use Rattle.inf_ending.specs.declared.faults.Halt.TheVariants as halt
 
 unless_any : (f : Fault) (A : Type 0) → A → UnlessMessages f A
-unless_any fault.Memory A holds = holds
-unless_any (fault.Read name) A holds = holds
-unless_any fault.Messages A holds = tt
-unless_any (fault.Story n) A holds = holds
+unless_any Fault.Memory A holds = holds
+unless_any (Fault.Read name) A holds = holds
+unless_any Fault.Messages A holds = tt
+unless_any (Fault.Story n) A holds = holds
 
 pub unless_more : (f : Fault) (A B : Type 0) → (A → B) → UnlessMessages f A → UnlessMessages f B
-unless_more fault.Memory A B h holds = h holds
-unless_more (fault.Read name) A B h holds = h holds
-unless_more fault.Messages A B h holds = tt
-unless_more (fault.Story n) A B h holds = h holds
+unless_more Fault.Memory A B h holds = h holds
+unless_more (Fault.Read name) A B h holds = h holds
+unless_more Fault.Messages A B h holds = tt
+unless_more (Fault.Story n) A B h holds = h holds
 
-unless_told : (f : Fault) (A : Type 0) → f ≡ fault.Messages → UnlessMessages f A
-unless_told fault.Memory A told = cc
-unless_told (fault.Read name) A told = cc
-unless_told fault.Messages A told = tt
-unless_told (fault.Story n) A told = cc
+unless_told : (f : Fault) (A : Type 0) → f ≡ Fault.Messages → UnlessMessages f A
+unless_told Fault.Memory A told = cc
+unless_told (Fault.Read name) A told = cc
+unless_told Fault.Messages A told = tt
+unless_told (Fault.Story n) A told = cc
 
 -- nothing was written
 pub hides_none : {T : Type 0} (r : Result T Fault) (n : ℕ) → HidesNoFailure r n n
@@ -31,7 +27,7 @@ hides_none (Ok x) n = (refl, tt)
 hides_none (Err f) n = (tt, unless_any f (n ≡ n) refl)
 
 -- messages could not be written
-pub hides_told : {T : Type 0} (r : Result T Fault) (before now : ℕ) → IsErrAnd r (λ f. f ≡ fault.Messages) → HidesNoFailure r before now
+pub hides_told : {T : Type 0} (r : Result T Fault) (before now : ℕ) → IsErrAnd r (λ f. f ≡ Fault.Messages) → HidesNoFailure r before now
 hides_told (Ok x) before now told = absurd told
 hides_told (Err f) before now told = (tt, unless_told f (now ≡ before) told)
 
@@ -57,9 +53,9 @@ halt_hides_none (Ok x) lost n = (refl, tt)
 halt_hides_none (Err h) lost n = (tt, unless_any (fault_of h lost) (n ≡ n) refl)
 
 -- the messages of a turn could not be written
-pub halt_hides_told : {T : Type 0} (r : Result T Halt) (lost : Option Fault) (before now : ℕ) → IsErrAnd r (λ h. h ≡ halt.Messages)
+pub halt_hides_told : {T : Type 0} (r : Result T Halt) (lost : Option Fault) (before now : ℕ) → IsErrAnd r (λ h. h ≡ Halt.Messages)
     → HaltHidesNone r lost before now
 halt_hides_told (Ok x) lost before now told = absurd told
-halt_hides_told (Err halt.Memory) lost before now told = cc
-halt_hides_told (Err halt.Read) lost before now told = cc
-halt_hides_told (Err halt.Messages) lost before now told = (tt, tt)
+halt_hides_told (Err Halt.Memory) lost before now told = cc
+halt_hides_told (Err Halt.Read) lost before now told = cc
+halt_hides_told (Err Halt.Messages) lost before now told = (tt, tt)

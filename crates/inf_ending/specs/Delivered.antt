@@ -4,11 +4,9 @@ use Rattle.inf_settings.specs.Bounds.{Limits}
 use Rattle.inf_unit.specs.Messages.{FileNames}
 use Rattle.inf_compilation.specs.Actions.{Compilation}
 use Rattle.inf_report.specs.Reports.{closing}
-use Rattle.inf_devices.specs.Sinks.{Takes}
-use Rattle.inf_devices.specs.declared.sinks.Sink.{Ghosts as Sink}
+use Rattle.inf_devices.specs.{Sinks.Takes, declared.sinks.Sink.Ghosts as Sink}
+use Rattle.inf_ending.specs.{declared.compiled.Compiled.Compiled, declared.compiled.Status.Status}
 use Rattle.inf_ending.specs.Ending.{Outcome, counted, finished, is_clean}
-use Rattle.inf_ending.specs.declared.compiled.Compiled.{Compiled}
-use Rattle.inf_ending.specs.declared.compiled.Status.TheVariants as status
 
 -- The first list is a front of the second.
 pub record IsFront (front whole : List ℕ) : Type 0 where
@@ -60,4 +58,4 @@ story_in c = option_map (λ v. v.items) c.story
 
 -- A success has the story of some compiled work of which no error was counted.
 abbrev pub SucceedsClean : List ℕ → Compiled → Option (List ℕ) → Option (List ℕ) → Type 0
-SucceedsClean serial c old new = c.status ≡ status.Success → EndsClean serial (story_in c) old new
+SucceedsClean serial c old new = c.status ≡ Status.Success → EndsClean serial (story_in c) old new

@@ -1,28 +1,18 @@
 -- The end of a compilation: the lines of its messages, its story or none, and its status.
 use Rattle.std.specs.Prelude.{ℕ, List, length, Bool, true, false, not, ◌&&◌, ◌==◌, if◌then◌else◌, Option, Some, None, option_map, unwrap_or}
 use Rattle.inf_settings.specs.Bounds.{Limits}
-use Rattle.inf_area.specs.declared.targets.Value.{Value}
-use Rattle.inf_area.specs.Scales.{most_bytes}
+use Rattle.inf_area.specs.{Scales.most_bytes, declared.targets.Value.Value}
 use Rattle.inf_code.specs.Code.{Routines}
 use Rattle.inf_letters.specs.Letters.{counts}
-use Rattle.inf_link.specs.declared.header.HeaderFields.{HeaderFields}
-use Rattle.inf_link.specs.declared.link.LinkFault.{LinkFault}
-use Rattle.inf_link.specs.declared.link.LinkFault.TheVariants as link_fault
-use Rattle.inf_link.specs.declared.link.Sizes.{Sizes}
-use Rattle.inf_output.specs.Output.{Out}
-use Rattle.inf_output.specs.Strings.{StringArea}
+use Rattle.inf_link.specs.{declared.header.HeaderFields.HeaderFields, declared.link.LinkFault.LinkFault, declared.link.Sizes.Sizes}
+use Rattle.inf_output.specs.{Output.Out, Strings.StringArea}
 use Rattle.inf_report.specs.Messages.{Location, NoMain, NoSource, NotConstant, ReadableTooLong, StoryTooLong}
-use Rattle.inf_story.specs.Names.{values_of}
-use Rattle.inf_story.specs.Statistics.{counts_of, with_statistics}
+use Rattle.inf_story.specs.{Names.values_of, Statistics.counts_of, Statistics.with_statistics, declared.statistics.Statistics.Statistics}
 use Rattle.inf_story.specs.Stories.{story, story_sizes, too_long}
-use Rattle.inf_story.specs.declared.statistics.Statistics.{Statistics}
 use Rattle.inf_compilation.specs.Actions.{Compilation, begun_at}
 use Rattle.inf_unit.specs.Messages.{FileNames, Reported, location, nothing_reported, with_closing, with_error, with_fatal}
 use Rattle.inf_unit.specs.Names.{main_of, with_all_undeclared}
-use Rattle.inf_ending.specs.declared.ending.Outcome.{Outcome as CodeOutcome}
-use Rattle.inf_ending.specs.declared.ending.Telling.{Telling}
-use Rattle.inf_ending.specs.declared.compiled.Status.{Status}
-use Rattle.inf_ending.specs.declared.compiled.Status.TheVariants as status
+use Rattle.inf_ending.specs.declared.{compiled.Status.Status, ending.Outcome.Outcome as CodeOutcome, ending.Telling.Telling}
 use Rattle.inf_tables.specs.Tables.{AllTables}
 use Rattle.inf_scanner.specs.declared.tokens.Place.{Place}
 
@@ -38,7 +28,7 @@ pub record Outcome : Type 0 where
 
 -- the outcome with an error or a fatal message, where no story comes
 abbrev pub refused : Reported → Outcome
-refused r = record { messages = (with_closing r).lines; story = None; status = status.Errors }
+refused r = record { messages = (with_closing r).lines; story = None; status = Status.Errors }
 
 abbrev pub is_clean : Reported → Bool
 is_clean r = not r.counts.is_over && (r.counts.errors == 0)
@@ -71,7 +61,7 @@ statistics_told t code tables sizes r =
 
 -- the outcome with a story
 abbrev pub compiled : Reported → List ℕ → Outcome
-compiled r bytes = record { messages = (with_closing r).lines; story = Some bytes; status = status.Success }
+compiled r bytes = record { messages = (with_closing r).lines; story = Some bytes; status = Status.Success }
 
 -- the bytes of the story of the code, the strings and the tables, in which the routine at `main` is called first and `names` are
 -- the values of names
@@ -86,11 +76,11 @@ sizes_of t main names code strings tables =
 abbrev pub linked : Telling → FileNames → ℕ → List Value → Routines → StringArea → AllTables → Reported → Option LinkFault → Outcome
 linked t files main names code strings tables r None =
     compiled (statistics_told t code tables (sizes_of t main names code strings tables) r) (bytes_of t main names code strings tables)
-linked t files main names code strings tables r (Some link_fault.ReadableTooLong) =
+linked t files main names code strings tables r (Some LinkFault.ReadableTooLong) =
     refused (with_fatal (first_line files) ReadableTooLong r)
-linked t files main names code strings tables r (Some link_fault.StoryTooLong) =
+linked t files main names code strings tables r (Some LinkFault.StoryTooLong) =
     refused (with_fatal (first_line files) (StoryTooLong (most_bytes code.scale)) r)
-linked t files main names code strings tables r (Some link_fault.Memory) = refused r
+linked t files main names code strings tables r (Some LinkFault.Memory) = refused r
 
 -- The outcome by the values of names, where a name of a kind that is no number in a story is an error.
 abbrev pub named : Telling → FileNames → ℕ → Routines → StringArea → AllTables → Reported → Option (List Value) → Outcome

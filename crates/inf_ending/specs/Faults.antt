@@ -1,41 +1,38 @@
 -- The causes of a fault of each kind.
 use Rattle.std.specs.Prelude.{◌≡◌, ℕ, List, string_bytes, IfErr, OnOk, Option, Result, unwrap_or}
-use Rattle.inf_ending.specs.declared.faults.Fault.{Fault}
-use Rattle.inf_ending.specs.declared.faults.Fault.TheVariants as fault
-use Rattle.inf_ending.specs.declared.faults.Halt.{Halt}
-use Rattle.inf_ending.specs.declared.faults.Halt.TheVariants as halt
+use Rattle.inf_ending.specs.{declared.faults.Fault.Fault, declared.faults.Halt.Halt}
 
 -- A fault of reading, with the name that it tells, and one of writing messages have their causes. A fault of writing the
 -- story never comes.
 abbrev pub Caused : Fault → (List ℕ → Type 0) → Type 0 → Type 0
-Caused fault.Memory P Q = Unit {0}
-Caused (fault.Read name) P Q = P (string_bytes name)
-Caused fault.Messages P Q = Q
-Caused (fault.Story n) P Q = ⊥
+Caused Fault.Memory P Q = Unit {0}
+Caused (Fault.Read name) P Q = P (string_bytes name)
+Caused Fault.Messages P Q = Q
+Caused (Fault.Story n) P Q = ⊥
 
 abbrev pub IfRead : Fault → (List ℕ → Type 0) → Type 0
-IfRead (fault.Read name) P = P (string_bytes name)
-IfRead fault.Memory P = Unit {0}
-IfRead fault.Messages P = Unit {0}
-IfRead (fault.Story n) P = Unit {0}
+IfRead (Fault.Read name) P = P (string_bytes name)
+IfRead Fault.Memory P = Unit {0}
+IfRead Fault.Messages P = Unit {0}
+IfRead (Fault.Story n) P = Unit {0}
 
 abbrev pub IfStory : Fault → (ℕ → Type 0) → Type 0
-IfStory (fault.Story n) P = P n
-IfStory fault.Memory P = Unit {0}
-IfStory (fault.Read name) P = Unit {0}
-IfStory fault.Messages P = Unit {0}
+IfStory (Fault.Story n) P = P n
+IfStory Fault.Memory P = Unit {0}
+IfStory (Fault.Read name) P = Unit {0}
+IfStory Fault.Messages P = Unit {0}
 
 abbrev pub UnlessStory : Fault → Type 0 → Type 0
-UnlessStory (fault.Story n) P = Unit {0}
-UnlessStory fault.Memory P = P
-UnlessStory (fault.Read name) P = P
-UnlessStory fault.Messages P = P
+UnlessStory (Fault.Story n) P = Unit {0}
+UnlessStory Fault.Memory P = P
+UnlessStory (Fault.Read name) P = P
+UnlessStory Fault.Messages P = P
 
 abbrev pub UnlessMessages : Fault → Type 0 → Type 0
-UnlessMessages fault.Messages P = Unit {0}
-UnlessMessages fault.Memory P = P
-UnlessMessages (fault.Read name) P = P
-UnlessMessages (fault.Story n) P = P
+UnlessMessages Fault.Messages P = Unit {0}
+UnlessMessages Fault.Memory P = P
+UnlessMessages (Fault.Read name) P = P
+UnlessMessages (Fault.Story n) P = P
 
 -- Only a call that answers that messages could not be written counts a failure to write them.
 abbrev pub HidesNoFailure : {T : Type 0} → Result T Fault → ℕ → ℕ → Type 0
@@ -43,9 +40,9 @@ HidesNoFailure answer before now = OnOk answer (now ≡ before) × IfErr answer 
 
 -- the fault that is told for a turn that was given up, where this one was put aside
 abbrev pub fault_of : Halt → Option Fault → Fault
-fault_of halt.Memory lost = fault.Memory
-fault_of halt.Read lost = unwrap_or lost fault.Memory
-fault_of halt.Messages lost = fault.Messages
+fault_of Halt.Memory lost = Fault.Memory
+fault_of Halt.Read lost = unwrap_or lost Fault.Memory
+fault_of Halt.Messages lost = Fault.Messages
 
 -- A turn that was given up counts a failure to write messages only where it tells of one.
 abbrev pub HaltHidesNone : {T : Type 0} → Result T Halt → Option Fault → ℕ → ℕ → Type 0

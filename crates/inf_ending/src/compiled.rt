@@ -2,9 +2,8 @@
 ghost use Rattle.std.specs.Prelude.{◌≡◌, None, IfOk, IfErr, IsErrOf, OnErr};
 ghost use Rattle.inf_devices.specs.Files.{Rose};
 ghost use Rattle.inf_compilation.specs.Works.{work as work_of};
+ghost use Rattle.inf_ending.specs.{Ending.finished, Ending.seen, Faults.Caused, Faults.HidesNoFailure};
 ghost use Rattle.inf_ending.specs.Delivered.{Appends, Delivers, EndsCleanOf, TakesFront, story_in};
-ghost use Rattle.inf_ending.specs.Ending.{finished, seen};
-ghost use Rattle.inf_ending.specs.Faults.{Caused, HidesNoFailure};
 
 use crate::ending::{Outcome, finish};
 use crate::faults::Fault;

@@ -3,13 +3,10 @@ ghost use Rattle.std.specs.Prelude.{◌≡◌, IfOk, OnOk, Some, option_map};
 ghost use Rattle.inf_area.specs.Scales.{most_bytes};
 ghost use Rattle.inf_report.specs.Meant.{meant};
 ghost use Rattle.inf_story.specs.Stories.{too_long};
-ghost use Rattle.inf_unit.specs.Messages.{with_closing, with_error, with_fatal};
-ghost use Rattle.inf_unit.specs.Names.{main_of, with_all_undeclared};
-ghost use Rattle.inf_compilation.specs.Actions.{begun_at};
-ghost use Rattle.inf_compilation.specs.Works.{work as work_of};
+ghost use Rattle.inf_unit.specs.{Messages.with_closing, Messages.with_error, Messages.with_fatal, Names.main_of, Names.with_all_undeclared};
+ghost use Rattle.inf_compilation.specs.{Actions.begun_at, Works.work as work_of};
 ghost use Rattle.inf_ending.specs.Ending.{begun, begun_from, compiled, fields_of, finished, first_line, is_clean, laid, linked, missing};
-ghost use Rattle.inf_ending.specs.Ending.{named, refused, seen, statistics_by, told_of};
-ghost use Rattle.inf_ending.specs.Ending.{first_place};
+ghost use Rattle.inf_ending.specs.Ending.{named, refused, seen, statistics_by, told_of, first_place};
 
 use crate::compiled::Status;
 use inf_area::{Scale, Value};

@@ -3,14 +3,10 @@ use Rattle.std.proofs.Common.{◌≡◌, ℕ, suc, ◌+◌, ◌-◌, List, [], �
 use Rattle.std.proofs.lemmas.List.{length-append}
 use Rattle.inf_machine.specs.Grammar.{Event, Took, Did}
 use Rattle.inf_syntax.specs.declared.actions.Action.{Action}
-use Rattle.inf_syntax.specs.declared.actions.Action.TheVariants as does
-use Rattle.inf_expressions.specs.declared.operators.Binary.{Binary}
-use Rattle.inf_expressions.specs.declared.operators.Unary.{Unary}
+use Rattle.inf_expressions.specs.{declared.operators.Binary.Binary, declared.operators.Unary.Unary}
 use Rattle.inf_expressions.specs.Sources.{Source, Leaf, Brackets, Prefix, Suffix, Two, Call, Alone}
-use Rattle.inf_unit.specs.declared.steps.GatherStep.TheVariants as step
-use Rattle.inf_unit.specs.Steps.{step_of}
-use Rattle.inf_expression_laws.specs.Precedence.{leaf_count, leaf_count_of_all, list_of}
-use Rattle.inf_expression_laws.specs.Gathered.{first_of}
+use Rattle.inf_unit.specs.{Steps.step_of, declared.steps.GatherStep.GatherStep}
+use Rattle.inf_expression_laws.specs.{Gathered.first_of, Precedence.leaf_count, Precedence.leaf_count_of_all, Precedence.list_of}
 use Rattle.inf_expression_laws.proofs.Built.{Builds, State, all_sources, behind, built, in_front_of, list_joined, one_more, over_one}
 use Rattle.inf_expression_laws.proofs.Built.{over_two, pushed, stepped, tested}
 
@@ -27,7 +23,7 @@ Lists events order place count parts =
           + leaf_count_of_all parts;
     })
 
-pub leaf_builds : (a : Action) → step_of a ≡ Some step.Leaf → (order place atom : ℕ) →
+pub leaf_builds : (a : Action) → step_of a ≡ Some GatherStep.Leaf → (order place atom : ℕ) →
     Builds (λ more. Took atom ∷ Did a ∷ more) order place 1 (Leaf order order place)
 leaf_builds a e order place atom s o p more =
     let own : (s.order + 1) - 1 ≡ order = omega (arith, o) in
@@ -42,7 +38,7 @@ leaf_builds a e order place atom s o p more =
     })
 
 pub action_builds : (order place sign atom : ℕ) →
-    Builds (λ more. Took sign ∷ Took atom ∷ Did does.Action ∷ more) order place 2 (Leaf order (suc order) place)
+    Builds (λ more. Took sign ∷ Took atom ∷ Did Action.Action ∷ more) order place 2 (Leaf order (suc order) place)
 action_builds order place sign atom s o p more =
     let first : ((s.order + 1) + 1) - 2 ≡ order = omega (arith, o) in
     let own : ((s.order + 1) + 1) - 1 ≡ suc order = omega (arith, o) in
@@ -57,7 +53,7 @@ action_builds order place sign atom s o p more =
     })
 
 pub system_builds : (order place sign atom : ℕ) →
-    Builds (λ more. Took sign ∷ Took atom ∷ Did does.System ∷ more) order place 2 (Leaf order (suc order) place)
+    Builds (λ more. Took sign ∷ Took atom ∷ Did Action.System ∷ more) order place 2 (Leaf order (suc order) place)
 system_builds order place sign atom s o p more =
     let first : ((s.order + 1) + 1) - 2 ≡ order = omega (arith, o) in
     let own : ((s.order + 1) + 1) - 1 ≡ suc order = omega (arith, o) in
@@ -130,14 +126,14 @@ two_builds op x effect order place sign left right a b first second f g s o p mo
 
 pub brackets_build : (order place left right : ℕ) (atoms : List ℕ) (a : Source) (events : List (Event Action) → List (Event Action)) →
     Builds events (suc order) place (length atoms) a →
-    Builds (λ more. Took left ∷ Did does.Bracket ∷ events (Did does.Bracketed ∷ Took right ∷ more)) order place
+    Builds (λ more. Took left ∷ Did Action.Bracket ∷ events (Did Action.Bracketed ∷ Took right ∷ more)) order place
     (length (left ∷ (atoms ++ right ∷ []))) (Brackets order a)
 brackets_build order place left right atoms a events b s o p more =
     let own : (s.order + 1) - 1 ≡ order = omega (arith, o) in
     let next : ((s.order + 1) + length atoms) + 1 ≡ s.order + length (left ∷ (atoms ++ right ∷ [])) =
     omega (arith, length-append atoms (right ∷ [])) in
     b (record s { order = s.order + 1; brackets = ((s.order + 1) - 1) ∷ s.brackets }) (omega (arith, o)) p
-    (Did does.Bracketed ∷ Took right ∷ more)
+    (Did Action.Bracketed ∷ Took right ∷ more)
     ∙ ap (built more) (λ i. record {
       sources = Brackets (own i) a ∷ s.sources;
       counts = s.counts;
@@ -156,7 +152,7 @@ pub test_builds : (op : Binary) (x : Action) →
     (first second : List (Event Action) → List (Event Action)) →
     Builds first order place (length left) a → Lists second (suc (order + length left)) (place + leaf_count a) (length right) (b ∷ sources)
     →
-    Builds (λ more. first (Took sign ∷ Did does.Count ∷ second (Did x ∷ more))) order place (length (left ++ sign ∷ right))
+    Builds (λ more. first (Took sign ∷ Did Action.Count ∷ second (Did x ∷ more))) order place (length (left ++ sign ∷ right))
     (Two op a (list_of b sources))
 test_builds op x effect order place sign left right a b sources first second f g s o p more =
     let next : ((s.order + length left) + 1) + length right ≡ s.order + length (left ++ sign ∷ right) =
@@ -164,7 +160,7 @@ test_builds op x effect order place sign left right a b sources first second f g
     let last : (s.place + leaf_count a) + leaf_count_of_all (b ∷ sources) ≡ s.place + (leaf_count a + leaf_count (list_of b sources)) =
     omega (arith, list_leaves b sources) in
     let middle = record (pushed (length left) a s) { order = (s.order + length left) + 1; counts = 0 ∷ s.counts } in
-    f s o p (Took sign ∷ Did does.Count ∷ second (Did x ∷ more))
+    f s o p (Took sign ∷ Did Action.Count ∷ second (Did x ∷ more))
     ∙ g middle (omega (arith, o)) (omega (arith, p)) s.counts refl (Did x ∷ more)
     ∙ ap (built more) (effect _)
     ∙ ap (built more) (λ i. record {
@@ -179,7 +175,7 @@ pub call_builds : (order place left right : ℕ) (atoms given : List ℕ) (a b :
     (first second : List (Event Action) → List (Event Action)) →
     Builds first order place (length atoms) a → Lists second (suc (order + length atoms)) (place + leaf_count a) (length given)
     (b ∷ sources) →
-    Builds (λ more. first (Took left ∷ Did does.Count ∷ second (Took right ∷ Did does.Call ∷ more))) order place
+    Builds (λ more. first (Took left ∷ Did Action.Count ∷ second (Took right ∷ Did Action.Call ∷ more))) order place
     (length (((atoms ++ left ∷ []) ++ given) ++ right ∷ [])) (Call a (list_of b sources))
 call_builds order place left right atoms given a b sources first second f g s o p more =
     let next : (((s.order + length atoms) + 1) + length given) + 1 ≡ s.order + length (((atoms ++ left ∷ []) ++ given) ++ right ∷ []) =
@@ -193,8 +189,8 @@ call_builds order place left right atoms given a b sources first second f g s o 
     let last : (s.place + leaf_count a) + leaf_count_of_all (b ∷ sources) ≡ s.place + (leaf_count a + leaf_count (list_of b sources)) =
     omega (arith, list_leaves b sources) in
     let middle = record (pushed (length atoms) a s) { order = (s.order + length atoms) + 1; counts = 0 ∷ s.counts } in
-    f s o p (Took left ∷ Did does.Count ∷ second (Took right ∷ Did does.Call ∷ more))
-    ∙ g middle (omega (arith, o)) (omega (arith, p)) s.counts refl (Took right ∷ Did does.Call ∷ more)
+    f s o p (Took left ∷ Did Action.Count ∷ second (Took right ∷ Did Action.Call ∷ more))
+    ∙ g middle (omega (arith, o)) (omega (arith, p)) s.counts refl (Took right ∷ Did Action.Call ∷ more)
     ∙ ap (built more) (λ i. record {
       sources = ap (over_two Call) (list_joined b sources (a ∷ s.sources)) i;
       counts = s.counts;
@@ -205,12 +201,12 @@ call_builds order place left right atoms given a b sources first second f g s o 
 
 pub alone_builds : (order place left right : ℕ) (atoms : List ℕ) (a : Source) (events : List (Event Action) → List (Event Action)) →
     Builds events order place (length atoms) a →
-    Builds (λ more. events (Took left ∷ Did does.Count ∷ Took right ∷ Did does.Call ∷ more)) order place
+    Builds (λ more. events (Took left ∷ Did Action.Count ∷ Took right ∷ Did Action.Call ∷ more)) order place
     (length ((atoms ++ left ∷ []) ++ right ∷ [])) (Alone a)
 alone_builds order place left right atoms a events b s o p more =
     let next : ((s.order + length atoms) + 1) + 1 ≡ s.order + length ((atoms ++ left ∷ []) ++ right ∷ []) =
     omega (arith, length-append (atoms ++ left ∷ []) (right ∷ []), length-append atoms (left ∷ [])) in
-    b s o p (Took left ∷ Did does.Count ∷ Took right ∷ Did does.Call ∷ more)
+    b s o p (Took left ∷ Did Action.Count ∷ Took right ∷ Did Action.Call ∷ more)
     ∙ ap (built more) (λ i. record {
       sources = Alone a ∷ s.sources;
       counts = s.counts;
@@ -222,10 +218,10 @@ alone_builds order place left right atoms a events b s o p more =
 
 -- Lists
 pub one_lists : (order place n : ℕ) (a : Source) (events : List (Event Action) → List (Event Action)) → Builds events order place n a →
-    Lists (λ more. events (Did does.Part ∷ more)) order place n (a ∷ [])
+    Lists (λ more. events (Did Action.Part ∷ more)) order place n (a ∷ [])
 one_lists order place n a events b s o p counts e more =
     let last : s.place + leaf_count a ≡ s.place + leaf_count_of_all (a ∷ []) = omega arith in
-    b s o p (Did does.Part ∷ more)
+    b s o p (Did Action.Part ∷ more)
     ∙ ap (built more) (λ i. record {
       sources = a ∷ s.sources;
       counts = ap one_more e i;
@@ -248,7 +244,7 @@ pub more_lists : (order place sign : ℕ) (left right : List ℕ) (parts : List 
     (first second : List (Event Action) → List (Event Action)) →
     Lists first order place (length left) parts → Builds second (suc (order + length left)) (place + leaf_count_of_all parts) (length right)
     a →
-    Lists (λ more. first (Took sign ∷ second (Did does.Part ∷ more))) order place (length (left ++ sign ∷ right)) (parts ++ a ∷ [])
+    Lists (λ more. first (Took sign ∷ second (Did Action.Part ∷ more))) order place (length (left ++ sign ∷ right)) (parts ++ a ∷ [])
 more_lists order place sign left right parts a first second f g s o p counts e more =
     let next : ((s.order + length left) + 1) + length right ≡ s.order + length (left ++ sign ∷ right) =
     omega (arith, length-append left (sign ∷ right)) in
@@ -261,8 +257,8 @@ more_lists order place sign left right parts a first second f g s o p counts e m
       order = (s.order + length left) + 1;
       place = s.place + leaf_count_of_all parts;
     } in
-    f s o p counts e (Took sign ∷ second (Did does.Part ∷ more))
-    ∙ g middle (omega (arith, o)) (omega (arith, p)) (Did does.Part ∷ more)
+    f s o p counts e (Took sign ∷ second (Did Action.Part ∷ more))
+    ∙ g middle (omega (arith, o)) (omega (arith, p)) (Did Action.Part ∷ more)
     ∙ ap (built more) (λ i. record {
       sources = last_source parts a s.sources i;
       counts = count i ∷ counts;

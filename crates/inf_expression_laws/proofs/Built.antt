@@ -2,15 +2,10 @@
 use Rattle.std.proofs.Common.{◌≡◌, ℕ, zero, suc, ◌+◌, ◌-◌, List, [], ◌∷◌, length, Option, Some, None, refl, ap}
 use Rattle.inf_machine.specs.Grammar.{Event, Took, Did}
 use Rattle.inf_syntax.specs.declared.actions.Action.{Action}
-use Rattle.inf_expressions.specs.declared.operators.Binary.{Binary}
-use Rattle.inf_expressions.specs.declared.operators.Binary.TheVariants as binary
-use Rattle.inf_expressions.specs.declared.operators.Unary.{Unary}
+use Rattle.inf_expressions.specs.{declared.operators.Binary.Binary, declared.operators.Unary.Unary}
 use Rattle.inf_expressions.specs.Sources.{Source, Leaf, Brackets, Prefix, Suffix, Two, Then, Call, Alone}
-use Rattle.inf_unit.specs.declared.steps.GatherStep.{GatherStep}
-use Rattle.inf_unit.specs.declared.steps.GatherStep.TheVariants as step
-use Rattle.inf_unit.specs.Steps.{step_of}
-use Rattle.inf_expression_laws.specs.Precedence.{leaf_count, leaf_count_of_all, list_of}
-use Rattle.inf_expression_laws.specs.Gathered.{first_of}
+use Rattle.inf_unit.specs.{Steps.step_of, declared.steps.GatherStep.GatherStep}
+use Rattle.inf_expression_laws.specs.{Gathered.first_of, Precedence.leaf_count, Precedence.leaf_count_of_all, Precedence.list_of}
 
 -- Expressions so far, the latest first; the number of parts of each open list, and the order of each open bracket; the
 -- order of the next token, and the place of the next leaf.
@@ -59,19 +54,19 @@ bracketed (order ∷ orders) sources = over_one (Brackets order) sources
 
 abbrev pub stepped : Option GatherStep → State → State
 stepped None s = s
-stepped (Some step.Leaf) s = record s { sources = Leaf (s.order - 1) (s.order - 1) s.place ∷ s.sources; place = s.place + 1 }
-stepped (Some step.Action) s = record s { sources = Leaf (s.order - 2) (s.order - 1) s.place ∷ s.sources; place = s.place + 1 }
-stepped (Some step.System) s = record s { sources = Leaf (s.order - 2) (s.order - 1) s.place ∷ s.sources; place = s.place + 1 }
-stepped (Some (step.Prefix op)) s = record s { sources = over_one (in_front_of op) s.sources }
-stepped (Some (step.Suffix op)) s = record s { sources = over_one (Suffix op) s.sources }
-stepped (Some (step.Two op)) s = record s { sources = over_two (Two op) s.sources }
-stepped (Some step.Comma) s = record s { sources = over_two (Two binary.Comma) s.sources }
-stepped (Some step.List) s = record s { counts = 0 ∷ s.counts }
-stepped (Some step.Part) s = record s { counts = one_more s.counts }
-stepped (Some step.Call) s = record s { sources = called s.counts s.sources; counts = behind s.counts }
-stepped (Some (step.Test op)) s = record s { sources = tested op s.counts s.sources; counts = behind s.counts }
-stepped (Some step.Bracket) s = record s { brackets = (s.order - 1) ∷ s.brackets }
-stepped (Some step.Bracketed) s = record s { sources = bracketed s.brackets s.sources; brackets = behind s.brackets }
+stepped (Some GatherStep.Leaf) s = record s { sources = Leaf (s.order - 1) (s.order - 1) s.place ∷ s.sources; place = s.place + 1 }
+stepped (Some GatherStep.Action) s = record s { sources = Leaf (s.order - 2) (s.order - 1) s.place ∷ s.sources; place = s.place + 1 }
+stepped (Some GatherStep.System) s = record s { sources = Leaf (s.order - 2) (s.order - 1) s.place ∷ s.sources; place = s.place + 1 }
+stepped (Some (GatherStep.Prefix op)) s = record s { sources = over_one (in_front_of op) s.sources }
+stepped (Some (GatherStep.Suffix op)) s = record s { sources = over_one (Suffix op) s.sources }
+stepped (Some (GatherStep.Two op)) s = record s { sources = over_two (Two op) s.sources }
+stepped (Some GatherStep.Comma) s = record s { sources = over_two (Two Binary.Comma) s.sources }
+stepped (Some GatherStep.List) s = record s { counts = 0 ∷ s.counts }
+stepped (Some GatherStep.Part) s = record s { counts = one_more s.counts }
+stepped (Some GatherStep.Call) s = record s { sources = called s.counts s.sources; counts = behind s.counts }
+stepped (Some (GatherStep.Test op)) s = record s { sources = tested op s.counts s.sources; counts = behind s.counts }
+stepped (Some GatherStep.Bracket) s = record s { brackets = (s.order - 1) ∷ s.brackets }
+stepped (Some GatherStep.Bracketed) s = record s { sources = bracketed s.brackets s.sources; brackets = behind s.brackets }
 
 abbrev pub built : List (Event Action) → State → State
 built [] s = s

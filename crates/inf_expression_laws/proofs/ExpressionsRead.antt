@@ -1,37 +1,26 @@
 -- The tokens of an expression are read: the expression that they are is gathered.
 use Rattle.std.proofs.Common.{◌≡◌, ℕ, ◌+◌, ◌≤◌, ◌<◌, List, [], ◌∷◌, ◌++◌, length, true, false, Option, Some, None, refl, sym, ◌∙◌, ap}
-use Rattle.std.proofs.Common.{subst, append_assoc, append-nil, arith}
-use Rattle.std.specs.Prelude.{option_map, slice_get}
-use Rattle.std.proofs.lemmas.List.{length-append}
-use Rattle.std.proofs.lemmas.Bool.{cond-false}
+use Rattle.std.proofs.Common.{subst, append_assoc, append-nil, arith, option_map, slice_get}
+use Rattle.std.proofs.{lemmas.Bool.cond-false, lemmas.List.length-append}
 use Rattle.inf_machine.specs.declared.symbols.Symbol.{Symbol}
 use Rattle.inf_machine.specs.Grammar.{Event, IsOneOf, Leads, first, later, here, token, action, row}
 use Rattle.inf_machine.proofs.Sets.{has_within}
 use Rattle.inf_syntax.specs.declared.actions.Action.{Action}
-use Rattle.inf_syntax.specs.declared.actions.Action.TheVariants as act
-use Rattle.inf_expressions.specs.declared.operators.Binary.{Binary}
-use Rattle.inf_expressions.specs.declared.operators.Binary.TheVariants as binary
-use Rattle.inf_expressions.specs.declared.operators.Unary.{Unary}
-use Rattle.inf_expressions.specs.Sources.{Source}
+use Rattle.inf_expressions.specs.{Sources.Source, declared.operators.Binary.Binary, declared.operators.Unary.Unary}
 use Rattle.inf_gathering.specs.Gatherings.{Gathering, with_prefix, with_suffix, with_test, with_two}
-use Rattle.inf_unit.specs.declared.steps.GatherStep.{GatherStep}
-use Rattle.inf_unit.specs.declared.steps.GatherStep.TheVariants as step
-use Rattle.inf_unit.specs.Steps.{step_of}
-use Rattle.inf_unit.specs.Tokens.{SourceToken}
+use Rattle.inf_unit.specs.{Steps.step_of, Tokens.SourceToken, declared.steps.GatherStep.GatherStep}
 use Rattle.inf_unit.specs.Units.{Unit, acted, depth_behind, stepped, taken}
 use Rattle.inf_grammar.specs.Language.{grammar}
+use Rattle.inf_expression_laws.specs.{Gathered.AreSeen, Gathered.IsSeen, Gathered.read_by, Laws.ExpressionsAreRead}
 use Rattle.inf_expression_laws.specs.Precedence.{Written, sign_behind, sign_between, sign_in_front, sign_of_test}
-use Rattle.inf_expression_laws.specs.Gathered.{AreSeen, IsSeen, read_by}
-use Rattle.inf_expression_laws.specs.Laws.{ExpressionsAreRead}
-use Rattle.inf_expression_laws.proofs.ActionSteps.{acted_step}
-use Rattle.inf_expression_laws.proofs.Items.{Item, Whole}
+use Rattle.inf_expression_laws.proofs.{ActionSteps.acted_step, Items.Item, Items.Whole}
 use Rattle.inf_expression_laws.proofs.Leaves.{At, action_stands, leaf_stands, opened_stands, system_stands}
 use Rattle.inf_expression_laws.proofs.Standing.{Frame, gained, Known, Stands, moved, read, start, weakened, whole}
 use Rattle.inf_expression_laws.proofs.Steps.{assign_stands, bracketed_stands, call_stands, closed_stands, closing_stands, comma_stands}
 use Rattle.inf_expression_laws.proofs.Steps.{front_stands, list_stands, more_stands, one_stands, suffix_stands, test_stands, two_stands}
-use Rattle.inf_expression_laws.proofs.Typed as typed
 use Rattle.inf_expression_laws.proofs.Typed.{Change, form_passes, Passes, below, between_changes, front_changes, joined, row_passes}
 use Rattle.inf_expression_laws.proofs.Typed.{step_changes, suffix_changes, test_changes, two_changes}
+use Rattle.inf_expression_laws.proofs.Typed as typed
 
 -- The state of the reading
 record Read (f : Frame) (items : List Item) (seen : List ℕ) (u : Unit) (tokens : List SourceToken) : Type 0 where
@@ -66,7 +55,7 @@ suffix_by rest op c (Some sign) e first s = suffix_stands op e s
 suffix_by rest op c (Some sign) e (later m) s = elim m [ ]
 
 between_by : {f : Frame} {seen : List ℕ} {g : Gathering} (rest : List Item) (op : Binary) (c : Change) (o : Option (ℕ × ℕ)) →
-    sign_between op ≡ o → (op ≡ binary.Comma → false ≡ true) → IsOneOf c (between_changes o) →
+    sign_between op ≡ o → (op ≡ Binary.Comma → false ≡ true) → IsOneOf c (between_changes o) →
     Stands f (c.old ++ rest) seen g → Stands f (c.now ++ rest) seen (with_two op g)
 between_by rest op c None e n m s = elim m [ ]
 between_by rest op c (Some sign) e n first s = two_stands op e n s
@@ -81,56 +70,56 @@ test_by rest op c (Some signs) e (later m) s = elim m [ ]
 
 two_by : {f : Frame} {seen : List ℕ} {g : Gathering} (rest : List Item) (op : Binary) (c : Change) → IsOneOf c (two_changes op) →
     Stands f (c.old ++ rest) seen g → Stands f (c.now ++ rest) seen (with_two op g)
-two_by rest binary.Comma c m s = elim m [ ]
-two_by rest binary.Assign c first s = assign_stands s
-two_by rest binary.Assign c (later m) s = elim m [ ]
-two_by rest (binary.Operation o) c m s = between_by rest (binary.Operation o) c (sign_between (binary.Operation o)) refl (λ e. cc) m s
-two_by rest (binary.Property p) c m s = between_by rest (binary.Property p) c (sign_between (binary.Property p)) refl (λ e. cc) m s
-two_by rest (binary.Test t) c m s = elim m [ ]
-two_by rest (binary.Fails t) c m s = elim m [ ]
-two_by rest binary.And c m s = between_by rest binary.And c (sign_between binary.And) refl (λ e. cc) m s
-two_by rest binary.Or c m s = between_by rest binary.Or c (sign_between binary.Or) refl (λ e. cc) m s
-two_by rest binary.Call c m s = elim m [ ]
-two_by rest binary.Then c m s = elim m [ ]
-two_by rest binary.To c m s = elim m [ ]
+two_by rest Binary.Comma c m s = elim m [ ]
+two_by rest Binary.Assign c first s = assign_stands s
+two_by rest Binary.Assign c (later m) s = elim m [ ]
+two_by rest (Binary.Operation o) c m s = between_by rest (Binary.Operation o) c (sign_between (Binary.Operation o)) refl (λ e. cc) m s
+two_by rest (Binary.Property p) c m s = between_by rest (Binary.Property p) c (sign_between (Binary.Property p)) refl (λ e. cc) m s
+two_by rest (Binary.Test t) c m s = elim m [ ]
+two_by rest (Binary.Fails t) c m s = elim m [ ]
+two_by rest Binary.And c m s = between_by rest Binary.And c (sign_between Binary.And) refl (λ e. cc) m s
+two_by rest Binary.Or c m s = between_by rest Binary.Or c (sign_between Binary.Or) refl (λ e. cc) m s
+two_by rest Binary.Call c m s = elim m [ ]
+two_by rest Binary.Then c m s = elim m [ ]
+two_by rest Binary.To c m s = elim m [ ]
 
 stepped_stands : {f : Frame} {seen : List ℕ} (rest : List Item) (s : GatherStep) (c : Change) → IsOneOf c (step_changes (Some s)) →
     (u : Unit) (tokens : List SourceToken) →
     Read f (c.old ++ rest) seen u tokens → Read f (c.now ++ rest) seen (stepped s u) tokens
-stepped_stands rest step.Leaf c first u tokens r = record { stands = leaf_stands u tokens r.at r.stands; at = at_gathered _ r.at }
-stepped_stands rest step.Leaf c (later m) u tokens r = elim m [ ]
-stepped_stands rest step.Action c first u tokens r =
+stepped_stands rest GatherStep.Leaf c first u tokens r = record { stands = leaf_stands u tokens r.at r.stands; at = at_gathered _ r.at }
+stepped_stands rest GatherStep.Leaf c (later m) u tokens r = elim m [ ]
+stepped_stands rest GatherStep.Action c first u tokens r =
     record { stands = action_stands u tokens r.at r.stands; at = at_gathered _ r.at }
-stepped_stands rest step.Action c (later m) u tokens r = elim m [ ]
-stepped_stands rest step.System c first u tokens r =
+stepped_stands rest GatherStep.Action c (later m) u tokens r = elim m [ ]
+stepped_stands rest GatherStep.System c first u tokens r =
     record { stands = system_stands u tokens r.at r.stands; at = at_gathered _ r.at }
-stepped_stands rest step.System c (later m) u tokens r = elim m [ ]
-stepped_stands rest (step.Prefix op) c m u tokens r =
+stepped_stands rest GatherStep.System c (later m) u tokens r = elim m [ ]
+stepped_stands rest (GatherStep.Prefix op) c m u tokens r =
     record { stands = front_by rest op c (sign_in_front op) refl m r.stands; at = at_gathered _ r.at }
-stepped_stands rest (step.Suffix op) c m u tokens r =
+stepped_stands rest (GatherStep.Suffix op) c m u tokens r =
     record { stands = suffix_by rest op c (sign_behind op) refl m r.stands; at = at_gathered _ r.at }
-stepped_stands rest (step.Two op) c m u tokens r = record { stands = two_by rest op c m r.stands; at = at_gathered _ r.at }
-stepped_stands rest step.Comma c first u tokens r = record { stands = comma_stands r.stands; at = at_gathered _ r.at }
-stepped_stands rest step.Comma c (later m) u tokens r = elim m [ ]
-stepped_stands rest step.List c first u tokens r = record { stands = list_stands r.stands; at = at_gathered _ r.at }
-stepped_stands rest step.List c (later m) u tokens r = elim m [ ]
-stepped_stands rest step.Part c first u tokens r = record { stands = one_stands r.stands; at = at_gathered _ r.at }
-stepped_stands rest step.Part c (later first) u tokens r = record { stands = one_stands r.stands; at = at_gathered _ r.at }
-stepped_stands rest step.Part c (later (later first)) u tokens r =
+stepped_stands rest (GatherStep.Two op) c m u tokens r = record { stands = two_by rest op c m r.stands; at = at_gathered _ r.at }
+stepped_stands rest GatherStep.Comma c first u tokens r = record { stands = comma_stands r.stands; at = at_gathered _ r.at }
+stepped_stands rest GatherStep.Comma c (later m) u tokens r = elim m [ ]
+stepped_stands rest GatherStep.List c first u tokens r = record { stands = list_stands r.stands; at = at_gathered _ r.at }
+stepped_stands rest GatherStep.List c (later m) u tokens r = elim m [ ]
+stepped_stands rest GatherStep.Part c first u tokens r = record { stands = one_stands r.stands; at = at_gathered _ r.at }
+stepped_stands rest GatherStep.Part c (later first) u tokens r = record { stands = one_stands r.stands; at = at_gathered _ r.at }
+stepped_stands rest GatherStep.Part c (later (later first)) u tokens r =
     record { stands = more_stands (few_seen r.at) r.stands; at = at_gathered _ r.at }
-stepped_stands rest step.Part c (later (later (later first))) u tokens r =
+stepped_stands rest GatherStep.Part c (later (later (later first))) u tokens r =
     record { stands = more_stands (few_seen r.at) r.stands; at = at_gathered _ r.at }
-stepped_stands rest step.Part c (later (later (later (later m)))) u tokens r = elim m [ ]
-stepped_stands rest step.Call c first u tokens r = record { stands = call_stands r.stands; at = at_gathered _ r.at }
-stepped_stands rest step.Call c (later m) u tokens r = elim m [ ]
-stepped_stands rest (step.Test op) c m u tokens r =
+stepped_stands rest GatherStep.Part c (later (later (later (later m)))) u tokens r = elim m [ ]
+stepped_stands rest GatherStep.Call c first u tokens r = record { stands = call_stands r.stands; at = at_gathered _ r.at }
+stepped_stands rest GatherStep.Call c (later m) u tokens r = elim m [ ]
+stepped_stands rest (GatherStep.Test op) c m u tokens r =
     record { stands = test_by rest op c (sign_of_test op) refl m r.stands; at = at_gathered _ r.at }
-stepped_stands rest step.Bracket c first u tokens r =
+stepped_stands rest GatherStep.Bracket c first u tokens r =
     record { stands = opened_stands u tokens r.at r.stands; at = at_gathered _ r.at }
-stepped_stands rest step.Bracket c (later m) u tokens r = elim m [ ]
-stepped_stands rest step.Bracketed c first u tokens r = record { stands = bracketed_stands r.stands; at = at_gathered _ r.at }
-stepped_stands rest step.Bracketed c (later first) u tokens r = record { stands = closing_stands r.stands; at = at_gathered _ r.at }
-stepped_stands rest step.Bracketed c (later (later m)) u tokens r = elim m [ ]
+stepped_stands rest GatherStep.Bracket c (later m) u tokens r = elim m [ ]
+stepped_stands rest GatherStep.Bracketed c first u tokens r = record { stands = bracketed_stands r.stands; at = at_gathered _ r.at }
+stepped_stands rest GatherStep.Bracketed c (later first) u tokens r = record { stands = closing_stands r.stands; at = at_gathered _ r.at }
+stepped_stands rest GatherStep.Bracketed c (later (later m)) u tokens r = elim m [ ]
 
 -- an action
 acts : {f : Frame} {seen : List ℕ} (rest : List Item) (a : Action) (c : Change) → IsOneOf c (step_changes (step_of a)) →
@@ -210,7 +199,7 @@ reads (token {atom = atom} {atoms = atoms} {events = events} h l) e {f = f} {tar
     subst (λ s. Read f target s (read_by events tokens (taken t u)) []) (append_assoc seen (atom ∷ []) atoms)
     (reads l e p (taken t u) tokens a.1 (n.0 _ (closed_stands atom (has_within _ _ atom i h) (weakened r.stands w))))
 reads (action l) e {f = f} {seen = seen} (typed.sure p) u tokens a r =
-    reads l e p (acted act.OuterSure u) tokens a (record { stands = r.stands; at = at_sure r.at })
+    reads l e p (acted Action.OuterSure u) tokens a (record { stands = r.stands; at = at_sure r.at })
 reads (action {a = does} l) e {f = f} {seen = seen} (typed.act c rest one w p) u tokens a r =
     reads l e p (acted does u) tokens a (acts rest does c one u tokens (record { stands = weakened r.stands w; at = r.at }))
 reads (row {rule = number} {r = way} one not l) e {f = f} {seen = seen} (typed.rule c rest is w p) u tokens a r =

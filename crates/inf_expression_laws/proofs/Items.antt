@@ -1,10 +1,8 @@
 -- The items of an expression's tokens that were read, as far as the rows of the grammar go by them.
+use Rattle.std.proofs.{lemmas.Bool.and_parts, lemmas.Bool.eqb-true, lemmas.Bool.leb-true, lemmas.Option.same_Some}
 use Rattle.std.proofs.Common.{◌≡◌, ℕ, ◌≤◌, List, [], ◌∷◌, ◌++◌, Bool, true, false, ◌&&◌, ◌==◌, nat_le, Option, Some, None, refl, subst}
 use Rattle.std.proofs.Common.{arith, if◌then◌else◌}
-use Rattle.std.proofs.lemmas.Bool.{and_parts, eqb-true, leb-true}
-use Rattle.std.proofs.lemmas.Option.{same_Some}
-use Rattle.inf_machine.specs.Decided.{is_within}
-use Rattle.inf_machine.specs.Grammar.{has}
+use Rattle.inf_machine.specs.{Decided.is_within, Grammar.has}
 use Rattle.inf_machine.proofs.Sets.{has_within}
 
 -- A token that no action has used; an expression that binds at a level at least; an opening bracket of an expression; an

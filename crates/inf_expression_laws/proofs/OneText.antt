@@ -1,24 +1,17 @@
 -- A text of the grammar of the language has one list of events.
+use Rattle.std.proofs.{lemmas.Bool.and_from, lemmas.Bool.and_parts, lemmas.Option.same_Some}
 use Rattle.std.proofs.Common.{◌≡◌, ℕ, ◌≤◌, List, [], ◌∷◌, ◌++◌, Bool, true, false, ◌&&◌, refl, sym, ◌∙◌, ap, subst, arith, if◌then◌else◌}
-use Rattle.std.proofs.lemmas.Bool.{and_parts, and_from}
-use Rattle.std.proofs.lemmas.Option.{same_Some}
-use Rattle.inf_machine.specs.declared.symbols.Symbol.{Symbol}
-use Rattle.inf_machine.specs.declared.symbols.Symbol.TheVariants.{Token, Rule, Act}
-use Rattle.inf_machine.specs.Decided.{empty_rows}
+use Rattle.inf_machine.specs.{Decided.empty_rows, Machine.Read, Machine.can_end, declared.symbols.Symbol.Symbol}
 use Rattle.inf_machine.specs.Grammar.{Event, IsText, Leads, Did, here, action, row}
-use Rattle.inf_machine.specs.Machine.{Read, can_end}
-use Rattle.inf_machine.proofs.Deciding.{decided_parts}
-use Rattle.inf_machine.proofs.Rows.{empty_counts, empty_is_chosen}
-use Rattle.inf_machine.proofs.TokenLaws.{texts_are_taken}
+use Rattle.inf_machine.proofs.{Deciding.decided_parts, Rows.empty_counts, Rows.empty_is_chosen, TokenLaws.texts_are_taken}
 use Rattle.inf_syntax.specs.declared.actions.Action.{Action}
-use Rattle.inf_grammar.specs.Evaluated.{language_is_decided}
-use Rattle.inf_grammar.specs.Language.{grammar, known}
+use Rattle.inf_grammar.specs.{Evaluated.language_is_decided, Language.grammar, Language.known}
 
 can_end_append : (xs ys : List (Symbol Action)) → can_end known (xs ++ ys) ≡ (can_end known xs && can_end known ys)
 can_end_append [] ys = refl
-can_end_append (Token class ∷ xs) ys = refl
-can_end_append (Act a ∷ xs) ys = can_end_append xs ys
-can_end_append (Rule rule ∷ xs) ys =
+can_end_append (Symbol.Token class ∷ xs) ys = refl
+can_end_append (Symbol.Act a ∷ xs) ys = can_end_append xs ys
+can_end_append (Symbol.Rule rule ∷ xs) ys =
     ap (λ b. known.is_empty rule && b) (can_end_append xs ys) ∙ regroup (known.is_empty rule) (can_end known xs) (can_end known ys)
   where
     regroup : (a b c : Bool) → (a && (b && c)) ≡ ((a && b) && c)
@@ -60,8 +53,8 @@ same_empty (row {rule = rule} {r = r} {symbols = symbols} m free l) (row {r = s}
     ∙ empty_is_chosen known (grammar.rows_of rule) r m first.0 (at_most_one rule) in
     same_empty l (subst (λ parts. Leads grammar (parts ++ symbols) [] others []) same k)
 
-pub same_events : (rule : ℕ) (atoms : List ℕ) (events others : List (Event Action)) → IsText grammar (Rule rule ∷ []) atoms events →
-    IsText grammar (Rule rule ∷ []) atoms others → events ≡ others
+pub same_events : (rule : ℕ) (atoms : List ℕ) (events others : List (Event Action)) → IsText grammar (Symbol.Rule rule ∷ []) atoms events →
+    IsText grammar (Symbol.Rule rule ∷ []) atoms others → events ≡ others
 same_events rule atoms events others t u =
     let one = (texts_are_taken grammar known rule atoms events language_is_decided).0 t in
     let two = (texts_are_taken grammar known rule atoms others language_is_decided).0 u in

@@ -1,29 +1,18 @@
 -- The rows of operators: the texts of each of them.
 use Rattle.std.proofs.Common.{◌≡◌, ℕ, suc, ◌≤◌, List, [], ◌∷◌, ◌++◌, codes, Bool, true, false, ◌&&◌, bit_and, Some, refl, sym, ◌∙◌, ap}
-use Rattle.std.proofs.Common.{subst, arith}
-use Rattle.std.specs.Prelude.{get_or}
+use Rattle.std.proofs.Common.{subst, arith, get_or}
 use Rattle.std.proofs.lemmas.Option.{same_Some}
 use Rattle.inf_machine.specs.declared.symbols.Symbol.{Symbol}
-use Rattle.inf_machine.specs.declared.symbols.Symbol.TheVariants.{Act}
 use Rattle.inf_machine.specs.Grammar.{Event, IsNext_not, IsText, Took, Did, first, later, has, token, action, row}
 use Rattle.inf_machine.proofs.Sets.{has_and, has_zero}
-use Rattle.inf_scanner.specs.declared.tokens.Mark.TheVariants as mark
-use Rattle.inf_syntax.specs.declared.actions.Action.{Action}
-use Rattle.inf_syntax.specs.declared.actions.Action.TheVariants as does
-use Rattle.inf_syntax.specs.Atoms.{of_mark, of_word}
+use Rattle.inf_scanner.specs.declared.tokens.Mark.{Mark}
+use Rattle.inf_syntax.specs.{Atoms.of_mark, Atoms.of_word, declared.actions.Action.Action}
 use Rattle.inf_syntax.specs.Parts.{ !part, address_tail, array_tail, assign, assign_tail, bit, call_1, call_2, expression, expression_tail}
 use Rattle.inf_syntax.specs.Parts.{inc, logic, logic_tail, neg, negated, post, post_tail, prim, step_tail, sum, sum_tail, term, term_tail}
 use Rattle.inf_syntax.specs.Parts.{test_tail, tested_1}
-use Rattle.inf_expressions.specs.declared.operators.Binary.{Binary}
-use Rattle.inf_expressions.specs.declared.operators.Binary.TheVariants as binary
-use Rattle.inf_expressions.specs.declared.operators.Operation.TheVariants as operation
-use Rattle.inf_expressions.specs.declared.operators.PropertyPart.TheVariants as property
-use Rattle.inf_expressions.specs.declared.operators.Single.TheVariants as single
-use Rattle.inf_expressions.specs.declared.operators.Direction.TheVariants as stepping
-use Rattle.inf_expressions.specs.declared.operators.Test.TheVariants as test
-use Rattle.inf_expressions.specs.declared.operators.Unary.{Unary}
-use Rattle.inf_expressions.specs.declared.operators.Unary.TheVariants as unary
-use Rattle.inf_expressions.specs.Sources.{Suffix, Two}
+use Rattle.inf_expressions.specs.{Sources.Suffix, Sources.Two, declared.operators.Binary.Binary, declared.operators.Direction.Direction}
+use Rattle.inf_expressions.specs.{declared.operators.Operation.Operation, declared.operators.PropertyPart.PropertyPart}
+use Rattle.inf_expressions.specs.{declared.operators.Single.Single, declared.operators.Test.Test, declared.operators.Unary.Unary}
 use Rattle.inf_unit.specs.Steps.{step_of}
 use Rattle.inf_grammar.specs.Language.{grammar}
 use Rattle.inf_expression_laws.specs.Precedence as written
@@ -160,155 +149,155 @@ pub record Between (op : Binary) (level signs : ℕ) : Type 0 where
   pub effect : (s : State) → stepped (step_of act) s ≡ record s { sources = over_two (Two op) s.sources }
   pub no_call : bit_and signs opening_sign ≡ 0
   pub enters : (K : List (Symbol Action)) (rest : List ℕ) (events : List (Event Action)) (atom : ℕ) → has signs atom ≡ true →
-      IsText grammar (begin (suc level) ++ Act act ∷ (loop level ++ K)) rest events →
+      IsText grammar (begin (suc level) ++ Symbol.Act act ∷ (loop level ++ K)) rest events →
       IsText grammar (loop level ++ K) (atom ∷ rest) (Took atom ∷ events)
   pub closes : (K : List (Symbol Action)) (rest : List ℕ) (events : List (Event Action)) → (level ≤ 12 → NotCalled rest) →
       IsText grammar K rest events → IsText grammar (loop (suc level) ++ K) rest events
 
-commas_entry : Between binary.Comma written.commas (of_mark mark.Comma)
+commas_entry : Between Binary.Comma written.commas (of_mark Mark.Comma)
 unfolding grammar
 commas_entry = record {
-  act = does.Comma;
+  act = Action.Comma;
   effect = λ s. refl;
   no_call = refl;
   enters = λ K rest events atom h l. row first (has_zero atom) (token h l);
   closes = λ K rest events q l. l;
 }
 
-and_entry : Between binary.And written.connections (of_mark mark.LogicalAnd)
+and_entry : Between Binary.And written.connections (of_mark Mark.LogicalAnd)
 unfolding grammar
 and_entry = record {
-  act = does.And;
+  act = Action.And;
   effect = λ s. refl;
   no_call = refl;
   enters = λ K rest events atom h l. row first (has_zero atom) (row first (has_zero atom) (token h l));
   closes = λ K rest events q l. l;
 }
 
-or_entry : Between binary.Or written.connections (of_mark mark.LogicalOr)
+or_entry : Between Binary.Or written.connections (of_mark Mark.LogicalOr)
 unfolding grammar
 or_entry = record {
-  act = does.Or;
+  act = Action.Or;
   effect = λ s. refl;
   no_call = refl;
   enters = λ K rest events atom h l. row first (has_zero atom) (row (later first) (has_zero atom) (token h l));
   closes = λ K rest events q l. l;
 }
 
-add_entry : Between (binary.Operation operation.Add) written.sums (of_mark mark.Plus)
+add_entry : Between (Binary.Operation Operation.Add) written.sums (of_mark Mark.Plus)
 unfolding grammar
 add_entry = record {
-  act = does.Plus;
+  act = Action.Plus;
   effect = λ s. refl;
   no_call = refl;
   enters = λ K rest events atom h l. row first (has_zero atom) (row first (has_zero atom) (token h l));
   closes = λ K rest events q l. no_term_tail l;
 }
 
-subtract_entry : Between (binary.Operation operation.Subtract) written.sums (of_mark mark.Minus)
+subtract_entry : Between (Binary.Operation Operation.Subtract) written.sums (of_mark Mark.Minus)
 unfolding grammar
 subtract_entry = record {
-  act = does.Minus;
+  act = Action.Minus;
   effect = λ s. refl;
   no_call = refl;
   enters = λ K rest events atom h l. row first (has_zero atom) (row (later first) (has_zero atom) (token h l));
   closes = λ K rest events q l. no_term_tail l;
 }
 
-multiply_entry : Between (binary.Operation operation.Multiply) written.products (of_mark mark.Times)
+multiply_entry : Between (Binary.Operation Operation.Multiply) written.products (of_mark Mark.Times)
 unfolding grammar
 multiply_entry = record {
-  act = does.Times;
+  act = Action.Times;
   effect = λ s. refl;
   no_call = refl;
   enters = λ K rest events atom h l. row first (has_zero atom) (row first (has_zero atom) (token h l));
   closes = λ K rest events q l. l;
 }
 
-divide_entry : Between (binary.Operation operation.Divide) written.products (of_mark mark.Divide)
+divide_entry : Between (Binary.Operation Operation.Divide) written.products (of_mark Mark.Divide)
 unfolding grammar
 divide_entry = record {
-  act = does.Divide;
+  act = Action.Divide;
   effect = λ s. refl;
   no_call = refl;
   enters = λ K rest events atom h l. row first (has_zero atom) (row (later first) (has_zero atom) (token h l));
   closes = λ K rest events q l. l;
 }
 
-remainder_entry : Between (binary.Operation operation.Remainder) written.products (of_mark mark.Remainder)
+remainder_entry : Between (Binary.Operation Operation.Remainder) written.products (of_mark Mark.Remainder)
 unfolding grammar
 remainder_entry = record {
-  act = does.Remainder;
+  act = Action.Remainder;
   effect = λ s. refl;
   no_call = refl;
   enters = λ K rest events atom h l. row first (has_zero atom) (row (later (later first)) (has_zero atom) (token h l));
   closes = λ K rest events q l. l;
 }
 
-bit_and_entry : Between (binary.Operation operation.BitAnd) written.products (of_mark mark.BitAnd)
+bit_and_entry : Between (Binary.Operation Operation.BitAnd) written.products (of_mark Mark.BitAnd)
 unfolding grammar
 bit_and_entry = record {
-  act = does.BitAnd;
+  act = Action.BitAnd;
   effect = λ s. refl;
   no_call = refl;
   enters = λ K rest events atom h l. row first (has_zero atom) (row (later (later (later first))) (has_zero atom) (token h l));
   closes = λ K rest events q l. l;
 }
 
-bit_or_entry : Between (binary.Operation operation.BitOr) written.products (of_mark mark.BitOr)
+bit_or_entry : Between (Binary.Operation Operation.BitOr) written.products (of_mark Mark.BitOr)
 unfolding grammar
 bit_or_entry = record {
-  act = does.BitOr;
+  act = Action.BitOr;
   effect = λ s. refl;
   no_call = refl;
   enters = λ K rest events atom h l. row first (has_zero atom) (row (later (later (later (later first)))) (has_zero atom) (token h l));
   closes = λ K rest events q l. l;
 }
 
-byte_entry : Between (binary.Operation operation.Byte) written.entries (of_mark mark.Arrow)
+byte_entry : Between (Binary.Operation Operation.Byte) written.entries (of_mark Mark.Arrow)
 unfolding grammar
 byte_entry = record {
-  act = does.ByteEntry;
+  act = Action.ByteEntry;
   effect = λ s. refl;
   no_call = refl;
   enters = λ K rest events atom h l. row first (has_zero atom) (row first (has_zero atom) (token h l));
   closes = λ K rest events q l. l;
 }
 
-word_entry : Between (binary.Operation operation.Word) written.entries (of_mark mark.LongArrow)
+word_entry : Between (Binary.Operation Operation.Word) written.entries (of_mark Mark.LongArrow)
 unfolding grammar
 word_entry = record {
-  act = does.WordEntry;
+  act = Action.WordEntry;
   effect = λ s. refl;
   no_call = refl;
   enters = λ K rest events atom h l. row first (has_zero atom) (row (later first) (has_zero atom) (token h l));
   closes = λ K rest events q l. l;
 }
 
-address_entry : Between (binary.Property property.Address) written.addresses (of_mark mark.DotAnd)
+address_entry : Between (Binary.Property PropertyPart.Address) written.addresses (of_mark Mark.DotAnd)
 unfolding grammar
 address_entry = record {
-  act = does.MemberAddress;
+  act = Action.MemberAddress;
   effect = λ s. refl;
   no_call = refl;
   enters = λ K rest events atom h l. row first (has_zero atom) (row first (has_zero atom) (token h l));
   closes = λ K rest events q l. no_post_tail (q (omega arith)) l;
 }
 
-length_entry : Between (binary.Property property.Length) written.addresses (of_mark mark.DotHash)
+length_entry : Between (Binary.Property PropertyPart.Length) written.addresses (of_mark Mark.DotHash)
 unfolding grammar
 length_entry = record {
-  act = does.MemberLength;
+  act = Action.MemberLength;
   effect = λ s. refl;
   no_call = refl;
   enters = λ K rest events atom h l. row first (has_zero atom) (row (later first) (has_zero atom) (token h l));
   closes = λ K rest events q l. no_post_tail (q (omega arith)) l;
 }
 
-value_entry : Between (binary.Property property.Value) written.members (of_mark mark.Dot)
+value_entry : Between (Binary.Property PropertyPart.Value) written.members (of_mark Mark.Dot)
 unfolding grammar
 value_entry = record {
-  act = does.Member;
+  act = Action.Member;
   effect = λ s. refl;
   no_call = refl;
   enters = λ K rest events atom h l. row first (has_zero atom) (token h l);
@@ -319,27 +308,27 @@ between_at : {op : Binary} {one other : ℕ × ℕ} → Some one ≡ Some other 
 between_at {op} {one} {other} e b = subst (λ (p : ℕ × ℕ). Between op p.0 p.1) (same_Some one other e) b
 
 pub between_entry : (op : Binary) (level signs : ℕ) → sign_between op ≡ Some (level, signs) → Between op level signs
-between_entry binary.Comma level signs e = between_at e commas_entry
-between_entry binary.And level signs e = between_at e and_entry
-between_entry binary.Or level signs e = between_at e or_entry
-between_entry (binary.Operation operation.Add) level signs e = between_at e add_entry
-between_entry (binary.Operation operation.Subtract) level signs e = between_at e subtract_entry
-between_entry (binary.Operation operation.Multiply) level signs e = between_at e multiply_entry
-between_entry (binary.Operation operation.Divide) level signs e = between_at e divide_entry
-between_entry (binary.Operation operation.Remainder) level signs e = between_at e remainder_entry
-between_entry (binary.Operation operation.BitAnd) level signs e = between_at e bit_and_entry
-between_entry (binary.Operation operation.BitOr) level signs e = between_at e bit_or_entry
-between_entry (binary.Operation operation.Byte) level signs e = between_at e byte_entry
-between_entry (binary.Operation operation.Word) level signs e = between_at e word_entry
-between_entry (binary.Property property.Address) level signs e = between_at e address_entry
-between_entry (binary.Property property.Length) level signs e = between_at e length_entry
-between_entry (binary.Property property.Value) level signs e = between_at e value_entry
-between_entry (binary.Test t) level signs e = cc
-between_entry (binary.Fails t) level signs e = cc
-between_entry binary.Assign level signs e = cc
-between_entry binary.Call level signs e = cc
-between_entry binary.Then level signs e = cc
-between_entry binary.To level signs e = cc
+between_entry Binary.Comma level signs e = between_at e commas_entry
+between_entry Binary.And level signs e = between_at e and_entry
+between_entry Binary.Or level signs e = between_at e or_entry
+between_entry (Binary.Operation Operation.Add) level signs e = between_at e add_entry
+between_entry (Binary.Operation Operation.Subtract) level signs e = between_at e subtract_entry
+between_entry (Binary.Operation Operation.Multiply) level signs e = between_at e multiply_entry
+between_entry (Binary.Operation Operation.Divide) level signs e = between_at e divide_entry
+between_entry (Binary.Operation Operation.Remainder) level signs e = between_at e remainder_entry
+between_entry (Binary.Operation Operation.BitAnd) level signs e = between_at e bit_and_entry
+between_entry (Binary.Operation Operation.BitOr) level signs e = between_at e bit_or_entry
+between_entry (Binary.Operation Operation.Byte) level signs e = between_at e byte_entry
+between_entry (Binary.Operation Operation.Word) level signs e = between_at e word_entry
+between_entry (Binary.Property PropertyPart.Address) level signs e = between_at e address_entry
+between_entry (Binary.Property PropertyPart.Length) level signs e = between_at e length_entry
+between_entry (Binary.Property PropertyPart.Value) level signs e = between_at e value_entry
+between_entry (Binary.Test t) level signs e = cc
+between_entry (Binary.Fails t) level signs e = cc
+between_entry Binary.Assign level signs e = cc
+between_entry Binary.Call level signs e = cc
+between_entry Binary.Then level signs e = cc
+between_entry Binary.To level signs e = cc
 
 -- operators in front of one expression
 
@@ -348,48 +337,48 @@ pub record InFront (op : Unary) (level signs : ℕ) : Type 0 where
   pub effect : (s : State) → stepped (step_of act) s ≡ record s { sources = over_one (in_front_of op) s.sources }
   pub no_loop : loop level ≡ []
   pub enters : (K : List (Symbol Action)) (rest : List ℕ) (events : List (Event Action)) (atom : ℕ) → has signs atom ≡ true →
-      IsText grammar (begin level ++ Act act ∷ K) rest events → IsText grammar (begin level ++ K) (atom ∷ rest) (Took atom ∷ events)
+      IsText grammar (begin level ++ Symbol.Act act ∷ K) rest events → IsText grammar (begin level ++ K) (atom ∷ rest) (Took atom ∷ events)
 
-not_entry : InFront unary.Not written.denials (of_mark mark.LogicalNot)
+not_entry : InFront Unary.Not written.denials (of_mark Mark.LogicalNot)
 unfolding grammar
 not_entry = record {
-  act = does.Not;
+  act = Action.Not;
   effect = λ s. refl;
   no_loop = refl;
   enters = λ K rest events atom h l. row first (has_zero atom) (token h l);
 }
 
-complement_entry : InFront (unary.Single single.Complement) written.complements (of_mark mark.BitNot)
+complement_entry : InFront (Unary.Single Single.Complement) written.complements (of_mark Mark.BitNot)
 unfolding grammar
 complement_entry = record {
-  act = does.BitNot;
+  act = Action.BitNot;
   effect = λ s. refl;
   no_loop = refl;
   enters = λ K rest events atom h l. row first (has_zero atom) (token h l);
 }
 
-negate_entry : InFront unary.Negate written.negations (of_mark mark.Minus)
+negate_entry : InFront Unary.Negate written.negations (of_mark Mark.Minus)
 unfolding grammar
 negate_entry = record {
-  act = does.Negate;
+  act = Action.Negate;
   effect = λ s. refl;
   no_loop = refl;
   enters = λ K rest events atom h l. row first (has_zero atom) (token h l);
 }
 
-up_entry : InFront (unary.Before stepping.Up) written.steps_in_front (of_mark mark.Increment)
+up_entry : InFront (Unary.Before Direction.Up) written.steps_in_front (of_mark Mark.Increment)
 unfolding grammar
 up_entry = record {
-  act = does.IncrementBefore;
+  act = Action.IncrementBefore;
   effect = λ s. refl;
   no_loop = refl;
   enters = λ K rest events atom h l. row first (has_zero atom) (row first (has_zero atom) (token h l));
 }
 
-down_entry : InFront (unary.Before stepping.Down) written.steps_in_front (of_mark mark.Decrement)
+down_entry : InFront (Unary.Before Direction.Down) written.steps_in_front (of_mark Mark.Decrement)
 unfolding grammar
 down_entry = record {
-  act = does.DecrementBefore;
+  act = Action.DecrementBefore;
   effect = λ s. refl;
   no_loop = refl;
   enters = λ K rest events atom h l. row first (has_zero atom) (row (later first) (has_zero atom) (token h l));
@@ -399,18 +388,18 @@ in_front_at : {op : Unary} {one other : ℕ × ℕ} → Some one ≡ Some other 
 in_front_at {op} {one} {other} e b = subst (λ (p : ℕ × ℕ). InFront op p.0 p.1) (same_Some one other e) b
 
 pub in_front_entry : (op : Unary) (level signs : ℕ) → sign_in_front op ≡ Some (level, signs) → InFront op level signs
-in_front_entry unary.Not level signs e = in_front_at e not_entry
-in_front_entry (unary.Single single.Complement) level signs e = in_front_at e complement_entry
-in_front_entry unary.Negate level signs e = in_front_at e negate_entry
-in_front_entry (unary.Before stepping.Up) level signs e = in_front_at e up_entry
-in_front_entry (unary.Before stepping.Down) level signs e = in_front_at e down_entry
-in_front_entry (unary.Single single.Parent) level signs e = cc
-in_front_entry (unary.Single single.Random) level signs e = cc
-in_front_entry (unary.Behind s) level signs e = cc
-in_front_entry (unary.Relative r) level signs e = cc
-in_front_entry unary.Children level signs e = cc
-in_front_entry unary.Call level signs e = cc
-in_front_entry unary.Indirect level signs e = cc
+in_front_entry Unary.Not level signs e = in_front_at e not_entry
+in_front_entry (Unary.Single Single.Complement) level signs e = in_front_at e complement_entry
+in_front_entry Unary.Negate level signs e = in_front_at e negate_entry
+in_front_entry (Unary.Before Direction.Up) level signs e = in_front_at e up_entry
+in_front_entry (Unary.Before Direction.Down) level signs e = in_front_at e down_entry
+in_front_entry (Unary.Single Single.Parent) level signs e = cc
+in_front_entry (Unary.Single Single.Random) level signs e = cc
+in_front_entry (Unary.Behind s) level signs e = cc
+in_front_entry (Unary.Relative r) level signs e = cc
+in_front_entry Unary.Children level signs e = cc
+in_front_entry Unary.Call level signs e = cc
+in_front_entry Unary.Indirect level signs e = cc
 
 -- operators behind one expression
 
@@ -421,19 +410,19 @@ pub record Behind (op : Unary) (level signs : ℕ) : Type 0 where
   pub enters : (K : List (Symbol Action)) (rest : List ℕ) (events : List (Event Action)) (atom : ℕ) → has signs atom ≡ true →
       IsText grammar (loop level ++ K) rest events → IsText grammar (loop level ++ K) (atom ∷ rest) (Took atom ∷ Did act ∷ events)
 
-up_behind_entry : Behind (unary.Behind stepping.Up) written.steps_behind (of_mark mark.Increment)
+up_behind_entry : Behind (Unary.Behind Direction.Up) written.steps_behind (of_mark Mark.Increment)
 unfolding grammar
 up_behind_entry = record {
-  act = does.IncrementAfter;
+  act = Action.IncrementAfter;
   effect = λ s. refl;
   no_call = refl;
   enters = λ K rest events atom h l. row first (has_zero atom) (row first (has_zero atom) (token h (action l)));
 }
 
-down_behind_entry : Behind (unary.Behind stepping.Down) written.steps_behind (of_mark mark.Decrement)
+down_behind_entry : Behind (Unary.Behind Direction.Down) written.steps_behind (of_mark Mark.Decrement)
 unfolding grammar
 down_behind_entry = record {
-  act = does.DecrementAfter;
+  act = Action.DecrementAfter;
   effect = λ s. refl;
   no_call = refl;
   enters = λ K rest events atom h l. row first (has_zero atom) (row (later first) (has_zero atom) (token h (action l)));
@@ -443,16 +432,16 @@ behind_at : {op : Unary} {one other : ℕ × ℕ} → Some one ≡ Some other �
 behind_at {op} {one} {other} e b = subst (λ (p : ℕ × ℕ). Behind op p.0 p.1) (same_Some one other e) b
 
 pub behind_entry : (op : Unary) (level signs : ℕ) → sign_behind op ≡ Some (level, signs) → Behind op level signs
-behind_entry (unary.Behind stepping.Up) level signs e = behind_at e up_behind_entry
-behind_entry (unary.Behind stepping.Down) level signs e = behind_at e down_behind_entry
-behind_entry unary.Not level signs e = cc
-behind_entry unary.Negate level signs e = cc
-behind_entry (unary.Single s) level signs e = cc
-behind_entry (unary.Before s) level signs e = cc
-behind_entry (unary.Relative r) level signs e = cc
-behind_entry unary.Children level signs e = cc
-behind_entry unary.Call level signs e = cc
-behind_entry unary.Indirect level signs e = cc
+behind_entry (Unary.Behind Direction.Up) level signs e = behind_at e up_behind_entry
+behind_entry (Unary.Behind Direction.Down) level signs e = behind_at e down_behind_entry
+behind_entry Unary.Not level signs e = cc
+behind_entry Unary.Negate level signs e = cc
+behind_entry (Unary.Single s) level signs e = cc
+behind_entry (Unary.Before s) level signs e = cc
+behind_entry (Unary.Relative r) level signs e = cc
+behind_entry Unary.Children level signs e = cc
+behind_entry Unary.Call level signs e = cc
+behind_entry Unary.Indirect level signs e = cc
 
 -- Tests
 
@@ -461,63 +450,63 @@ pub record Tested (op : Binary) (signs : ℕ) : Type 0 where
   pub effect : (s : State) → stepped (step_of act) s ≡ record s { sources = tested_by op s.counts s.sources; counts = behind s.counts }
   pub no_call : bit_and signs opening_sign ≡ 0
   pub enters : (K : List (Symbol Action)) (rest : List ℕ) (events : List (Event Action)) (atom : ℕ) → has signs atom ≡ true →
-      IsText grammar (sum ∷ !part ∷ tested_1 ∷ Act act ∷ K) rest events →
-      IsText grammar (test_tail ∷ K) (atom ∷ rest) (Took atom ∷ Did does.Count ∷ events)
+      IsText grammar (sum ∷ !part ∷ tested_1 ∷ Symbol.Act act ∷ K) rest events →
+      IsText grammar (test_tail ∷ K) (atom ∷ rest) (Took atom ∷ Did Action.Count ∷ events)
 
-equal_entry : Tested (binary.Test test.Equal) (of_mark mark.Equal)
+equal_entry : Tested (Binary.Test Test.Equal) (of_mark Mark.Equal)
 unfolding grammar
 equal_entry = record {
-  act = does.Equal;
+  act = Action.Equal;
   effect = λ s. refl;
   no_call = refl;
   enters = λ K rest events atom h l. row first (has_zero atom)
       (row first (has_zero atom) (row first (has_zero atom) (token h (row first (free rest) (action l)))));
 }
 
-unequal_entry : Tested (binary.Fails test.Equal) (of_mark mark.NotEqual)
+unequal_entry : Tested (Binary.Fails Test.Equal) (of_mark Mark.NotEqual)
 unfolding grammar
 unequal_entry = record {
-  act = does.Unequal;
+  act = Action.Unequal;
   effect = λ s. refl;
   no_call = refl;
   enters = λ K rest events atom h l. row first (has_zero atom)
       (row first (has_zero atom) (row (later first) (has_zero atom) (token h (row first (free rest) (action l)))));
 }
 
-less_entry : Tested (binary.Test test.Less) (of_mark mark.Less)
+less_entry : Tested (Binary.Test Test.Less) (of_mark Mark.Less)
 unfolding grammar
 less_entry = record {
-  act = does.Less;
+  act = Action.Less;
   effect = λ s. refl;
   no_call = refl;
   enters = λ K rest events atom h l. row first (has_zero atom)
       (row first (has_zero atom) (row (later (later first)) (has_zero atom) (token h (row first (free rest) (action l)))));
 }
 
-greater_entry : Tested (binary.Test test.Greater) (of_mark mark.Greater)
+greater_entry : Tested (Binary.Test Test.Greater) (of_mark Mark.Greater)
 unfolding grammar
 greater_entry = record {
-  act = does.Greater;
+  act = Action.Greater;
   effect = λ s. refl;
   no_call = refl;
   enters = λ K rest events atom h l. row first (has_zero atom)
       (row first (has_zero atom) (row (later (later (later first))) (has_zero atom) (token h (row first (free rest) (action l)))));
 }
 
-at_most_entry : Tested (binary.Test test.AtMost) (of_mark mark.LessOrEqual)
+at_most_entry : Tested (Binary.Test Test.AtMost) (of_mark Mark.LessOrEqual)
 unfolding grammar
 at_most_entry = record {
-  act = does.LessOrEqual;
+  act = Action.LessOrEqual;
   effect = λ s. refl;
   no_call = refl;
   enters = λ K rest events atom h l. row first (has_zero atom)
       (row first (has_zero atom) (row (later (later (later (later first)))) (has_zero atom) (token h (row first (free rest) (action l)))));
 }
 
-at_least_entry : Tested (binary.Test test.AtLeast) (of_mark mark.GreaterOrEqual)
+at_least_entry : Tested (Binary.Test Test.AtLeast) (of_mark Mark.GreaterOrEqual)
 unfolding grammar
 at_least_entry = record {
-  act = does.GreaterOrEqual;
+  act = Action.GreaterOrEqual;
   effect = λ s. refl;
   no_call = refl;
   enters = λ K rest events atom h l. row first (has_zero atom)
@@ -525,10 +514,10 @@ at_least_entry = record {
       (token h (row first (free rest) (action l)))));
 }
 
-has_entry : Tested (binary.Test test.Has) (of_word (codes "has"))
+has_entry : Tested (Binary.Test Test.Has) (of_word (codes "has"))
 unfolding grammar
 has_entry = record {
-  act = does.Has;
+  act = Action.Has;
   effect = λ s. refl;
   no_call = refl;
   enters = λ K rest events atom h l. row first (has_zero atom)
@@ -536,10 +525,10 @@ has_entry = record {
       (token h (row first (free rest) (action l)))));
 }
 
-hasnt_entry : Tested (binary.Fails test.Has) (of_word (codes "hasnt"))
+hasnt_entry : Tested (Binary.Fails Test.Has) (of_word (codes "hasnt"))
 unfolding grammar
 hasnt_entry = record {
-  act = does.HasNot;
+  act = Action.HasNot;
   effect = λ s. refl;
   no_call = refl;
   enters = λ K rest events atom h l. row first (has_zero atom)
@@ -547,10 +536,10 @@ hasnt_entry = record {
       (token h (row first (free rest) (action l)))));
 }
 
-in_entry : Tested (binary.Test test.In) (of_word (codes "in"))
+in_entry : Tested (Binary.Test Test.In) (of_word (codes "in"))
 unfolding grammar
 in_entry = record {
-  act = does.In;
+  act = Action.In;
   effect = λ s. refl;
   no_call = refl;
   enters = λ K rest events atom h l. row first (has_zero atom)
@@ -558,10 +547,10 @@ in_entry = record {
       (token h (row first (free rest) (action l)))));
 }
 
-notin_entry : Tested (binary.Fails test.In) (of_word (codes "notin"))
+notin_entry : Tested (Binary.Fails Test.In) (of_word (codes "notin"))
 unfolding grammar
 notin_entry = record {
-  act = does.NotIn;
+  act = Action.NotIn;
   effect = λ s. refl;
   no_call = refl;
   enters = λ K rest events atom h l. row first (has_zero atom)
@@ -569,10 +558,10 @@ notin_entry = record {
       (token h (row first (free rest) (action l)))));
 }
 
-ofclass_entry : Tested (binary.Test test.OfClass) (of_word (codes "ofclass"))
+ofclass_entry : Tested (Binary.Test Test.OfClass) (of_word (codes "ofclass"))
 unfolding grammar
 ofclass_entry = record {
-  act = does.OfClass;
+  act = Action.OfClass;
   effect = λ s. refl;
   no_call = refl;
   enters = λ K rest events atom h l. row first (has_zero atom)
@@ -580,10 +569,10 @@ ofclass_entry = record {
       (token h (row first (free rest) (action l)))));
 }
 
-provides_entry : Tested (binary.Test test.Provides) (of_word (codes "provides"))
+provides_entry : Tested (Binary.Test Test.Provides) (of_word (codes "provides"))
 unfolding grammar
 provides_entry = record {
-  act = does.Provides;
+  act = Action.Provides;
   effect = λ s. refl;
   no_call = refl;
   enters = λ K rest events atom h l. row first (has_zero atom)
@@ -595,30 +584,30 @@ tested_at : {op : Binary} {signs other_signs : ℕ} → Some signs ≡ Some othe
 tested_at {op} {signs} {other_signs} e b = subst (λ s. Tested op s) (same_Some signs other_signs e) b
 
 pub test_entry : (op : Binary) (signs : ℕ) → sign_of_test op ≡ Some signs → Tested op signs
-test_entry (binary.Test test.Equal) signs e = tested_at e equal_entry
-test_entry (binary.Fails test.Equal) signs e = tested_at e unequal_entry
-test_entry (binary.Test test.Less) signs e = tested_at e less_entry
-test_entry (binary.Test test.Greater) signs e = tested_at e greater_entry
-test_entry (binary.Test test.AtMost) signs e = tested_at e at_most_entry
-test_entry (binary.Test test.AtLeast) signs e = tested_at e at_least_entry
-test_entry (binary.Test test.Has) signs e = tested_at e has_entry
-test_entry (binary.Fails test.Has) signs e = tested_at e hasnt_entry
-test_entry (binary.Test test.In) signs e = tested_at e in_entry
-test_entry (binary.Fails test.In) signs e = tested_at e notin_entry
-test_entry (binary.Test test.OfClass) signs e = tested_at e ofclass_entry
-test_entry (binary.Test test.Provides) signs e = tested_at e provides_entry
-test_entry (binary.Fails test.Less) signs e = cc
-test_entry (binary.Fails test.Greater) signs e = cc
-test_entry (binary.Fails test.AtMost) signs e = cc
-test_entry (binary.Fails test.AtLeast) signs e = cc
-test_entry (binary.Fails test.OfClass) signs e = cc
-test_entry (binary.Fails test.Provides) signs e = cc
-test_entry (binary.Operation o) signs e = cc
-test_entry (binary.Property p) signs e = cc
-test_entry binary.Assign signs e = cc
-test_entry binary.Comma signs e = cc
-test_entry binary.And signs e = cc
-test_entry binary.Or signs e = cc
-test_entry binary.Call signs e = cc
-test_entry binary.Then signs e = cc
-test_entry binary.To signs e = cc
+test_entry (Binary.Test Test.Equal) signs e = tested_at e equal_entry
+test_entry (Binary.Fails Test.Equal) signs e = tested_at e unequal_entry
+test_entry (Binary.Test Test.Less) signs e = tested_at e less_entry
+test_entry (Binary.Test Test.Greater) signs e = tested_at e greater_entry
+test_entry (Binary.Test Test.AtMost) signs e = tested_at e at_most_entry
+test_entry (Binary.Test Test.AtLeast) signs e = tested_at e at_least_entry
+test_entry (Binary.Test Test.Has) signs e = tested_at e has_entry
+test_entry (Binary.Fails Test.Has) signs e = tested_at e hasnt_entry
+test_entry (Binary.Test Test.In) signs e = tested_at e in_entry
+test_entry (Binary.Fails Test.In) signs e = tested_at e notin_entry
+test_entry (Binary.Test Test.OfClass) signs e = tested_at e ofclass_entry
+test_entry (Binary.Test Test.Provides) signs e = tested_at e provides_entry
+test_entry (Binary.Fails Test.Less) signs e = cc
+test_entry (Binary.Fails Test.Greater) signs e = cc
+test_entry (Binary.Fails Test.AtMost) signs e = cc
+test_entry (Binary.Fails Test.AtLeast) signs e = cc
+test_entry (Binary.Fails Test.OfClass) signs e = cc
+test_entry (Binary.Fails Test.Provides) signs e = cc
+test_entry (Binary.Operation o) signs e = cc
+test_entry (Binary.Property p) signs e = cc
+test_entry Binary.Assign signs e = cc
+test_entry Binary.Comma signs e = cc
+test_entry Binary.And signs e = cc
+test_entry Binary.Or signs e = cc
+test_entry Binary.Call signs e = cc
+test_entry Binary.Then signs e = cc
+test_entry Binary.To signs e = cc

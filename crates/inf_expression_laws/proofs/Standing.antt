@@ -1,17 +1,13 @@
 -- The items of an expression's tokens that were read, and the gathering that they made.
 use Rattle.std.proofs.Common.{◌≡◌, ℕ, zero, suc, ◌+◌, ◌-◌, ◌≤◌, ◌<◌, List, [], ◌∷◌, ◌++◌, length, true, Option, Some, refl, ◌∙◌, ap, subst}
-use Rattle.std.proofs.Common.{append_assoc, arith}
-use Rattle.std.specs.Prelude.{drop}
+use Rattle.std.proofs.Common.{append_assoc, arith, drop}
 use Rattle.std.proofs.lemmas.List.{length-append}
 use Rattle.inf_machine.specs.Grammar.{has}
-use Rattle.inf_scanner.specs.declared.tokens.Mark.{Mark}
-use Rattle.inf_scanner.specs.declared.tokens.TokenKind.{TokenKind}
-use Rattle.inf_scanner.specs.declared.tokens.TokenKind.TheVariants as kind
+use Rattle.inf_scanner.specs.{declared.tokens.Mark.Mark, declared.tokens.TokenKind.TokenKind}
 use Rattle.inf_syntax.specs.Atoms.{mark_atom}
 use Rattle.inf_expressions.specs.Sources.{Source, Leaf, Brackets, Prefix, Suffix, Two, Then, Call, Alone}
 use Rattle.inf_gathering.specs.Gatherings.{Gathering, with_bracket, with_list}
-use Rattle.inf_unit.specs.Tokens.{SourceToken}
-use Rattle.inf_unit.specs.Units.{kind_at}
+use Rattle.inf_unit.specs.{Tokens.SourceToken, Units.kind_at}
 use Rattle.inf_expression_laws.specs.Precedence.{Written, operand, action, system, brackets, tighter, in_front, behind, between, assigned}
 use Rattle.inf_expression_laws.specs.Precedence.{tested, called, alone, Listed, one, more, commas, leaf_count, leaf_count_of_all, list_of}
 use Rattle.inf_expression_laws.specs.Precedence.{opening_sign}
@@ -43,7 +39,7 @@ with_parts f sources g = record (all_gained f sources g) { counts = length sourc
 pub record Known (f : Frame) (at atom : ℕ) : Type 0 where
   pub seen : TokenKind
   pub is : kind_at f.all at ≡ Some seen
-  pub mark : (m : Mark) → atom ≡ mark_atom m → seen ≡ kind.Mark m
+  pub mark : (m : Mark) → atom ≡ mark_atom m → seen ≡ TokenKind.Mark m
 
 pub data Stands (f : Frame) : List Item → List ℕ → Gathering → Type 0 where
   start : Stands f [] [] f.base

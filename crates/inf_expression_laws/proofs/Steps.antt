@@ -1,16 +1,11 @@
 -- The change of items by each action of an expression.
+use Rattle.std.proofs.{lemmas.Bool.both_ways, lemmas.Bool.cond-false, lemmas.Bool.ne_eqb, lemmas.List.length-append}
 use Rattle.std.proofs.Common.{◌≡◌, ℕ, suc, ◌+◌, ◌-◌, ◌<◌, List, [], ◌∷◌, ◌++◌, length, Bool, true, false, ◌==◌, Some, refl, sym, ◌∙◌, ap}
 use Rattle.std.proofs.Common.{subst, append_assoc, arith}
-use Rattle.std.proofs.lemmas.List.{length-append}
-use Rattle.std.proofs.lemmas.Bool.{cond-false, ne_eqb, both_ways}
 use Rattle.inf_machine.specs.Grammar.{has}
-use Rattle.inf_scanner.specs.declared.tokens.Mark.TheVariants as mark
+use Rattle.inf_scanner.specs.declared.tokens.Mark.{Mark}
 use Rattle.inf_syntax.specs.Atoms.{of_mark}
-use Rattle.inf_expressions.specs.declared.operators.Binary.{Binary}
-use Rattle.inf_expressions.specs.declared.operators.Binary.TheVariants as binary
-use Rattle.inf_expressions.specs.declared.operators.Unary.{Unary}
-use Rattle.inf_expressions.specs.declared.symbols.Symbol.{Symbol}
-use Rattle.inf_expressions.specs.declared.symbols.Symbol.TheVariants as symbol
+use Rattle.inf_expressions.specs.{declared.operators.Binary.Binary, declared.operators.Unary.Unary, declared.symbols.Symbol.Symbol}
 use Rattle.inf_expressions.specs.Sources.{Source, Brackets, Prefix, Suffix, Two, Call, Alone}
 use Rattle.inf_gathering.specs.Gatherings.{Gathering, comma, counted, with_call, with_closed_bracket, with_comma, with_list, with_part}
 use Rattle.inf_gathering.specs.Gatherings.{with_prefix, with_suffix, with_test, with_two}
@@ -55,8 +50,8 @@ front_stands {f} {level} {signs} op e (whole _ atoms a g (read seen sign s h k) 
     let order : f.order + length seen ≡ first_of a - 1 = omega (arith, begins w, o) in
     placed (two seen sign atoms) (λ i. record {
       leaves = g.leaves ++ leaves_of f.outer f.begun f.all a;
-      symbols = (to_left g.symbols (symbols_of (is_open g.brackets) a) (symbol.Prefix (f.order + length seen) op ∷ [])
-          ∙ ap (λ n. (g.symbols ++ symbols_of (is_open g.brackets) a) ++ symbol.Prefix n op ∷ []) order) i;
+      symbols = (to_left g.symbols (symbols_of (is_open g.brackets) a) (Symbol.Prefix (f.order + length seen) op ∷ [])
+          ∙ ap (λ n. (g.symbols ++ symbols_of (is_open g.brackets) a) ++ Symbol.Prefix n op ∷ []) order) i;
       firsts = order i ∷ g.firsts;
       counts = g.counts;
       brackets = g.brackets;
@@ -70,7 +65,7 @@ pub suffix_stands : {f : Frame} {level signs : ℕ} {rest : List Item} {seen : L
 suffix_stands {f} {level} {signs} op e (read _ sign (whole seen atoms a g s w) h k) =
     placed (to_left seen atoms (sign ∷ [])) (λ i. record {
       leaves = g.leaves ++ leaves_of f.outer f.begun f.all a;
-      symbols = to_left g.symbols (symbols_of (is_open g.brackets) a) (symbol.Suffix op ∷ []) i;
+      symbols = to_left g.symbols (symbols_of (is_open g.brackets) a) (Symbol.Suffix op ∷ []) i;
       firsts = first_of a ∷ g.firsts;
       counts = g.counts;
       brackets = g.brackets;
@@ -105,45 +100,45 @@ second : (f : Frame) {level : ℕ} (a : Source) {b : Source} (g : Gathering) {ri
 second f a g seen left sign w = moved (length_next f.order seen left sign) (gained_leaves f a g) w
 
 between_symbols : (in_brackets : Bool) (op : Binary) (b : Source) (level signs : ℕ) → sign_between op ≡ Some (level, signs) →
-    (op ≡ binary.Comma → false ≡ true) →
-    symbols_behind in_brackets op b ≡ symbol.Two op ∷ []
-between_symbols in_brackets (binary.Operation o) b level signs e n = refl
-between_symbols in_brackets (binary.Property p) b level signs e n = refl
-between_symbols in_brackets (binary.Test t) b level signs e n = cc
-between_symbols in_brackets (binary.Fails t) b level signs e n = cc
-between_symbols in_brackets binary.Assign b level signs e n = cc
-between_symbols in_brackets binary.Comma b level signs e n = absurd (both_ways false refl (n refl))
-between_symbols in_brackets binary.And b level signs e n = refl
-between_symbols in_brackets binary.Or b level signs e n = refl
-between_symbols in_brackets binary.Call b level signs e n = cc
-between_symbols in_brackets binary.Then b level signs e n = cc
-between_symbols in_brackets binary.To b level signs e n = cc
+    (op ≡ Binary.Comma → false ≡ true) →
+    symbols_behind in_brackets op b ≡ Symbol.Two op ∷ []
+between_symbols in_brackets (Binary.Operation o) b level signs e n = refl
+between_symbols in_brackets (Binary.Property p) b level signs e n = refl
+between_symbols in_brackets (Binary.Test t) b level signs e n = cc
+between_symbols in_brackets (Binary.Fails t) b level signs e n = cc
+between_symbols in_brackets Binary.Assign b level signs e n = cc
+between_symbols in_brackets Binary.Comma b level signs e n = absurd (both_ways false refl (n refl))
+between_symbols in_brackets Binary.And b level signs e n = refl
+between_symbols in_brackets Binary.Or b level signs e n = refl
+between_symbols in_brackets Binary.Call b level signs e n = cc
+between_symbols in_brackets Binary.Then b level signs e n = cc
+between_symbols in_brackets Binary.To b level signs e n = cc
 
 pub two_stands : {f : Frame} {level signs : ℕ} {rest : List Item} {seen : List ℕ} {g : Gathering} (op : Binary) →
     sign_between op ≡ Some (level, signs) →
-    (op ≡ binary.Comma → false ≡ true) → Stands f (Whole (suc level) ∷ Sign signs ∷ Whole level ∷ rest) seen g → Stands f
+    (op ≡ Binary.Comma → false ≡ true) → Stands f (Whole (suc level) ∷ Sign signs ∷ Whole level ∷ rest) seen g → Stands f
     (Whole level ∷ rest) seen (with_two op g)
 two_stands {f} {level} {signs} op e n (whole _ right b _ (read _ sign (whole seen left a g s w) h k) v) =
-    placed (three seen left sign right) (both_gained f a b op (symbol.Two op ∷ []) g
+    placed (three seen left sign right) (both_gained f a b op (Symbol.Two op ∷ []) g
     (between_symbols (is_open g.brackets) op b level signs e n))
     (whole seen (left ++ sign ∷ right) (Two op a b) g s (between signs sign left right e w h (second f a g seen left sign v)))
 
 pub assign_stands : {f : Frame} {rest : List Item} {seen : List ℕ} {g : Gathering} →
-    Stands f (Whole assignments ∷ Sign (of_mark mark.Assign) ∷ Whole connections ∷ rest) seen g → Stands f (Whole assignments ∷ rest) seen
-    (with_two binary.Assign g)
+    Stands f (Whole assignments ∷ Sign (of_mark Mark.Assign) ∷ Whole connections ∷ rest) seen g → Stands f (Whole assignments ∷ rest) seen
+    (with_two Binary.Assign g)
 assign_stands {f} (whole _ right b _ (read _ sign (whole seen left a g s w) h k) v) =
-    placed (three seen left sign right) (both_gained f a b binary.Assign (symbol.Two binary.Assign ∷ []) g refl)
-    (whole seen (left ++ sign ∷ right) (Two binary.Assign a b) g s (assigned sign left right w h (second f a g seen left sign v)))
+    placed (three seen left sign right) (both_gained f a b Binary.Assign (Symbol.Two Binary.Assign ∷ []) g refl)
+    (whole seen (left ++ sign ∷ right) (Two Binary.Assign a b) g s (assigned sign left right w h (second f a g seen left sign v)))
 
-comma_is : (orders : List ℕ) (b : Source) → symbols_behind (is_open orders) binary.Comma b ≡ comma orders ∷ []
+comma_is : (orders : List ℕ) (b : Source) → symbols_behind (is_open orders) Binary.Comma b ≡ comma orders ∷ []
 comma_is [] b = refl
 comma_is (order ∷ orders) b = refl
 
 pub comma_stands : {f : Frame} {rest : List Item} {seen : List ℕ} {g : Gathering} →
     Stands f (Whole assignments ∷ Sign comma_sign ∷ Whole commas ∷ rest) seen g → Stands f (Whole commas ∷ rest) seen (with_comma g)
 comma_stands {f} (whole _ right b _ (read _ sign (whole seen left a g s w) h k) v) =
-    placed (three seen left sign right) (both_gained f a b binary.Comma (comma g.brackets ∷ []) g (comma_is g.brackets b))
-    (whole seen (left ++ sign ∷ right) (Two binary.Comma a b) g s
+    placed (three seen left sign right) (both_gained f a b Binary.Comma (comma g.brackets ∷ []) g (comma_is g.brackets b))
+    (whole seen (left ++ sign ∷ right) (Two Binary.Comma a b) g s
     (between comma_sign sign left right refl w h (second f a g seen left sign v)))
 
 -- The gathering of calls, tests and parts
@@ -157,7 +152,7 @@ more_gained f a sources b g e =
 alone_gained : (f : Frame) (a : Source) (g : Gathering) → gained f (Alone a) g ≡ with_call (with_list (gained f a g))
 alone_gained f a g i = record {
   leaves = g.leaves ++ leaves_of f.outer f.begun f.all a;
-  symbols = to_left g.symbols (symbols_of (is_open g.brackets) a) (symbol.Call 0 ∷ []) i;
+  symbols = to_left g.symbols (symbols_of (is_open g.brackets) a) (Symbol.Call 0 ∷ []) i;
   firsts = first_of a ∷ g.firsts;
   counts = g.counts;
   brackets = g.brackets;
@@ -171,28 +166,28 @@ call_gained f a b sources g e i =
     record {
       leaves = (to_left g.leaves (leaves_of f.outer f.begun f.all a) (leaves_of f.outer f.begun f.all (list_of b sources)) ∙ sym list.0) i;
       symbols = (four g.symbols (symbols_of (is_open g.brackets) a) (symbols_of (is_open g.brackets) (list_of b sources))
-          (symbol.Call (suc (joints (list_of b sources))) ∷ [])
+          (Symbol.Call (suc (joints (list_of b sources))) ∷ [])
           ∙ ap (λ n. ((g.symbols ++ symbols_of (is_open g.brackets) a) ++ symbols_of (is_open g.brackets) (list_of b sources)) ++
-          symbol.Call (suc n) ∷ []) e
-          ∙ ap (λ l. l ++ symbol.Call (suc (length sources)) ∷ []) (sym list.1)) i;
+          Symbol.Call (suc n) ∷ []) e
+          ∙ ap (λ l. l ++ Symbol.Call (suc (length sources)) ∷ []) (sym list.1)) i;
       firsts = sym (all_gained_firsts f (b ∷ sources) one) i;
       counts = g.counts;
       brackets = sym (all_gained_rest f (b ∷ sources) one).1 i;
     }
 
 pub test_symbols : (in_brackets : Bool) (op : Binary) (list : Source) (signs : ℕ) → sign_of_test op ≡ Some signs →
-    symbols_behind in_brackets op list ≡ symbol.List (joints list) ∷ symbol.Two op ∷ []
-test_symbols in_brackets (binary.Test t) list signs e = refl
-test_symbols in_brackets (binary.Fails t) list signs e = refl
-test_symbols in_brackets (binary.Operation o) list signs e = cc
-test_symbols in_brackets (binary.Property p) list signs e = cc
-test_symbols in_brackets binary.Assign list signs e = cc
-test_symbols in_brackets binary.Comma list signs e = cc
-test_symbols in_brackets binary.And list signs e = cc
-test_symbols in_brackets binary.Or list signs e = cc
-test_symbols in_brackets binary.Call list signs e = cc
-test_symbols in_brackets binary.Then list signs e = cc
-test_symbols in_brackets binary.To list signs e = cc
+    symbols_behind in_brackets op list ≡ Symbol.List (joints list) ∷ Symbol.Two op ∷ []
+test_symbols in_brackets (Binary.Test t) list signs e = refl
+test_symbols in_brackets (Binary.Fails t) list signs e = refl
+test_symbols in_brackets (Binary.Operation o) list signs e = cc
+test_symbols in_brackets (Binary.Property p) list signs e = cc
+test_symbols in_brackets Binary.Assign list signs e = cc
+test_symbols in_brackets Binary.Comma list signs e = cc
+test_symbols in_brackets Binary.And list signs e = cc
+test_symbols in_brackets Binary.Or list signs e = cc
+test_symbols in_brackets Binary.Call list signs e = cc
+test_symbols in_brackets Binary.Then list signs e = cc
+test_symbols in_brackets Binary.To list signs e = cc
 
 test_gained : (f : Frame) (a b : Source) (sources : List Source) (op : Binary) (signs : ℕ) (g : Gathering) → sign_of_test op ≡ Some signs →
     joints (list_of b sources) ≡ length sources → gained f (Two op a (list_of b sources)) g ≡ with_test op
@@ -200,14 +195,14 @@ test_gained : (f : Frame) (a b : Source) (sources : List Source) (op : Binary) (
 test_gained f a b sources op signs g e j i =
     let one = gained f a g in
     let list = all_gained_list f b sources one in
-    let last : symbols_behind (is_open g.brackets) op (list_of b sources) ≡ symbol.List (length (b ∷ sources) - 1) ∷ symbol.Two op ∷ [] =
-    test_symbols (is_open g.brackets) op (list_of b sources) signs e ∙ ap (λ n. symbol.List n ∷ symbol.Two op ∷ []) (j ∙ omega arith) in
+    let last : symbols_behind (is_open g.brackets) op (list_of b sources) ≡ Symbol.List (length (b ∷ sources) - 1) ∷ Symbol.Two op ∷ [] =
+    test_symbols (is_open g.brackets) op (list_of b sources) signs e ∙ ap (λ n. Symbol.List n ∷ Symbol.Two op ∷ []) (j ∙ omega arith) in
     record {
       leaves = (to_left g.leaves (leaves_of f.outer f.begun f.all a) (leaves_of f.outer f.begun f.all (list_of b sources)) ∙ sym list.0) i;
       symbols = (four g.symbols (symbols_of (is_open g.brackets) a) (symbols_of (is_open g.brackets) (list_of b sources))
           (symbols_behind (is_open g.brackets) op (list_of b sources))
           ∙ ap (λ l. ((g.symbols ++ symbols_of (is_open g.brackets) a) ++ symbols_of (is_open g.brackets) (list_of b sources)) ++ l) last
-          ∙ ap (λ l. l ++ symbol.List (length (b ∷ sources) - 1) ∷ symbol.Two op ∷ []) (sym list.1)) i;
+          ∙ ap (λ l. l ++ Symbol.List (length (b ∷ sources) - 1) ∷ Symbol.Two op ∷ []) (sym list.1)) i;
       firsts = sym (all_gained_firsts f (b ∷ sources) one) i;
       counts = g.counts;
       brackets = sym (all_gained_rest f (b ∷ sources) one).1 i;
@@ -281,7 +276,7 @@ closing_stands {f} (whole _ atoms a _ (opened seen left g s h) w) =
     let o : f.order + length (seen ++ left ∷ []) ≡ suc (f.order + length seen) = length_one f.order seen left in
     placed (two seen left atoms) (λ i. record {
       leaves = g.leaves ++ leaves_of f.outer f.begun f.all a;
-      symbols = to_left g.symbols (symbols_of true a) (symbol.Bracketed (f.order + length seen) ∷ []) i;
+      symbols = to_left g.symbols (symbols_of true a) (Symbol.Bracketed (f.order + length seen) ∷ []) i;
       firsts = (f.order + length seen) ∷ g.firsts;
       counts = g.counts;
       brackets = g.brackets;

@@ -3,31 +3,24 @@ use Rattle.std.proofs.Common.{◌≡◌, ℕ, zero, suc, ◌≤◌, ◌<◌, Lis
 use Rattle.std.proofs.Common.{subst, append_assoc, append-nil, arith, inl, inr}
 use Rattle.std.proofs.lemmas.Bool.{or_cases}
 use Rattle.inf_machine.specs.declared.symbols.Symbol.{Symbol}
-use Rattle.inf_machine.specs.declared.symbols.Symbol.TheVariants.{Token, Rule, Act}
 use Rattle.inf_machine.specs.Grammar.{Event, IsText, Leads, Took, Did, first, later, has, here, token, action, row}
 use Rattle.inf_machine.proofs.Sets.{has_or, has_zero}
-use Rattle.inf_scanner.specs.declared.tokens.Mark.TheVariants as mark
-use Rattle.inf_syntax.specs.declared.actions.Action.{Action}
-use Rattle.inf_syntax.specs.declared.actions.Action.TheVariants as does
+use Rattle.inf_scanner.specs.declared.tokens.Mark.{Mark}
+use Rattle.inf_syntax.specs.{Classes.operand as operand_names, declared.actions.Action.Action}
 use Rattle.inf_syntax.specs.Atoms.{char, joined as joined_sets, number, of_mark, text, word_literal}
-use Rattle.inf_syntax.specs.Classes.{operand as operand_names}
 use Rattle.inf_syntax.specs.Parts.{ !bracketed, !call, !negate, !part, 'close_parenthesis', address_tail, after_prim, after_unary}
 use Rattle.inf_syntax.specs.Parts.{array_tail, assign, assign_tail, call_1, call_2, expression, expression_tail, logic, logic_tail, neg}
 use Rattle.inf_syntax.specs.Parts.{post, post_tail, prim, step_prefix, step_tail, sum, sum_tail, term_tail, test_tail, tested_1}
-use Rattle.inf_expressions.specs.declared.operators.Binary.TheVariants as binary
-use Rattle.inf_expressions.specs.Sources.{Source}
-use Rattle.inf_unit.specs.declared.steps.GatherStep.TheVariants as step
-use Rattle.inf_unit.specs.Steps.{step_of}
+use Rattle.inf_expressions.specs.{Sources.Source, declared.operators.Binary.Binary}
+use Rattle.inf_unit.specs.{Steps.step_of, declared.steps.GatherStep.GatherStep}
 use Rattle.inf_grammar.specs.Language.{grammar}
 use Rattle.inf_expression_laws.specs.Precedence as written
 use Rattle.inf_expression_laws.specs.Precedence.{Written, Listed, closing_sign, comma_sign, commas, leaf_count, leaf_count_of_all, list_of}
 use Rattle.inf_expression_laws.specs.Precedence.{opening_sign, operands, or_sign, sums, assignments}
 use Rattle.inf_expression_laws.specs.Laws.{ExpressionsAreTexts, TextsAreOneExpression}
-use Rattle.inf_expression_laws.proofs.Standing.{begins, loosened}
-use Rattle.inf_expression_laws.proofs.OneText.{same_events}
+use Rattle.inf_expression_laws.proofs.{Built.Builds, Built.State, Built.built, OneText.same_events, Standing.begins, Standing.loosened}
 use Rattle.inf_expression_laws.proofs.Building.{Lists, action_builds, alone_builds, brackets_build, call_builds, front_builds, leaf_builds}
 use Rattle.inf_expression_laws.proofs.Building.{more_lists, one_lists, suffix_builds, system_builds, test_builds, two_builds}
-use Rattle.inf_expression_laws.proofs.Built.{Builds, State, built}
 use Rattle.inf_expression_laws.proofs.OperatorRows.{NotCalled, apart, begin, behind_entry, between_entry, free, in_front_entry, loop}
 use Rattle.inf_expression_laws.proofs.OperatorRows.{no_address_tail, no_array_tail, no_assign_tail, no_call_1, no_call_2}
 use Rattle.inf_expression_laws.proofs.OperatorRows.{no_expression_tail, no_logic_tail, no_post_tail, no_step_tail, no_sum_tail}
@@ -172,7 +165,7 @@ level_bound (written.alone left right atoms w l r) = omega arith
 
 record LeafText (K : List (Symbol Action)) (rest : List ℕ) (events : List (Event Action)) (atom : ℕ) : Type 0 where
   act : Action
-  is : step_of act ≡ Some step.Leaf
+  is : step_of act ≡ Some GatherStep.Leaf
   leads : IsText grammar (prim ∷ K) (atom ∷ rest) (Took atom ∷ Did act ∷ events)
 
 leaf_text : (K : List (Symbol Action)) (rest : List ℕ) (events : List (Event Action)) (atom : ℕ) → has operands atom ≡ true →
@@ -181,11 +174,11 @@ unfolding grammar
 leaf_text K rest events atom h l =
     elim (or_cases (has operand_names atom) (has (joined_sets (number ∷ char ∷ word_literal ∷ text ∷ [])) atom)
     (sym (has_or operand_names (joined_sets (number ∷ char ∷ word_literal ∷ text ∷ [])) atom) ∙ h)) [
-      | inl e ↦ record { act = does.Name; is = refl; leads = row first (has_zero atom) (token e (action l)) }
+      | inl e ↦ record { act = Action.Name; is = refl; leads = row first (has_zero atom) (token e (action l)) }
       | inr others ↦ elim (or_cases (has number atom) (has (joined_sets (char ∷ word_literal ∷ text ∷ [])) atom)
           (sym (has_or number (joined_sets (char ∷ word_literal ∷ text ∷ [])) atom) ∙ others)) [
             | inl e ↦ record {
-              act = does.Number;
+              act = Action.Number;
               is = refl;
               leads = row (later first) (has_zero atom)
                   (row first (has_zero atom) (row first (has_zero atom) (token e (action l))));
@@ -193,7 +186,7 @@ leaf_text K rest events atom h l =
             | inr others ↦ elim (or_cases (has char atom) (has (joined_sets (word_literal ∷ text ∷ [])) atom)
                 (sym (has_or char (joined_sets (word_literal ∷ text ∷ [])) atom) ∙ others)) [
                   | inl e ↦ record {
-                    act = does.Char;
+                    act = Action.Char;
                     is = refl;
                     leads = row (later first) (has_zero atom)
                         (row first (has_zero atom) (row (later first) (has_zero atom) (token e (action l))));
@@ -201,13 +194,13 @@ leaf_text K rest events atom h l =
                   | inr others ↦ elim (or_cases (has word_literal atom) (has (joined_sets (text ∷ [])) atom)
                       (sym (has_or word_literal (joined_sets (text ∷ [])) atom) ∙ others)) [
                         | inl e ↦ record {
-                          act = does.Word;
+                          act = Action.Word;
                           is = refl;
                           leads = row (later first) (has_zero atom)
                               (row first (has_zero atom) (row (later (later first)) (has_zero atom) (token e (action l))));
                         }
                         | inr e ↦ record {
-                          act = does.Text;
+                          act = Action.Text;
                           is = refl;
                           leads = row (later first) (has_zero atom)
                               (row (later first) (has_zero atom) (token e (action l)));
@@ -218,16 +211,16 @@ leaf_text K rest events atom h l =
     ]
 
 action_text : {K : List (Symbol Action)} {rest : List ℕ} {events : List (Event Action)} (sign atom : ℕ) →
-    has (of_mark mark.DoubleHash) sign ≡ true → has operand_names atom ≡ true →
-    IsText grammar K rest events → IsText grammar (prim ∷ K) (sign ∷ atom ∷ rest) (Took sign ∷ Took atom ∷ Did does.Action ∷ events)
+    has (of_mark Mark.DoubleHash) sign ≡ true → has operand_names atom ≡ true →
+    IsText grammar K rest events → IsText grammar (prim ∷ K) (sign ∷ atom ∷ rest) (Took sign ∷ Took atom ∷ Did Action.Action ∷ events)
 unfolding grammar
 action_text sign atom h k l =
     row (later first) (has_zero sign) (row first (has_zero sign) (row (later (later (later first))) (has_zero sign)
     (token h (token k (action l)))))
 
 system_text : {K : List (Symbol Action)} {rest : List ℕ} {events : List (Event Action)} (sign atom : ℕ) →
-    has (of_mark mark.Hash) sign ≡ true → has operand_names atom ≡ true →
-    IsText grammar K rest events → IsText grammar (prim ∷ K) (sign ∷ atom ∷ rest) (Took sign ∷ Took atom ∷ Did does.System ∷ events)
+    has (of_mark Mark.Hash) sign ≡ true → has operand_names atom ≡ true →
+    IsText grammar K rest events → IsText grammar (prim ∷ K) (sign ∷ atom ∷ rest) (Took sign ∷ Took atom ∷ Did Action.System ∷ events)
 unfolding grammar
 system_text sign atom h k l =
     row (later first) (has_zero sign) (row first (has_zero sign) (row (later (later (later (later first)))) (has_zero sign)
@@ -235,7 +228,7 @@ system_text sign atom h k l =
 
 bracket_text : {K : List (Symbol Action)} {rest : List ℕ} {events : List (Event Action)} (left : ℕ) → has opening_sign left ≡ true →
     IsText grammar (expression ∷ !bracketed ∷ 'close_parenthesis' ∷ K) rest events → IsText grammar (prim ∷ K) (left ∷ rest)
-    (Took left ∷ Did does.Bracket ∷ events)
+    (Took left ∷ Did Action.Bracket ∷ events)
 unfolding grammar
 bracket_text left h l =
     row (later first) (has_zero left) (row (later (later first)) (has_zero left) (row first (has_zero left) (token h (action l))))
@@ -247,7 +240,7 @@ closing_text right h l = token h l
 
 call_text : {K : List (Symbol Action)} {rest : List ℕ} {events : List (Event Action)} (left : ℕ) → has opening_sign left ≡ true →
     IsText grammar (call_1 ∷ 'close_parenthesis' ∷ !call ∷ post_tail ∷ K) rest events → IsText grammar (post_tail ∷ K) (left ∷ rest)
-    (Took left ∷ Did does.Count ∷ events)
+    (Took left ∷ Did Action.Count ∷ events)
 unfolding grammar
 call_text left h l = row (later first) (has_zero left) (row first (has_zero left) (token h (action l)))
 
@@ -267,8 +260,8 @@ unfolding grammar
 next_test sign h l = row first (has_zero sign) (token h l)
 
 assigned_text : {K : List (Symbol Action)} {rest : List ℕ} {events : List (Event Action)} (sign : ℕ) →
-    has (of_mark mark.Assign) sign ≡ true →
-    IsText grammar (assign ∷ Act does.Assign ∷ K) rest events → IsText grammar (assign_tail ∷ K) (sign ∷ rest) (Took sign ∷ events)
+    has (of_mark Mark.Assign) sign ≡ true →
+    IsText grammar (assign ∷ Symbol.Act Action.Assign ∷ K) rest events → IsText grammar (assign_tail ∷ K) (sign ∷ rest) (Took sign ∷ events)
 unfolding grammar
 assigned_text sign h l = row first (has_zero sign) (row first (has_zero sign) (token h l))
 
@@ -314,24 +307,24 @@ mutual
       record { events = λ more. Took atom ∷ Did t.act ∷ more; leads = t.leads; builds = leaf_builds t.act t.is order place atom }
   written_text (written.action {order = order} {place = place} {sign = sign} {atom = atom} h k) K rest last q l =
       record {
-        events = λ more. Took sign ∷ Took atom ∷ Did does.Action ∷ more;
+        events = λ more. Took sign ∷ Took atom ∷ Did Action.Action ∷ more;
         leads = action_text sign atom h k l;
         builds = action_builds
             order place sign atom;
       }
   written_text (written.system {order = order} {place = place} {sign = sign} {atom = atom} h k) K rest last q l =
       record {
-        events = λ more. Took sign ∷ Took atom ∷ Did does.System ∷ more;
+        events = λ more. Took sign ∷ Took atom ∷ Did Action.System ∷ more;
         leads = system_text sign atom h k l;
         builds = system_builds
             order place sign atom;
       }
   written_text (written.brackets {order = order} {place = place} {left = left} right atoms {a = a} h w k) K rest last q l =
       let not_called = no_call_of right closing_sign refl k in
-      let t = written_text w (!bracketed ∷ 'close_parenthesis' ∷ K) (right ∷ rest) (Did does.Bracketed ∷ Took right ∷ last)
+      let t = written_text w (!bracketed ∷ 'close_parenthesis' ∷ K) (right ∷ rest) (Did Action.Bracketed ∷ Took right ∷ last)
       (λ le. not_called) (no_expression_tail (action (closing_text right k l))) in
       record {
-        events = λ more. Took left ∷ Did does.Bracket ∷ t.events (Did does.Bracketed ∷ Took right ∷ more);
+        events = λ more. Took left ∷ Did Action.Bracket ∷ t.events (Did Action.Bracketed ∷ Took right ∷ more);
         leads = bracket_text left h (rejoined atoms (right ∷ []) rest t.leads);
         builds = brackets_build order place left right atoms a t.events t.builds;
       }
@@ -343,8 +336,8 @@ mutual
       w) K rest last q l =
       let n = in_front_entry op level signs e in
       let passed : IsText grammar K rest last = subst (λ s. IsText grammar (s ++ K) rest last) n.no_loop l in
-      let t = written_text w (Act n.act ∷ K) rest (Did n.act ∷ last) q
-      (subst (λ s. IsText grammar (s ++ Act n.act ∷ K) rest (Did n.act ∷ last)) (sym n.no_loop) (action passed)) in
+      let t = written_text w (Symbol.Act n.act ∷ K) rest (Did n.act ∷ last) q
+      (subst (λ s. IsText grammar (s ++ Symbol.Act n.act ∷ K) rest (Did n.act ∷ last)) (sym n.no_loop) (action passed)) in
       record {
         events = λ more. Took sign ∷ t.events (Did n.act ∷ more);
         leads = n.enters K (atoms ++ rest) (t.events (Did n.act ∷ last)) sign h t.leads;
@@ -362,8 +355,8 @@ mutual
   written_text (written.between {level = level} {order = order} {place = place} signs sign left right {op = op} {a = a} {b = b} e w h v) K
       rest last q l =
       let n = between_entry op level signs e in
-      let u = written_text v (Act n.act ∷ (loop level ++ K)) rest (Did n.act ∷ last) (λ le. q (omega (arith, le)))
-      (n.closes (Act n.act ∷ (loop level ++ K)) rest (Did n.act ∷ last) q (action l)) in
+      let u = written_text v (Symbol.Act n.act ∷ (loop level ++ K)) rest (Did n.act ∷ last) (λ le. q (omega (arith, le)))
+      (n.closes (Symbol.Act n.act ∷ (loop level ++ K)) rest (Did n.act ∷ last) q (action l)) in
       let t = written_text w K (sign ∷ (right ++ rest)) (Took sign ∷ u.events (Did n.act ∷ last)) (λ le. no_call_of sign signs n.no_call h)
       (n.enters K (right ++ rest) (u.events (Did n.act ∷ last)) sign h u.leads) in
       record {
@@ -372,47 +365,48 @@ mutual
         builds = two_builds op n.act n.effect order place sign left right a b t.events u.events t.builds u.builds;
       }
   written_text (written.assigned {order = order} {place = place} sign left right {a = a} {b = b} w h v) K rest last q l =
-      let u = written_text v (Act does.Assign ∷ K) rest (Did does.Assign ∷ last) q (action l) in
-      let t = written_text w (assign_tail ∷ K) (sign ∷ (right ++ rest)) (Took sign ∷ u.events (Did does.Assign ∷ last))
-      (λ le. no_call_of sign (of_mark mark.Assign) refl h)
+      let u = written_text v (Symbol.Act Action.Assign ∷ K) rest (Did Action.Assign ∷ last) q (action l) in
+      let t = written_text w (assign_tail ∷ K) (sign ∷ (right ++ rest)) (Took sign ∷ u.events (Did Action.Assign ∷ last))
+      (λ le. no_call_of sign (of_mark Mark.Assign) refl h)
       (no_logic_tail (assigned_text sign h u.leads)) in
       record {
-        events = λ more. t.events (Took sign ∷ u.events (Did does.Assign ∷ more));
+        events = λ more. t.events (Took sign ∷ u.events (Did Action.Assign ∷ more));
         leads = rejoined left (sign ∷ right) rest (as_assign t.leads);
-        builds = two_builds binary.Assign does.Assign (λ s. refl) order place sign left right a b t.events u.events t.builds u.builds;
+        builds = two_builds Binary.Assign Action.Assign (λ s. refl) order place sign left right a b t.events u.events t.builds u.builds;
       }
   written_text (written.tested {order = order} {place = place} signs sign left right {op = op} {a = a} b sources e w h v) K rest last q l =
       let n = test_entry op signs e in
-      let u = or_text v (Act n.act ∷ K) rest (Did n.act ∷ last) (q (omega arith)) (no_tested_1 (action l)) in
-      let t = written_text w (test_tail ∷ K) (sign ∷ (right ++ rest)) (Took sign ∷ Did does.Count ∷ u.events (Did n.act ∷ last))
+      let u = or_text v (Symbol.Act n.act ∷ K) rest (Did n.act ∷ last) (q (omega arith)) (no_tested_1 (action l)) in
+      let t = written_text w (test_tail ∷ K) (sign ∷ (right ++ rest)) (Took sign ∷ Did Action.Count ∷ u.events (Did n.act ∷ last))
       (λ le. no_call_of sign signs n.no_call h)
       (no_sum_tail (n.enters K (right ++ rest) (u.events (Did n.act ∷ last)) sign h u.leads)) in
       record {
-        events = λ more. t.events (Took sign ∷ Did does.Count ∷ u.events (Did n.act ∷ more));
+        events = λ more. t.events (Took sign ∷ Did Action.Count ∷ u.events (Did n.act ∷ more));
         leads = rejoined left (sign ∷ right) rest t.leads;
         builds = test_builds op n.act n.effect order place sign left right a b sources t.events u.events t.builds u.lists;
       }
   written_text (written.called {order = order} {place = place} left right atoms given {f = f} b sources w h v k) K rest last q l =
-      let u = comma_text v ('close_parenthesis' ∷ !call ∷ post_tail ∷ K) (right ∷ rest) (Took right ∷ Did does.Call ∷ last)
+      let u = comma_text v ('close_parenthesis' ∷ !call ∷ post_tail ∷ K) (right ∷ rest) (Took right ∷ Did Action.Call ∷ last)
       (no_call_of right closing_sign refl k)
       (no_call_2 (closing_text right k (action l))) in
-      let t = written_text w K (left ∷ (given ++ right ∷ rest)) (Took left ∷ Did does.Count ∷ u.events (Took right ∷ Did does.Call ∷ last))
+      let t =
+      written_text w K (left ∷ (given ++ right ∷ rest)) (Took left ∷ Did Action.Count ∷ u.events (Took right ∷ Did Action.Call ∷ last))
       (λ le. absurd (omega (arith, le)))
       (call_text left h (some_call u.leads)) in
       record {
-        events = λ more. t.events (Took left ∷ Did does.Count ∷ u.events (Took right ∷ Did does.Call ∷ more));
+        events = λ more. t.events (Took left ∷ Did Action.Count ∷ u.events (Took right ∷ Did Action.Call ∷ more));
         leads = subst (λ all. IsText grammar (post ∷ K) all
-            (t.events (Took left ∷ Did does.Count ∷ u.events (Took right ∷ Did does.Call ∷ last))))
+            (t.events (Took left ∷ Did Action.Count ∷ u.events (Took right ∷ Did Action.Call ∷ last))))
             (given_atoms atoms given left right rest) t.leads;
         builds = call_builds order place left right atoms given f b sources t.events u.events t.builds u.lists;
       }
   written_text (written.alone {order = order} {place = place} left right atoms {f = f} w h k) K rest last q l =
-      let t = written_text w K (left ∷ right ∷ rest) (Took left ∷ Did does.Count ∷ Took right ∷ Did does.Call ∷ last)
+      let t = written_text w K (left ∷ right ∷ rest) (Took left ∷ Did Action.Count ∷ Took right ∷ Did Action.Call ∷ last)
       (λ le. absurd (omega (arith, le)))
       (call_text left h (no_call_1 (closing_text right k (action l)))) in
       record {
-        events = λ more. t.events (Took left ∷ Did does.Count ∷ Took right ∷ Did does.Call ∷ more);
-        leads = subst (λ all. IsText grammar (post ∷ K) all (t.events (Took left ∷ Did does.Count ∷ Took right ∷ Did does.Call ∷ last)))
+        events = λ more. t.events (Took left ∷ Did Action.Count ∷ Took right ∷ Did Action.Call ∷ more);
+        leads = subst (λ all. IsText grammar (post ∷ K) all (t.events (Took left ∷ Did Action.Count ∷ Took right ∷ Did Action.Call ∷ last)))
             (alone_atoms atoms left right rest) t.leads;
         builds = alone_builds order place left right atoms f t.events t.builds;
       }
@@ -421,19 +415,19 @@ mutual
       (K : List (Symbol Action)) (rest : List ℕ) (last : List (Event Action)) →
       NotCalled rest → IsText grammar (tested_1 ∷ K) rest last → ListText (sum ∷ !part ∷ tested_1 ∷ K) atoms rest last order place parts
   or_text (written.one {order = order} {place = place} {atoms = atoms} {a = a} w) K rest last q l =
-      let t = written_text w (!part ∷ tested_1 ∷ K) rest (Did does.Part ∷ last) (λ le. q) (no_sum_tail (action l)) in
+      let t = written_text w (!part ∷ tested_1 ∷ K) rest (Did Action.Part ∷ last) (λ le. q) (no_sum_tail (action l)) in
       record {
-        events = λ more. t.events (Did does.Part ∷ more);
+        events = λ more. t.events (Did Action.Part ∷ more);
         leads = t.leads;
         lists = one_lists order place (length atoms) a t.events
             t.builds;
       }
   or_text (written.more {order = order} {place = place} sign left right sources a f h w) K rest last q l =
-      let u = written_text w (!part ∷ tested_1 ∷ K) rest (Did does.Part ∷ last) (λ le. q) (no_sum_tail (action l)) in
-      let t = or_text f K (sign ∷ (right ++ rest)) (Took sign ∷ u.events (Did does.Part ∷ last)) (no_call_of sign or_sign refl h)
+      let u = written_text w (!part ∷ tested_1 ∷ K) rest (Did Action.Part ∷ last) (λ le. q) (no_sum_tail (action l)) in
+      let t = or_text f K (sign ∷ (right ++ rest)) (Took sign ∷ u.events (Did Action.Part ∷ last)) (no_call_of sign or_sign refl h)
       (next_test sign h u.leads) in
       record {
-        events = λ more. t.events (Took sign ∷ u.events (Did does.Part ∷ more));
+        events = λ more. t.events (Took sign ∷ u.events (Did Action.Part ∷ more));
         leads = rejoined left (sign ∷ right) rest t.leads;
         lists = more_lists order place sign left right sources a t.events u.events t.lists u.builds;
       }
@@ -442,19 +436,19 @@ mutual
       (K : List (Symbol Action)) (rest : List ℕ) (last : List (Event Action)) →
       NotCalled rest → IsText grammar (call_2 ∷ K) rest last → ListText (assign ∷ !part ∷ call_2 ∷ K) atoms rest last order place parts
   comma_text (written.one {order = order} {place = place} {atoms = atoms} {a = a} w) K rest last q l =
-      let t = written_text w (!part ∷ call_2 ∷ K) rest (Did does.Part ∷ last) (λ le. q) (action l) in
+      let t = written_text w (!part ∷ call_2 ∷ K) rest (Did Action.Part ∷ last) (λ le. q) (action l) in
       record {
-        events = λ more. t.events (Did does.Part ∷ more);
+        events = λ more. t.events (Did Action.Part ∷ more);
         leads = t.leads;
         lists = one_lists order place (length atoms) a t.events
             t.builds;
       }
   comma_text (written.more {order = order} {place = place} sign left right sources a f h w) K rest last q l =
-      let u = written_text w (!part ∷ call_2 ∷ K) rest (Did does.Part ∷ last) (λ le. q) (action l) in
-      let t = comma_text f K (sign ∷ (right ++ rest)) (Took sign ∷ u.events (Did does.Part ∷ last)) (no_call_of sign comma_sign refl h)
+      let u = written_text w (!part ∷ call_2 ∷ K) rest (Did Action.Part ∷ last) (λ le. q) (action l) in
+      let t = comma_text f K (sign ∷ (right ++ rest)) (Took sign ∷ u.events (Did Action.Part ∷ last)) (no_call_of sign comma_sign refl h)
       (next_call sign h u.leads) in
       record {
-        events = λ more. t.events (Took sign ∷ u.events (Did does.Part ∷ more));
+        events = λ more. t.events (Took sign ∷ u.events (Did Action.Part ∷ more));
         leads = rejoined left (sign ∷ right) rest t.leads;
         lists = more_lists order place sign left right sources a t.events u.events t.lists u.builds;
       }
@@ -467,9 +461,9 @@ expressions_are_texts order place atoms a w =
     (t.events [], subst (λ all. IsText grammar (expression ∷ []) all (t.events [])) (append-nil atoms) t.leads)
 
 abbrev rule_number : Symbol Action → ℕ
-rule_number (Rule rule) = rule
-rule_number (Token class) = 0
-rule_number (Act a) = 0
+rule_number (Symbol.Rule rule) = rule
+rule_number (Symbol.Token class) = 0
+rule_number (Symbol.Act a) = 0
 
 abbrev latest_of : Source → List Source → Source
 latest_of other [] = other

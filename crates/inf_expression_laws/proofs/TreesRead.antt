@@ -2,21 +2,14 @@
 use Rattle.std.proofs.Common.{◌≡◌, ℕ, suc, ◌-◌, ◌≤◌, List, [], ◌∷◌, ◌++◌, length, reverse, Bool, true, false, ◌||◌, ◌==◌, Some, refl, sym}
 use Rattle.std.proofs.Common.{◌∙◌, ap, append_assoc, append-nil, arith}
 use Rattle.std.proofs.lemmas.Bool.Decides.{nat_tests}
-use Rattle.inf_expressions.specs.declared.operators.Binary.{Binary}
-use Rattle.inf_expressions.specs.declared.operators.Binary.TheVariants as binary
-use Rattle.inf_expressions.specs.declared.operators.Operand.{Operand}
-use Rattle.inf_expressions.specs.declared.symbols.Symbol.{Symbol}
-use Rattle.inf_expressions.specs.declared.symbols.Symbol.TheVariants as symbol
-use Rattle.inf_expressions.specs.declared.units.Wanted.{Wanted}
-use Rattle.inf_expressions.specs.declared.units.Wanted.TheVariants as wanted
+use Rattle.inf_expressions.specs.declared.{operators.Binary.Binary, operators.Operand.Operand, symbols.Symbol.Symbol, units.Wanted.Wanted}
 use Rattle.inf_expressions.specs.Sources.{Source, Leaf, Brackets, Prefix, Suffix, Two, Then, Call, Alone, found_in, meant, opened}
 use Rattle.inf_expressions.specs.Units.{Gathered, acted, call_joined, gathered, listed, nothing_gathered, roots_finding, with_two_of}
 use Rattle.inf_expression_laws.specs.Precedence.{Written, operand, action, system, brackets, tighter, in_front, behind, between, assigned}
 use Rattle.inf_expression_laws.specs.Precedence.{tested, called, alone, Listed, one, more, list_of, sign_between}
 use Rattle.inf_expression_laws.specs.Gathered.{joints, symbols_behind, symbols_of}
 use Rattle.inf_expression_laws.specs.Laws.{SymbolsComeToTheirTree, joins_commas}
-use Rattle.inf_expression_laws.proofs.Standing.{list_joints}
-use Rattle.inf_expression_laws.proofs.Steps.{test_symbols}
+use Rattle.inf_expression_laws.proofs.{Standing.list_joints, Steps.test_symbols}
 
 -- an expression more, and several more
 abbrev gained : ℕ → List Operand → Source → Gathered → Gathered
@@ -59,7 +52,7 @@ list_joined : (unit : ℕ) (operands : List Operand) (a : Source) (sources : Lis
     listed unit (length sources) (all_gained unit operands (a ∷ sources) g) ≡ gained unit operands (list_of a sources) g
 list_joined unit operands a [] g = refl
 list_joined unit operands a (b ∷ sources) g =
-    ap (with_two_of unit binary.Then) (list_joined unit operands b sources (gained unit operands a g))
+    ap (with_two_of unit Binary.Then) (list_joined unit operands b sources (gained unit operands a g))
 
 joints_are : (a : Source) → (opened a).1 ≡ joints a
 joints_are (Leaf first token place) = refl
@@ -76,23 +69,23 @@ between_read : (w : Wanted) (in_brackets : Bool) (unit : ℕ) (operands : List O
     (level signs : ℕ) →
     sign_between op ≡ Some (level, signs) → (in_brackets || joins_commas w) ≡ true → gathered w unit operands
     (symbols_behind in_brackets op b) g ≡ with_two_of unit op g
-between_read w in_brackets unit operands (binary.Operation o) b g level signs e j = refl
-between_read w in_brackets unit operands (binary.Property p) b g level signs e j = refl
-between_read w in_brackets unit operands (binary.Test t) b g level signs e j = cc
-between_read w in_brackets unit operands (binary.Fails t) b g level signs e j = cc
-between_read w in_brackets unit operands binary.Assign b g level signs e j = cc
-between_read w true unit operands binary.Comma b g level signs e j = refl
-between_read wanted.Value false unit operands binary.Comma b g level signs e j = refl
-between_read wanted.Constant false unit operands binary.Comma b g level signs e j = refl
-between_read wanted.Number false unit operands binary.Comma b g level signs e j = refl
-between_read wanted.Operand false unit operands binary.Comma b g level signs e j = refl
-between_read wanted.Case false unit operands binary.Comma b g level signs e j = cc
-between_read wanted.Loop false unit operands binary.Comma b g level signs e j = refl
-between_read w in_brackets unit operands binary.And b g level signs e j = refl
-between_read w in_brackets unit operands binary.Or b g level signs e j = refl
-between_read w in_brackets unit operands binary.Call b g level signs e j = cc
-between_read w in_brackets unit operands binary.Then b g level signs e j = cc
-between_read w in_brackets unit operands binary.To b g level signs e j = cc
+between_read w in_brackets unit operands (Binary.Operation o) b g level signs e j = refl
+between_read w in_brackets unit operands (Binary.Property p) b g level signs e j = refl
+between_read w in_brackets unit operands (Binary.Test t) b g level signs e j = cc
+between_read w in_brackets unit operands (Binary.Fails t) b g level signs e j = cc
+between_read w in_brackets unit operands Binary.Assign b g level signs e j = cc
+between_read w true unit operands Binary.Comma b g level signs e j = refl
+between_read Wanted.Value false unit operands Binary.Comma b g level signs e j = refl
+between_read Wanted.Constant false unit operands Binary.Comma b g level signs e j = refl
+between_read Wanted.Number false unit operands Binary.Comma b g level signs e j = refl
+between_read Wanted.Operand false unit operands Binary.Comma b g level signs e j = refl
+between_read Wanted.Case false unit operands Binary.Comma b g level signs e j = cc
+between_read Wanted.Loop false unit operands Binary.Comma b g level signs e j = refl
+between_read w in_brackets unit operands Binary.And b g level signs e j = refl
+between_read w in_brackets unit operands Binary.Or b g level signs e j = refl
+between_read w in_brackets unit operands Binary.Call b g level signs e j = cc
+between_read w in_brackets unit operands Binary.Then b g level signs e j = cc
+between_read w in_brackets unit operands Binary.To b g level signs e j = cc
 
 gathered_on : (w : Wanted) (unit : ℕ) (operands : List Operand) (symbols rest : List Symbol) (g : Gathered) →
     gathered w unit operands (symbols ++ rest) g ≡ gathered w unit operands rest (gathered w unit operands symbols g)
@@ -126,7 +119,7 @@ behind_two w in_brackets unit operands a list after is lists last rest g =
 
 call_is : (unit : ℕ) (operands : List Operand) (f b : Source) (sources : List Source) (n : ℕ) (g : Gathered) → n ≡ length sources →
     joints (list_of b sources) ≡ length sources →
-    (w : Wanted) → acted w unit operands (symbol.Call (suc n)) (all_gained unit operands (b ∷ sources) (gained unit operands f g)) ≡ gained
+    (w : Wanted) → acted w unit operands (Symbol.Call (suc n)) (all_gained unit operands (b ∷ sources) (gained unit operands f g)) ≡ gained
     unit operands (Call f (list_of b sources)) g
 call_is unit operands f b sources n g e j w =
     let less : suc n - 1 ≡ n = omega arith in
@@ -144,12 +137,12 @@ mutual
   written_read w in_brackets unit operands j (action h k) rest g = refl
   written_read w in_brackets unit operands j (system h k) rest g = refl
   written_read w in_brackets unit operands j (brackets {order = order} right atoms {a = a} l v r) rest g =
-      behind_one w true unit operands a (written_read w true unit operands refl v) (symbol.Bracketed order ∷ []) rest g
+      behind_one w true unit operands a (written_read w true unit operands refl v) (Symbol.Bracketed order ∷ []) rest g
   written_read w in_brackets unit operands j (tighter v) rest g = written_read w in_brackets unit operands j v rest g
   written_read w in_brackets unit operands j (in_front {order = order} signs {op = op} {a = a} e h v) rest g =
-      behind_one w in_brackets unit operands a (written_read w in_brackets unit operands j v) (symbol.Prefix order op ∷ []) rest g
+      behind_one w in_brackets unit operands a (written_read w in_brackets unit operands j v) (Symbol.Prefix order op ∷ []) rest g
   written_read w in_brackets unit operands j (behind signs sign atoms {op = op} {a = a} e v h) rest g =
-      behind_one w in_brackets unit operands a (written_read w in_brackets unit operands j v) (symbol.Suffix op ∷ []) rest g
+      behind_one w in_brackets unit operands a (written_read w in_brackets unit operands j v) (Symbol.Suffix op ∷ []) rest g
   written_read w in_brackets unit operands j (between {level = level} signs sign left right {op = op} {a = a} {b = b} e v h u) rest g =
       behind_two w in_brackets unit operands a b (gained unit operands b) (written_read w in_brackets unit operands j v)
       (written_read w in_brackets unit operands j u) (symbols_behind in_brackets op b) rest g
@@ -157,7 +150,7 @@ mutual
       (gained unit operands b (gained unit operands a g)) level signs e j)
   written_read w in_brackets unit operands j (assigned sign left right {a = a} {b = b} v h u) rest g =
       behind_two w in_brackets unit operands a b (gained unit operands b) (written_read w in_brackets unit operands j v)
-      (written_read w in_brackets unit operands j u) (symbol.Two binary.Assign ∷ []) rest g
+      (written_read w in_brackets unit operands j u) (Symbol.Two Binary.Assign ∷ []) rest g
   written_read w in_brackets unit operands j (tested signs sign left right {op = op} {a = a} b sources e v h l) rest g =
       behind_two w in_brackets unit operands a (list_of b sources) (all_gained unit operands (b ∷ sources))
       (written_read w in_brackets unit operands j v)
@@ -172,11 +165,11 @@ mutual
       behind_two w in_brackets unit operands f (list_of b sources) (all_gained unit operands (b ∷ sources))
       (written_read w in_brackets unit operands j v)
       (list_read w in_brackets unit operands b sources (listed_read w in_brackets unit operands j l))
-      (symbol.Call (suc (joints (list_of b sources))) ∷ []) rest g
+      (Symbol.Call (suc (joints (list_of b sources))) ∷ []) rest g
       ∙ ap (gathered w unit operands rest) (call_is unit operands f b sources (joints (list_of b sources)) g (list_joints b sources l)
       (list_joints b sources l) w)
   written_read w in_brackets unit operands j (alone left right atoms {f = f} v h r) rest g =
-      behind_one w in_brackets unit operands f (written_read w in_brackets unit operands j v) (symbol.Call 0 ∷ []) rest g
+      behind_one w in_brackets unit operands f (written_read w in_brackets unit operands j v) (Symbol.Call 0 ∷ []) rest g
 
   listed_read : (w : Wanted) (in_brackets : Bool) (unit : ℕ) (operands : List Operand) → (in_brackets || joins_commas w) ≡ true →
       {level signs order place : ℕ} {atoms : List ℕ} {sources : List Source} → Listed level signs order place atoms sources → AreRead w

@@ -3,16 +3,10 @@ use Rattle.std.proofs.Common.{◌≡◌, ℕ, suc, List, [], ◌∷◌, ◌++◌
 use Rattle.std.proofs.Common.{subst, append_assoc, inl, inr, if◌then◌else◌}
 use Rattle.std.proofs.lemmas.Bool.{agree_below, agree_below_at, and_parts, cases_lt}
 use Rattle.std.proofs.lemmas.Option.{same_Some}
-use Rattle.inf_machine.specs.declared.symbols.Symbol.{Symbol}
-use Rattle.inf_machine.specs.declared.symbols.Symbol.TheVariants.{Token, Rule, Act}
-use Rattle.inf_machine.specs.Decided.{is_within}
-use Rattle.inf_machine.specs.Pieces.{all_rows}
+use Rattle.inf_machine.specs.{Decided.is_within, Pieces.all_rows, declared.symbols.Symbol.Symbol}
 use Rattle.inf_machine.specs.Grammar.{Row, IsOneOf, first, later}
-use Rattle.inf_scanner.specs.declared.tokens.Mark.TheVariants as mark
-use Rattle.inf_syntax.specs.declared.actions.Action.{Action}
-use Rattle.inf_syntax.specs.declared.actions.Action.TheVariants as action
-use Rattle.inf_syntax.specs.Atoms.{of_mark}
-use Rattle.inf_syntax.specs.Classes.{operand}
+use Rattle.inf_scanner.specs.declared.tokens.Mark.{Mark}
+use Rattle.inf_syntax.specs.{Atoms.of_mark, Classes.operand, declared.actions.Action.Action}
 use Rattle.inf_syntax.specs.Parts.{address_operator, address_tail, after_prim, after_unary, array_operator, array_tail, assign, assign_tail}
 use Rattle.inf_syntax.specs.Parts.{assign_tail_1, bare_prim, bit, bracketed, call, call_1, call_2, entry, expression, expression_tail, inc}
 use Rattle.inf_syntax.specs.Parts.{inner_operator, logic, logic_operator, logic_tail, member_operator, neg, negated, operator, other_assign}
@@ -20,12 +14,8 @@ use Rattle.inf_syntax.specs.Parts.{other_operator, other_prim, outer_operator, p
 use Rattle.inf_syntax.specs.Parts.{step_prefix, step_tail, sum, sum_operator, sum_tail, term, term_operator, term_tail, test, test_tail}
 use Rattle.inf_syntax.specs.Parts.{test_tail_1, tested, tested_1}
 use Rattle.inf_expressions.specs.declared.operators.Binary.{Binary}
-use Rattle.inf_expressions.specs.declared.operators.Binary.TheVariants as binary
-use Rattle.inf_unit.specs.declared.steps.GatherStep.{GatherStep}
-use Rattle.inf_unit.specs.declared.steps.GatherStep.TheVariants as step
-use Rattle.inf_unit.specs.Steps.{step_of}
-use Rattle.inf_grammar.specs.Language.{grammar}
-use Rattle.inf_grammar.specs.Evaluated.{rows_past}
+use Rattle.inf_unit.specs.{Steps.step_of, declared.steps.GatherStep.GatherStep}
+use Rattle.inf_grammar.specs.{Evaluated.rows_past, Language.grammar}
 use Rattle.inf_expression_laws.specs.Precedence.{addresses, assignments, closing_sign, comma_sign, commas, complements, connections}
 use Rattle.inf_expression_laws.specs.Precedence.{denials, entries, members, negations, opening_sign, operands, or_sign, primaries, products}
 use Rattle.inf_expression_laws.specs.Precedence.{sign_behind, sign_between, sign_in_front, sign_of_test, steps_behind, steps_in_front, sums}
@@ -57,8 +47,8 @@ between_changes None = []
 between_changes (Some sign) = change (Whole (suc sign.0) ∷ Sign sign.1 ∷ Whole sign.0 ∷ []) (Whole sign.0 ∷ []) ∷ []
 
 abbrev pub two_changes : Binary → List Change
-two_changes binary.Comma = []
-two_changes binary.Assign = change (Whole assignments ∷ Sign (of_mark mark.Assign) ∷ Whole connections ∷ []) (Whole assignments ∷ []) ∷ []
+two_changes Binary.Comma = []
+two_changes Binary.Assign = change (Whole assignments ∷ Sign (of_mark Mark.Assign) ∷ Whole connections ∷ []) (Whole assignments ∷ []) ∷ []
 two_changes op = between_changes (sign_between op)
 
 abbrev pub test_changes : Option ℕ → List Change
@@ -68,25 +58,25 @@ test_changes (Some signs) = change (Parts sums or_sign ∷ Sign signs ∷ Whole 
 -- the changes of an action, by the step that it gathers: one of these
 abbrev pub step_changes : Option GatherStep → List Change
 step_changes None = []
-step_changes (Some step.Leaf) = change (Sign operands ∷ []) (Whole primaries ∷ []) ∷ []
-step_changes (Some step.Action) = change (Sign operand ∷ Sign (of_mark mark.DoubleHash) ∷ []) (Whole primaries ∷ []) ∷ []
-step_changes (Some step.System) = change (Sign operand ∷ Sign (of_mark mark.Hash) ∷ []) (Whole primaries ∷ []) ∷ []
-step_changes (Some (step.Prefix op)) = front_changes (sign_in_front op)
-step_changes (Some (step.Suffix op)) = suffix_changes (sign_behind op)
-step_changes (Some (step.Two op)) = two_changes op
-step_changes (Some step.Comma) = change (Whole assignments ∷ Sign comma_sign ∷ Whole commas ∷ []) (Whole commas ∷ []) ∷ []
-step_changes (Some step.List) = change [] (NoneYet ∷ []) ∷ []
-step_changes (Some step.Part) =
+step_changes (Some GatherStep.Leaf) = change (Sign operands ∷ []) (Whole primaries ∷ []) ∷ []
+step_changes (Some GatherStep.Action) = change (Sign operand ∷ Sign (of_mark Mark.DoubleHash) ∷ []) (Whole primaries ∷ []) ∷ []
+step_changes (Some GatherStep.System) = change (Sign operand ∷ Sign (of_mark Mark.Hash) ∷ []) (Whole primaries ∷ []) ∷ []
+step_changes (Some (GatherStep.Prefix op)) = front_changes (sign_in_front op)
+step_changes (Some (GatherStep.Suffix op)) = suffix_changes (sign_behind op)
+step_changes (Some (GatherStep.Two op)) = two_changes op
+step_changes (Some GatherStep.Comma) = change (Whole assignments ∷ Sign comma_sign ∷ Whole commas ∷ []) (Whole commas ∷ []) ∷ []
+step_changes (Some GatherStep.List) = change [] (NoneYet ∷ []) ∷ []
+step_changes (Some GatherStep.Part) =
     change (Whole sums ∷ NoneYet ∷ []) (Parts sums or_sign ∷ [])
     ∷ change (Whole assignments ∷ NoneYet ∷ []) (Parts assignments comma_sign ∷ [])
     ∷ change (Whole sums ∷ Sign or_sign ∷ Parts sums or_sign ∷ []) (Parts sums or_sign ∷ [])
     ∷ change (Whole assignments ∷ Sign comma_sign ∷ Parts assignments comma_sign ∷ []) (Parts assignments comma_sign ∷ [])
     ∷ []
-step_changes (Some step.Call) =
+step_changes (Some GatherStep.Call) =
     change (Sign closing_sign ∷ Any assignments comma_sign ∷ Sign opening_sign ∷ Whole members ∷ []) (Whole members ∷ []) ∷ []
-step_changes (Some (step.Test op)) = test_changes (sign_of_test op)
-step_changes (Some step.Bracket) = change (Sign opening_sign ∷ []) (Opened ∷ []) ∷ []
-step_changes (Some step.Bracketed) =
+step_changes (Some (GatherStep.Test op)) = test_changes (sign_of_test op)
+step_changes (Some GatherStep.Bracket) = change (Sign opening_sign ∷ []) (Opened ∷ []) ∷ []
+step_changes (Some GatherStep.Bracketed) =
     change (Sign closing_sign ∷ Whole commas ∷ Opened ∷ []) (Whole primaries ∷ []) ∷ change (Whole commas ∷ Opened ∷ []) (Closing ∷ []) ∷ []
 
 -- the change of a rule
@@ -152,9 +142,9 @@ typings =
     ∷ []
 
 abbrev is_rule : ℕ → Symbol Action → Bool
-is_rule number (Rule rule) = number == rule
-is_rule number (Token class) = false
-is_rule number (Act a) = false
+is_rule number (Symbol.Rule rule) = number == rule
+is_rule number (Symbol.Token class) = false
+is_rule number (Symbol.Act a) = false
 
 abbrev found_change : ℕ → List Typing → Option Change
 found_change number [] = None
@@ -187,26 +177,26 @@ with_token set items = Sign set ∷ items
 
 abbrev pub passed : List (Symbol Action) → List Item → Option (List Item)
 passed [] items = Some items
-passed (Token class ∷ symbols) items = passed symbols (with_token (grammar.atoms_of class) items)
-passed (Act a ∷ symbols) items =
+passed (Symbol.Token class ∷ symbols) items = passed symbols (with_token (grammar.atoms_of class) items)
+passed (Symbol.Act a ∷ symbols) items =
     if is_sure a then passed symbols items else and_then (passed symbols) (changed_by_one (step_changes (step_of a)) items)
-passed (Rule rule ∷ symbols) items = and_then (passed symbols) (changed_by (rule_change rule) items)
+passed (Symbol.Rule rule ∷ symbols) items = and_then (passed symbols) (changed_by (rule_change rule) items)
 
 -- the passing of symbols as a relation
 pub data Passes : List Item → List (Symbol Action) → List Item → Type 0 where
   done : {items target : List Item} → Within items target → Passes items [] target
   token : {class : ℕ} {items target : List Item} {symbols : List (Symbol Action)} →
-      Passes (Sign (grammar.atoms_of class) ∷ items) symbols target → Passes items (Token class ∷ symbols) target
+      Passes (Sign (grammar.atoms_of class) ∷ items) symbols target → Passes items (Symbol.Token class ∷ symbols) target
   close : {class : ℕ} {items rest target : List Item} {symbols : List (Symbol Action)} → Within items (Closing ∷ rest) →
       is_within (grammar.atoms_of class) closing_sign ≡ true → Passes (Whole primaries ∷ rest) symbols target →
-      Passes items (Token class ∷ symbols) target
+      Passes items (Symbol.Token class ∷ symbols) target
   sure : {items target : List Item} {symbols : List (Symbol Action)} → Passes items symbols target →
-      Passes items (Act action.OuterSure ∷ symbols) target
+      Passes items (Symbol.Act Action.OuterSure ∷ symbols) target
   act : {a : Action} {items target : List Item} {symbols : List (Symbol Action)} (c : Change) (rest : List Item) →
       IsOneOf c (step_changes (step_of a)) → Within items (c.old ++ rest) → Passes (c.now ++ rest) symbols target →
-      Passes items (Act a ∷ symbols) target
+      Passes items (Symbol.Act a ∷ symbols) target
   rule : {r : ℕ} {items target : List Item} {symbols : List (Symbol Action)} (c : Change) (rest : List Item) → rule_change r ≡ Some c →
-      Within items (c.old ++ rest) → Passes (c.now ++ rest) symbols target → Passes items (Rule r ∷ symbols) target
+      Within items (c.old ++ rest) → Passes (c.now ++ rest) symbols target → Passes items (Symbol.Rule r ∷ symbols) target
 
 -- the items that a change took from the top, where the rest stays
 record Took (c : Change) (items next : List Item) : Type 0 where
@@ -250,13 +240,13 @@ by_sound None items next e = cc
 by_sound (Some c) items next e = record { c = c; is = refl; took = changed_sound c items next e }
 
 passed_token : (class : ℕ) (items target : List Item) (symbols : List (Symbol Action)) →
-    Passes (with_token (grammar.atoms_of class) items) symbols target → Passes items (Token class ∷ symbols) target
+    Passes (with_token (grammar.atoms_of class) items) symbols target → Passes items (Symbol.Token class ∷ symbols) target
 passed_token class [] target symbols p = token p
 passed_token class (Closing ∷ rest) target symbols p = by_test (is_within (grammar.atoms_of class) closing_sign) refl p
   where
     by_test : (b : Bool) → is_within (grammar.atoms_of class) closing_sign ≡ b →
         Passes (if b then Whole primaries ∷ rest else Sign (grammar.atoms_of class) ∷ Closing ∷ rest) symbols target →
-        Passes (Closing ∷ rest) (Token class ∷ symbols) target
+        Passes (Closing ∷ rest) (Symbol.Token class ∷ symbols) target
     by_test true e q = close (within_same (Closing ∷ rest)) e q
     by_test false e q = token q
 passed_token class (Sign set ∷ rest) target symbols p = token p
@@ -269,14 +259,14 @@ passed_token class (Any level signs ∷ rest) target symbols p = token p
 pub passed_sound : (symbols : List (Symbol Action)) (items target last : List Item) → passed symbols items ≡ Some last →
     Within last target → Passes items symbols target
 passed_sound [] items target last e w = done (subst (λ l. Within l target) (sym (same_Some items last e)) w)
-passed_sound (Token class ∷ symbols) items target last e w =
+passed_sound (Symbol.Token class ∷ symbols) items target last e w =
     passed_token class items target symbols (passed_sound symbols (with_token (grammar.atoms_of class) items) target last e w)
-passed_sound (Act a ∷ symbols) items target last e w =
+passed_sound (Symbol.Act a ∷ symbols) items target last e w =
     by_sure (λ q. passed_sound symbols items target last q w) (λ next q. passed_sound symbols next target last q w) (is_sure a) refl e
   where
     by_next : ((next : List Item) → passed symbols next ≡ Some last → Passes next symbols target) → (o : Option (List Item)) →
         changed_by_one (step_changes (step_of a)) items ≡ o → and_then (passed symbols) o ≡ Some last →
-        Passes items (Act a ∷ symbols) target
+        Passes items (Symbol.Act a ∷ symbols) target
     by_next on None p q = cc
     by_next on (Some next) p q =
         let t = one_sound (step_changes (step_of a)) items next p in
@@ -285,14 +275,14 @@ passed_sound (Act a ∷ symbols) items target last e w =
     by_sure : (passed symbols items ≡ Some last → Passes items symbols target) →
         ((next : List Item) → passed symbols next ≡ Some last → Passes next symbols target) → (b : Bool) → is_sure a ≡ b →
         (if b then passed symbols items else and_then (passed symbols) (changed_by_one (step_changes (step_of a)) items)) ≡ Some last →
-        Passes items (Act a ∷ symbols) target
-    by_sure same on true f q = subst (λ x. Passes items (Act x ∷ symbols) target) (sym (only_sure a f)) (sure (same q))
+        Passes items (Symbol.Act a ∷ symbols) target
+    by_sure same on true f q = subst (λ x. Passes items (Symbol.Act x ∷ symbols) target) (sym (only_sure a f)) (sure (same q))
     by_sure same on false f q = by_next on (changed_by_one (step_changes (step_of a)) items) refl q
-passed_sound (Rule r ∷ symbols) items target last e w =
+passed_sound (Symbol.Rule r ∷ symbols) items target last e w =
     by_next (λ next q. passed_sound symbols next target last q w) (changed_by (rule_change r) items) refl e
   where
     by_next : ((next : List Item) → passed symbols next ≡ Some last → Passes next symbols target) → (o : Option (List Item)) →
-        changed_by (rule_change r) items ≡ o → and_then (passed symbols) o ≡ Some last → Passes items (Rule r ∷ symbols) target
+        changed_by (rule_change r) items ≡ o → and_then (passed symbols) o ≡ Some last → Passes items (Symbol.Rule r ∷ symbols) target
     by_next on None p q = cc
     by_next on (Some next) p q =
         let t = by_sound (rule_change r) items next p in

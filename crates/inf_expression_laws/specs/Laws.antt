@@ -1,22 +1,15 @@
 -- Laws of expressions: the grammar's actions gather of a text the one expression that the text is.
 use Rattle.std.specs.Prelude.{◌≡◌, ℕ, ◌≤◌, ◌<◌, List, [], ◌∷◌, ◌++◌, length, Bool, true, false, ◌||◌, None}
-use Rattle.inf_machine.specs.declared.symbols.Symbol.{Symbol}
-use Rattle.inf_machine.specs.Grammar.{Event, IsOneOf, IsText}
+use Rattle.inf_machine.specs.{Grammar.Event, Grammar.IsOneOf, Grammar.IsText, declared.symbols.Symbol.Symbol}
 use Rattle.inf_syntax.specs.declared.actions.Action.{Action}
 use Rattle.inf_syntax.specs.Parts.{ !bracket, !bracketed, !comma, !name, !negate, !outer_sure, !text, 'close_parenthesis', 'comma', 'minus'}
 use Rattle.inf_syntax.specs.Parts.{'open_parenthesis', BEGINNAME, CASENAME, NOTALIAS, OPERAND, TEXT, after_prim, after_unary, assign}
 use Rattle.inf_syntax.specs.Parts.{bare_prim, bracketed, entry, expression, expression_tail, inner_operator, logic, neg, operator}
 use Rattle.inf_syntax.specs.Parts.{other_assign, other_operator, outer_operator, plain_prim, post, prefixed, prim, step_prefix}
-use Rattle.inf_expressions.specs.declared.operators.Operand.{Operand}
-use Rattle.inf_expressions.specs.declared.units.Wanted.{Wanted}
-use Rattle.inf_expressions.specs.declared.units.Wanted.TheVariants as wanted
-use Rattle.inf_expressions.specs.Judging.{root_finding}
-use Rattle.inf_expressions.specs.Rooted.{seen}
-use Rattle.inf_expressions.specs.Sources.{Source, found_in, meant}
-use Rattle.inf_expressions.specs.Units.{judged, trees_of}
+use Rattle.inf_expressions.specs.{Judging.root_finding, Rooted.seen, Sources.Source, Sources.found_in, Sources.meant, Units.judged}
+use Rattle.inf_expressions.specs.{Units.trees_of, declared.operators.Operand.Operand, declared.units.Wanted.Wanted}
 use Rattle.inf_grammar.specs.Language.{grammar}
-use Rattle.inf_unit.specs.Tokens.{SourceToken}
-use Rattle.inf_unit.specs.Units.{Unit}
+use Rattle.inf_unit.specs.{Tokens.SourceToken, Units.Unit}
 use Rattle.inf_expression_laws.specs.Precedence.{Written, assignments, commas, connections, members, negations, primaries}
 use Rattle.inf_expression_laws.specs.Gathered.{AreSeen, read_by, symbols_of, with_source}
 
@@ -95,7 +88,7 @@ ExpressionsAreRead =
 
 -- Whether a comma in no brackets joins the expressions around it: between the values of a case it does not.
 abbrev pub joins_commas : Wanted → Bool
-joins_commas wanted.Case = false
+joins_commas Wanted.Case = false
 joins_commas _ = true
 
 -- The symbols of an expression make its tree, of the trees of its parts, and give the least of its faults.

@@ -2,18 +2,12 @@
 -- their atoms. Designer's Manual, fourth edition, section 1.6, and the table of operators in its appendix.
 use Rattle.std.specs.Prelude.{◌≡◌, ℕ, suc, ◌+◌, List, [], ◌∷◌, ◌++◌, length, codes, true, Option, Some, None}
 use Rattle.inf_machine.specs.Grammar.{has}
-use Rattle.inf_scanner.specs.declared.tokens.Mark.TheVariants as mark
+use Rattle.inf_scanner.specs.declared.tokens.Mark.{Mark}
 use Rattle.inf_syntax.specs.Atoms.{char, joined, number, of_mark, of_word, text, word_literal}
 use Rattle.inf_syntax.specs.Classes.{operand as operand_names}
-use Rattle.inf_expressions.specs.declared.operators.Binary.{Binary}
-use Rattle.inf_expressions.specs.declared.operators.Binary.TheVariants as binary
-use Rattle.inf_expressions.specs.declared.operators.Operation.TheVariants as operation
-use Rattle.inf_expressions.specs.declared.operators.PropertyPart.TheVariants as property
-use Rattle.inf_expressions.specs.declared.operators.Single.TheVariants as single
-use Rattle.inf_expressions.specs.declared.operators.Direction.TheVariants as stepping
-use Rattle.inf_expressions.specs.declared.operators.Test.TheVariants as test
-use Rattle.inf_expressions.specs.declared.operators.Unary.{Unary}
-use Rattle.inf_expressions.specs.declared.operators.Unary.TheVariants as unary
+use Rattle.inf_expressions.specs.{declared.operators.Binary.Binary, declared.operators.Direction.Direction}
+use Rattle.inf_expressions.specs.{declared.operators.Operation.Operation, declared.operators.PropertyPart.PropertyPart}
+use Rattle.inf_expressions.specs.{declared.operators.Single.Single, declared.operators.Test.Test, declared.operators.Unary.Unary}
 use Rattle.inf_expressions.specs.Sources.{Source, Leaf, Brackets, Prefix, Suffix, Two, Then, Call, Alone}
 
 -- The levels at which expressions are bound, from the loosest: those with commas, assignments, `&&` and `||`, `~~`, tests,
@@ -66,52 +60,52 @@ primaries = 14
 
 -- Operators between two expressions that join from the left: the level at which each binds, and its sign.
 abbrev pub sign_between : Binary → Option (ℕ × ℕ)
-sign_between binary.Comma = Some (commas, of_mark mark.Comma)
-sign_between binary.And = Some (connections, of_mark mark.LogicalAnd)
-sign_between binary.Or = Some (connections, of_mark mark.LogicalOr)
-sign_between (binary.Operation operation.Add) = Some (sums, of_mark mark.Plus)
-sign_between (binary.Operation operation.Subtract) = Some (sums, of_mark mark.Minus)
-sign_between (binary.Operation operation.Multiply) = Some (products, of_mark mark.Times)
-sign_between (binary.Operation operation.Divide) = Some (products, of_mark mark.Divide)
-sign_between (binary.Operation operation.Remainder) = Some (products, of_mark mark.Remainder)
-sign_between (binary.Operation operation.BitAnd) = Some (products, of_mark mark.BitAnd)
-sign_between (binary.Operation operation.BitOr) = Some (products, of_mark mark.BitOr)
-sign_between (binary.Operation operation.Byte) = Some (entries, of_mark mark.Arrow)
-sign_between (binary.Operation operation.Word) = Some (entries, of_mark mark.LongArrow)
-sign_between (binary.Property property.Address) = Some (addresses, of_mark mark.DotAnd)
-sign_between (binary.Property property.Length) = Some (addresses, of_mark mark.DotHash)
-sign_between (binary.Property property.Value) = Some (members, of_mark mark.Dot)
+sign_between Binary.Comma = Some (commas, of_mark Mark.Comma)
+sign_between Binary.And = Some (connections, of_mark Mark.LogicalAnd)
+sign_between Binary.Or = Some (connections, of_mark Mark.LogicalOr)
+sign_between (Binary.Operation Operation.Add) = Some (sums, of_mark Mark.Plus)
+sign_between (Binary.Operation Operation.Subtract) = Some (sums, of_mark Mark.Minus)
+sign_between (Binary.Operation Operation.Multiply) = Some (products, of_mark Mark.Times)
+sign_between (Binary.Operation Operation.Divide) = Some (products, of_mark Mark.Divide)
+sign_between (Binary.Operation Operation.Remainder) = Some (products, of_mark Mark.Remainder)
+sign_between (Binary.Operation Operation.BitAnd) = Some (products, of_mark Mark.BitAnd)
+sign_between (Binary.Operation Operation.BitOr) = Some (products, of_mark Mark.BitOr)
+sign_between (Binary.Operation Operation.Byte) = Some (entries, of_mark Mark.Arrow)
+sign_between (Binary.Operation Operation.Word) = Some (entries, of_mark Mark.LongArrow)
+sign_between (Binary.Property PropertyPart.Address) = Some (addresses, of_mark Mark.DotAnd)
+sign_between (Binary.Property PropertyPart.Length) = Some (addresses, of_mark Mark.DotHash)
+sign_between (Binary.Property PropertyPart.Value) = Some (members, of_mark Mark.Dot)
 sign_between _ = None
 
 -- operators in front of one expression
 abbrev pub sign_in_front : Unary → Option (ℕ × ℕ)
-sign_in_front unary.Not = Some (denials, of_mark mark.LogicalNot)
-sign_in_front (unary.Single single.Complement) = Some (complements, of_mark mark.BitNot)
-sign_in_front unary.Negate = Some (negations, of_mark mark.Minus)
-sign_in_front (unary.Before stepping.Up) = Some (steps_in_front, of_mark mark.Increment)
-sign_in_front (unary.Before stepping.Down) = Some (steps_in_front, of_mark mark.Decrement)
+sign_in_front Unary.Not = Some (denials, of_mark Mark.LogicalNot)
+sign_in_front (Unary.Single Single.Complement) = Some (complements, of_mark Mark.BitNot)
+sign_in_front Unary.Negate = Some (negations, of_mark Mark.Minus)
+sign_in_front (Unary.Before Direction.Up) = Some (steps_in_front, of_mark Mark.Increment)
+sign_in_front (Unary.Before Direction.Down) = Some (steps_in_front, of_mark Mark.Decrement)
 sign_in_front _ = None
 
 -- operators behind one expression
 abbrev pub sign_behind : Unary → Option (ℕ × ℕ)
-sign_behind (unary.Behind stepping.Up) = Some (steps_behind, of_mark mark.Increment)
-sign_behind (unary.Behind stepping.Down) = Some (steps_behind, of_mark mark.Decrement)
+sign_behind (Unary.Behind Direction.Up) = Some (steps_behind, of_mark Mark.Increment)
+sign_behind (Unary.Behind Direction.Down) = Some (steps_behind, of_mark Mark.Decrement)
 sign_behind _ = None
 
 -- Tests, which are between two sums, or between a sum and several with `or` between them, and are not joined.
 abbrev pub sign_of_test : Binary → Option ℕ
-sign_of_test (binary.Test test.Equal) = Some (of_mark mark.Equal)
-sign_of_test (binary.Fails test.Equal) = Some (of_mark mark.NotEqual)
-sign_of_test (binary.Test test.Less) = Some (of_mark mark.Less)
-sign_of_test (binary.Test test.Greater) = Some (of_mark mark.Greater)
-sign_of_test (binary.Test test.AtMost) = Some (of_mark mark.LessOrEqual)
-sign_of_test (binary.Test test.AtLeast) = Some (of_mark mark.GreaterOrEqual)
-sign_of_test (binary.Test test.Has) = Some (of_word (codes "has"))
-sign_of_test (binary.Fails test.Has) = Some (of_word (codes "hasnt"))
-sign_of_test (binary.Test test.In) = Some (of_word (codes "in"))
-sign_of_test (binary.Fails test.In) = Some (of_word (codes "notin"))
-sign_of_test (binary.Test test.OfClass) = Some (of_word (codes "ofclass"))
-sign_of_test (binary.Test test.Provides) = Some (of_word (codes "provides"))
+sign_of_test (Binary.Test Test.Equal) = Some (of_mark Mark.Equal)
+sign_of_test (Binary.Fails Test.Equal) = Some (of_mark Mark.NotEqual)
+sign_of_test (Binary.Test Test.Less) = Some (of_mark Mark.Less)
+sign_of_test (Binary.Test Test.Greater) = Some (of_mark Mark.Greater)
+sign_of_test (Binary.Test Test.AtMost) = Some (of_mark Mark.LessOrEqual)
+sign_of_test (Binary.Test Test.AtLeast) = Some (of_mark Mark.GreaterOrEqual)
+sign_of_test (Binary.Test Test.Has) = Some (of_word (codes "has"))
+sign_of_test (Binary.Fails Test.Has) = Some (of_word (codes "hasnt"))
+sign_of_test (Binary.Test Test.In) = Some (of_word (codes "in"))
+sign_of_test (Binary.Fails Test.In) = Some (of_word (codes "notin"))
+sign_of_test (Binary.Test Test.OfClass) = Some (of_word (codes "ofclass"))
+sign_of_test (Binary.Test Test.Provides) = Some (of_word (codes "provides"))
 sign_of_test _ = None
 
 -- the tokens that are operands by themselves
@@ -122,13 +116,13 @@ abbrev pub or_sign : ℕ
 or_sign = of_word (codes "or")
 
 abbrev pub comma_sign : ℕ
-comma_sign = of_mark mark.Comma
+comma_sign = of_mark Mark.Comma
 
 abbrev pub opening_sign : ℕ
-opening_sign = of_mark mark.OpenParenthesis
+opening_sign = of_mark Mark.OpenParenthesis
 
 abbrev pub closing_sign : ℕ
-closing_sign = of_mark mark.CloseParenthesis
+closing_sign = of_mark Mark.CloseParenthesis
 
 -- Number of leaves of an expression or a list
 abbrev pub leaf_count : Source → ℕ
@@ -155,9 +149,9 @@ list_of a (b ∷ sources) = Then a (list_of b sources)
 mutual
   pub data Written : ℕ → ℕ → ℕ → List ℕ → Source → Type 0 where
     operand : {order place atom : ℕ} → has operands atom ≡ true → Written primaries order place (atom ∷ []) (Leaf order order place)
-    action : {order place sign atom : ℕ} → has (of_mark mark.DoubleHash) sign ≡ true → has operand_names atom ≡ true →
+    action : {order place sign atom : ℕ} → has (of_mark Mark.DoubleHash) sign ≡ true → has operand_names atom ≡ true →
         Written primaries order place (sign ∷ atom ∷ []) (Leaf order (suc order) place)
-    system : {order place sign atom : ℕ} → has (of_mark mark.Hash) sign ≡ true → has operand_names atom ≡ true →
+    system : {order place sign atom : ℕ} → has (of_mark Mark.Hash) sign ≡ true → has operand_names atom ≡ true →
         Written primaries order place (sign ∷ atom ∷ []) (Leaf order (suc order) place)
     brackets : {order place left : ℕ} (right : ℕ) (atoms : List ℕ) {a : Source} → has opening_sign left ≡ true →
         Written commas (suc order) place atoms a → has closing_sign right ≡ true →
@@ -177,8 +171,8 @@ mutual
         Written (suc level) (suc (order + length left)) (place + leaf_count a) right b →
         Written level order place (left ++ sign ∷ right) (Two op a b)
     assigned : {order place : ℕ} (sign : ℕ) (left right : List ℕ) {a b : Source} → Written connections order place left a →
-        has (of_mark mark.Assign) sign ≡ true → Written assignments (suc (order + length left)) (place + leaf_count a) right b →
-        Written assignments order place (left ++ sign ∷ right) (Two binary.Assign a b)
+        has (of_mark Mark.Assign) sign ≡ true → Written assignments (suc (order + length left)) (place + leaf_count a) right b →
+        Written assignments order place (left ++ sign ∷ right) (Two Binary.Assign a b)
     tested : {order place : ℕ} (signs sign : ℕ) (left right : List ℕ) {op : Binary} {a : Source} (b : Source) (sources : List Source) →
         sign_of_test op ≡ Some signs → Written sums order place left a → has signs sign ≡ true →
         Listed sums or_sign (suc (order + length left)) (place + leaf_count a) right (b ∷ sources) →

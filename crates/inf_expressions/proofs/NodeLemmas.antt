@@ -2,10 +2,7 @@
 use Rattle.std.proofs.Common.{◌≡◌, ℕ, suc, ◌+◌, ◌<◌, ◌≤◌, List, [], ◌∷◌, ◌++◌, length, get_or, take, drop, refl, sym, ◌∙◌, ap, subst, arith}
 use Rattle.std.proofs.Common.{length-append, drop-cons}
 use Rattle.std.proofs.lemmas.List.{get_or_append_left, get_or_push, get_or_past, length-take, take-append-drop}
-use Rattle.inf_expressions.specs.declared.operators.Operand.TheVariants.{Known}
-use Rattle.inf_expressions.specs.declared.nodes.Node.{Node}
-use Rattle.inf_expressions.specs.declared.nodes.Node.TheVariants as node
-use Rattle.inf_expressions.specs.Trees.{Tree, Leaf}
+use Rattle.inf_expressions.specs.{Trees.Leaf, Trees.Tree, declared.nodes.Node.Node, declared.operators.Operand.Operand}
 use Rattle.inf_expressions.specs.Nodes.{tree_at, tree_of, trees_from, IsBelow, AreBelow}
 
 -- The trees of two lists of nodes joined are those of the second behind those of the first.
@@ -41,12 +38,12 @@ kept_at : (trees : List Tree) (back : List Node) (place : ℕ) → place < lengt
 kept_at trees [] place within = refl
 kept_at trees (n ∷ back) place within =
     kept_at (trees ++ tree_of trees n ∷ []) back place (omega (arith, length-append trees (tree_of trees n ∷ [])))
-    ∙ get_or_append_left trees (tree_of trees n ∷ []) (Leaf (Known 0)) place within
+    ∙ get_or_append_left trees (tree_of trees n ∷ []) (Leaf (Operand.Known 0)) place within
 
 kept_of : (trees : List Tree) (back : List Node) (n : Node) → IsBelow (length trees) n → tree_of (trees_from trees back) n ≡ tree_of trees n
-kept_of trees back (node.Leaf operand) below = refl
-kept_of trees back (node.One op a) below = let e = kept_at trees back a below in cc
-kept_of trees back (node.Two op a b) below = let e = kept_at trees back a below.0 in let f = kept_at trees back b below.1 in cc
+kept_of trees back (Node.Leaf operand) below = refl
+kept_of trees back (Node.One op a) below = let e = kept_at trees back a below in cc
+kept_of trees back (Node.Two op a b) below = let e = kept_at trees back a below.0 in let f = kept_at trees back b below.1 in cc
 
 -- At the place of a node is its tree.
 stands : (front : List Node) (n : Node) (back : List Node) → AreBelow 0 (front ++ n ∷ back) →
@@ -57,7 +54,7 @@ stands front n back below =
     let parts : IsBelow (length before) n = subst (λ p. IsBelow p n) (omega arith) (below_at 0 front n back below) in
     ap (λ trees. tree_at trees (length front)) (joined_from [] front (n ∷ back))
     ∙ kept_at (before ++ tree_of before n ∷ []) back (length front) (omega (arith, length-append before (tree_of before n ∷ [])))
-    ∙ get_or_push before (tree_of before n) (Leaf (Known 0)) (length front) len
+    ∙ get_or_push before (tree_of before n) (Leaf (Operand.Known 0)) (length front) len
     ∙ sym (kept_of before (n ∷ back) n parts)
     ∙ ap (λ trees. tree_of trees n) (sym (joined_from [] front (n ∷ back)))
 
@@ -82,8 +79,8 @@ node_below nodes k n below within is =
     subst (λ p. IsBelow p n) (omega (arith, length-take k nodes))
     (below_at 0 (take k nodes) n (drop (suc k) nodes) (subst (AreBelow 0) (sym (cut_at nodes k n within is)) below))
 
-pub no_tree : (nodes : List Node) (k : ℕ) → length nodes ≤ k → tree_at (trees_from [] nodes) k ≡ Leaf (Known 0)
-no_tree nodes k past = get_or_past (trees_from [] nodes) k (Leaf (Known 0)) (omega (arith, trees_len [] nodes))
+pub no_tree : (nodes : List Node) (k : ℕ) → length nodes ≤ k → tree_at (trees_from [] nodes) k ≡ Leaf (Operand.Known 0)
+no_tree nodes k past = get_or_past (trees_from [] nodes) k (Leaf (Operand.Known 0)) (omega (arith, trees_len [] nodes))
 
 pub ruleset one_more = (trees_len, trees_pushed, below_pushed)
 

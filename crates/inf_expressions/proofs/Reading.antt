@@ -1,10 +1,7 @@
 -- Symbols are read one by one into a state. The step of the state at each kind of symbol is all that has to be known to read an
 -- expression from its symbols: this is shown once, for any state.
 use Rattle.std.proofs.Common.{◌≡◌, ℕ, zero, suc, List, [], ◌∷◌, ◌++◌, refl, ◌∙◌, ap, append_assoc}
-use Rattle.inf_expressions.specs.declared.operators.Unary.{Unary}
-use Rattle.inf_expressions.specs.declared.operators.Binary.{Binary}
-use Rattle.inf_expressions.specs.declared.symbols.Symbol.{Symbol}
-use Rattle.inf_expressions.specs.declared.symbols.Symbol.TheVariants as symbol
+use Rattle.inf_expressions.specs.{declared.operators.Binary.Binary, declared.operators.Unary.Unary, declared.symbols.Symbol.Symbol}
 use Rattle.inf_expressions.specs.Sources.{Source, Leaf, Brackets, Prefix, Suffix, Two, Then, Call, Alone, closed, opened, postfix}
 use Rattle.inf_expressions.specs.Sources.{postfixes}
 
@@ -18,17 +15,17 @@ joints joint (suc n) state = joint (joints joint n state)
 
 -- the way in which a state takes symbols, and in which it gains a whole expression
 pub record Reads {S : Type 0} (act : Symbol → S → S) (joint : S → S) (have : Source → S → S) : Type 0 where
-  pub leaf : (first token leaf : ℕ) (state : S) → act (symbol.Leaf first token leaf) state ≡ have (Leaf first token leaf) state
-  pub brackets : (order : ℕ) (a : Source) (state : S) → act (symbol.Bracketed order) (have a state) ≡ have (Brackets order a) state
+  pub leaf : (first token leaf : ℕ) (state : S) → act (Symbol.Leaf first token leaf) state ≡ have (Leaf first token leaf) state
+  pub brackets : (order : ℕ) (a : Source) (state : S) → act (Symbol.Bracketed order) (have a state) ≡ have (Brackets order a) state
   pub prefix : (order : ℕ) (op : Unary) (a : Source) (state : S) →
-      act (symbol.Prefix order op) (have a state) ≡ have (Prefix order op a) state
-  pub suffix : (op : Unary) (a : Source) (state : S) → act (symbol.Suffix op) (have a state) ≡ have (Suffix op a) state
-  pub two : (op : Binary) (a b : Source) (state : S) → act (symbol.Two op) (have b (have a state)) ≡ have (Two op a b) state
+      act (Symbol.Prefix order op) (have a state) ≡ have (Prefix order op a) state
+  pub suffix : (op : Unary) (a : Source) (state : S) → act (Symbol.Suffix op) (have a state) ≡ have (Suffix op a) state
+  pub two : (op : Binary) (a b : Source) (state : S) → act (Symbol.Two op) (have b (have a state)) ≡ have (Two op a b) state
   pub next : (a b : Source) (state : S) → joint (have b (have a state)) ≡ have (Then a b) state
-  pub list : (n : ℕ) (state : S) → act (symbol.List (suc n)) state ≡ joints joint (suc n) state
-  pub alone : (f : Source) (state : S) → act (symbol.Call zero) (have f state) ≡ have (Alone f) state
+  pub list : (n : ℕ) (state : S) → act (Symbol.List (suc n)) state ≡ joints joint (suc n) state
+  pub alone : (f : Source) (state : S) → act (Symbol.Call zero) (have f state) ≡ have (Alone f) state
   pub call : (n : ℕ) (f list : Source) (state given : S) → n ≡ (opened list).1 → joints joint n given ≡ have list (have f state) →
-      act (symbol.Call (suc n)) given ≡ have (Call f list) state
+      act (Symbol.Call (suc n)) given ≡ have (Call f list) state
 
 -- the state that gains the members of a list, one behind the other
 abbrev pub spread : {S : Type 0} → (Source → S → S) → Source → S → S
@@ -60,8 +57,8 @@ closes : {S : Type 0} {act : Symbol → S → S} {joint : S → S} {have : Sourc
     run act (closed symbols n ++ rest) before ≡ run act rest after
 closes {act = act} reads symbols zero rest before members after opens is = opens rest ∙ ap (run act rest) is
 closes {act = act} reads symbols (suc n) rest before members after opens is =
-    ap (λ s. run act s before) (append_assoc symbols (symbol.List (suc n) ∷ []) rest)
-    ∙ opens (symbol.List (suc n) ∷ rest)
+    ap (λ s. run act s before) (append_assoc symbols (Symbol.List (suc n) ∷ []) rest)
+    ∙ opens (Symbol.List (suc n) ∷ rest)
     ∙ ap (run act rest) (reads.list n members ∙ is)
 
 -- A whole expression is read from its symbols, where its symbols without that of the list are read as its members.
@@ -86,27 +83,27 @@ opening : {S : Type 0} {act : Symbol → S → S} {joint : S → S} {have : Sour
     (a : Source) (rest : List Symbol) (state : S) → run act ((opened a).0 ++ rest) state ≡ run act rest (spread have a state)
 opening {act = act} reads (Leaf first token leaf) rest state = ap (run act rest) (reads.leaf first token leaf state)
 opening reads (Brackets order a) rest state =
-    behind reads a (λ more st. opening reads a more st) (symbol.Bracketed order) rest state _ (reads.brackets order a state)
+    behind reads a (λ more st. opening reads a more st) (Symbol.Bracketed order) rest state _ (reads.brackets order a state)
 opening reads (Prefix order op a) rest state =
-    behind reads a (λ more st. opening reads a more st) (symbol.Prefix order op) rest state _ (reads.prefix order op a state)
+    behind reads a (λ more st. opening reads a more st) (Symbol.Prefix order op) rest state _ (reads.prefix order op a state)
 opening reads (Suffix op a) rest state =
-    behind reads a (λ more st. opening reads a more st) (symbol.Suffix op) rest state _ (reads.suffix op a state)
+    behind reads a (λ more st. opening reads a more st) (Symbol.Suffix op) rest state _ (reads.suffix op a state)
 opening {act = act} {have = have} reads (Two op a b) rest state =
-    ap (λ symbols. run act symbols state) (append_assoc (postfix a) (postfix b ++ symbol.Two op ∷ []) rest)
-    ∙ whole reads a (λ more st. opening reads a more st) ((postfix b ++ symbol.Two op ∷ []) ++ rest) state
-    ∙ behind reads b (λ more st. opening reads b more st) (symbol.Two op) rest (have a state) _ (reads.two op a b state)
+    ap (λ symbols. run act symbols state) (append_assoc (postfix a) (postfix b ++ Symbol.Two op ∷ []) rest)
+    ∙ whole reads a (λ more st. opening reads a more st) ((postfix b ++ Symbol.Two op ∷ []) ++ rest) state
+    ∙ behind reads b (λ more st. opening reads b more st) (Symbol.Two op) rest (have a state) _ (reads.two op a b state)
 opening {act = act} {have = have} reads (Then a b) rest state =
     ap (λ symbols. run act symbols state) (append_assoc (postfix a) (opened b).0 rest)
     ∙ whole reads a (λ more st. opening reads a more st) ((opened b).0 ++ rest) state
     ∙ opening reads b rest (have a state)
 opening {act = act} {have = have} reads (Call f list) rest state =
-    ap (λ symbols. run act symbols state) (append_assoc (postfix f) ((opened list).0 ++ symbol.Call (suc (opened list).1) ∷ []) rest)
-    ∙ whole reads f (λ more st. opening reads f more st) (((opened list).0 ++ symbol.Call (suc (opened list).1) ∷ []) ++ rest) state
-    ∙ ap (λ symbols. run act symbols (have f state)) (append_assoc (opened list).0 (symbol.Call (suc (opened list).1) ∷ []) rest)
-    ∙ opening reads list (symbol.Call (suc (opened list).1) ∷ rest) (have f state)
+    ap (λ symbols. run act symbols state) (append_assoc (postfix f) ((opened list).0 ++ Symbol.Call (suc (opened list).1) ∷ []) rest)
+    ∙ whole reads f (λ more st. opening reads f more st) (((opened list).0 ++ Symbol.Call (suc (opened list).1) ∷ []) ++ rest) state
+    ∙ ap (λ symbols. run act symbols (have f state)) (append_assoc (opened list).0 (Symbol.Call (suc (opened list).1) ∷ []) rest)
+    ∙ opening reads list (Symbol.Call (suc (opened list).1) ∷ rest) (have f state)
     ∙ ap (run act rest) (reads.call (opened list).1 f list state (spread have list (have f state)) refl (gathers reads list (have f state)))
 opening reads (Alone f) rest state =
-    behind reads f (λ more st. opening reads f more st) (symbol.Call zero) rest state _ (reads.alone f state)
+    behind reads f (λ more st. opening reads f more st) (Symbol.Call zero) rest state _ (reads.alone f state)
 
 -- An expression is read from its symbols, whatever follows them.
 pub reading : {S : Type 0} {act : Symbol → S → S} {joint : S → S} {have : Source → S → S} (reads : Reads act joint have)

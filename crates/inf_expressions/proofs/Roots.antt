@@ -1,13 +1,10 @@
 -- The latest trees and their roots.
 use Rattle.std.proofs.Common.{◌≡◌, ℕ, ◌<◌, List, [], ◌∷◌, ◌++◌, length, map, refl, sym, ap, arith, length-append}
-use Rattle.std.specs.Prelude.{reverse, option_map, slice_get}
 use Rattle.std.proofs.lemmas.List.{get_or_append_left, get_or_push, map-append, reverse-append, reverse-reverse}
 use Rattle.std.proofs.lemmas.Option.{slice_get-map}
-use Rattle.inf_expressions.specs.declared.operators.Operand.TheVariants.{Known}
-use Rattle.inf_expressions.specs.declared.origins.Origin.{Origin}
-use Rattle.inf_expressions.specs.declared.trees.Root.{Root}
-use Rattle.inf_expressions.specs.Trees.{Tree, Leaf}
-use Rattle.inf_expressions.specs.Nodes.{tree_at, rooted_at, rooted, AreRoots}
+use Rattle.std.specs.Prelude.{reverse, option_map, slice_get}
+use Rattle.inf_expressions.specs.{Nodes.AreRoots, Nodes.rooted, Nodes.rooted_at, Nodes.tree_at, Trees.Leaf, Trees.Tree}
+use Rattle.inf_expressions.specs.{declared.operators.Operand.Operand, declared.origins.Origin.Origin, declared.trees.Root.Root}
 
 -- A root that is pushed is the latest tree, and one that is popped was.
 pub rooted_pushed : (trees : List Tree) (roots : List Root) (root : Root) →
@@ -32,7 +29,7 @@ roots_after trees t (root ∷ roots) all = (omega (arith, all.0, length-append t
 kept_root : (trees : List Tree) (t : Tree) (root : Root) → root.place < length trees →
     rooted_at (trees ++ t ∷ []) root ≡ rooted_at trees root
 kept_root trees t root within =
-    ap (λ x. record { tree = x; origin = root.origin }) (get_or_append_left trees (t ∷ []) (Leaf (Known 0)) root.place within)
+    ap (λ x. record { tree = x; origin = root.origin }) (get_or_append_left trees (t ∷ []) (Leaf (Operand.Known 0)) root.place within)
 
 kept_roots : (trees : List Tree) (t : Tree) (roots : List Root) → AreRoots trees roots →
     map (rooted_at (trees ++ t ∷ [])) roots ≡ map (rooted_at trees) roots
@@ -51,7 +48,7 @@ pub grown : (trees : List Tree) (t : Tree) (roots : List Root) (origin : Origin)
     rooted (trees ++ t ∷ []) (roots ++ record { place = length trees; origin = origin } ∷ []) ≡ record { tree = t; origin = origin } ∷
     rooted trees roots
 grown trees t roots origin all =
-    let latest : tree_at (trees ++ t ∷ []) (length trees) ≡ t = get_or_push trees t (Leaf (Known 0)) (length trees) refl in
+    let latest : tree_at (trees ++ t ∷ []) (length trees) ≡ t = get_or_push trees t (Leaf (Operand.Known 0)) (length trees) refl in
     let others = rooted_after trees t roots all in
     let pushed = rooted_pushed (trees ++ t ∷ []) roots (record { place = length trees; origin = origin }) in
     cc

@@ -1,14 +1,8 @@
 -- The symbols of expressions come to the trees of these expressions, and give back the expressions themselves.
 use Rattle.std.proofs.Common.{◌≡◌, ℕ, zero, suc, List, [], ◌∷◌, ◌++◌, ◌-◌, ◌==◌, false, map, None, refl, sym, ◌∙◌, ap, append_assoc}
-use Rattle.std.proofs.Common.{append-nil, arith}
-use Rattle.std.proofs.lemmas.Bool.Decides.{nat_tests}
-use Rattle.std.proofs.lemmas.List.{reverse-append, reverse-reverse}
-use Rattle.std.specs.Prelude.{reverse}
-use Rattle.inf_expressions.specs.declared.operators.Operand.{Operand}
-use Rattle.inf_expressions.specs.declared.operators.Binary.TheVariants as binary
-use Rattle.inf_expressions.specs.declared.symbols.Symbol.{Symbol}
-use Rattle.inf_expressions.specs.declared.symbols.Symbol.TheVariants as symbol
-use Rattle.inf_expressions.specs.declared.units.Wanted.{Wanted}
+use Rattle.std.proofs.Common.{append-nil, arith, reverse}
+use Rattle.std.proofs.{lemmas.Bool.Decides.nat_tests, lemmas.List.reverse-append, lemmas.List.reverse-reverse}
+use Rattle.inf_expressions.specs.declared.{operators.Binary.Binary, operators.Operand.Operand, symbols.Symbol.Symbol, units.Wanted.Wanted}
 use Rattle.inf_expressions.specs.Units.{Gathered, acted, call_joined, gathered, judged, listed, nothing_gathered, roots_finding, trees_of}
 use Rattle.inf_expressions.specs.Units.{with_two_of}
 use Rattle.inf_expressions.specs.Sources.{Source, Leaf, Brackets, Prefix, Suffix, Two, Then, Call, Alone, found_in, found_in_all, meant}
@@ -24,13 +18,13 @@ gathered_run : (w : Wanted) (unit : ℕ) (operands : List Operand) (symbols : Li
 gathered_run w unit operands [] g = refl
 gathered_run w unit operands (s ∷ symbols) g = gathered_run w unit operands symbols (acted w unit operands s g)
 
-listed_joints : (unit n : ℕ) (g : Gathered) → listed unit n g ≡ joints (with_two_of unit binary.Then) n g
+listed_joints : (unit n : ℕ) (g : Gathered) → listed unit n g ≡ joints (with_two_of unit Binary.Then) n g
 listed_joints unit zero g = refl
-listed_joints unit (suc n) g = ap (with_two_of unit binary.Then) (listed_joints unit n g)
+listed_joints unit (suc n) g = ap (with_two_of unit Binary.Then) (listed_joints unit n g)
 
 call_gained : (w : Wanted) (unit : ℕ) (operands : List Operand) (n : ℕ) (f list : Source) (g given : Gathered) → n ≡ (opened list).1 →
-    joints (with_two_of unit binary.Then) n given ≡ gained unit operands list (gained unit operands f g) →
-    acted w unit operands (symbol.Call (suc n)) given ≡ gained unit operands (Call f list) g
+    joints (with_two_of unit Binary.Then) n given ≡ gained unit operands list (gained unit operands f g) →
+    acted w unit operands (Symbol.Call (suc n)) given ≡ gained unit operands (Call f list) g
 call_gained w unit operands n f list g given is joined =
     let less : suc n - 1 ≡ n = omega arith in
     let no : (suc n == 0) ≡ false = grind (arith, nat_tests) in
@@ -38,7 +32,7 @@ call_gained w unit operands n f list g given is joined =
     ∙ ap (λ k. call_joined unit (suc k) (gained unit operands list (gained unit operands f g))) is)
 
 reads_trees : (w : Wanted) (unit : ℕ) (operands : List Operand) →
-    Reads (acted w unit operands) (with_two_of unit binary.Then) (gained unit operands)
+    Reads (acted w unit operands) (with_two_of unit Binary.Then) (gained unit operands)
 reads_trees w unit operands = record {
   leaf = λ first token leaf g. refl;
   brackets = λ order a g. refl;
@@ -93,15 +87,15 @@ over_two make (b ∷ a ∷ sources) = make a b ∷ sources
 over_two make _ = []
 
 abbrev taken : Symbol → List Source → List Source
-taken (symbol.Leaf first token leaf) sources = Leaf first token leaf ∷ sources
-taken (symbol.Bracketed order) sources = over_one (Brackets order) sources
-taken (symbol.Prefix order op) sources = over_one (Prefix order op) sources
-taken (symbol.Suffix op) sources = over_one (Suffix op) sources
-taken (symbol.Two op) sources = over_two (Two op) sources
-taken symbol.Comma sources = over_two (Two binary.Comma) sources
-taken (symbol.List n) sources = joints (over_two Then) n sources
-taken (symbol.Call zero) sources = over_one Alone sources
-taken (symbol.Call (suc n)) sources = over_two Call (joints (over_two Then) n sources)
+taken (Symbol.Leaf first token leaf) sources = Leaf first token leaf ∷ sources
+taken (Symbol.Bracketed order) sources = over_one (Brackets order) sources
+taken (Symbol.Prefix order op) sources = over_one (Prefix order op) sources
+taken (Symbol.Suffix op) sources = over_one (Suffix op) sources
+taken (Symbol.Two op) sources = over_two (Two op) sources
+taken Symbol.Comma sources = over_two (Two Binary.Comma) sources
+taken (Symbol.List n) sources = joints (over_two Then) n sources
+taken (Symbol.Call zero) sources = over_one Alone sources
+taken (Symbol.Call (suc n)) sources = over_two Call (joints (over_two Then) n sources)
 
 reads_sources : Reads taken (over_two Then) (λ a sources. a ∷ sources)
 reads_sources = record {

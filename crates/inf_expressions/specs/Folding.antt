@@ -1,27 +1,19 @@
 -- The tree of an operator; where its operands are known numbers, the number that it gives.
 use Rattle.std.specs.Prelude.{ℕ, ◌==◌, Bool, true, false, not, ◌&&◌, ◌||◌, Option, Some, None}
-use Rattle.inf_expressions.specs.declared.operators.Operand.TheVariants as operand
-use Rattle.inf_expressions.specs.declared.operators.Function.{Function}
-use Rattle.inf_expressions.specs.declared.operators.Function.TheVariants as function
-use Rattle.inf_expressions.specs.declared.operators.Relative.TheVariants as relative
-use Rattle.inf_expressions.specs.declared.operators.Single.TheVariants as single
-use Rattle.inf_expressions.specs.declared.operators.Test.{Test}
-use Rattle.inf_expressions.specs.declared.operators.Unary.{Unary}
-use Rattle.inf_expressions.specs.declared.operators.Unary.TheVariants as unary
-use Rattle.inf_expressions.specs.declared.operators.Binary.{Binary}
-use Rattle.inf_expressions.specs.declared.operators.Binary.TheVariants as binary
+use Rattle.inf_expressions.specs.declared.{operators.Binary.Binary, operators.Function.Function, operators.Operand.Operand}
+use Rattle.inf_expressions.specs.declared.{operators.Relative.Relative, operators.Single.Single, operators.Test.Test, operators.Unary.Unary}
 use Rattle.inf_expressions.specs.Trees.{Tree, Leaf, One, Two}
 use Rattle.inf_expressions.specs.Numbers.{computed, computed_single, holds, same, truth}
 
 -- the number that a tree is, if it is one; a leaf that has no value counts as 0
 abbrev pub known : Tree → Option ℕ
-known (Leaf (operand.Known n)) = Some n
-known (Leaf (operand.Function f)) = Some 0
-known (Leaf operand.Unknown) = Some 0
+known (Leaf (Operand.Known n)) = Some n
+known (Leaf (Operand.Function f)) = Some 0
+known (Leaf Operand.Unknown) = Some 0
 known _ = None
 
 abbrev pub function_of : Tree → Option Function
-function_of (Leaf (operand.Function f)) = Some f
+function_of (Leaf (Operand.Function f)) = Some f
 function_of _ = None
 
 abbrev pub or_known : Option Bool → Option Bool → Option Bool
@@ -34,7 +26,7 @@ holds_known t n None = None
 
 -- tells whether a test holds of a number and any of a list, or was found to hold of those before
 abbrev pub any_holds : Option Bool → Test → ℕ → Tree → Option Bool
-any_holds found t n (Two binary.Then a others) = any_holds (or_known found (holds_known t n (known a))) t n others
+any_holds found t n (Two Binary.Then a others) = any_holds (or_known found (holds_known t n (known a))) t n others
 any_holds found t n a = or_known found (holds_known t n (known a))
 
 abbrev pub any_known : Test → Option ℕ → Tree → Option Bool
@@ -46,15 +38,15 @@ sensed sense (Some found) = Some (truth (same found sense))
 sensed sense None = None
 
 abbrev pub folded_two : Binary → Option ℕ → Option ℕ → Option ℕ
-folded_two (binary.Operation operation) (Some a) (Some b) = computed operation a b
-folded_two binary.And (Some a) (Some b) = Some (truth (not (a == 0) && not (b == 0)))
-folded_two binary.Or (Some a) (Some b) = Some (truth (not (a == 0) || not (b == 0)))
+folded_two (Binary.Operation operation) (Some a) (Some b) = computed operation a b
+folded_two Binary.And (Some a) (Some b) = Some (truth (not (a == 0) && not (b == 0)))
+folded_two Binary.Or (Some a) (Some b) = Some (truth (not (a == 0) || not (b == 0)))
 folded_two _ _ _ = None
 
 -- the number that an operator gives of two trees, if it is known
 abbrev pub folded : Binary → Tree → Tree → Option ℕ
-folded (binary.Test t) a b = sensed true (any_known t (known a) b)
-folded (binary.Fails t) a b = sensed false (any_known t (known a) b)
+folded (Binary.Test t) a b = sensed true (any_known t (known a) b)
+folded (Binary.Fails t) a b = sensed false (any_known t (known a) b)
 folded op a b = folded_two op (known a) (known b)
 
 abbrev pub folded_single : Unary → Option ℕ → Option ℕ
@@ -63,19 +55,19 @@ folded_single op None = None
 
 -- the operator that a call of a function of the system is
 abbrev pub operator_of : Function → Unary
-operator_of function.Child = unary.Relative relative.Child
-operator_of function.Sibling = unary.Relative relative.Sibling
-operator_of function.Parent = unary.Single single.Parent
-operator_of function.Random = unary.Single single.Random
-operator_of function.Children = unary.Children
-operator_of function.Indirect = unary.Indirect
+operator_of Function.Child = Unary.Relative Relative.Child
+operator_of Function.Sibling = Unary.Relative Relative.Sibling
+operator_of Function.Parent = Unary.Single Single.Parent
+operator_of Function.Random = Unary.Single Single.Random
+operator_of Function.Children = Unary.Children
+operator_of Function.Indirect = Unary.Indirect
 
 abbrev pub built : Binary → Option Function → Tree → Tree → Tree
-built binary.Call (Some f) a b = One (operator_of f) b
+built Binary.Call (Some f) a b = One (operator_of f) b
 built op _ a b = Two op a b
 
 abbrev pub number_or : Option ℕ → Tree → Tree
-number_or (Some n) t = Leaf (operand.Known n)
+number_or (Some n) t = Leaf (Operand.Known n)
 number_or None t = t
 
 abbrev pub joined : Binary → Tree → Tree → Tree

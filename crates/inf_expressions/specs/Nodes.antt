@@ -1,24 +1,20 @@
 -- The trees that nodes are, each together with the trees before it.
 use Rattle.std.specs.Prelude.{ℕ, ◌+◌, ◌<◌, List, [], ◌∷◌, ◌++◌, length, map, reverse, slice_index_or}
-use Rattle.inf_expressions.specs.declared.operators.Operand.TheVariants.{Known}
-use Rattle.inf_expressions.specs.declared.nodes.Node.{Node}
-use Rattle.inf_expressions.specs.declared.nodes.Node.TheVariants as node
-use Rattle.inf_expressions.specs.declared.trees.Root.{Root}
+use Rattle.inf_expressions.specs.{Rooted.Rooted, declared.nodes.Node.Node, declared.operators.Operand.Operand, declared.trees.Root.Root}
 use Rattle.inf_expressions.specs.Trees.{Tree, Leaf, One, Two}
-use Rattle.inf_expressions.specs.Rooted.{Rooted}
 
 -- the tree at a place; the number 0 where there is none
 abbrev pub tree_at : List Tree → ℕ → Tree
-tree_at trees place = slice_index_or trees place (Leaf (Known 0))
+tree_at trees place = slice_index_or trees place (Leaf (Operand.Known 0))
 
 abbrev pub trees_at : List Tree → ℕ × ℕ → Tree × Tree
 trees_at trees places = (tree_at trees places.0, tree_at trees places.1)
 
 -- the tree of a node behind these trees
 abbrev pub tree_of : List Tree → Node → Tree
-tree_of trees (node.Leaf operand) = Leaf operand
-tree_of trees (node.One op a) = One op (tree_at trees a)
-tree_of trees (node.Two op a b) = Two op (tree_at trees a) (tree_at trees b)
+tree_of trees (Node.Leaf operand) = Leaf operand
+tree_of trees (Node.One op a) = One op (tree_at trees a)
+tree_of trees (Node.Two op a b) = Two op (tree_at trees a) (tree_at trees b)
 
 abbrev pub trees_from : List Tree → List Node → List Tree
 trees_from trees [] = trees
@@ -26,9 +22,9 @@ trees_from trees (n ∷ nodes) = trees_from (trees ++ tree_of trees n ∷ []) no
 
 -- tells whether the parts of a node come before a place
 abbrev pub IsBelow : ℕ → Node → Type 0
-IsBelow place (node.Leaf operand) = Unit {0}
-IsBelow place (node.One op a) = a < place
-IsBelow place (node.Two op a b) = (a < place) × (b < place)
+IsBelow place (Node.Leaf operand) = Unit {0}
+IsBelow place (Node.One op a) = a < place
+IsBelow place (Node.Two op a b) = (a < place) × (b < place)
 
 abbrev pub AreBelow : ℕ → List Node → Type 0
 AreBelow place [] = Unit {0}

@@ -1,20 +1,17 @@
 -- The tokens with which the text of an expression begins.
 use Rattle.std.specs.Prelude.{ℕ, true, false, Option, Some, None, if◌then◌else◌}
-use Rattle.inf_expressions.specs.declared.operators.Operand.{Operand}
-use Rattle.inf_expressions.specs.declared.operators.Operand.TheVariants as operand
-use Rattle.inf_expressions.specs.declared.origins.Lead.{Lead}
-use Rattle.inf_expressions.specs.declared.origins.Origin.{Origin}
+use Rattle.inf_expressions.specs.{declared.operators.Operand.Operand, declared.origins.Lead.Lead, declared.origins.Origin.Origin}
 
 -- the origin of no expression
 abbrev pub nowhere : Origin
 nowhere = record { first = 0; token = 0; bare = None; lead = record { first = 0; variable = None; is_whole = false } }
 
 abbrev pub variable_of : Operand → Option ℕ
-variable_of (operand.Variable v) = Some v
-variable_of (operand.Known n) = None
-variable_of (operand.Later target) = None
-variable_of (operand.Function f) = None
-variable_of operand.Unknown = None
+variable_of (Operand.Variable v) = Some v
+variable_of (Operand.Known n) = None
+variable_of (Operand.Later target) = None
+variable_of (Operand.Function f) = None
+variable_of Operand.Unknown = None
 
 -- the origin of a leaf, which begins with itself
 abbrev pub of_leaf : ℕ → ℕ → ℕ → Operand → Origin

@@ -1,45 +1,35 @@
 -- The latest trees of a unit, each with the tokens with which its text begins.
 use Rattle.std.specs.Prelude.{ℕ, List, [], ◌∷◌, Option, Some, None, refl}
 use Rattle.std.specs.Coded.{Coded, code_by, coded×}
-use Rattle.inf_expressions.specs.declared.operators.Operand.{Operand}
-use Rattle.inf_expressions.specs.declared.operators.Operand.TheVariants as operand
-use Rattle.inf_expressions.specs.declared.operators.Operation.TheVariants as operation
-use Rattle.inf_expressions.specs.declared.operators.PropertyPart.TheVariants as property
-use Rattle.inf_expressions.specs.declared.operators.Unary.{Unary}
-use Rattle.inf_expressions.specs.declared.operators.Binary.{Binary}
-use Rattle.inf_expressions.specs.declared.operators.Binary.TheVariants as binary
-use Rattle.inf_expressions.specs.declared.kinds.Kind.{Kind}
-use Rattle.inf_expressions.specs.declared.kinds.Kind.TheVariants as kind
-use Rattle.inf_expressions.specs.declared.kinds.Seen.{Seen}
-use Rattle.inf_expressions.specs.declared.origins.Origin.{Origin}
-use Rattle.inf_expressions.specs.Trees.{Tree, Leaf, One, Two}
-use Rattle.inf_expressions.specs.TreeCode.{tree_code}
-use Rattle.inf_expressions.specs.Folding.{joined, joined_single}
-use Rattle.inf_expressions.specs.Origins.{bracketed, followed, nowhere, prefixed}
+use Rattle.inf_expressions.specs.{Folding.joined, Folding.joined_single, Origins.bracketed, Origins.followed, Origins.nowhere}
+use Rattle.inf_expressions.specs.{Origins.prefixed, TreeCode.tree_code, Trees.Leaf, Trees.One, Trees.Tree, Trees.Two}
+use Rattle.inf_expressions.specs.declared.{kinds.Kind.Kind, kinds.Seen.Seen, operators.Binary.Binary, operators.Operand.Operand}
+use Rattle.inf_expressions.specs.declared.{operators.Operation.Operation, operators.PropertyPart.PropertyPart, operators.Unary.Unary}
+use Rattle.inf_expressions.specs.declared.{origins.Origin.Origin}
 
 pub record Rooted : Type 0 where
   pub tree : Tree
   pub origin : Origin
 
 abbrev pub kind_of : Tree → Kind
-kind_of (Leaf (operand.Known n)) = kind.Number n
-kind_of (Leaf (operand.Variable v)) = kind.Variable
-kind_of (Leaf (operand.Later target)) = kind.Constant
-kind_of (Leaf (operand.Function f)) = kind.Function f
-kind_of (Leaf operand.Unknown) = kind.Number 0
-kind_of (One op a) = kind.Code
-kind_of (Two (binary.Operation operation.Byte) a b) = kind.Entry
-kind_of (Two (binary.Operation operation.Word) a b) = kind.Entry
-kind_of (Two (binary.Property property.Value) a b) = kind.Property
-kind_of (Two binary.To a b) = kind.Range
-kind_of (Two op a b) = kind.Code
+kind_of (Leaf (Operand.Known n)) = Kind.Number n
+kind_of (Leaf (Operand.Variable v)) = Kind.Variable
+kind_of (Leaf (Operand.Later target)) = Kind.Constant
+kind_of (Leaf (Operand.Function f)) = Kind.Function f
+kind_of (Leaf Operand.Unknown) = Kind.Number 0
+kind_of (One op a) = Kind.Code
+kind_of (Two (Binary.Operation Operation.Byte) a b) = Kind.Entry
+kind_of (Two (Binary.Operation Operation.Word) a b) = Kind.Entry
+kind_of (Two (Binary.Property PropertyPart.Value) a b) = Kind.Property
+kind_of (Two Binary.To a b) = Kind.Range
+kind_of (Two op a b) = Kind.Code
 
 -- the kind and the origin of a tree
 abbrev pub seen : Rooted → Seen
 seen r = record { kind = kind_of r.tree; origin = r.origin }
 
 abbrev pub nobody : Seen
-nobody = record { kind = kind.Code; origin = nowhere }
+nobody = record { kind = Kind.Code; origin = nowhere }
 
 -- The latest trees, the latest first, once a leaf, brackets or an operator are read.
 abbrev pub with_leaf : Operand → Origin → List Rooted → List Rooted

@@ -1,19 +1,11 @@
 -- Expressions as they are written, the order of their symbols, and the trees and findings to which they come: a law about the symbols.
 use Rattle.std.specs.Prelude.{ℕ, zero, suc, List, [], ◌∷◌, ◌++◌, Option}
-use Rattle.inf_expressions.specs.declared.findings.Finding.{Finding}
-use Rattle.inf_expressions.specs.declared.operators.Operand.{Operand}
-use Rattle.inf_expressions.specs.declared.operators.Unary.{Unary}
-use Rattle.inf_expressions.specs.declared.operators.Unary.TheVariants as unary
-use Rattle.inf_expressions.specs.declared.operators.Binary.{Binary}
-use Rattle.inf_expressions.specs.declared.operators.Binary.TheVariants as binary
-use Rattle.inf_expressions.specs.declared.symbols.Symbol.{Symbol}
-use Rattle.inf_expressions.specs.declared.symbols.Symbol.TheVariants as symbol
+use Rattle.inf_expressions.specs.{Folding.joined, Folding.joined_single, Rooted.Rooted, Rooted.seen, Units.operand_at}
+use Rattle.inf_expressions.specs.{declared.findings.Finding.Finding, declared.operators.Binary.Binary, declared.operators.Operand.Operand}
+use Rattle.inf_expressions.specs.{declared.operators.Unary.Unary, declared.symbols.Symbol.Symbol}
 use Rattle.inf_expressions.specs.Origins.{bracketed, followed, of_leaf, prefixed}
-use Rattle.inf_expressions.specs.Trees as tree
-use Rattle.inf_expressions.specs.Folding.{joined, joined_single}
-use Rattle.inf_expressions.specs.Rooted.{Rooted, seen}
 use Rattle.inf_expressions.specs.Judging.{call_finding, leaf_finding, two_finding, unary_finding}
-use Rattle.inf_expressions.specs.Units.{operand_at}
+use Rattle.inf_expressions.specs.Trees as tree
 
 pub data Source : Type 0 where
   -- a leaf: its first token, the token at which its errors are reported, and its place among the operands
@@ -32,18 +24,18 @@ pub data Source : Type 0 where
 -- The symbols of an expression. Those of the members of a list follow one another; the symbol of the list comes where it is closed.
 abbrev pub closed : List Symbol → ℕ → List Symbol
 closed symbols zero = symbols
-closed symbols (suc n) = symbols ++ symbol.List (suc n) ∷ []
+closed symbols (suc n) = symbols ++ Symbol.List (suc n) ∷ []
 
 -- the symbols without that of the list, and the number of joints of the list
 abbrev pub opened : Source → List Symbol × ℕ
-opened (Leaf first token leaf) = (symbol.Leaf first token leaf ∷ [], zero)
-opened (Brackets order a) = (closed (opened a).0 (opened a).1 ++ symbol.Bracketed order ∷ [], zero)
-opened (Prefix order op a) = (closed (opened a).0 (opened a).1 ++ symbol.Prefix order op ∷ [], zero)
-opened (Suffix op a) = (closed (opened a).0 (opened a).1 ++ symbol.Suffix op ∷ [], zero)
-opened (Two op a b) = (closed (opened a).0 (opened a).1 ++ (closed (opened b).0 (opened b).1 ++ symbol.Two op ∷ []), zero)
+opened (Leaf first token leaf) = (Symbol.Leaf first token leaf ∷ [], zero)
+opened (Brackets order a) = (closed (opened a).0 (opened a).1 ++ Symbol.Bracketed order ∷ [], zero)
+opened (Prefix order op a) = (closed (opened a).0 (opened a).1 ++ Symbol.Prefix order op ∷ [], zero)
+opened (Suffix op a) = (closed (opened a).0 (opened a).1 ++ Symbol.Suffix op ∷ [], zero)
+opened (Two op a b) = (closed (opened a).0 (opened a).1 ++ (closed (opened b).0 (opened b).1 ++ Symbol.Two op ∷ []), zero)
 opened (Then a b) = (closed (opened a).0 (opened a).1 ++ (opened b).0, suc (opened b).1)
-opened (Call f list) = (closed (opened f).0 (opened f).1 ++ ((opened list).0 ++ symbol.Call (suc (opened list).1) ∷ []), zero)
-opened (Alone f) = (closed (opened f).0 (opened f).1 ++ symbol.Call zero ∷ [], zero)
+opened (Call f list) = (closed (opened f).0 (opened f).1 ++ ((opened list).0 ++ Symbol.Call (suc (opened list).1) ∷ []), zero)
+opened (Alone f) = (closed (opened f).0 (opened f).1 ++ Symbol.Call zero ∷ [], zero)
 
 abbrev pub postfix : Source → List Symbol
 postfix a = closed (opened a).0 (opened a).1
@@ -63,10 +55,10 @@ meant operands (Suffix op a) = record { tree = joined_single op (meant operands 
 meant operands (Two op a b) =
     record { tree = joined op (meant operands a).tree (meant operands b).tree; origin = followed (meant operands a).origin }
 meant operands (Then a b) =
-    record { tree = joined binary.Then (meant operands a).tree (meant operands b).tree; origin = followed (meant operands a).origin }
+    record { tree = joined Binary.Then (meant operands a).tree (meant operands b).tree; origin = followed (meant operands a).origin }
 meant operands (Call f list) =
-    record { tree = joined binary.Call (meant operands f).tree (meant operands list).tree; origin = followed (meant operands f).origin }
-meant operands (Alone f) = record { tree = joined_single unary.Call (meant operands f).tree; origin = followed (meant operands f).origin }
+    record { tree = joined Binary.Call (meant operands f).tree (meant operands list).tree; origin = followed (meant operands f).origin }
+meant operands (Alone f) = record { tree = joined_single Unary.Call (meant operands f).tree; origin = followed (meant operands f).origin }
 
 -- The least of the finding so far and of the findings in an expression, in a unit that begins at the order `unit`.
 abbrev pub found_in : ℕ → List Operand → Source → Option Finding → Option Finding
@@ -77,12 +69,12 @@ found_in unit operands (Suffix op a) found = unary_finding op (seen (meant opera
 found_in unit operands (Two op a b) found =
     two_finding op unit (seen (meant operands a)) (seen (meant operands b)) (found_in unit operands b (found_in unit operands a found))
 found_in unit operands (Then a b) found =
-    two_finding binary.Then unit (seen (meant operands a)) (seen (meant operands b))
+    two_finding Binary.Then unit (seen (meant operands a)) (seen (meant operands b))
     (found_in unit operands b (found_in unit operands a found))
 found_in unit operands (Call f list) found =
     call_finding unit (suc (opened list).1) (seen (meant operands f)) (seen (meant operands list))
     (found_in unit operands list (found_in unit operands f found))
-found_in unit operands (Alone f) found = unary_finding unary.Call (seen (meant operands f)) (found_in unit operands f found)
+found_in unit operands (Alone f) found = unary_finding Unary.Call (seen (meant operands f)) (found_in unit operands f found)
 
 abbrev pub found_in_all : ℕ → List Operand → List Source → Option Finding → Option Finding
 found_in_all unit operands [] found = found

@@ -1,11 +1,8 @@
 -- The way in which a tree is stored: as its leaves and operators, each operator in front of its parts.
 use Rattle.std.specs.Prelude.{◌≡◌, List, [], ◌∷◌, ◌++◌, ◌⊎◌, refl}
-use Rattle.std.proofs.Common.{◌∙◌, ap, sym, inl, inr, append_assoc, append-nil}
 use Rattle.std.specs.Coded.{Coded, code_by, coded⊎, coded_list}
-use Rattle.inf_expressions.specs.declared.operators.Operand.{Operand}
-use Rattle.inf_expressions.specs.declared.operators.Operand.TheVariants.{Known}
-use Rattle.inf_expressions.specs.declared.operators.Unary.{Unary}
-use Rattle.inf_expressions.specs.declared.operators.Binary.{Binary}
+use Rattle.std.proofs.Common.{◌∙◌, ap, sym, inl, inr, append_assoc, append-nil}
+use Rattle.inf_expressions.specs.{declared.operators.Binary.Binary, declared.operators.Operand.Operand, declared.operators.Unary.Unary}
 use Rattle.inf_expressions.specs.Trees.{Tree, Leaf, One, Two}
 
 -- a piece of a tree: a leaf, an operator of one part, or one of two
@@ -42,7 +39,7 @@ reread-pieces (Two op a b) rest =
     ∙ ap (λ trees. a ∷ trees) (reread-pieces b rest))
 
 abbrev pub first_tree : List Tree → Tree
-first_tree [] = Leaf (Known 0)
+first_tree [] = Leaf (Operand.Known 0)
 first_tree (t ∷ trees) = t
 
 pub stored : (t : Tree) → first_tree (reread (pieces t)) ≡ t

@@ -1,22 +1,11 @@
 -- The trees and the finding to which the symbols of a unit come. Each operator comes behind its parts.
 use Rattle.std.specs.Prelude.{ℕ, zero, suc, ◌-◌, ◌==◌, List, [], ◌∷◌, reverse, Option, Some, None, refl, slice_index_or, if◌then◌else◌}
 use Rattle.std.specs.Coded.{Coded, code_by, coded×, coded_list, coded_option}
-use Rattle.inf_expressions.specs.declared.findings.Finding.{Finding}
-use Rattle.inf_expressions.specs.declared.operators.Operand.{Operand}
-use Rattle.inf_expressions.specs.declared.operators.Operand.TheVariants.{Known}
-use Rattle.inf_expressions.specs.declared.operators.Unary.{Unary}
-use Rattle.inf_expressions.specs.declared.operators.Unary.TheVariants as unary
-use Rattle.inf_expressions.specs.declared.operators.Binary.{Binary}
-use Rattle.inf_expressions.specs.declared.operators.Binary.TheVariants as binary
-use Rattle.inf_expressions.specs.declared.origins.Origin.{Origin}
-use Rattle.inf_expressions.specs.declared.symbols.Symbol.{Symbol}
-use Rattle.inf_expressions.specs.declared.symbols.Symbol.TheVariants as symbol
-use Rattle.inf_expressions.specs.declared.units.Wanted.{Wanted}
-use Rattle.inf_expressions.specs.declared.units.Wanted.TheVariants as wanted
-use Rattle.inf_expressions.specs.Origins.{of_leaf}
-use Rattle.inf_expressions.specs.Rooted.{Rooted, rooted_code, bracketed_latest, seen, seen_latest, seen_two, with_leaf, with_two}
-use Rattle.inf_expressions.specs.Rooted.{with_unary}
-use Rattle.inf_expressions.specs.Judging.{call_finding, leaf_finding, root_finding, two_finding, unary_finding}
+use Rattle.inf_expressions.specs.{Judging.call_finding, Judging.leaf_finding, Judging.root_finding, Judging.two_finding}
+use Rattle.inf_expressions.specs.{Judging.unary_finding, Origins.of_leaf, Rooted.Rooted, Rooted.bracketed_latest, Rooted.rooted_code}
+use Rattle.inf_expressions.specs.{Rooted.seen, Rooted.seen_latest, Rooted.seen_two, Rooted.with_leaf, Rooted.with_two, Rooted.with_unary}
+use Rattle.inf_expressions.specs.declared.{findings.Finding.Finding, operators.Binary.Binary, operators.Operand.Operand}
+use Rattle.inf_expressions.specs.declared.{operators.Unary.Unary, origins.Origin.Origin, symbols.Symbol.Symbol, units.Wanted.Wanted}
 
 -- the trees so far, the latest first, and the least finding
 pub record Gathered : Type 0 where
@@ -46,35 +35,35 @@ with_two_of unit op g =
 -- the state where the latest trees are joined to a list, joint by joint, from the last one on
 abbrev pub listed : ℕ → ℕ → Gathered → Gathered
 listed unit zero g = g
-listed unit (suc n) g = with_two_of unit binary.Then (listed unit n g)
+listed unit (suc n) g = with_two_of unit Binary.Then (listed unit n g)
 
 -- the state where a call is joined to its list of `given` arguments
 abbrev pub call_joined : ℕ → ℕ → Gathered → Gathered
 call_joined unit given g = record {
-  trees = with_two binary.Call g.trees;
+  trees = with_two Binary.Call g.trees;
   finding = call_finding unit given (seen_two g.trees).0 (seen_two g.trees).1 g.finding;
 }
 
 abbrev pub called : ℕ → ℕ → Gathered → Gathered
-called unit given g = if given == 0 then with_unary_of unary.Call None g else call_joined unit given (listed unit (given - 1) g)
+called unit given g = if given == 0 then with_unary_of Unary.Call None g else call_joined unit given (listed unit (given - 1) g)
 
 -- the state behind a comma outside of brackets
 abbrev pub parted : Wanted → ℕ → Gathered → Gathered
-parted wanted.Case unit g = g
-parted _ unit g = with_two_of unit binary.Comma g
+parted Wanted.Case unit g = g
+parted _ unit g = with_two_of unit Binary.Comma g
 
 abbrev pub operand_at : List Operand → ℕ → Operand
-operand_at operands leaf = slice_index_or operands leaf (Known 0)
+operand_at operands leaf = slice_index_or operands leaf (Operand.Known 0)
 
 abbrev pub acted : Wanted → ℕ → List Operand → Symbol → Gathered → Gathered
-acted w unit operands (symbol.Leaf first token leaf) g = with_operand first token leaf (operand_at operands leaf) g
-acted w unit operands (symbol.Bracketed order) g = with_brackets order g
-acted w unit operands (symbol.Prefix order op) g = with_unary_of op (Some order) g
-acted w unit operands (symbol.Suffix op) g = with_unary_of op None g
-acted w unit operands (symbol.Two op) g = with_two_of unit op g
-acted w unit operands symbol.Comma g = parted w unit g
-acted w unit operands (symbol.List joints) g = listed unit joints g
-acted w unit operands (symbol.Call given) g = called unit given g
+acted w unit operands (Symbol.Leaf first token leaf) g = with_operand first token leaf (operand_at operands leaf) g
+acted w unit operands (Symbol.Bracketed order) g = with_brackets order g
+acted w unit operands (Symbol.Prefix order op) g = with_unary_of op (Some order) g
+acted w unit operands (Symbol.Suffix op) g = with_unary_of op None g
+acted w unit operands (Symbol.Two op) g = with_two_of unit op g
+acted w unit operands Symbol.Comma g = parted w unit g
+acted w unit operands (Symbol.List joints) g = listed unit joints g
+acted w unit operands (Symbol.Call given) g = called unit given g
 
 abbrev pub gathered : Wanted → ℕ → List Operand → List Symbol → Gathered → Gathered
 gathered w unit operands [] g = g

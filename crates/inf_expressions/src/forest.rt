@@ -1,7 +1,6 @@
 //! The trees of a unit, in order.
 ghost use Rattle.std.specs.Prelude.{◌≡◌, slice_get, option_map};
-ghost use Rattle.inf_expressions.specs.Nodes.{rooted_at};
-ghost use Rattle.inf_expressions.specs.Forests.{trees_in};
+ghost use Rattle.inf_expressions.specs.{Forests.trees_in, Nodes.rooted_at};
 
 use crate::nodes::Nodes;
 use crate::trees::Root;

@@ -1,8 +1,6 @@
 //! The kind of an expression and its origin, by which errors are found.
 ghost use Rattle.std.specs.Prelude.{◌≡◌};
-ghost use Rattle.inf_expressions.specs.Nodes.{tree_at};
-ghost use Rattle.inf_expressions.specs.Rooted.{kind_of};
-ghost use Rattle.inf_expressions.specs.Trees.{Leaf};
+ghost use Rattle.inf_expressions.specs.{Nodes.tree_at, Rooted.kind_of, Trees.Leaf};
 
 use crate::nodes::{Node, Nodes};
 use crate::operators::{Binary, Function, Operand, Operation, PropertyPart};

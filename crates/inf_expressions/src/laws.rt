@@ -1,7 +1,6 @@
 //! Laws that follow from the definitions together. Each function carries a law as its clauses, and does nothing.
 ghost use Rattle.std.specs.Prelude.{◌≡◌, ℕ, List, map, None};
-ghost use Rattle.inf_expressions.specs.declared.operators.Operand.{Operand};
-ghost use Rattle.inf_expressions.specs.declared.units.Wanted.{Wanted};
+ghost use Rattle.inf_expressions.specs.{declared.operators.Operand.Operand, declared.units.Wanted.Wanted};
 ghost use Rattle.inf_expressions.specs.Sources.{Source, found_in_all, meant, postfixes};
 ghost use Rattle.inf_expressions.specs.Units.{judged, roots_finding, trees_of};
 

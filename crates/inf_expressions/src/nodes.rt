@@ -23,8 +23,7 @@ pub struct Nodes {
 impl Model for Nodes {
     ghost use Rattle.std.specs.Prelude.{List, []};
     ghost use Rattle.std.specs.Coded.{coded_list};
-    ghost use Rattle.inf_expressions.specs.Trees.{Tree};
-    ghost use Rattle.inf_expressions.specs.TreeCode.{tree_code};
+    ghost use Rattle.inf_expressions.specs.{TreeCode.tree_code, Trees.Tree};
     ghost use Rattle.inf_expressions.specs.contracts.operators.Operand as operand;
     ghost use Rattle.inf_expressions.specs.contracts.operators.Unary as unary;
     ghost use Rattle.inf_expressions.specs.contracts.operators.Binary as binary;

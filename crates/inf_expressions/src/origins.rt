@@ -1,7 +1,6 @@
 //! The tokens with which the text of an expression begins.
 ghost use Rattle.std.specs.Prelude.{◌≡◌};
-ghost use Rattle.inf_expressions.specs.Origins.{bracketed, bracketed_lead, followed, nowhere, of_leaf, prefixed};
-ghost use Rattle.inf_expressions.specs.Origins.{variable_of};
+ghost use Rattle.inf_expressions.specs.Origins.{bracketed, bracketed_lead, followed, nowhere, of_leaf, prefixed, variable_of};
 
 use crate::operators::Operand;
 

@@ -1,8 +1,7 @@
 //! The latest trees of a unit.
 ghost use Rattle.std.specs.Prelude.{◌≡◌, [], List, OnOk, IfOk, reverse, map};
-ghost use Rattle.inf_expressions.specs.Nodes.{rooted_at};
-ghost use Rattle.inf_expressions.specs.Rooted.{begun, bracketed_latest, nobody};
-ghost use Rattle.inf_expressions.specs.Rooted.{seen, seen_latest, seen_two, with_leaf, with_two, with_unary};
+ghost use Rattle.inf_expressions.specs.{Nodes.rooted_at, Rooted.begun, Rooted.bracketed_latest, Rooted.nobody, Rooted.seen};
+ghost use Rattle.inf_expressions.specs.{Rooted.seen_latest, Rooted.seen_two, Rooted.with_leaf, Rooted.with_two, Rooted.with_unary};
 
 use crate::folding::{joined, joined_single};
 use crate::forest::Forest;

@@ -1,11 +1,8 @@
 //! The expressions of a unit, made from their symbols.
 ghost use Rattle.std.specs.Prelude.{◌≡◌, [], ◌∷◌, IfOk, OnOk, List, reverse};
-ghost use Rattle.inf_expressions.specs.Forests.{trees_in};
-ghost use Rattle.inf_expressions.specs.Units.{acted, called, call_joined, gathered, judged, listed, nothing_gathered};
-ghost use Rattle.inf_expressions.specs.Units.{operand_at, parted, roots_finding, trees_of};
-ghost use Rattle.inf_expressions.specs.declared.operators.Operand.{Operand as Standing};
-ghost use Rattle.inf_expressions.specs.declared.symbols.Symbol.TheVariants as symbol;
-ghost use Rattle.inf_expressions.specs.Units.{with_brackets, with_operand, with_two_of, with_unary_of};
+ghost use Rattle.inf_expressions.specs.{Forests.trees_in, declared.operators.Operand.Operand as Standing, declared.symbols.Symbol.Symbol};
+ghost use Rattle.inf_expressions.specs.Units.{acted, called, call_joined, gathered, judged, listed, nothing_gathered, operand_at, parted};
+ghost use Rattle.inf_expressions.specs.Units.{roots_finding, trees_of, with_brackets, with_operand, with_two_of, with_unary_of};
 
 use crate::findings::Finding;
 use crate::forest::Forest;
@@ -243,7 +240,7 @@ fn judge_leaf(
     operand: Operand,
 ) -> Option<Finding>
     ensures { (operands : List Standing) → operand ≡ operand_at operands leaf →
-        result ≡ judged wanted unit operands (symbol.Leaf first token leaf ∷ []) }
+        result ≡ judged wanted unit operands (Symbol.Leaf first token leaf ∷ []) }
 {
     let seen = Seen {
         kind: kind_of_leaf(operand),

@@ -1,13 +1,7 @@
 -- The parts of its expressions that a unit gathers while it is read.
 use Rattle.std.specs.Prelude.{ℕ, zero, suc, ◌+◌, ◌-◌, ◌==◌, List, [], ◌∷◌, ◌++◌, length, map, drop, take, Bool, if◌then◌else◌}
-use Rattle.inf_expressions.specs.declared.symbols.Symbol.{Symbol}
-use Rattle.inf_expressions.specs.declared.symbols.Symbol.TheVariants as symbol
-use Rattle.inf_expressions.specs.declared.operators.Unary.{Unary}
-use Rattle.inf_expressions.specs.declared.operators.Binary.{Binary}
-use Rattle.inf_expressions.specs.declared.operators.Binary.TheVariants as binary
-use Rattle.inf_gathering.specs.declared.gathering.Extent.{Extent}
-use Rattle.inf_gathering.specs.declared.gathering.Leaf.{Leaf}
-use Rattle.inf_gathering.specs.declared.gathering.Leaf.TheVariants as leaf
+use Rattle.inf_expressions.specs.{declared.operators.Binary.Binary, declared.operators.Unary.Unary, declared.symbols.Symbol.Symbol}
+use Rattle.inf_gathering.specs.{declared.gathering.Extent.Extent, declared.gathering.Leaf.Leaf}
 
 -- The leaves of the unit's expressions; their symbols, each operator behind its parts; the order of the first token of each whole
 -- expression, the latest first; the number of parts of each open list; and the order of each opening bracket that is open, the
@@ -26,18 +20,18 @@ nothing_gathered = record { leaves = []; symbols = []; firsts = []; counts = [];
 abbrev pub with_leaf : ℕ → ℕ → Leaf → Gathering → Gathering
 with_leaf first token leaf g = record g {
   leaves = g.leaves ++ leaf ∷ [];
-  symbols = g.symbols ++ symbol.Leaf first token (length g.leaves) ∷ [];
+  symbols = g.symbols ++ Symbol.Leaf first token (length g.leaves) ∷ [];
   firsts = first ∷ g.firsts;
 }
 
 -- the gathering of `n` numbers
 abbrev pub numbers : ℕ → Gathering
 numbers zero = nothing_gathered
-numbers (suc n) = with_leaf n n (leaf.Number 0) (numbers n)
+numbers (suc n) = with_leaf n n (Leaf.Number 0) (numbers n)
 
 -- the leaf of a name as that of an action
 abbrev pub action_leaf : Leaf → Leaf
-action_leaf (leaf.Name at) = leaf.Action at
+action_leaf (Leaf.Name at) = Leaf.Action at
 action_leaf l = l
 
 abbrev pub with_actions : Gathering → Gathering
@@ -57,20 +51,20 @@ beginning order (first ∷ firsts) = order ∷ firsts
 abbrev pub with_prefix : Unary → Gathering → Gathering
 with_prefix op g =
     let order = latest g.firsts - 1 in
-    record g { symbols = g.symbols ++ symbol.Prefix order op ∷ []; firsts = beginning order g.firsts }
+    record g { symbols = g.symbols ++ Symbol.Prefix order op ∷ []; firsts = beginning order g.firsts }
 
 -- an operator behind the latest expression
 abbrev pub with_suffix : Unary → Gathering → Gathering
-with_suffix op g = record g { symbols = g.symbols ++ symbol.Suffix op ∷ [] }
+with_suffix op g = record g { symbols = g.symbols ++ Symbol.Suffix op ∷ [] }
 
 -- an operator between the latest two expressions
 abbrev pub with_two : Binary → Gathering → Gathering
-with_two op g = record g { symbols = g.symbols ++ symbol.Two op ∷ []; firsts = drop 1 g.firsts }
+with_two op g = record g { symbols = g.symbols ++ Symbol.Two op ∷ []; firsts = drop 1 g.firsts }
 
 -- The symbol of a comma: in brackets it is the operator.
 abbrev pub comma : List ℕ → Symbol
-comma [] = symbol.Comma
-comma (bracket ∷ brackets) = symbol.Two binary.Comma
+comma [] = Symbol.Comma
+comma (bracket ∷ brackets) = Symbol.Two Binary.Comma
 
 abbrev pub with_comma : Gathering → Gathering
 with_comma g = record g { symbols = g.symbols ++ comma g.brackets ∷ []; firsts = drop 1 g.firsts }
@@ -93,13 +87,13 @@ with_part g = record g { counts = one_more g.counts }
 abbrev pub with_call : Gathering → Gathering
 with_call g =
     let given = latest g.counts in
-    record g { symbols = g.symbols ++ symbol.Call given ∷ []; firsts = drop given g.firsts; counts = drop 1 g.counts }
+    record g { symbols = g.symbols ++ Symbol.Call given ∷ []; firsts = drop given g.firsts; counts = drop 1 g.counts }
 
 -- a test of an expression against the parts of the open list
 abbrev pub with_test : Binary → Gathering → Gathering
 with_test op g =
     let parts = latest g.counts in
-    record g { symbols = g.symbols ++ symbol.List (parts - 1) ∷ symbol.Two op ∷ []; firsts = drop parts g.firsts; counts = drop 1 g.counts }
+    record g { symbols = g.symbols ++ Symbol.List (parts - 1) ∷ Symbol.Two op ∷ []; firsts = drop parts g.firsts; counts = drop 1 g.counts }
 
 -- a bracket is opened by a token with an order, and closed
 abbrev pub with_bracket : ℕ → Gathering → Gathering
@@ -108,7 +102,7 @@ with_bracket order g = record g { brackets = order ∷ g.brackets }
 abbrev pub closed_by : List ℕ → Gathering → Gathering
 closed_by [] g = g
 closed_by (order ∷ brackets) g =
-    record g { symbols = g.symbols ++ symbol.Bracketed order ∷ []; firsts = beginning order g.firsts; brackets = brackets }
+    record g { symbols = g.symbols ++ Symbol.Bracketed order ∷ []; firsts = beginning order g.firsts; brackets = brackets }
 
 abbrev pub with_closed_bracket : Gathering → Gathering
 with_closed_bracket g = closed_by g.brackets g

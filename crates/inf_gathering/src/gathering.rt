@@ -1,9 +1,8 @@
 //! Gathering the expressions of a unit.
 ghost use Rattle.std.specs.Prelude.{◌≡◌, OnOk, [], drop, length, map, reverse};
 ghost use Rattle.inf_gathering.specs.Gatherings.{action_leaf, beginning, comma, counted, cut, extent, latest, nothing_gathered, numbers};
-ghost use Rattle.inf_gathering.specs.Gatherings.{one_more};
-ghost use Rattle.inf_gathering.specs.Gatherings.{with_actions, with_bracket, with_call, with_closed_bracket, with_comma, with_leaf};
-ghost use Rattle.inf_gathering.specs.Gatherings.{with_list, with_part, with_prefix, with_rule, with_suffix, with_test, with_two};
+ghost use Rattle.inf_gathering.specs.Gatherings.{one_more, with_actions, with_bracket, with_call, with_closed_bracket, with_comma};
+ghost use Rattle.inf_gathering.specs.Gatherings.{with_leaf, with_list, with_part, with_prefix, with_rule, with_suffix, with_test, with_two};
 
 use inf_expressions::{Binary, Symbol, Unary};
 use inf_scanner::DictionaryWord;

@@ -1,9 +1,9 @@
 -- The bits of numbers that are joined.
 use Rattle.std.proofs.Common.{◌≡◌, ℕ, zero, suc, ◌+◌, ◌*◌, ◌/◌, ◌%◌, ◌^◌, ◌<◌, ◌≤◌, List, [], ◌∷◌, nat_eq, false, length, bit_and, get_or}
 use Rattle.std.proofs.Common.{sym, ◌∙◌, ap, arith}
-use Rattle.std.specs.Int.{bit_at}
 use Rattle.std.proofs.lemmas.Nat.Bits.{bit_at_cat_low, bit_at_cat_high, bit_at-zero, shr_and_one}
 use Rattle.std.proofs.lemmas.List.{get_or_past}
+use Rattle.std.specs.Int.{bit_at}
 use Rattle.inf_machine.specs.Grammar.{has}
 use Rattle.inf_grammar.specs.Tables.{joined_words}
 

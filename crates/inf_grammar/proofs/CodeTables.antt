@@ -1,23 +1,15 @@
 -- The program's tables hold the grammar: by evaluation.
 use Rattle.std.proofs.Common.{◌≡◌, ℕ, ◌<◌, ◌≤◌, List, [], ◌∷◌, Bool, true, false, zero, suc, map, reverse, get_or, length, refl, sym, ◌∙◌}
 use Rattle.std.proofs.Common.{ap, arith, ◌&&◌, if◌then◌else◌}
-use Rattle.inf_machine.specs.declared.symbols.Symbol.{Symbol}
-use Rattle.inf_grammar.specs.declared.rules.Set.{Set}
-use Rattle.inf_grammar.specs.declared.rules.Span.{Span}
-use Rattle.inf_grammar.specs.declared.rules.Row.{Row as CodeRow}
-use Rattle.inf_grammar.specs.declared.rules.Rule.{Rule as CodeRule}
-use Rattle.inf_machine.specs.Grammar.{Row, has}
-use Rattle.inf_syntax.specs.declared.actions.Action.{Action}
-use Rattle.inf_machine.specs.Machine.{row_for, fits, are_acts, passed_row, way}
-use Rattle.inf_machine.specs.Decided.{beginning}
-use Rattle.inf_grammar.specs.Language.{grammar, known, rules}
-use Rattle.inf_syntax.specs.Classes.{classes}
-use Rattle.inf_grammar.specs.Facts.{beginnings, empties}
-use Rattle.inf_grammar.specs.Tables.{all_classes, all_parts, all_rows, all_rules, set_number, cut, found, span_for}
 use Rattle.std.proofs.lemmas.Bool.{and_parts, cond-true, cond-false}
-use Rattle.inf_machine.proofs.Rows.{fits_is_begun, none_chooses_other}
-use Rattle.inf_machine.proofs.Deciding.{decided_parts}
-use Rattle.inf_grammar.specs.Evaluated.{language_is_decided}
+use Rattle.inf_machine.specs.{Decided.beginning, Grammar.Row, Grammar.has, declared.symbols.Symbol.Symbol}
+use Rattle.inf_machine.specs.Machine.{row_for, fits, are_acts, passed_row, way}
+use Rattle.inf_grammar.specs.{Evaluated.language_is_decided, Facts.beginnings, Facts.empties, declared.rules.Row.Row as CodeRow}
+use Rattle.inf_grammar.specs.{declared.rules.Rule.Rule as CodeRule, declared.rules.Set.Set, declared.rules.Span.Span}
+use Rattle.inf_grammar.specs.Language.{grammar, known, rules}
+use Rattle.inf_grammar.specs.Tables.{all_classes, all_parts, all_rows, all_rules, set_number, cut, found, span_for}
+use Rattle.inf_syntax.specs.{Classes.classes, declared.actions.Action.Action}
+use Rattle.inf_machine.proofs.{Deciding.decided_parts, Rows.fits_is_begun, Rows.none_chooses_other}
 
 -- a row by the atoms that begin it and its parts in order
 pub record RowView : Type 0 where

@@ -3,24 +3,16 @@ use Rattle.std.proofs.Common.{◌≡◌, ℕ, zero, suc, ◌^◌, ◌≤◌, Lis
 use Rattle.std.proofs.Common.{None, is_some, bit_and, refl, sym, ◌∙◌, ap, subst, arith, inl, inr, if◌then◌else◌}
 use Rattle.std.proofs.lemmas.Bool.{and_parts, or_cases, both_ways, eqb-true, false_from_ne_true}
 use Rattle.std.proofs.lemmas.List.{append-nil}
-use Rattle.inf_machine.specs.declared.symbols.Symbol.{Symbol}
-use Rattle.inf_machine.specs.declared.symbols.Symbol.TheVariants.{Token, Rule, Act}
-use Rattle.inf_machine.specs.Decided.{beginning}
+use Rattle.inf_machine.specs.{Decided.beginning, declared.symbols.Symbol.Symbol}
 use Rattle.inf_machine.specs.Grammar.{Row, has, IsOneOf, first, later, Event}
 use Rattle.inf_machine.specs.Machine.{fits, chosen, work, taken, events_of, read, Read, behind}
-use Rattle.inf_machine.proofs.Rows.{fits_is_begun}
-use Rattle.inf_machine.proofs.Sets.{has_and, has_zero}
-use Rattle.inf_machine.proofs.Taking.{choice, taken_row}
-use Rattle.inf_machine.proofs.TokenLaws.{bad_tokens_begin_nothing}
-use Rattle.inf_syntax.specs.declared.actions.Action.{Action}
-use Rattle.inf_scanner.specs.declared.tokens.Mark.TheVariants as mark
-use Rattle.inf_syntax.specs.Atoms.{mark_atom, of_word}
+use Rattle.inf_machine.proofs.{Rows.fits_is_begun, Sets.has_and, Sets.has_zero, Taking.choice, Taking.taken_row}
+use Rattle.inf_machine.proofs.{TokenLaws.bad_tokens_begin_nothing}
+use Rattle.inf_syntax.specs.{Atoms.mark_atom, Atoms.of_word, Rows.row, declared.actions.Action.Action}
+use Rattle.inf_scanner.specs.declared.tokens.Mark.{Mark}
+use Rattle.inf_grammar.specs.{Evaluated.language_is_decided, Language.grammar, Language.known, Sources.is_inside, Sources.piece_rule}
 use Rattle.inf_grammar.specs.Brackets.{open_behind, open_behind_all, begin_array, is_bracket_open, OpenRoutinesAreBracketed}
 use Rattle.inf_grammar.specs.Brackets.{LeftRoutinesAreBracketed}
-use Rattle.inf_grammar.specs.Evaluated.{language_is_decided}
-use Rattle.inf_grammar.specs.Language.{grammar, known}
-use Rattle.inf_syntax.specs.Rows.{row}
-use Rattle.inf_grammar.specs.Sources.{piece_rule, is_inside}
 use Rattle.inf_grammar.proofs.OpenStacks.{are_calm, are_opening, are_outer, are_plain, array, array_is, calm_is_out, calm_on, chosen_passes}
 use Rattle.inf_grammar.proofs.OpenStacks.{directive_keeps, fits_row, is_array_row, is_directive_row, left_of, no_step, only_bit, opening_on}
 use Rattle.inf_grammar.proofs.OpenStacks.{outer, outside_on, stands, stands_on, tells}
@@ -90,11 +82,11 @@ array_row_on : (atom n : ℕ) (parts : List (Symbol Action)) → is_array_row pa
     fits grammar known atom parts ≡ true → Begun atom (left_of atom n parts)
 array_row_on atom zero parts h w f = absurd (no_step atom parts w f)
 array_row_on atom (suc n) [] h w f = cc
-array_row_on atom (suc n) (Token class ∷ parts) h w f =
+array_row_on atom (suc n) (Symbol.Token class ∷ parts) h w f =
     let both = and_parts (class == array) (are_calm parts) h in
     AsArray (sym (ap (λ s. has s atom) (ap grammar.atoms_of (eqb-true class array both.0) ∙ array_is)) ∙ f) both.1
-array_row_on atom (suc n) (Act a ∷ parts) h w f = cc
-array_row_on atom (suc n) (Rule rule ∷ parts) h w f = cc
+array_row_on atom (suc n) (Symbol.Act a ∷ parts) h w f = cc
+array_row_on atom (suc n) (Symbol.Rule rule ∷ parts) h w f = cc
 
 -- a token that begins parts which no word of an array begins is no such word
 no_array : (atom : ℕ) (parts : List (Symbol Action)) → (bit_and (beginning grammar known parts) arrays == 0) ≡ true →
@@ -125,16 +117,17 @@ directive_row_on atom n parts h w f =
         ]
 
 -- taking a token of a rule alone leaves the stack that taking it of the chosen row leaves
-taken_alone : (atom rule : ℕ) → fits grammar known atom (Rule rule ∷ []) ≡ true →
-    taken grammar known atom (Rule rule ∷ []) ≡ taken grammar known atom (chosen grammar known atom rule)
+taken_alone : (atom rule : ℕ) → fits grammar known atom (Symbol.Rule rule ∷ []) ≡ true →
+    taken grammar known atom (Symbol.Rule rule ∷ []) ≡ taken grammar known atom (chosen grammar known atom rule)
 taken_alone atom rule f =
     taken_row grammar known language_is_decided atom rule [] f ∙ ap (taken grammar known atom) (append-nil (chosen grammar known atom rule))
 
-fits_alone : (atom rule : ℕ) → fits grammar known atom (Rule rule ∷ []) ≡ true →
+fits_alone : (atom rule : ℕ) → fits grammar known atom (Symbol.Rule rule ∷ []) ≡ true →
     fits grammar known atom (chosen grammar known atom rule) ≡ true
 fits_alone atom rule f = sym (ap (fits grammar known atom) (append-nil (chosen grammar known atom rule))) ∙ fits_row atom rule [] f
 
-directive_begun : (atom : ℕ) → fits grammar known atom (Rule 2 ∷ []) ≡ true → Begun atom (taken grammar known atom (Rule 2 ∷ [])).left
+directive_begun : (atom : ℕ) → fits grammar known atom (Symbol.Rule 2 ∷ []) ≡ true →
+    Begun atom (taken grammar known atom (Symbol.Rule 2 ∷ [])).left
 directive_begun atom f =
     let parts : List (Symbol Action) = chosen grammar known atom 2 in
     subst (λ t. Begun atom t.left) (sym (taken_alone atom 2 f))
@@ -142,33 +135,34 @@ directive_begun atom f =
     (chosen_passes (λ rule. rule == 2) is_directive_row directive_keeps atom 2 [] refl f) (omega arith) (fits_alone atom 2 f))
 
 -- behind some tokens of a directive a routine is open exactly where its bracket is
-directive_on : (atom : ℕ) (atoms : List ℕ) → fits grammar known atom (Rule 2 ∷ []) ≡ true →
-    is_some (read grammar known (taken grammar known atom (Rule 2 ∷ [])).left atoms) ≡ true
-    → is_inside (read grammar known (taken grammar known atom (Rule 2 ∷ [])).left atoms) ≡
+directive_on : (atom : ℕ) (atoms : List ℕ) → fits grammar known atom (Symbol.Rule 2 ∷ []) ≡ true →
+    is_some (read grammar known (taken grammar known atom (Symbol.Rule 2 ∷ [])).left atoms) ≡ true
+    → is_inside (read grammar known (taken grammar known atom (Symbol.Rule 2 ∷ [])).left atoms) ≡
     (not (has arrays atom) && open_behind_all false (atom ∷ atoms))
 directive_on atom atoms f h = by_begun (directive_begun atom f)
   where
     left : List (Symbol Action)
-    left = (taken grammar known atom (Rule 2 ∷ [])).left
+    left = (taken grammar known atom (Symbol.Rule 2 ∷ [])).left
 
     by_begun : Begun atom left → is_inside (read grammar known left atoms) ≡ (not (has arrays atom) && open_behind_all false (atom ∷ atoms))
     by_begun (AsArray a calm) = follow_calm left atoms calm h ∙ sym (ap (λ b. not b && open_behind_all false (atom ∷ atoms)) a)
     by_begun (AsOther a s) =
         follow (open_behind false atom) left atoms s h ∙ sym (ap (λ b. not b && open_behind_all false (atom ∷ atoms)) a)
 
-directive_front : (atoms : List ℕ) → is_some (read grammar known (Rule 2 ∷ []) atoms) ≡ true →
-    is_inside (read grammar known (Rule 2 ∷ []) atoms) ≡ (not (begin_array atoms) && open_behind_all false atoms)
+directive_front : (atoms : List ℕ) → is_some (read grammar known (Symbol.Rule 2 ∷ []) atoms) ≡ true →
+    is_inside (read grammar known (Symbol.Rule 2 ∷ []) atoms) ≡ (not (begin_array atoms) && open_behind_all false atoms)
 directive_front [] h = refl
-directive_front (atom ∷ atoms) h = let t = first_taken (Rule 2 ∷ []) atom atoms h in t.tells ∙ directive_on atom atoms t.fits_it t.goes_on
+directive_front (atom ∷ atoms) h =
+    let t = first_taken (Symbol.Rule 2 ∷ []) atom atoms h in t.tells ∙ directive_on atom atoms t.fits_it t.goes_on
 
 -- The rows of a piece.
 data PieceRow (parts : List (Symbol Action)) : Type 0 where
-  Semicolon : parts ≡ Token 0 ∷ [] → PieceRow parts
-  Hash : parts ≡ Token 1 ∷ Rule 2 ∷ [] → PieceRow parts
-  Directive : parts ≡ Rule 2 ∷ [] → PieceRow parts
+  Semicolon : parts ≡ Symbol.Token 0 ∷ [] → PieceRow parts
+  Hash : parts ≡ Symbol.Token 1 ∷ Symbol.Rule 2 ∷ [] → PieceRow parts
+  Directive : parts ≡ Symbol.Rule 2 ∷ [] → PieceRow parts
 
 abbrev piece_rows : List (Row Action)
-piece_rows = row (Token 0 ∷ []) ∷ row (Token 1 ∷ Rule 2 ∷ []) ∷ row (Rule 2 ∷ []) ∷ []
+piece_rows = row (Symbol.Token 0 ∷ []) ∷ row (Symbol.Token 1 ∷ Symbol.Rule 2 ∷ []) ∷ row (Symbol.Rule 2 ∷ []) ∷ []
 
 pieces_have_them : grammar.rows_of piece_rule ≡ piece_rows
 unfolding grammar
@@ -180,30 +174,30 @@ row_of_piece r (later first) = Hash refl
 row_of_piece r (later (later first)) = Directive refl
 row_of_piece r (later (later (later m))) = elim m [ ]
 
-semicolon_is : grammar.atoms_of 0 ≡ 2 ^ mark_atom mark.Semicolon
+semicolon_is : grammar.atoms_of 0 ≡ 2 ^ mark_atom Mark.Semicolon
 unfolding grammar
 semicolon_is = refl
 
-hash_is : grammar.atoms_of 1 ≡ 2 ^ mark_atom mark.Hash
+hash_is : grammar.atoms_of 1 ≡ 2 ^ mark_atom Mark.Hash
 unfolding grammar
 hash_is = refl
 
-hash_begins_none : fits grammar known (mark_atom mark.Hash) (Rule 2 ∷ []) ≡ false
+hash_begins_none : fits grammar known (mark_atom Mark.Hash) (Symbol.Rule 2 ∷ []) ≡ false
 unfolding grammar known
 hash_begins_none = refl
 
-piece_front : (atoms : List ℕ) → is_some (read grammar known (Rule piece_rule ∷ []) atoms) ≡ true →
-    is_inside (read grammar known (Rule piece_rule ∷ []) atoms) ≡ is_bracket_open atoms
+piece_front : (atoms : List ℕ) → is_some (read grammar known (Symbol.Rule piece_rule ∷ []) atoms) ≡ true →
+    is_inside (read grammar known (Symbol.Rule piece_rule ∷ []) atoms) ≡ is_bracket_open atoms
 piece_front [] h = refl
 piece_front (atom ∷ atoms) h =
     let c = choice grammar known language_is_decided atom piece_rule [] t.fits_it in
     t.tells ∙ by_row (row_of_piece c.row (subst (λ rows. IsOneOf c.row rows) pieces_have_them c.one)) c.is
   where
-    t : FirstTaken (Rule piece_rule ∷ []) atom atoms
-    t = first_taken (Rule piece_rule ∷ []) atom atoms h
+    t : FirstTaken (Symbol.Rule piece_rule ∷ []) atom atoms
+    t = first_taken (Symbol.Rule piece_rule ∷ []) atom atoms h
 
     whole : List (Symbol Action)
-    whole = (taken grammar known atom (Rule piece_rule ∷ [])).left
+    whole = (taken grammar known atom (Symbol.Rule piece_rule ∷ [])).left
 
     leaves : (parts : List (Symbol Action)) → chosen grammar known atom piece_rule ≡ parts → whole ≡ (taken grammar known atom parts).left
     leaves parts e = ap (λ x. x.left) (taken_alone atom piece_rule t.fits_it) ∙ ap (λ symbols. (taken grammar known atom symbols).left) e
@@ -219,10 +213,10 @@ piece_front (atom ∷ atoms) h =
         is_inside (read grammar known whole atoms) ≡ is_inside (read grammar known (taken grammar known atom parts).left atoms)
     of_parts parts e = ap (λ left. is_inside (read grammar known left atoms)) (leaves parts e)
 
-    no_hash : fits grammar known atom (Rule 2 ∷ []) ≡ true → (atom == mark_atom mark.Hash) ≡ false
-    no_hash f = false_from_ne_true (atom == mark_atom mark.Hash) (λ e.
-        both_ways (fits grammar known atom (Rule 2 ∷ []))
-        (ap (λ a. fits grammar known a (Rule 2 ∷ [])) (eqb-true atom (mark_atom mark.Hash) e) ∙ hash_begins_none) f)
+    no_hash : fits grammar known atom (Symbol.Rule 2 ∷ []) ≡ true → (atom == mark_atom Mark.Hash) ≡ false
+    no_hash f = false_from_ne_true (atom == mark_atom Mark.Hash) (λ e.
+        both_ways (fits grammar known atom (Symbol.Rule 2 ∷ []))
+        (ap (λ a. fits grammar known a (Symbol.Rule 2 ∷ [])) (eqb-true atom (mark_atom Mark.Hash) e) ∙ hash_begins_none) f)
 
     or_no : (b : Bool) → b ≡ (b || false)
     or_no true = refl
@@ -232,20 +226,20 @@ piece_front (atom ∷ atoms) h =
         is_inside (read grammar known whole atoms) ≡ is_bracket_open (atom ∷ atoms)
     by_row (Semicolon p) e =
         let is = e ∙ p in
-        let same : atom ≡ mark_atom mark.Semicolon =
-        only_bit (mark_atom mark.Semicolon) atom (sym (ap (λ s. has s atom) semicolon_is) ∙ fits_parts (Token 0 ∷ []) is) in
-        of_parts (Token 0 ∷ []) is ∙ follow false [] atoms refl (goes_on (Token 0 ∷ []) is)
+        let same : atom ≡ mark_atom Mark.Semicolon =
+        only_bit (mark_atom Mark.Semicolon) atom (sym (ap (λ s. has s atom) semicolon_is) ∙ fits_parts (Symbol.Token 0 ∷ []) is) in
+        of_parts (Symbol.Token 0 ∷ []) is ∙ follow false [] atoms refl (goes_on (Symbol.Token 0 ∷ []) is)
         ∙ sym (ap (λ a. is_bracket_open (a ∷ atoms)) same)
     by_row (Hash p) e =
         let is = e ∙ p in
-        let same : atom ≡ mark_atom mark.Hash =
-        only_bit (mark_atom mark.Hash) atom (sym (ap (λ s. has s atom) hash_is) ∙ fits_parts (Token 1 ∷ Rule 2 ∷ []) is) in
-        of_parts (Token 1 ∷ Rule 2 ∷ []) is ∙ directive_front atoms (goes_on (Token 1 ∷ Rule 2 ∷ []) is)
+        let same : atom ≡ mark_atom Mark.Hash =
+        only_bit (mark_atom Mark.Hash) atom (sym (ap (λ s. has s atom) hash_is) ∙ fits_parts (Symbol.Token 1 ∷ Symbol.Rule 2 ∷ []) is) in
+        of_parts (Symbol.Token 1 ∷ Symbol.Rule 2 ∷ []) is ∙ directive_front atoms (goes_on (Symbol.Token 1 ∷ Symbol.Rule 2 ∷ []) is)
         ∙ sym (ap (λ a. is_bracket_open (a ∷ atoms)) same)
     by_row (Directive p) e =
         let is = e ∙ p in
-        let f = fits_parts (Rule 2 ∷ []) is in
-        of_parts (Rule 2 ∷ []) is ∙ directive_on atom atoms f (goes_on (Rule 2 ∷ []) is)
+        let f = fits_parts (Symbol.Rule 2 ∷ []) is in
+        of_parts (Symbol.Rule 2 ∷ []) is ∙ directive_on atom atoms f (goes_on (Symbol.Rule 2 ∷ []) is)
         ∙ ap (λ b. not b && open_behind_all false (atom ∷ atoms)) (or_no (has arrays atom))
         ∙ sym (ap (λ b. not (has arrays atom || (b && begin_array atoms)) && open_behind_all false (atom ∷ atoms)) (no_hash f))
 

@@ -4,20 +4,13 @@ use Rattle.std.proofs.Common.{bit_and, refl, sym, ◌∙◌, ap, arith, inl, inr
 use Rattle.std.proofs.lemmas.Bool.{agree_below, agree_below_at, and_parts, and_from, or_cases, cases_lt, not-true, both_ways, eqb-true}
 use Rattle.std.proofs.lemmas.Bool.{eqb-false, false_from_ne_true}
 use Rattle.std.proofs.lemmas.Nat.Bits.{bit_at-pow_other}
-use Rattle.inf_machine.specs.declared.symbols.Symbol.{Symbol}
-use Rattle.inf_machine.specs.declared.symbols.Symbol.TheVariants.{Token, Rule, Act}
-use Rattle.inf_machine.specs.Decided.{beginning}
-use Rattle.inf_machine.specs.Grammar.{Row, has, IsOneOf, first, later}
-use Rattle.inf_machine.specs.Machine.{fits, chosen, stepped, work, taken}
-use Rattle.inf_machine.specs.Pieces.{all_rows}
+use Rattle.inf_machine.specs.{Decided.beginning, Grammar.IsOneOf, Grammar.Row, Grammar.first, Grammar.has, Grammar.later, Machine.chosen}
+use Rattle.inf_machine.specs.{Machine.fits, Machine.stepped, Machine.taken, Machine.work, Pieces.all_rows, declared.symbols.Symbol.Symbol}
 use Rattle.inf_machine.proofs.Taking.{choice, chosen_fits, chosen_less, some_work}
-use Rattle.inf_syntax.specs.declared.actions.Action.{Action}
-use Rattle.inf_scanner.specs.declared.tokens.Mark.TheVariants as mark
-use Rattle.inf_syntax.specs.Atoms.{mark_atom, of_word}
-use Rattle.inf_grammar.specs.Brackets.{open_behind}
-use Rattle.inf_grammar.specs.Evaluated.{language_is_decided, rows_past}
-use Rattle.inf_grammar.specs.Language.{grammar, known}
-use Rattle.inf_grammar.specs.Routines.{ends_routine, is_in_routine}
+use Rattle.inf_syntax.specs.{Atoms.mark_atom, Atoms.of_word, declared.actions.Action.Action}
+use Rattle.inf_scanner.specs.declared.tokens.Mark.{Mark}
+use Rattle.inf_grammar.specs.{Brackets.open_behind, Evaluated.language_is_decided, Evaluated.rows_past, Language.grammar, Language.known}
+use Rattle.inf_grammar.specs.{Routines.ends_routine, Routines.is_in_routine}
 
 -- The classes and the atoms of the brackets, and the words of arrays
 
@@ -31,10 +24,10 @@ abbrev pub array : ℕ
 array = 7
 
 abbrev open_atom : ℕ
-open_atom = mark_atom mark.OpenBracket
+open_atom = mark_atom Mark.OpenBracket
 
 abbrev close_atom : ℕ
-close_atom = mark_atom mark.CloseBracket
+close_atom = mark_atom Mark.CloseBracket
 
 -- The symbols that a stack may hold, by the rules that may be among them
 
@@ -44,9 +37,9 @@ has_no_bracket class = not (has (grammar.atoms_of class) open_atom) && not (has 
 -- Tells whether `symbols` have no brackets, and no end of a routine.
 abbrev pub are_plain : (ℕ → Bool) → List (Symbol Action) → Bool
 are_plain rules [] = true
-are_plain rules (Token class ∷ symbols) = has_no_bracket class && are_plain rules symbols
-are_plain rules (Act a ∷ symbols) = not (ends_routine a) && are_plain rules symbols
-are_plain rules (Rule rule ∷ symbols) = rules rule && are_plain rules symbols
+are_plain rules (Symbol.Token class ∷ symbols) = has_no_bracket class && are_plain rules symbols
+are_plain rules (Symbol.Act a ∷ symbols) = not (ends_routine a) && are_plain rules symbols
+are_plain rules (Symbol.Rule rule ∷ symbols) = rules rule && are_plain rules symbols
 
 -- the rules between the brackets of a routine: those of its names, and those of statements and expressions
 abbrev inner : ℕ → Bool
@@ -58,20 +51,20 @@ outer rule = nat_le 3 rule && not (rule == 7)
 
 -- Tells whether `symbols` begin with the bracket that closes a routine, which is no longer open.
 abbrev are_closing : List (Symbol Action) → Bool
-are_closing (Token class ∷ symbols) = (class == closing) && are_plain outer symbols
+are_closing (Symbol.Token class ∷ symbols) = (class == closing) && are_plain outer symbols
 are_closing _ = false
 
 -- Tells whether `symbols` are the rest of a routine whose bracket is open.
 abbrev are_inside : List (Symbol Action) → Bool
 are_inside [] = false
-are_inside (Token class ∷ symbols) = has_no_bracket class && are_inside symbols
-are_inside (Act a ∷ symbols) = if ends_routine a then are_closing symbols else are_inside symbols
-are_inside (Rule rule ∷ symbols) = inner rule && are_inside symbols
+are_inside (Symbol.Token class ∷ symbols) = has_no_bracket class && are_inside symbols
+are_inside (Symbol.Act a ∷ symbols) = if ends_routine a then are_closing symbols else are_inside symbols
+are_inside (Symbol.Rule rule ∷ symbols) = inner rule && are_inside symbols
 
 -- Tells whether `symbols` begin, behind actions, with the bracket that opens a routine.
 abbrev pub are_opening : List (Symbol Action) → Bool
-are_opening (Token class ∷ symbols) = (class == opening) && are_inside symbols
-are_opening (Act a ∷ symbols) = are_opening symbols
+are_opening (Symbol.Token class ∷ symbols) = (class == opening) && are_inside symbols
+are_opening (Symbol.Act a ∷ symbols) = are_opening symbols
 are_opening _ = false
 
 abbrev pub are_outer : List (Symbol Action) → Bool
@@ -88,13 +81,13 @@ calm rule = (rule == 6) || (rule == 7) || (nat_le 25 rule && nat_le rule 32) || 
 
 abbrev pub are_calm : List (Symbol Action) → Bool
 are_calm [] = true
-are_calm (Token class ∷ symbols) = are_calm symbols
-are_calm (Act a ∷ symbols) = not (ends_routine a) && are_calm symbols
-are_calm (Rule rule ∷ symbols) = calm rule && are_calm symbols
+are_calm (Symbol.Token class ∷ symbols) = are_calm symbols
+are_calm (Symbol.Act a ∷ symbols) = not (ends_routine a) && are_calm symbols
+are_calm (Symbol.Rule rule ∷ symbols) = calm rule && are_calm symbols
 
 -- the rows of directives: that of arrays, and those that no word of an array begins
 abbrev pub is_array_row : List (Symbol Action) → Bool
-is_array_row (Token class ∷ parts) = (class == array) && are_calm parts
+is_array_row (Symbol.Token class ∷ parts) = (class == array) && are_calm parts
 is_array_row _ = false
 
 abbrev pub is_directive_row : List (Symbol Action) → Bool
@@ -196,97 +189,97 @@ opens_none is_open class atom h f =
 plain_append : (rules : ℕ → Bool) (xs ys : List (Symbol Action)) → are_plain rules xs ≡ true → are_plain rules ys ≡ true →
     are_plain rules (xs ++ ys) ≡ true
 plain_append rules [] ys h k = k
-plain_append rules (Token class ∷ xs) ys h k =
+plain_append rules (Symbol.Token class ∷ xs) ys h k =
     let both = and_parts (has_no_bracket class) (are_plain rules xs) h in
     and_from (has_no_bracket class) (are_plain rules (xs ++ ys)) both.0 (plain_append rules xs ys both.1 k)
-plain_append rules (Act a ∷ xs) ys h k =
+plain_append rules (Symbol.Act a ∷ xs) ys h k =
     let both = and_parts (not (ends_routine a)) (are_plain rules xs) h in
     and_from (not (ends_routine a)) (are_plain rules (xs ++ ys)) both.0 (plain_append rules xs ys both.1 k)
-plain_append rules (Rule rule ∷ xs) ys h k =
+plain_append rules (Symbol.Rule rule ∷ xs) ys h k =
     let both = and_parts (rules rule) (are_plain rules xs) h in
     and_from (rules rule) (are_plain rules (xs ++ ys)) both.0 (plain_append rules xs ys both.1 k)
 
 calm_append : (xs ys : List (Symbol Action)) → are_calm xs ≡ true → are_calm ys ≡ true → are_calm (xs ++ ys) ≡ true
 calm_append [] ys h k = k
-calm_append (Token class ∷ xs) ys h k = calm_append xs ys h k
-calm_append (Act a ∷ xs) ys h k =
+calm_append (Symbol.Token class ∷ xs) ys h k = calm_append xs ys h k
+calm_append (Symbol.Act a ∷ xs) ys h k =
     let both = and_parts (not (ends_routine a)) (are_calm xs) h in
     and_from (not (ends_routine a)) (are_calm (xs ++ ys)) both.0 (calm_append xs ys both.1 k)
-calm_append (Rule rule ∷ xs) ys h k =
+calm_append (Symbol.Rule rule ∷ xs) ys h k =
     let both = and_parts (calm rule) (are_calm xs) h in and_from (calm rule) (are_calm (xs ++ ys)) both.0 (calm_append xs ys both.1 k)
 
 -- plain symbols inside of a routine
 inner_inside : (xs ys : List (Symbol Action)) → are_plain inner xs ≡ true → are_inside ys ≡ true → are_inside (xs ++ ys) ≡ true
 inner_inside [] ys h k = k
-inner_inside (Token class ∷ xs) ys h k =
+inner_inside (Symbol.Token class ∷ xs) ys h k =
     let both = and_parts (has_no_bracket class) (are_plain inner xs) h in
     and_from (has_no_bracket class) (are_inside (xs ++ ys)) both.0 (inner_inside xs ys both.1 k)
-inner_inside (Act a ∷ xs) ys h k =
+inner_inside (Symbol.Act a ∷ xs) ys h k =
     let both = and_parts (not (ends_routine a)) (are_plain inner xs) h in
     ap (λ b. if b then are_closing (xs ++ ys) else are_inside (xs ++ ys)) (not-true (ends_routine a) both.0) ∙ inner_inside xs ys both.1 k
-inner_inside (Rule rule ∷ xs) ys h k =
+inner_inside (Symbol.Rule rule ∷ xs) ys h k =
     let both = and_parts (inner rule) (are_plain inner xs) h in
     and_from (inner rule) (are_inside (xs ++ ys)) both.0 (inner_inside xs ys both.1 k)
 
 closing_append : (xs ys : List (Symbol Action)) → are_closing xs ≡ true → are_plain outer ys ≡ true → are_closing (xs ++ ys) ≡ true
 closing_append [] ys h k = cc
-closing_append (Token class ∷ xs) ys h k =
+closing_append (Symbol.Token class ∷ xs) ys h k =
     let both = and_parts (class == closing) (are_plain outer xs) h in
     and_from (class == closing) (are_plain outer (xs ++ ys)) both.0 (plain_append outer xs ys both.1 k)
-closing_append (Act a ∷ xs) ys h k = cc
-closing_append (Rule rule ∷ xs) ys h k = cc
+closing_append (Symbol.Act a ∷ xs) ys h k = cc
+closing_append (Symbol.Rule rule ∷ xs) ys h k = cc
 
 inside_append : (xs ys : List (Symbol Action)) → are_inside xs ≡ true → are_plain outer ys ≡ true → are_inside (xs ++ ys) ≡ true
 inside_append [] ys h k = cc
-inside_append (Token class ∷ xs) ys h k =
+inside_append (Symbol.Token class ∷ xs) ys h k =
     let both = and_parts (has_no_bracket class) (are_inside xs) h in
     and_from (has_no_bracket class) (are_inside (xs ++ ys)) both.0 (inside_append xs ys both.1 k)
-inside_append (Act a ∷ xs) ys h k = by_end (ends_routine a) (λ e. closing_append xs ys e k) (λ e. inside_append xs ys e k) h
+inside_append (Symbol.Act a ∷ xs) ys h k = by_end (ends_routine a) (λ e. closing_append xs ys e k) (λ e. inside_append xs ys e k) h
   where
     by_end : (b : Bool) → (are_closing xs ≡ true → are_closing (xs ++ ys) ≡ true) → (are_inside xs ≡ true → are_inside (xs ++ ys) ≡ true)
         → (if b then are_closing xs else are_inside xs) ≡ true → (if b then are_closing (xs ++ ys) else are_inside (xs ++ ys)) ≡ true
     by_end true c i e = c e
     by_end false c i e = i e
-inside_append (Rule rule ∷ xs) ys h k =
+inside_append (Symbol.Rule rule ∷ xs) ys h k =
     let both = and_parts (inner rule) (are_inside xs) h in
     and_from (inner rule) (are_inside (xs ++ ys)) both.0 (inside_append xs ys both.1 k)
 
 opening_append : (xs ys : List (Symbol Action)) → are_opening xs ≡ true → are_plain outer ys ≡ true → are_opening (xs ++ ys) ≡ true
 opening_append [] ys h k = cc
-opening_append (Token class ∷ xs) ys h k =
+opening_append (Symbol.Token class ∷ xs) ys h k =
     let both = and_parts (class == opening) (are_inside xs) h in
     and_from (class == opening) (are_inside (xs ++ ys)) both.0 (inside_append xs ys both.1 k)
-opening_append (Act a ∷ xs) ys h k = opening_append xs ys h k
-opening_append (Rule rule ∷ xs) ys h k = cc
+opening_append (Symbol.Act a ∷ xs) ys h k = opening_append xs ys h k
+opening_append (Symbol.Rule rule ∷ xs) ys h k = cc
 
 -- A stack shows whether a routine is open
 
 plain_is_out : (symbols : List (Symbol Action)) → are_plain outer symbols ≡ true → is_in_routine symbols ≡ false
 plain_is_out [] h = refl
-plain_is_out (Token class ∷ symbols) h = plain_is_out symbols (and_parts (has_no_bracket class) (are_plain outer symbols) h).1
-plain_is_out (Act a ∷ symbols) h =
+plain_is_out (Symbol.Token class ∷ symbols) h = plain_is_out symbols (and_parts (has_no_bracket class) (are_plain outer symbols) h).1
+plain_is_out (Symbol.Act a ∷ symbols) h =
     let both = and_parts (not (ends_routine a)) (are_plain outer symbols) h in
     ap (λ b. b || is_in_routine symbols) (not-true (ends_routine a) both.0) ∙ plain_is_out symbols both.1
-plain_is_out (Rule rule ∷ symbols) h = plain_is_out symbols (and_parts (outer rule) (are_plain outer symbols) h).1
+plain_is_out (Symbol.Rule rule ∷ symbols) h = plain_is_out symbols (and_parts (outer rule) (are_plain outer symbols) h).1
 
 pub calm_is_out : (symbols : List (Symbol Action)) → are_calm symbols ≡ true → is_in_routine symbols ≡ false
 calm_is_out [] h = refl
-calm_is_out (Token class ∷ symbols) h = calm_is_out symbols h
-calm_is_out (Act a ∷ symbols) h =
+calm_is_out (Symbol.Token class ∷ symbols) h = calm_is_out symbols h
+calm_is_out (Symbol.Act a ∷ symbols) h =
     let both = and_parts (not (ends_routine a)) (are_calm symbols) h in
     ap (λ b. b || is_in_routine symbols) (not-true (ends_routine a) both.0) ∙ calm_is_out symbols both.1
-calm_is_out (Rule rule ∷ symbols) h = calm_is_out symbols (and_parts (calm rule) (are_calm symbols) h).1
+calm_is_out (Symbol.Rule rule ∷ symbols) h = calm_is_out symbols (and_parts (calm rule) (are_calm symbols) h).1
 
 inside_is_in : (symbols : List (Symbol Action)) → are_inside symbols ≡ true → is_in_routine symbols ≡ true
 inside_is_in [] h = cc
-inside_is_in (Token class ∷ symbols) h = inside_is_in symbols (and_parts (has_no_bracket class) (are_inside symbols) h).1
-inside_is_in (Act a ∷ symbols) h = by_end (ends_routine a) (λ e. inside_is_in symbols e) h
+inside_is_in (Symbol.Token class ∷ symbols) h = inside_is_in symbols (and_parts (has_no_bracket class) (are_inside symbols) h).1
+inside_is_in (Symbol.Act a ∷ symbols) h = by_end (ends_routine a) (λ e. inside_is_in symbols e) h
   where
     by_end : (b : Bool) → (are_inside symbols ≡ true → is_in_routine symbols ≡ true) →
         (if b then are_closing symbols else are_inside symbols) ≡ true → (b || is_in_routine symbols) ≡ true
     by_end true i e = refl
     by_end false i e = i e
-inside_is_in (Rule rule ∷ symbols) h = inside_is_in symbols (and_parts (inner rule) (are_inside symbols) h).1
+inside_is_in (Symbol.Rule rule ∷ symbols) h = inside_is_in symbols (and_parts (inner rule) (are_inside symbols) h).1
 
 pub tells : (is_open : Bool) (symbols : List (Symbol Action)) → stands is_open symbols ≡ true → is_in_routine symbols ≡ is_open
 tells true symbols h = inside_is_in symbols h
@@ -295,17 +288,18 @@ tells false symbols h = plain_is_out symbols h
 -- One token
 
 pub chosen_passes : (rules : ℕ → Bool) (test : List (Symbol Action) → Bool) → agree_below (keeps rules test) (λ rule. true) 251 ≡ true
-    → (atom rule : ℕ) (symbols : List (Symbol Action)) → rules rule ≡ true → fits grammar known atom (Rule rule ∷ symbols) ≡ true → test
+    → (atom rule : ℕ) (symbols : List (Symbol Action)) → rules rule ≡ true → fits grammar known atom (Symbol.Rule rule ∷ symbols)
+    ≡ true → test
     (chosen grammar known atom rule) ≡ true
 chosen_passes rules test all atom rule symbols is f =
     let c = choice grammar known language_is_decided atom rule symbols f in ap test c.is ∙ passes rules test all rule is c.row c.one
 
 -- a rule's row has fewer steps than the rule, and fits
-fewer : (atom rule n : ℕ) (symbols : List (Symbol Action)) → work known atom (Rule rule ∷ symbols) ≤ suc n →
-    fits grammar known atom (Rule rule ∷ symbols) ≡ true → work known atom (chosen grammar known atom rule ++ symbols) ≤ n
+fewer : (atom rule n : ℕ) (symbols : List (Symbol Action)) → work known atom (Symbol.Rule rule ∷ symbols) ≤ suc n →
+    fits grammar known atom (Symbol.Rule rule ∷ symbols) ≡ true → work known atom (chosen grammar known atom rule ++ symbols) ≤ n
 fewer atom rule n symbols w f = omega (arith, w, chosen_less grammar known language_is_decided atom rule symbols f)
 
-pub fits_row : (atom rule : ℕ) (symbols : List (Symbol Action)) → fits grammar known atom (Rule rule ∷ symbols) ≡ true →
+pub fits_row : (atom rule : ℕ) (symbols : List (Symbol Action)) → fits grammar known atom (Symbol.Rule rule ∷ symbols) ≡ true →
     fits grammar known atom (chosen grammar known atom rule ++ symbols) ≡ true
 fits_row atom rule symbols f = chosen_fits grammar known language_is_decided atom rule symbols f
 
@@ -319,20 +313,20 @@ closing_on : (atom n : ℕ) (symbols : List (Symbol Action)) → are_closing sym
     fits grammar known atom symbols ≡ true → stands (open_behind true atom) (left_of atom n symbols) ≡ true
 closing_on atom zero symbols h w f = absurd (no_step atom symbols w f)
 closing_on atom (suc n) [] h w f = cc
-closing_on atom (suc n) (Token class ∷ symbols) h w f =
+closing_on atom (suc n) (Symbol.Token class ∷ symbols) h w f =
     let both = and_parts (class == closing) (are_plain outer symbols) h in
     ap (λ a. stands (open_behind true a) symbols) (of_class class closing atom close_atom both.0 closing_is f) ∙ both.1
-closing_on atom (suc n) (Act a ∷ symbols) h w f = cc
-closing_on atom (suc n) (Rule rule ∷ symbols) h w f = cc
+closing_on atom (suc n) (Symbol.Act a ∷ symbols) h w f = cc
+closing_on atom (suc n) (Symbol.Rule rule ∷ symbols) h w f = cc
 
 inside_on : (atom n : ℕ) (symbols : List (Symbol Action)) → are_inside symbols ≡ true → work known atom symbols ≤ n →
     fits grammar known atom symbols ≡ true → stands (open_behind true atom) (left_of atom n symbols) ≡ true
 inside_on atom zero symbols h w f = absurd (no_step atom symbols w f)
 inside_on atom (suc n) [] h w f = cc
-inside_on atom (suc n) (Token class ∷ symbols) h w f =
+inside_on atom (suc n) (Symbol.Token class ∷ symbols) h w f =
     let both = and_parts (has_no_bracket class) (are_inside symbols) h in
     ap (λ b. stands b symbols) (opens_none true class atom both.0 f) ∙ both.1
-inside_on atom (suc n) (Act a ∷ symbols) h w f =
+inside_on atom (suc n) (Symbol.Act a ∷ symbols) h w f =
     by_end (ends_routine a) (λ e. closing_on atom n symbols e (omega (arith, w)) f) (λ e. inside_on atom n symbols e (omega (arith, w)) f) h
   where
     by_end : (b : Bool) → (are_closing symbols ≡ true → stands (open_behind true atom) (left_of atom n symbols) ≡ true)
@@ -340,7 +334,7 @@ inside_on atom (suc n) (Act a ∷ symbols) h w f =
         → (if b then are_closing symbols else are_inside symbols) ≡ true → stands (open_behind true atom) (left_of atom n symbols) ≡ true
     by_end true c i e = c e
     by_end false c i e = i e
-inside_on atom (suc n) (Rule rule ∷ symbols) h w f =
+inside_on atom (suc n) (Symbol.Rule rule ∷ symbols) h w f =
     let both = and_parts (inner rule) (are_inside symbols) h in
     let plain = chosen_passes inner (are_plain inner) inner_keep atom rule symbols both.0 f in
     inside_on atom n (chosen grammar known atom rule ++ symbols) (inner_inside (chosen grammar known atom rule) symbols plain both.1)
@@ -350,22 +344,22 @@ pub opening_on : (atom n : ℕ) (symbols : List (Symbol Action)) → are_opening
     fits grammar known atom symbols ≡ true → stands (open_behind false atom) (left_of atom n symbols) ≡ true
 opening_on atom zero symbols h w f = absurd (no_step atom symbols w f)
 opening_on atom (suc n) [] h w f = cc
-opening_on atom (suc n) (Token class ∷ symbols) h w f =
+opening_on atom (suc n) (Symbol.Token class ∷ symbols) h w f =
     let both = and_parts (class == opening) (are_inside symbols) h in
     ap (λ a. stands (open_behind false a) symbols) (of_class class opening atom open_atom both.0 opening_is f) ∙ both.1
-opening_on atom (suc n) (Act a ∷ symbols) h w f = opening_on atom n symbols h (omega (arith, w)) f
-opening_on atom (suc n) (Rule rule ∷ symbols) h w f = cc
+opening_on atom (suc n) (Symbol.Act a ∷ symbols) h w f = opening_on atom n symbols h (omega (arith, w)) f
+opening_on atom (suc n) (Symbol.Rule rule ∷ symbols) h w f = cc
 
 pub outside_on : (atom n : ℕ) (symbols : List (Symbol Action)) → are_plain outer symbols ≡ true → work known atom symbols ≤ n →
     fits grammar known atom symbols ≡ true → stands (open_behind false atom) (left_of atom n symbols) ≡ true
 outside_on atom zero symbols h w f = absurd (no_step atom symbols w f)
 outside_on atom (suc n) [] h w f = cc
-outside_on atom (suc n) (Token class ∷ symbols) h w f =
+outside_on atom (suc n) (Symbol.Token class ∷ symbols) h w f =
     let both = and_parts (has_no_bracket class) (are_plain outer symbols) h in
     ap (λ b. stands b symbols) (opens_none false class atom both.0 f) ∙ both.1
-outside_on atom (suc n) (Act a ∷ symbols) h w f =
+outside_on atom (suc n) (Symbol.Act a ∷ symbols) h w f =
     outside_on atom n symbols (and_parts (not (ends_routine a)) (are_plain outer symbols) h).1 (omega (arith, w)) f
-outside_on atom (suc n) (Rule rule ∷ symbols) h w f =
+outside_on atom (suc n) (Symbol.Rule rule ∷ symbols) h w f =
     let both = and_parts (outer rule) (are_plain outer symbols) h in
     let parts : List (Symbol Action) = chosen grammar known atom rule in
     let w' = fewer atom rule n symbols w f in
@@ -379,10 +373,10 @@ pub calm_on : (atom n : ℕ) (symbols : List (Symbol Action)) → are_calm symbo
     fits grammar known atom symbols ≡ true → are_calm (left_of atom n symbols) ≡ true
 calm_on atom zero symbols h w f = absurd (no_step atom symbols w f)
 calm_on atom (suc n) [] h w f = cc
-calm_on atom (suc n) (Token class ∷ symbols) h w f = h
-calm_on atom (suc n) (Act a ∷ symbols) h w f =
+calm_on atom (suc n) (Symbol.Token class ∷ symbols) h w f = h
+calm_on atom (suc n) (Symbol.Act a ∷ symbols) h w f =
     calm_on atom n symbols (and_parts (not (ends_routine a)) (are_calm symbols) h).1 (omega (arith, w)) f
-calm_on atom (suc n) (Rule rule ∷ symbols) h w f =
+calm_on atom (suc n) (Symbol.Rule rule ∷ symbols) h w f =
     let both = and_parts (calm rule) (are_calm symbols) h in
     let parts = chosen_passes calm are_calm calm_keep atom rule symbols both.0 f in
     calm_on atom n (chosen grammar known atom rule ++ symbols) (calm_append (chosen grammar known atom rule) symbols parts both.1)

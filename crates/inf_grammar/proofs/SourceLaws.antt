@@ -1,13 +1,11 @@
 -- The texts of pieces end with a token: by evaluation.
 use Rattle.std.proofs.Common.{◌≡◌, true, Some, refl}
-use Rattle.inf_machine.specs.declared.symbols.Symbol.TheVariants.{Rule}
-use Rattle.inf_machine.specs.Pieces.{closes}
+use Rattle.inf_machine.specs.{Pieces.closes, declared.symbols.Symbol.Symbol}
 use Rattle.inf_machine.proofs.SourcePieces.{sources_are_pieces}
-use Rattle.inf_grammar.specs.Evaluated.{language_is_decided}
-use Rattle.inf_grammar.specs.Language.{grammar, known}
+use Rattle.inf_grammar.specs.{Evaluated.language_is_decided, Language.grammar, Language.known}
 use Rattle.inf_grammar.specs.Sources.{piece_rule, skipped_behind, SourcesHavePieces}
 
-pieces_close : closes grammar (Some (Rule piece_rule)) 3 ≡ true
+pieces_close : closes grammar (Some (Symbol.Rule piece_rule)) 3 ≡ true
 unfolding grammar
 pieces_close = refl
 

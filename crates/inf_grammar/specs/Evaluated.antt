@@ -1,14 +1,9 @@
 -- One token decides each rule of the language: by evaluation.
+use Rattle.std.proofs.{lemmas.Bool.agree_below, lemmas.Bool.agree_below_at, lemmas.Bool.cases_lt, lemmas.List.get_or_past}
 use Rattle.std.proofs.Common.{◌≡◌, ℕ, ◌≤◌, true, false, [], length, refl, arith, inl, inr, lit≤}
-use Rattle.std.proofs.lemmas.Bool.{agree_below, agree_below_at, cases_lt}
-use Rattle.std.proofs.lemmas.List.{get_or_past}
-use Rattle.inf_machine.specs.Grammar.{Grammar}
+use Rattle.inf_machine.specs.{Decided.is_decided, Grammar.Grammar, Laws.IsDecided, Machine.Known}
 use Rattle.inf_syntax.specs.declared.actions.Action.{Action}
-use Rattle.inf_machine.specs.Machine.{Known}
-use Rattle.inf_grammar.specs.Language.{grammar, known, rules}
-use Rattle.inf_grammar.specs.Facts.{beginnings, empties}
-use Rattle.inf_machine.specs.Decided.{is_decided}
-use Rattle.inf_machine.specs.Laws.{IsDecided}
+use Rattle.inf_grammar.specs.{Facts.beginnings, Facts.empties, Language.grammar, Language.known, Language.rules}
 
 pub all_decided : agree_below (λ rule. is_decided grammar known rule) (λ rule. true) 251 ≡ true
 unfolding grammar known

@@ -1,18 +1,11 @@
 -- The grammar as the program has it: flat tables of numbers.
 use Rattle.std.specs.Prelude.{ℕ, ◌+◌, ◌*◌, ◌/◌, ◌%◌, ◌^◌, List, [], ◌∷◌, ◌++◌, Bool, map, reverse, length, take, drop, if◌then◌else◌}
 use Rattle.std.specs.Prelude.{nat_le, ◌-◌, ◌&&◌}
-use Rattle.inf_machine.specs.declared.symbols.Symbol.{Symbol}
-use Rattle.inf_grammar.specs.declared.rules.Set.{Set}
-use Rattle.inf_grammar.specs.declared.rules.Span.{Span}
-use Rattle.inf_grammar.specs.declared.rules.Row.{Row as CodeRow}
-use Rattle.inf_grammar.specs.declared.rules.Rule.{Rule as CodeRule}
-use Rattle.inf_machine.specs.Grammar.{Row, has}
-use Rattle.inf_syntax.specs.declared.actions.Action.{Action}
+use Rattle.inf_machine.specs.{Decided.beginning, Grammar.Row, Grammar.has, declared.symbols.Symbol.Symbol}
 use Rattle.inf_machine.specs.Machine.{can_end, empty_row, is_silent, depth}
-use Rattle.inf_machine.specs.Decided.{beginning}
-use Rattle.inf_grammar.specs.Language.{grammar, known, rules}
-use Rattle.inf_syntax.specs.Classes.{classes}
-use Rattle.inf_grammar.specs.Facts.{beginnings, empties}
+use Rattle.inf_grammar.specs.{Facts.beginnings, Facts.empties, Language.grammar, Language.known, Language.rules}
+use Rattle.inf_grammar.specs.declared.{rules.Row.Row as CodeRow, rules.Rule.Rule as CodeRule, rules.Set.Set, rules.Span.Span}
+use Rattle.inf_syntax.specs.{Classes.classes, declared.actions.Action.Action}
 
 -- a set as four numbers of 64 bits, the lowest first
 abbrev pub set_of : ℕ → Set

@@ -1,6 +1,5 @@
 //! The grammar of the language as a table for the machine, as one type.
-ghost use Rattle.inf_grammar.specs.Evaluated.{language_is_decided};
-ghost use Rattle.inf_grammar.specs.Language.{grammar, known};
+ghost use Rattle.inf_grammar.specs.{Evaluated.language_is_decided, Language.grammar, Language.known};
 
 use crate::rules;
 use inf_machine::{Symbol, Table};

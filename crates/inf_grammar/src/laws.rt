@@ -1,7 +1,6 @@
 //! Laws of the grammar of the language. Each function's contract is one; its body does nothing.
-ghost use Rattle.inf_grammar.specs.Brackets.{LeftRoutinesAreBracketed, OpenRoutinesAreBracketed};
-ghost use Rattle.inf_grammar.specs.Language.{grammar, known};
-ghost use Rattle.inf_grammar.specs.Sources.{SourcesHavePieces};
+ghost use Rattle.inf_grammar.specs.{Brackets.LeftRoutinesAreBracketed, Brackets.OpenRoutinesAreBracketed, Language.grammar, Language.known};
+ghost use Rattle.inf_grammar.specs.{Sources.SourcesHavePieces};
 ghost use Rattle.inf_machine.specs.Laws.{IsDecided};
 
 /// Shows that in the grammar of the language one token decides.

@@ -1,7 +1,6 @@
 //! The machine that reads tokens by the grammar of the language.
 ghost use Rattle.std.specs.Prelude.{◌≡◌, [], ◌∷◌, ◌++◌, ◌↔◌, reverse, IsTrue, IfOk, OnOk, OnErr, true, false};
-ghost use Rattle.inf_grammar.specs.Language.{grammar, known};
-ghost use Rattle.inf_grammar.specs.Routines.{closings, is_in_routine};
+ghost use Rattle.inf_grammar.specs.{Language.grammar, Language.known, Routines.closings, Routines.is_in_routine};
 ghost use Rattle.inf_machine.specs.Machine.{fits, can_end, taken};
 
 use crate::grammar_table::Language;

@@ -1,8 +1,7 @@
 //! The facts that the machine knows of a rule.
 ghost use Rattle.std.specs.Prelude.{◌≡◌, reverse, true};
-ghost use Rattle.inf_machine.specs.Grammar.{has};
+ghost use Rattle.inf_machine.specs.{Grammar.has, Machine.are_acts, Machine.passed_row, Machine.way};
 ghost use Rattle.inf_grammar.specs.Language.{grammar, known};
-ghost use Rattle.inf_machine.specs.Machine.{are_acts, passed_row, way};
 ghost use Rattle.inf_grammar.specs.Tables.{all_classes, all_parts, all_rows, all_rules, cut, found, joined_words, span_for};
 
 use crate::table::{CLASSES, PARTS, ROWS, RULES};

@@ -1,27 +1,16 @@
 -- Code in pieces: the items that are laid, the places of their labels, and the way from claims about pieces to a claim about the
 -- whole.
-use Rattle.std.proofs.Common.{◌≡◌, ℕ, List, [], ◌∷◌, ◌++◌, Option, Some, None, refl, ◌∙◌, ap, sym, subst, append_assoc, append-nil}
-use Rattle.std.specs.Prelude.{map}
+use Rattle.std.proofs.Common.{◌≡◌, ℕ, List, [], ◌∷◌, ◌++◌, Option, Some, None, refl, ◌∙◌, ap, sym, subst, append_assoc, append-nil, map}
 use Rattle.inf_settings.specs.Bounds.{Limits}
-use Rattle.inf_opcode.specs.declared.instructions.Branch.{Branch}
-use Rattle.inf_opcode.specs.declared.instructions.Label.{Label}
-use Rattle.inf_opcode.specs.declared.instructions.Operand.TheVariants.{Small, Offset}
-use Rattle.inf_opcode.specs.declared.opcodes.Opcode.{Opcode}
-use Rattle.inf_opcode.specs.declared.opcodes.Opcode.TheVariants as opcode
-use Rattle.inf_opcode.specs.Instructions.{Parts}
-use Rattle.inf_output.specs.declared.items.Item.{Item}
-use Rattle.inf_output.specs.declared.items.Item.TheVariants.{Instruction, Mark}
-use Rattle.inf_output.specs.declared.operands.Simple.{Simple}
-use Rattle.inf_output.specs.Operands.{written}
+use Rattle.inf_opcode.specs.{Instructions.Parts, declared.instructions.Branch.Branch, declared.instructions.Label.Label}
+use Rattle.inf_opcode.specs.{declared.instructions.Operand.Operand, declared.opcodes.Opcode.Opcode}
+use Rattle.inf_output.specs.{Operands.written, Veneer.name_of, declared.Past.Past, declared.items.Item.Item}
+use Rattle.inf_output.specs.{declared.operands.Simple.Simple, declared.veneer.Veneer.Veneer}
 use Rattle.inf_output.specs.Output.{Code, Out, behind, fitted, full_item, grown, in_routine, instruction, jumped, laid, laid_by, marked}
 use Rattle.inf_output.specs.Output.{naming, next_label, nothing, routine, used, with_label, with_routine, ◌▸◌, used_by}
-use Rattle.inf_output.specs.declared.veneer.Veneer.{Veneer}
 use Rattle.inf_code.specs.Code.{Routines}
 use Rattle.inf_assembler.specs.declared.routines.Limit.{Limit}
-use Rattle.inf_output.specs.declared.Past.{Past}
-use Rattle.inf_output.specs.Veneer.{name_of}
-use Rattle.inf_names.specs.declared.symbols.ReferFault.{ReferFault}
-use Rattle.inf_names.specs.Symbols.{refer_fault}
+use Rattle.inf_names.specs.{Symbols.refer_fault, declared.symbols.ReferFault.ReferFault}
 use Rattle.inf_interpreter.specs.Machine.{World, State, Place, Stands, operand_value}
 use Rattle.inf_interpreter.specs.Supplied.{Contracts, NamesStay}
 use Rattle.inf_interpreter.specs.Claims.{Claim, Does, Laid, all_grown, code_behind, kept_behind}
@@ -130,13 +119,13 @@ item_names limits item o = names_equal o (laid limits item o) (by_names limits o
 
 pub stands_front : (a b : List Item) (at : Label → Place) (rest : Place) → Stands at (a ++ b) rest → Stands at a (b ++ rest)
 stands_front [] b at rest s = tt
-stands_front ((Instruction i) ∷ a) b at rest s = stands_front a b at rest s
-stands_front ((Mark l) ∷ a) b at rest s = (s.0 ∙ append_assoc a b rest, stands_front a b at rest s.1)
+stands_front ((Item.Instruction i) ∷ a) b at rest s = stands_front a b at rest s
+stands_front ((Item.Mark l) ∷ a) b at rest s = (s.0 ∙ append_assoc a b rest, stands_front a b at rest s.1)
 
 pub stands_back : (a b : List Item) (at : Label → Place) (rest : Place) → Stands at (a ++ b) rest → Stands at b rest
 stands_back [] b at rest s = s
-stands_back ((Instruction i) ∷ a) b at rest s = stands_back a b at rest s
-stands_back ((Mark l) ∷ a) b at rest s = stands_back a b at rest s.1
+stands_back ((Item.Instruction i) ∷ a) b at rest s = stands_back a b at rest s
+stands_back ((Item.Mark l) ∷ a) b at rest s = stands_back a b at rest s.1
 
 -- Claims, which hold whatever was laid before
 
@@ -153,7 +142,7 @@ abbrev pub Lies : Item → Claim
 Lies item at from to = from ≡ item ∷ to
 
 abbrev pub Marks : Label → Claim
-Marks l at from to = (from ≡ Mark l ∷ to) × (at l ≡ to)
+Marks l at from to = (from ≡ Item.Mark l ∷ to) × (at l ≡ to)
 
 pub then_ : {w : World} {c d : Code} {P Q : Claim} → Always w c P → Always w d Q → Always w (c ▸ d) (Then P Q)
 then_ {w} {c} {d} {P} {Q} f g o =
@@ -256,24 +245,24 @@ nothing_ o = record {
   runs = λ at rest k s. refl;
 }
 
-laid_ : {w : World} (limits : Limits) (i : Parts) → Always w (laid limits (Instruction i)) (Lies (Instruction i))
+laid_ : {w : World} (limits : Limits) (i : Parts) → Always w (laid limits (Item.Instruction i)) (Lies (Item.Instruction i))
 laid_ limits i o = record {
-  items = Instruction i ∷ [];
-  laid = item_laid limits (Instruction i) o;
-  names = item_names limits (Instruction i) o;
+  items = Item.Instruction i ∷ [];
+  laid = item_laid limits (Item.Instruction i) o;
+  names = item_names limits (Item.Instruction i) o;
   runs = λ at rest k s. refl;
 }
 
 abbrev pub instruction_of : Opcode → List Simple → Option ℕ → Option Branch → Item
 instruction_of op operands store branch =
-    Instruction (record { opcode = op; operands = map written operands; store = store; branch = branch; text = [] })
+    Item.Instruction (record { opcode = op; operands = map written operands; store = store; branch = branch; text = [] })
 
 abbrev pub naming_of : Opcode → ℕ → List Simple → Option ℕ → Option Branch → Item
 naming_of op v operands store branch =
-    Instruction (record { opcode = op; operands = Small v ∷ map written operands; store = store; branch = branch; text = [] })
+    Item.Instruction (record { opcode = op; operands = Operand.Small v ∷ map written operands; store = store; branch = branch; text = [] })
 
 abbrev pub jump_to : Label → Item
-jump_to l = Instruction (record { opcode = opcode.Jump; operands = Offset l ∷ []; store = None; branch = None; text = [] })
+jump_to l = Item.Instruction (record { opcode = Opcode.Jump; operands = Operand.Offset l ∷ []; store = None; branch = None; text = [] })
 
 pub instruction_ : {w : World} (limits : Limits) (op : Opcode) (operands : List Simple) (store : Option ℕ) (branch : Option Branch) →
     Always w (instruction limits op operands store branch) (Lies (instruction_of op operands store branch))
@@ -292,8 +281,8 @@ jumped_ limits l o = laid_ limits _ o
 pub marked_ : {w : World} (limits : Limits) (l : Label) → Always w (marked limits l) (Marks l)
 unfolding marked
 marked_ limits l o = record {
-  items = Mark l ∷ [];
-  laid = item_laid limits (Mark l) o;
-  names = item_names limits (Mark l) o;
+  items = Item.Mark l ∷ [];
+  laid = item_laid limits (Item.Mark l) o;
+  names = item_names limits (Item.Mark l) o;
   runs = λ at rest k s. (refl, s.0);
 }

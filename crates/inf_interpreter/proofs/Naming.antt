@@ -1,26 +1,17 @@
 -- Which operand a supplied routine is called by, while names are added.
-use Rattle.std.proofs.Common.{◌≡◌, ℕ, List, [], ◌∷◌, Option, Some, None, Bool, true, false, refl, ◌∙◌, ap, sym}
-use Rattle.std.specs.Prelude.{◌+◌, if◌then◌else◌}
-use Rattle.std.specs.Str.{bytes_eq}
+use Rattle.std.proofs.Common.{◌≡◌, ℕ, List, [], ◌∷◌, Option, Some, None, Bool, true, false, refl, ◌∙◌, ap, sym, ◌+◌, if◌then◌else◌}
+use Rattle.std.proofs.Common.{bytes_eq}
 use Rattle.std.proofs.lemmas.Slice.Eq.{bytes_eq-Decides}
 use Rattle.inf_settings.specs.Bounds.{Limits}
-use Rattle.inf_area.specs.declared.targets.Target.TheVariants as target
+use Rattle.inf_area.specs.declared.targets.Target.{Target}
 use Rattle.inf_scanner.specs.declared.tokens.Place.{Place}
-use Rattle.inf_names.specs.declared.meanings.Meaning.{Meaning}
-use Rattle.inf_names.specs.declared.symbols.Found.{Found}
-use Rattle.inf_names.specs.declared.symbols.Found.TheVariants as found
-use Rattle.inf_names.specs.declared.symbols.ReferFault.{ReferFault}
-use Rattle.inf_names.specs.Symbols.{IsUsed, IsDeclared, Named, Standing, Table, folded, found_as, found_in, index_of, is_full}
-use Rattle.inf_names.specs.Symbols.{number_by, put, refer_fault, refer_fault_by, standing_of, with_used, with_used_by}
+use Rattle.inf_names.specs.{declared.meanings.Meaning.Meaning, declared.symbols.Found.Found, declared.symbols.ReferFault.ReferFault}
+use Rattle.inf_names.specs.Symbols.{IsUsed, IsDeclared, Named, Standing, Table, folded, found_as, found_in, index_of, is_full, number_by}
+use Rattle.inf_names.specs.Symbols.{put, refer_fault, refer_fault_by, standing_of, with_used, with_used_by}
 use Rattle.inf_names.specs.SystemNames.{system_meaning, system_names}
-use Rattle.inf_output.specs.declared.operands.Simple.{Simple}
-use Rattle.inf_output.specs.declared.operands.Simple.TheVariants.{Later}
-use Rattle.inf_output.specs.declared.veneer.Veneer.{Veneer}
-use Rattle.inf_output.specs.declared.veneer.Veneer.TheVariants as veneer
+use Rattle.inf_output.specs.{Veneer.name_of, declared.operands.Simple.Simple, declared.veneer.Veneer.Veneer}
 use Rattle.inf_output.specs.Output.{Out, found_simple, past_of, routine, routine_by, used, used_by}
-use Rattle.inf_output.specs.Veneer.{name_of}
-use Rattle.inf_interpreter.specs.Machine.{World}
-use Rattle.inf_interpreter.specs.Supplied.{NamesStay, Supplies, named_operand, operand_of}
+use Rattle.inf_interpreter.specs.{Machine.World, Supplied.NamesStay, Supplied.Supplies, Supplied.named_operand, Supplied.operand_of}
 
 missing : {A B : Type 0} {a : A} → Some a ≡ None → B
 missing e = absurd (cc e)
@@ -98,26 +89,26 @@ kept_index key other u x (n ∷ names) none some =
 -- The language has none of these names.
 no_system : (debugging : Bool) (v : Veneer) → system_meaning debugging (name_of v) ≡ None
 unfolding system_names
-no_system debugging veneer.ReadProperty = refl
-no_system debugging veneer.WriteProperty = refl
-no_system debugging veneer.PropertyAddress = refl
-no_system debugging veneer.PropertyLength = refl
-no_system debugging veneer.CallProperty = refl
-no_system debugging veneer.StepProperty = refl
-no_system debugging veneer.WriteByte = refl
-no_system debugging veneer.WriteWord = refl
-no_system debugging veneer.StepByte = refl
-no_system debugging veneer.StepWord = refl
-no_system debugging veneer.Children = refl
-no_system debugging veneer.OfClass = refl
-no_system debugging veneer.Provides = refl
-no_system debugging veneer.ShortName = refl
-no_system debugging veneer.DefiniteArticle = refl
-no_system debugging veneer.CapitalArticle = refl
-no_system debugging veneer.IndefiniteArticle = refl
-no_system debugging veneer.EnglishNumber = refl
-no_system debugging veneer.Spaces = refl
-no_system debugging veneer.Process = refl
+no_system debugging Veneer.ReadProperty = refl
+no_system debugging Veneer.WriteProperty = refl
+no_system debugging Veneer.PropertyAddress = refl
+no_system debugging Veneer.PropertyLength = refl
+no_system debugging Veneer.CallProperty = refl
+no_system debugging Veneer.StepProperty = refl
+no_system debugging Veneer.WriteByte = refl
+no_system debugging Veneer.WriteWord = refl
+no_system debugging Veneer.StepByte = refl
+no_system debugging Veneer.StepWord = refl
+no_system debugging Veneer.Children = refl
+no_system debugging Veneer.OfClass = refl
+no_system debugging Veneer.Provides = refl
+no_system debugging Veneer.ShortName = refl
+no_system debugging Veneer.DefiniteArticle = refl
+no_system debugging Veneer.CapitalArticle = refl
+no_system debugging Veneer.IndefiniteArticle = refl
+no_system debugging Veneer.EnglishNumber = refl
+no_system debugging Veneer.Spaces = refl
+no_system debugging Veneer.Process = refl
 
 -- the answer of a name's look-up, by its standing
 abbrev seen : Option (Standing Place) → Found Place
@@ -147,7 +138,7 @@ used_is limits v o f e =
 
 abbrev called_as : Veneer → Found Place → Option ReferFault → Out → Simple
 called_as v f None o = found_simple f (number_by f (name_of v) o.names)
-called_as v f (Some fault) o = Later (target.Name 0)
+called_as v f (Some fault) o = Simple.Later (Target.Name 0)
 
 by_called_as : (v : Veneer) (fault : Option ReferFault) (o : Out) →
     routine_by fault (name_of v) o.names ≡ called_as v (found_in (name_of v) o.names) fault o
@@ -177,9 +168,9 @@ used_operand limits v o fits =
         ∙ h (sym (ap (λ (p : Out). p.past) (used_is limits v o f e)) ∙ fits)
         ∙ ap Some (sym (routine_is limits v o f e))
 
-    new : (b : Bool) → (used_as limits v found.Unknown (refer_fault_by {P = Place} found.Unknown b) o).past ≡ None →
-        operand_of v (used_as limits v found.Unknown (refer_fault_by {P = Place} found.Unknown b) o)
-        ≡ Some (called_as v found.Unknown (refer_fault_by {P = Place} found.Unknown b) o)
+    new : (b : Bool) → (used_as limits v Found.Unknown (refer_fault_by {P = Place} Found.Unknown b) o).past ≡ None →
+        operand_of v (used_as limits v Found.Unknown (refer_fault_by {P = Place} Found.Unknown b) o)
+        ≡ Some (called_as v Found.Unknown (refer_fault_by {P = Place} Found.Unknown b) o)
     new true e = missing e
     new false e =
         ap (λ st. named_operand st (index_of (folded (name_of v)) (put (folded (name_of v)) (IsUsed (name_of v) o.first) o.names.names)))
@@ -189,12 +180,12 @@ used_operand limits v o fits =
 
     by : (st : Option (Standing Place)) → standing_of (folded (name_of v)) o.names.names ≡ st →
         operand_of v (used limits v o) ≡ Some (routine limits v o)
-    by None e = so_used found.Unknown (seen_is v o None e) (new (is_full limits o.names))
+    by None e = so_used Found.Unknown (seen_is v o None e) (new (is_full limits o.names))
     by (Some (IsUsed spelling place)) e =
-        so_used found.Used (seen_is v o (Some (IsUsed spelling place)) e)
+        so_used Found.Used (seen_is v o (Some (IsUsed spelling place)) e)
         (λ _. ap (λ st. named_operand st (index_of (folded (name_of v)) o.names.names)) e)
     by (Some (IsDeclared number meaning place)) e =
-        so_used (found.Declared meaning place) (seen_is v o (Some (IsDeclared number meaning place)) e)
+        so_used (Found.Declared meaning place) (seen_is v o (Some (IsDeclared number meaning place)) e)
         (λ _. ap (λ st. named_operand st (index_of (folded (name_of v)) o.names.names)) e)
 
 -- The operands of routines' names stay.
@@ -228,18 +219,18 @@ used_stays limits u o = by (standing_of (folded (name_of u)) o.names.names) refl
         (kept_index (folded (name_of u)) (folded (name_of v)) (IsUsed (name_of u) o.first) st o.names.names none e) ∙ h
 
     new : standing_of (folded (name_of u)) o.names.names ≡ None → (b : Bool) →
-        NamesStay o (used_as limits u found.Unknown (refer_fault_by {P = Place} found.Unknown b) o)
-    new none true = names_equal o (used_as limits u found.Unknown (refer_fault_by {P = Place} found.Unknown true) o) refl
+        NamesStay o (used_as limits u Found.Unknown (refer_fault_by {P = Place} Found.Unknown b) o)
+    new none true = names_equal o (used_as limits u Found.Unknown (refer_fault_by {P = Place} Found.Unknown true) o) refl
     new none false = record { stays = λ v x h. known v x (standing_of (folded (name_of v)) o.names.names) refl h none }
 
     by : (st : Option (Standing Place)) → standing_of (folded (name_of u)) o.names.names ≡ st → NamesStay o (used limits u o)
-    by None e = so_used found.Unknown (seen_is u o None e) (new e (is_full limits o.names))
+    by None e = so_used Found.Unknown (seen_is u o None e) (new e (is_full limits o.names))
     by (Some (IsUsed spelling place)) e =
-        so_used found.Used (seen_is u o (Some (IsUsed spelling place)) e)
-        (names_equal o (used_as limits u found.Used None o) refl)
+        so_used Found.Used (seen_is u o (Some (IsUsed spelling place)) e)
+        (names_equal o (used_as limits u Found.Used None o) refl)
     by (Some (IsDeclared number meaning place)) e =
-        so_used (found.Declared meaning place) (seen_is u o (Some (IsDeclared number meaning place)) e)
-        (names_equal o (used_as limits u (found.Declared meaning place) None o) refl)
+        so_used (Found.Declared meaning place) (seen_is u o (Some (IsDeclared number meaning place)) e)
+        (names_equal o (used_as limits u (Found.Declared meaning place) None o) refl)
 
 -- Another name is used.
 put_stays : (key : List ℕ) (u : Standing Place) (names : List (Named Place)) → standing_of key names ≡ None → (other : List ℕ) (x : Simple)

@@ -1,70 +1,63 @@
 -- A world that supplies the routines which the code calls.
-use Rattle.std.proofs.Common.{arith, ◌≡◌, ℕ, suc, List, [], ◌∷◌, Option, Some, None, Bool, true, false, refl, ◌∙◌, ap, sym, subst}
-use Rattle.std.specs.Prelude.{◌+◌, if◌then◌else◌}
-use Rattle.std.specs.Str.{bytes_eq}
+use Rattle.std.proofs.Common.{arith, ◌≡◌, ℕ, suc, List, [], ◌∷◌, Option, Some, None, Bool, true, false, refl, ◌∙◌, ap, sym, subst, ◌+◌}
+use Rattle.std.proofs.Common.{if◌then◌else◌, bytes_eq}
 use Rattle.std.proofs.lemmas.Slice.Eq.{bytes_eq-Decides}
-use Rattle.inf_area.specs.declared.targets.Target.TheVariants as target
+use Rattle.inf_area.specs.declared.targets.Target.{Target}
 use Rattle.inf_scanner.specs.declared.tokens.Place.{Place}
-use Rattle.inf_names.specs.declared.meanings.Meaning.TheVariants as meaning
+use Rattle.inf_names.specs.declared.meanings.Meaning.{Meaning}
 use Rattle.inf_names.specs.Symbols.{IsDeclared, IsUsed, Named, Standing, folded, index_of, standing_of}
-use Rattle.inf_output.specs.declared.operands.Simple.{Simple}
-use Rattle.inf_output.specs.declared.operands.Simple.TheVariants.{Later}
-use Rattle.inf_output.specs.declared.veneer.Veneer.{Veneer}
-use Rattle.inf_output.specs.declared.veneer.Veneer.TheVariants as veneer
-use Rattle.inf_output.specs.Operands.{written}
-use Rattle.inf_output.specs.Veneer.{name_of}
-use Rattle.inf_interpreter.specs.Machine.{State, Store, World, operand_value}
-use Rattle.inf_interpreter.specs.Supplied.{named_operand, supplied}
-use Rattle.inf_interpreter.specs.Worlds.{MayBeRoutine, WorldsSupply, called_in, number_at, number_named, number_of, routines, supplying}
-use Rattle.inf_interpreter.specs.Worlds.{with_left}
+use Rattle.inf_output.specs.{Operands.written, Veneer.name_of, declared.operands.Simple.Simple, declared.veneer.Veneer.Veneer}
+use Rattle.inf_interpreter.specs.{Machine.State, Machine.Store, Machine.World, Machine.operand_value, Supplied.named_operand}
+use Rattle.inf_interpreter.specs.{Supplied.supplied, Worlds.MayBeRoutine, Worlds.WorldsSupply, Worlds.called_in, Worlds.number_at}
+use Rattle.inf_interpreter.specs.{Worlds.number_named, Worlds.number_of, Worlds.routines, Worlds.supplying, Worlds.with_left}
 use Rattle.inf_interpreter.proofs.Running.{none_some, same_some}
 
 -- A routine's name stands for the routine's number.
 is_named : (v : Veneer) (other : ℕ) → number_named routines (folded (name_of v)) other ≡ number_of v
-is_named veneer.ReadProperty other = refl
-is_named veneer.WriteProperty other = refl
-is_named veneer.PropertyAddress other = refl
-is_named veneer.PropertyLength other = refl
-is_named veneer.CallProperty other = refl
-is_named veneer.StepProperty other = refl
-is_named veneer.WriteByte other = refl
-is_named veneer.WriteWord other = refl
-is_named veneer.StepByte other = refl
-is_named veneer.StepWord other = refl
-is_named veneer.Children other = refl
-is_named veneer.OfClass other = refl
-is_named veneer.Provides other = refl
-is_named veneer.ShortName other = refl
-is_named veneer.DefiniteArticle other = refl
-is_named veneer.CapitalArticle other = refl
-is_named veneer.IndefiniteArticle other = refl
-is_named veneer.EnglishNumber other = refl
-is_named veneer.Spaces other = refl
-is_named veneer.Process other = refl
+is_named Veneer.ReadProperty other = refl
+is_named Veneer.WriteProperty other = refl
+is_named Veneer.PropertyAddress other = refl
+is_named Veneer.PropertyLength other = refl
+is_named Veneer.CallProperty other = refl
+is_named Veneer.StepProperty other = refl
+is_named Veneer.WriteByte other = refl
+is_named Veneer.WriteWord other = refl
+is_named Veneer.StepByte other = refl
+is_named Veneer.StepWord other = refl
+is_named Veneer.Children other = refl
+is_named Veneer.OfClass other = refl
+is_named Veneer.Provides other = refl
+is_named Veneer.ShortName other = refl
+is_named Veneer.DefiniteArticle other = refl
+is_named Veneer.CapitalArticle other = refl
+is_named Veneer.IndefiniteArticle other = refl
+is_named Veneer.EnglishNumber other = refl
+is_named Veneer.Spaces other = refl
+is_named Veneer.Process other = refl
 
 -- A call of this number comes to the routine's contract.
 is_called : (w : World) (names : List (Named Place)) (v : Veneer) (arguments : List ℕ) (s : Store) →
     called_in w routines s (number_of v) arguments ≡ with_left (supplied (supplying w names) v arguments s)
-is_called w names veneer.ReadProperty arguments s = refl
-is_called w names veneer.WriteProperty arguments s = refl
-is_called w names veneer.PropertyAddress arguments s = refl
-is_called w names veneer.PropertyLength arguments s = refl
-is_called w names veneer.CallProperty arguments s = refl
-is_called w names veneer.StepProperty arguments s = refl
-is_called w names veneer.WriteByte arguments s = refl
-is_called w names veneer.WriteWord arguments s = refl
-is_called w names veneer.StepByte arguments s = refl
-is_called w names veneer.StepWord arguments s = refl
-is_called w names veneer.Children arguments s = refl
-is_called w names veneer.OfClass arguments s = refl
-is_called w names veneer.Provides arguments s = refl
-is_called w names veneer.ShortName arguments s = refl
-is_called w names veneer.DefiniteArticle arguments s = refl
-is_called w names veneer.CapitalArticle arguments s = refl
-is_called w names veneer.IndefiniteArticle arguments s = refl
-is_called w names veneer.EnglishNumber arguments s = refl
-is_called w names veneer.Spaces arguments s = refl
-is_called w names veneer.Process arguments s = refl
+is_called w names Veneer.ReadProperty arguments s = refl
+is_called w names Veneer.WriteProperty arguments s = refl
+is_called w names Veneer.PropertyAddress arguments s = refl
+is_called w names Veneer.PropertyLength arguments s = refl
+is_called w names Veneer.CallProperty arguments s = refl
+is_called w names Veneer.StepProperty arguments s = refl
+is_called w names Veneer.WriteByte arguments s = refl
+is_called w names Veneer.WriteWord arguments s = refl
+is_called w names Veneer.StepByte arguments s = refl
+is_called w names Veneer.StepWord arguments s = refl
+is_called w names Veneer.Children arguments s = refl
+is_called w names Veneer.OfClass arguments s = refl
+is_called w names Veneer.Provides arguments s = refl
+is_called w names Veneer.ShortName arguments s = refl
+is_called w names Veneer.DefiniteArticle arguments s = refl
+is_called w names Veneer.CapitalArticle arguments s = refl
+is_called w names Veneer.IndefiniteArticle arguments s = refl
+is_called w names Veneer.EnglishNumber arguments s = refl
+is_called w names Veneer.Spaces arguments s = refl
+is_called w names Veneer.Process arguments s = refl
 
 -- The name at the place of a name that is known is this name.
 one_more : (n : ℕ) → n + 1 ≡ suc n
@@ -85,10 +78,10 @@ number_found key other x (n ∷ names) e = go (bytes_eq key n.name) refl (number
 -- So the operand by which a routine is called has its number as its value.
 later_is : (w : World) (v : Veneer) (names : List (Named Place)) (x : Standing Place) → standing_of (folded (name_of v)) names ≡ Some x →
     (s : State) →
-    operand_value (supplying w names) (written (Later (target.Name (index_of (folded (name_of v)) names)))) s ≡ Some (number_of v, s)
+    operand_value (supplying w names) (written (Simple.Later (Target.Name (index_of (folded (name_of v)) names)))) s ≡ Some (number_of v, s)
 later_is w v names x e s =
     let key = folded (name_of v) in
-    let other = w.later (target.Name (index_of key names)) in
+    let other = w.later (Target.Name (index_of key names)) in
     ap (λ n. Some (n, s)) (number_found key other x names e ∙ is_named v other)
 
 number_is : (w : World) (v : Veneer) (names : List (Named Place)) (y : Simple) (st : Option (Standing Place)) →
@@ -98,9 +91,9 @@ number_is w v names y None e h f s = none_some f
 number_is w v names y (Some (IsUsed spelling place)) e h f s =
     subst (λ z. operand_value (supplying w names) (written z) s ≡ Some (number_of v, s)) (same_some f)
     (later_is w v names (IsUsed spelling place) e s)
-number_is w v names y (Some (IsDeclared n (meaning.Routine at) place)) e h f s =
+number_is w v names y (Some (IsDeclared n (Meaning.Routine at) place)) e h f s =
     subst (λ z. operand_value (supplying w names) (written z) s ≡ Some (number_of v, s)) (same_some f)
-    (later_is w v names (IsDeclared n (meaning.Routine at) place) e s)
+    (later_is w v names (IsDeclared n (Meaning.Routine at) place) e s)
 number_is w v names y (Some (IsDeclared n m place)) e h f s = absurd h
 
 pub worlds_supply : WorldsSupply

@@ -1,8 +1,7 @@
 -- Claims about the code between two places, and what a machine does with items wherever they stand.
 use Rattle.std.specs.Prelude.{◌≡◌, ℕ, Bool, true, List, [], ◌∷◌, ◌++◌, Option, Some, None}
 use Rattle.inf_opcode.specs.declared.instructions.Label.{Label}
-use Rattle.inf_output.specs.declared.items.Item.{Item}
-use Rattle.inf_output.specs.Output.{Code, Out, grown}
+use Rattle.inf_output.specs.{Output.Code, Output.Out, Output.grown, declared.items.Item.Item}
 use Rattle.inf_code.specs.Code.{Routines}
 use Rattle.inf_interpreter.specs.Machine.{World, Store, State, Place, Stands, run}
 use Rattle.inf_interpreter.specs.Supplied.{NamesStay, Supplies}

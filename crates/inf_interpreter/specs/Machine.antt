@@ -1,21 +1,11 @@
 -- A machine that runs the items of a routine, by the Z-Machine Standard 1.1 (sections 6, 14 and 15). It knows the opcodes that expressions
 -- and loops are laid with; at any other one, and at one whose operands do not fit, it has no next step.
 use Rattle.std.specs.Prelude.{◌≡◌, ◌-◌, ℕ, zero, suc, ◌+◌, ◌*◌, ◌/◌, ◌%◌, nat_lt, not, ◌==◌, ◌||◌, Bool, true, false, List, [], ◌∷◌, ◌++◌}
-use Rattle.std.specs.Prelude.{bit_and, bit_or}
-use Rattle.std.specs.Prelude.{Option, Some, None, if◌then◌else◌}
+use Rattle.std.specs.Prelude.{bit_and, bit_or, Option, Some, None, if◌then◌else◌}
 use Rattle.inf_area.specs.declared.targets.Target.{Target}
-use Rattle.inf_opcode.specs.declared.instructions.Branch.{Branch}
-use Rattle.inf_opcode.specs.declared.instructions.Destination.{Destination}
-use Rattle.inf_opcode.specs.declared.instructions.Destination.TheVariants.{To, ReturnFalse, ReturnTrue}
-use Rattle.inf_opcode.specs.declared.instructions.Label.{Label}
-use Rattle.inf_opcode.specs.declared.instructions.Operand.{Operand}
-use Rattle.inf_opcode.specs.declared.instructions.Operand.TheVariants.{Large, Small, Variable, Later, Offset}
-use Rattle.inf_opcode.specs.declared.opcodes.Opcode.{Opcode}
-use Rattle.inf_opcode.specs.declared.opcodes.Opcode.TheVariants as opcode
-use Rattle.inf_opcode.specs.Instructions.{Parts}
-use Rattle.inf_output.specs.declared.items.Item.{Item}
-use Rattle.inf_output.specs.declared.items.Item.TheVariants.{Instruction, Mark}
-use Rattle.inf_output.specs.declared.veneer.Veneer.{Veneer}
+use Rattle.inf_opcode.specs.{Instructions.Parts, declared.instructions.Branch.Branch, declared.instructions.Destination.Destination}
+use Rattle.inf_opcode.specs.{declared.instructions.Label.Label, declared.instructions.Operand.Operand, declared.opcodes.Opcode.Opcode}
+use Rattle.inf_output.specs.{declared.items.Item.Item, declared.veneer.Veneer.Veneer}
 use Rattle.inf_expressions.specs.Numbers.{magnitude, negated, same, shifted}
 
 -- A result that may be missing is handed on to the next step, which is left out where it is missing.
@@ -114,11 +104,11 @@ put_in v n s = if v == 0 then record s { stack = with_top n s.stack } else given
 -- Operands: the first one is read first.
 
 abbrev pub operand_value : World → Operand → State → Option (ℕ × State)
-operand_value w (Large n) s = Some (n, s)
-operand_value w (Small n) s = Some (n, s)
-operand_value w (Variable v) s = taken v s
-operand_value w (Later t) s = Some (w.later t, s)
-operand_value w (Offset l) s = None
+operand_value w (Operand.Large n) s = Some (n, s)
+operand_value w (Operand.Small n) s = Some (n, s)
+operand_value w (Operand.Variable v) s = taken v s
+operand_value w (Operand.Later t) s = Some (w.later t, s)
+operand_value w (Operand.Offset l) s = None
 
 abbrev pub and_first : ℕ → Option (List ℕ × State) → Option (List ℕ × State)
 and_first n None = None
@@ -190,43 +180,43 @@ abbrev pub less : ℕ → ℕ → Bool
 less a b = nat_lt (shifted a) (shifted b)
 
 abbrev pub action_of : World → Opcode → Action
-action_of w opcode.Add = Computes (λ s. of_two (λ a b. Some ((a + b) % 65536)))
-action_of w opcode.Sub = Computes (λ s. of_two (λ a b. Some ((a + negated b) % 65536)))
-action_of w opcode.Mul = Computes (λ s. of_two (λ a b. Some ((a * b) % 65536)))
-action_of w opcode.Div = Computes (λ s. of_two divided)
-action_of w opcode.Mod = Computes (λ s. of_two left_over)
-action_of w opcode.And = Computes (λ s. of_two (λ a b. Some (bit_and a b)))
-action_of w opcode.Or = Computes (λ s. of_two (λ a b. Some (bit_or a b)))
-action_of w opcode.Not = Computes (λ s. of_one (λ a. Some (65535 - a)))
-action_of w opcode.Loadb = Computes (λ s. of_two (λ a b. Some (byte_at s a b)))
-action_of w opcode.Loadw = Computes (λ s. of_two (λ a b. Some (word_at s a b)))
-action_of w opcode.GetParent = Computes (λ s. of_one (λ a. Some (w.parent s a)))
-action_of w opcode.GetChild = Finds w.child
-action_of w opcode.GetSibling = Finds w.sibling
-action_of w opcode.Random = Draws
-action_of w opcode.Jz = Tests (λ s. test_of_one (λ a. a == 0))
-action_of w opcode.Je = Tests (λ s. first_is_any)
-action_of w opcode.Jl = Tests (λ s. test_of_two (λ a b. less a b))
-action_of w opcode.Jg = Tests (λ s. test_of_two (λ a b. less b a))
-action_of w opcode.Jin = Tests (λ s. test_of_two (λ a b. w.inside s a b))
-action_of w opcode.TestAttr = Tests (λ s. test_of_two (λ a b. w.has s a b))
-action_of w opcode.Storeb = Writes (write_of_three (λ a i n. with_byte ((a + i) % 65536) n))
-action_of w opcode.Storew = Writes (write_of_three (λ a i n. with_word ((a + 2 * i) % 65536) n))
-action_of w opcode.Push = Pushes
-action_of w opcode.Load = Loads
-action_of w opcode.Store = Puts
-action_of w opcode.Inc = Steps 1
-action_of w opcode.Dec = Steps 65535
-action_of w opcode.IncChk = Checks
-action_of w opcode.Jump = Jumps
-action_of w opcode.Call1s = Calls
-action_of w opcode.Call2s = Calls
-action_of w opcode.CallVs = Calls
-action_of w opcode.CallVs2 = Calls
-action_of w opcode.Call1n = Calls
-action_of w opcode.Call2n = Calls
-action_of w opcode.CallVn = Calls
-action_of w opcode.CallVn2 = Calls
+action_of w Opcode.Add = Computes (λ s. of_two (λ a b. Some ((a + b) % 65536)))
+action_of w Opcode.Sub = Computes (λ s. of_two (λ a b. Some ((a + negated b) % 65536)))
+action_of w Opcode.Mul = Computes (λ s. of_two (λ a b. Some ((a * b) % 65536)))
+action_of w Opcode.Div = Computes (λ s. of_two divided)
+action_of w Opcode.Mod = Computes (λ s. of_two left_over)
+action_of w Opcode.And = Computes (λ s. of_two (λ a b. Some (bit_and a b)))
+action_of w Opcode.Or = Computes (λ s. of_two (λ a b. Some (bit_or a b)))
+action_of w Opcode.Not = Computes (λ s. of_one (λ a. Some (65535 - a)))
+action_of w Opcode.Loadb = Computes (λ s. of_two (λ a b. Some (byte_at s a b)))
+action_of w Opcode.Loadw = Computes (λ s. of_two (λ a b. Some (word_at s a b)))
+action_of w Opcode.GetParent = Computes (λ s. of_one (λ a. Some (w.parent s a)))
+action_of w Opcode.GetChild = Finds w.child
+action_of w Opcode.GetSibling = Finds w.sibling
+action_of w Opcode.Random = Draws
+action_of w Opcode.Jz = Tests (λ s. test_of_one (λ a. a == 0))
+action_of w Opcode.Je = Tests (λ s. first_is_any)
+action_of w Opcode.Jl = Tests (λ s. test_of_two (λ a b. less a b))
+action_of w Opcode.Jg = Tests (λ s. test_of_two (λ a b. less b a))
+action_of w Opcode.Jin = Tests (λ s. test_of_two (λ a b. w.inside s a b))
+action_of w Opcode.TestAttr = Tests (λ s. test_of_two (λ a b. w.has s a b))
+action_of w Opcode.Storeb = Writes (write_of_three (λ a i n. with_byte ((a + i) % 65536) n))
+action_of w Opcode.Storew = Writes (write_of_three (λ a i n. with_word ((a + 2 * i) % 65536) n))
+action_of w Opcode.Push = Pushes
+action_of w Opcode.Load = Loads
+action_of w Opcode.Store = Puts
+action_of w Opcode.Inc = Steps 1
+action_of w Opcode.Dec = Steps 65535
+action_of w Opcode.IncChk = Checks
+action_of w Opcode.Jump = Jumps
+action_of w Opcode.Call1s = Calls
+action_of w Opcode.Call2s = Calls
+action_of w Opcode.CallVs = Calls
+action_of w Opcode.CallVs2 = Calls
+action_of w Opcode.Call1n = Calls
+action_of w Opcode.Call2n = Calls
+action_of w Opcode.CallVn = Calls
+action_of w Opcode.CallVn2 = Calls
 action_of w _ = Unknown
 
 -- A place in a program is the list of the items from there on.
@@ -238,9 +228,9 @@ abbrev pub Machine : Type 0
 Machine = Place × State
 
 abbrev pub goes_by : Bool → Destination → (Label → Place) → Place → State → Option Machine
-goes_by true (To l) at rest s = Some (at l, s)
-goes_by true ReturnFalse at rest s = None
-goes_by true ReturnTrue at rest s = None
+goes_by true (Destination.To l) at rest s = Some (at l, s)
+goes_by true Destination.ReturnFalse at rest s = None
+goes_by true Destination.ReturnTrue at rest s = None
 goes_by false target at rest s = Some (rest, s)
 
 abbrev pub branched : Option Branch → Bool → (Label → Place) → Place → State → Option Machine
@@ -257,11 +247,11 @@ pushed _ rest s = None
 
 -- the first operand is the number of a variable, which is not read
 abbrev pub naming : List Operand → (ℕ → List Operand → Option Machine) → Option Machine
-naming ((Small v) ∷ operands) act = act v operands
+naming ((Operand.Small v) ∷ operands) act = act v operands
 naming _ act = None
 
 abbrev pub jumped : List Operand → (Label → Place) → State → Option Machine
-jumped ((Offset l) ∷ []) at s = Some (at l, s)
+jumped ((Operand.Offset l) ∷ []) at s = Some (at l, s)
 jumped _ at s = None
 
 abbrev pub first_put : ℕ → List ℕ → Place → State → Option Machine
@@ -316,8 +306,8 @@ acted w at Calls i rest s =
 acted w at Unknown i rest s = None
 
 abbrev pub stepped : World → (Label → Place) → Item → Place → State → Option Machine
-stepped w at (Mark l) rest s = Some (rest, s)
-stepped w at (Instruction i) rest s = acted w at (action_of w i.opcode) i rest s
+stepped w at (Item.Mark l) rest s = Some (rest, s)
+stepped w at (Item.Instruction i) rest s = acted w at (action_of w i.opcode) i rest s
 
 -- A number of items is run, in a program whose labels are at some places.
 abbrev pub run : World → (Label → Place) → ℕ → Place → State → Option Machine
@@ -328,5 +318,5 @@ run w at (suc n) (item ∷ rest) s = stepped w at item rest s then λ m. run w a
 -- Each label that is marked among these items is at the place behind its mark.
 abbrev pub Stands : (Label → Place) → List Item → Place → Type 0
 Stands at [] rest = Unit {0}
-Stands at ((Instruction i) ∷ items) rest = Stands at items rest
-Stands at ((Mark l) ∷ items) rest = (at l ≡ items ++ rest) × Stands at items rest
+Stands at ((Item.Instruction i) ∷ items) rest = Stands at items rest
+Stands at ((Item.Mark l) ∷ items) rest = (at l ≡ items ++ rest) × Stands at items rest

@@ -2,14 +2,10 @@
 use Rattle.std.specs.Prelude.{◌≡◌, ℕ, ◌+◌, ◌*◌, ◌%◌, ◌==◌, List, [], ◌∷◌, Option, Some, None, if◌then◌else◌}
 use Rattle.inf_scanner.specs.declared.tokens.Place.{Place}
 use Rattle.inf_expressions.specs.Numbers.{truth}
-use Rattle.inf_names.specs.declared.symbols.Found.TheVariants as found
+use Rattle.inf_names.specs.declared.symbols.Found.{Found}
 use Rattle.inf_names.specs.Symbols.{Standing, IsDeclared, IsUsed, folded, index_of, standing_of}
-use Rattle.inf_output.specs.declared.operands.Simple.{Simple}
-use Rattle.inf_output.specs.declared.veneer.Veneer.{Veneer}
-use Rattle.inf_output.specs.declared.veneer.Veneer.TheVariants as veneer
-use Rattle.inf_output.specs.Operands.{written}
+use Rattle.inf_output.specs.{Operands.written, Veneer.name_of, declared.operands.Simple.Simple, declared.veneer.Veneer.Veneer}
 use Rattle.inf_output.specs.Output.{Out, found_simple}
-use Rattle.inf_output.specs.Veneer.{name_of}
 use Rattle.inf_interpreter.specs.Machine.{World, Store, State, ◌then◌, byte_at, of_one, of_two, operand_value, with_byte, with_word}
 use Rattle.inf_interpreter.specs.Machine.{word_at}
 
@@ -41,19 +37,19 @@ word_written a i n = with_word ((a + 2 * i) % 65536) n
 -- The outcome of a call of a routine with some arguments: its result, and the store behind it. The routines that statements call have no
 -- contract here.
 abbrev pub supplied : World → Veneer → List ℕ → Store → Option (ℕ × Store)
-supplied w veneer.ReadProperty = told (λ s. of_two (λ o p. Some (w.property s o p)))
-supplied w veneer.WriteProperty = wrote w.with_property
-supplied w veneer.PropertyAddress = told (λ s. of_two (λ o p. Some (w.property_address s o p)))
-supplied w veneer.PropertyLength = told (λ s. of_two (λ o p. Some (w.property_length s o p)))
-supplied w veneer.CallProperty = sent w
-supplied w veneer.StepProperty = made_step w.property w.with_property
-supplied w veneer.WriteByte = wrote byte_written
-supplied w veneer.WriteWord = wrote word_written
-supplied w veneer.StepByte = made_step byte_at byte_written
-supplied w veneer.StepWord = made_step word_at word_written
-supplied w veneer.Children = told (λ s. of_one (λ o. Some (w.children s o)))
-supplied w veneer.OfClass = told (λ s. of_two (λ o c. Some (truth (w.of_class s o c))))
-supplied w veneer.Provides = told (λ s. of_two (λ o p. Some (truth (w.provides s o p))))
+supplied w Veneer.ReadProperty = told (λ s. of_two (λ o p. Some (w.property s o p)))
+supplied w Veneer.WriteProperty = wrote w.with_property
+supplied w Veneer.PropertyAddress = told (λ s. of_two (λ o p. Some (w.property_address s o p)))
+supplied w Veneer.PropertyLength = told (λ s. of_two (λ o p. Some (w.property_length s o p)))
+supplied w Veneer.CallProperty = sent w
+supplied w Veneer.StepProperty = made_step w.property w.with_property
+supplied w Veneer.WriteByte = wrote byte_written
+supplied w Veneer.WriteWord = wrote word_written
+supplied w Veneer.StepByte = made_step byte_at byte_written
+supplied w Veneer.StepWord = made_step word_at word_written
+supplied w Veneer.Children = told (λ s. of_one (λ o. Some (w.children s o)))
+supplied w Veneer.OfClass = told (λ s. of_two (λ o c. Some (truth (w.of_class s o c))))
+supplied w Veneer.Provides = told (λ s. of_two (λ o p. Some (truth (w.provides s o p))))
 supplied w _ = λ ns s. None
 
 -- The world has these contracts: a call of the routine's number comes to that, with any value of variable 255 behind it.
@@ -65,8 +61,8 @@ pub record Contracts (w : World) : Type 0 where
 -- name's meaning, or a number that is known later.
 abbrev pub named_operand : Option (Standing Place) → ℕ → Option Simple
 named_operand None number = None
-named_operand (Some (IsDeclared n meaning place)) number = Some (found_simple (found.Declared meaning place) (Some number))
-named_operand (Some (IsUsed spelling place)) number = Some (found_simple found.Used (Some number))
+named_operand (Some (IsDeclared n meaning place)) number = Some (found_simple (Found.Declared meaning place) (Some number))
+named_operand (Some (IsUsed spelling place)) number = Some (found_simple Found.Used (Some number))
 
 abbrev pub operand_of : Veneer → Out → Option Simple
 operand_of v o = let key = folded (name_of v) in named_operand (standing_of key o.names.names) (index_of key o.names.names)

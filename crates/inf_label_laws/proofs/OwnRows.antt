@@ -3,33 +3,15 @@ use Rattle.std.proofs.Common.{arith, ◌≡◌, ◌≤◌, ℕ, List, [], ◌∷
 use Rattle.std.proofs.lemmas.Bool.{cases_eq}
 use Rattle.std.specs.Prelude.{length, nat_lt, not, take, ◌+◌, ◌<◌, ◌==◌, ◌⊎◌, if◌then◌else◌}
 use Rattle.inf_settings.specs.Bounds.{Limits}
-use Rattle.inf_opcode.specs.declared.instructions.Branch.{Branch}
-use Rattle.inf_opcode.specs.declared.instructions.Label.{Label}
-use Rattle.inf_opcode.specs.declared.opcodes.Opcode.{Opcode}
-use Rattle.inf_opcode.specs.declared.opcodes.Opcode.TheVariants as opcode
-use Rattle.inf_expressions.specs.declared.operators.Operation.{Operation}
-use Rattle.inf_expressions.specs.declared.operators.Operation.TheVariants as operation
-use Rattle.inf_expressions.specs.declared.operators.PropertyPart.{PropertyPart}
-use Rattle.inf_expressions.specs.declared.operators.PropertyPart.TheVariants as property
-use Rattle.inf_expressions.specs.declared.operators.Direction.{Direction}
-use Rattle.inf_expressions.specs.declared.operators.Direction.TheVariants as step
-use Rattle.inf_expressions.specs.declared.operators.Test.{Test}
-use Rattle.inf_expressions.specs.declared.operators.Test.TheVariants as test
-use Rattle.inf_expressions.specs.declared.operators.Unary.{Unary}
-use Rattle.inf_expressions.specs.declared.operators.Unary.TheVariants as unary
-use Rattle.inf_expressions.specs.declared.operators.Binary.{Binary}
-use Rattle.inf_expressions.specs.declared.operators.Binary.TheVariants as binary
+use Rattle.inf_opcode.specs.{declared.instructions.Branch.Branch, declared.instructions.Label.Label, declared.opcodes.Opcode.Opcode}
+use Rattle.inf_expressions.specs.declared.{operators.Binary.Binary, operators.Direction.Direction, operators.Operation.Operation}
+use Rattle.inf_expressions.specs.declared.{operators.PropertyPart.PropertyPart, operators.Test.Test, operators.Unary.Unary}
 use Rattle.inf_expressions.specs.Trees.{Tree, Leaf, One, Two}
-use Rattle.inf_output.specs.declared.operands.Simple.{Simple}
-use Rattle.inf_output.specs.declared.operands.Simple.TheVariants.{Known, Variable, Later}
-use Rattle.inf_output.specs.declared.veneer.Veneer.{Veneer}
-use Rattle.inf_output.specs.declared.veneer.Veneer.TheVariants as veneer
+use Rattle.inf_output.specs.{declared.operands.Simple.Simple, declared.veneer.Veneer.Veneer}
 use Rattle.inf_output.specs.Output.{Code, apart, instruction, items_of, naming, to, ◌▸◌}
 use Rattle.inf_templates.specs.declared.tasks.Memory.{Memory}
-use Rattle.inf_templates.specs.declared.tasks.Memory.TheVariants as memory
 use Rattle.inf_templates.specs.Parts.{Part, SP, TEMP, call, call_opcode, call_routine, calling, calling_routine, evaluated, evaluated_by}
-use Rattle.inf_templates.specs.Parts.{is}
-use Rattle.inf_templates.specs.Parts.{jump_zero, load, operand_of, operands, put, simple, worked}
+use Rattle.inf_templates.specs.Parts.{is, jump_zero, load, operand_of, operands, put, simple, worked}
 use Rattle.inf_templates.specs.Meaning.{InMemory, InVariable, Meaning, Nowhere, Target, meaning, part, parts}
 use Rattle.inf_templates.specs.Meaning as code
 use Rattle.inf_label_laws.specs.Labels.{LabelsAreOwn, MarksItsOwn, NeedsAlone, times}
@@ -79,19 +61,19 @@ pub owned_worked : (limits : Limits) (op : Opcode) (ps : List Part) → OwnsPart
 owned_worked limits op ps h store branch = owned_before (owned_parts ps h) (owned_instruction limits op (operands ps) store branch)
 
 put_by : (limits : Limits) (x : Simple) (d : ℕ) (b : Bool) →
-    Owned (if b then instruction limits opcode.Push (x ∷ []) None None else naming limits opcode.Store d (x ∷ []) None None) [] []
-put_by limits x d true = owned_instruction limits opcode.Push (x ∷ []) None None
-put_by limits x d false = owned_naming limits opcode.Store d (x ∷ []) None None
+    Owned (if b then instruction limits Opcode.Push (x ∷ []) None None else naming limits Opcode.Store d (x ∷ []) None None) [] []
+put_by limits x d true = owned_instruction limits Opcode.Push (x ∷ []) None None
+put_by limits x d false = owned_naming limits Opcode.Store d (x ∷ []) None None
 
 owned_put : (limits : Limits) (x : Simple) (d : ℕ) → Owned (put limits x d) [] []
 owned_put limits x d = put_by limits x d (d == SP)
 
 owned_load : (limits : Limits) (v d : ℕ) → Owned (load limits v d) [] []
-owned_load limits v d = owned_naming limits opcode.Load v [] (Some d) None
+owned_load limits v d = owned_naming limits Opcode.Load v [] (Some d) None
 
 pub owned_zero : (limits : Limits) (x : Simple) (sense : Bool) (label : Label) →
     Owned (jump_zero limits x sense label) (label.number ∷ []) []
-owned_zero limits x sense label = owned_instruction limits opcode.Jz (x ∷ []) None (to (not sense) label)
+owned_zero limits x sense label = owned_instruction limits Opcode.Jz (x ∷ []) None (to (not sense) label)
 
 owned_calling : (limits : Limits) (r : Simple) (all : List Simple) (store : Option ℕ) → Owned (calling limits r all store) [] []
 unfolding calling
@@ -120,7 +102,7 @@ valued_owns limits value alone h k = record {
   others = tt;
   value = h;
   alone = k;
-  branch = λ sense label. owned_before (h SP) (owned_zero limits (Variable SP) sense label);
+  branch = λ sense label. owned_before (h SP) (owned_zero limits (Simple.Variable SP) sense label);
 }
 
 called_owns : (limits : Limits) (c : Option ℕ → Code) → ((store : Option ℕ) → Owned (c store) [] []) → OwnsAll (code.called limits c)
@@ -141,10 +123,10 @@ owned_truth limits branch h d =
     let needs = last.number ∷ fails.number ∷ [] in
     owned_as {a = fails.number ∷ last.number ∷ []} {b = last.number ∷ fails.number ∷ []} (λ n. two_marks n fails.number last.number)
     (owned_behind (owned_at (has_later fails.number last.number (fails.number ∷ []) (has_first fails.number [])) (h false fails))
-    (owned_before (owned_put limits (Known 1) d)
+    (owned_before (owned_put limits (Simple.Known 1) d)
     (owned_behind (owned_at (has_first last.number (fails.number ∷ [])) (owned_jump limits last))
     (owned_then {a = fails.number ∷ []} {b = last.number ∷ []} (owned_mark {needs = needs} limits fails)
-    (owned_before (owned_put limits (Known 0) d) (owned_mark {needs = needs} limits last))))))
+    (owned_before (owned_put limits (Simple.Known 0) d) (owned_mark {needs = needs} limits last))))))
 
 condition_owns : (limits : Limits) (branch : Bool → Label → Code) → ((sense : Bool) (label : Label) →
     Owned (branch sense label) (label.number ∷ []) []) →
@@ -171,14 +153,14 @@ jumped_if limits false label = owned_nothing
 
 leaf_branch : (limits : Limits) (x : Simple) (sense : Bool) (label : Label) →
     Owned (code.leaf_branch limits x sense label) (label.number ∷ []) []
-leaf_branch limits (Known n) sense label = jumped_if limits (if sense then code.is_true n else not (code.is_true n)) label
-leaf_branch limits (Variable v) sense label = owned_zero limits (Variable v) sense label
-leaf_branch limits (Later t) sense label = owned_zero limits (Later t) sense label
+leaf_branch limits (Simple.Known n) sense label = jumped_if limits (if sense then code.is_true n else not (code.is_true n)) label
+leaf_branch limits (Simple.Variable v) sense label = owned_zero limits (Simple.Variable v) sense label
+leaf_branch limits (Simple.Later t) sense label = owned_zero limits (Simple.Later t) sense label
 
 leaf_target : (x : Simple) → OwnsTarget (code.leaf_target x)
-leaf_target (Known n) = tt
-leaf_target (Variable v) = tt
-leaf_target (Later t) = tt
+leaf_target (Simple.Known n) = tt
+leaf_target (Simple.Variable v) = tt
+leaf_target (Simple.Later t) = tt
 
 leaf_owns : (limits : Limits) (x : Simple) → OwnsAll (code.leaf limits x)
 leaf_owns limits x = record {
@@ -193,9 +175,9 @@ leaf_owns limits x = record {
 -- Assignments and steps
 
 stored_owns : (limits : Limits) (m : Memory) (all : List Simple) → Owned (code.stored limits m all) [] []
-stored_owns limits memory.Byte all = owned_instruction limits opcode.Storeb all None None
-stored_owns limits memory.Word all = owned_instruction limits opcode.Storew all None None
-stored_owns limits memory.Property all = owned_supplied limits veneer.WriteProperty all None
+stored_owns limits Memory.Byte all = owned_instruction limits Opcode.Storeb all None None
+stored_owns limits Memory.Word all = owned_instruction limits Opcode.Storew all None None
+stored_owns limits Memory.Property all = owned_supplied limits Veneer.WriteProperty all None
 
 assigned_value : (limits : Limits) (t : Target) → OwnsTarget t → (a : Meaning) → OwnsAll a → (d : ℕ) →
     Owned (code.assigned_value limits t a d) [] []
@@ -211,15 +193,15 @@ assigned_alone limits (InMemory m ps) k a h =
     owned_before (owned_parts (ps ++ part a ∷ []) (joined_parts ps (part a ∷ []) k (h.value, tt)))
     (stored_owns limits m (operands (ps ++ part a ∷ [])))
 
-assign_owns : (limits : Limits) (v a : Meaning) → OwnsAll v → OwnsAll a → OwnsAll (code.two limits binary.Assign v a)
+assign_owns : (limits : Limits) (v a : Meaning) → OwnsAll v → OwnsAll a → OwnsAll (code.two limits Binary.Assign v a)
 unfolding code.assign_value code.assign_alone
 assign_owns limits v a h k =
     valued_owns limits (code.assigned_value limits v.target a) (code.assigned_alone limits v.target a)
     (assigned_value limits v.target h.target a k) (assigned_alone limits v.target h.target a k)
 
 stepping_owns : (limits : Limits) (how : Direction) (v : ℕ) → Owned (code.stepping limits how v) [] []
-stepping_owns limits step.Up v = owned_naming limits opcode.Inc v [] None None
-stepping_owns limits step.Down v = owned_naming limits opcode.Dec v [] None None
+stepping_owns limits Direction.Up v = owned_naming limits Opcode.Inc v [] None None
+stepping_owns limits Direction.Down v = owned_naming limits Opcode.Dec v [] None None
 
 in_memory : (limits : Limits) (before : Bool) (how : Direction) (m : Memory) (ps : List Part) → OwnsParts ps → (store : Option ℕ) →
     Owned (code.step_in_memory limits before how m ps store) [] []
@@ -254,10 +236,10 @@ called_by : (limits : Limits) (t : Target) → OwnsTarget t → (f : Meaning) �
     Owned (code.called_by limits t f ps store) [] []
 called_by limits Nowhere k f h ps l store = owned_call limits (part f) ps h.value l store
 called_by limits (InVariable v) k f h ps l store = owned_call limits (part f) ps h.value l store
-called_by limits (InMemory memory.Byte qs) k f h ps l store = owned_call limits (part f) ps h.value l store
-called_by limits (InMemory memory.Word qs) k f h ps l store = owned_call limits (part f) ps h.value l store
-called_by limits (InMemory memory.Property qs) k f h ps l store =
-    owned_ask limits veneer.CallProperty (qs ++ ps) (joined_parts qs ps k l) store
+called_by limits (InMemory Memory.Byte qs) k f h ps l store = owned_call limits (part f) ps h.value l store
+called_by limits (InMemory Memory.Word qs) k f h ps l store = owned_call limits (part f) ps h.value l store
+called_by limits (InMemory Memory.Property qs) k f h ps l store =
+    owned_ask limits Veneer.CallProperty (qs ++ ps) (joined_parts qs ps k l) store
 
 call_owns : (limits : Limits) (f : Meaning) → OwnsAll f → (ps : List Part) → OwnsParts ps →
     OwnsAll (code.called limits (code.call_of limits f ps))
@@ -322,19 +304,20 @@ at_there {c} label there f =
 
 owned_asking : (limits : Limits) (v : Veneer) (all : List Simple) (sense : Bool) (label : Label) →
     Owned (code.asking limits v all sense label) (label.number ∷ []) []
-owned_asking limits v all sense label = owned_before (owned_supplied limits v all (Some SP)) (owned_zero limits (Variable SP) sense label)
+owned_asking limits v all sense label =
+    owned_before (owned_supplied limits v all (Some SP)) (owned_zero limits (Simple.Variable SP) sense label)
 
 owned_compared : (limits : Limits) (t : Test) (all : List Simple) (sense : Bool) (label : Label) →
     Owned (code.compared limits t all sense label) (label.number ∷ []) []
-owned_compared limits test.Equal all sense label = owned_instruction limits opcode.Je all None (to sense label)
-owned_compared limits test.Less all sense label = owned_instruction limits opcode.Jl all None (to sense label)
-owned_compared limits test.Greater all sense label = owned_instruction limits opcode.Jg all None (to sense label)
-owned_compared limits test.AtMost all sense label = owned_instruction limits opcode.Jg all None (to (not sense) label)
-owned_compared limits test.AtLeast all sense label = owned_instruction limits opcode.Jl all None (to (not sense) label)
-owned_compared limits test.Has all sense label = owned_instruction limits opcode.TestAttr all None (to sense label)
-owned_compared limits test.In all sense label = owned_instruction limits opcode.Jin all None (to sense label)
-owned_compared limits test.OfClass all sense label = owned_asking limits veneer.OfClass all sense label
-owned_compared limits test.Provides all sense label = owned_asking limits veneer.Provides all sense label
+owned_compared limits Test.Equal all sense label = owned_instruction limits Opcode.Je all None (to sense label)
+owned_compared limits Test.Less all sense label = owned_instruction limits Opcode.Jl all None (to sense label)
+owned_compared limits Test.Greater all sense label = owned_instruction limits Opcode.Jg all None (to sense label)
+owned_compared limits Test.AtMost all sense label = owned_instruction limits Opcode.Jg all None (to (not sense) label)
+owned_compared limits Test.AtLeast all sense label = owned_instruction limits Opcode.Jl all None (to (not sense) label)
+owned_compared limits Test.Has all sense label = owned_instruction limits Opcode.TestAttr all None (to sense label)
+owned_compared limits Test.In all sense label = owned_instruction limits Opcode.Jin all None (to sense label)
+owned_compared limits Test.OfClass all sense label = owned_asking limits Veneer.OfClass all sense label
+owned_compared limits Test.Provides all sense label = owned_asking limits Veneer.Provides all sense label
 
 owned_tested : (limits : Limits) (t : Test) (ps : List Part) → OwnsParts ps → (sense : Bool) (label : Label) →
     Owned (code.tested limits t ps sense label) (label.number ∷ []) []
@@ -345,15 +328,15 @@ owned_threes : (limits : Limits) (x : Simple) (ps : List Part) → OwnsParts ps 
 unfolding code.triple_tests
 owned_threes limits x [] h sense label there = owned_nothing
 owned_threes limits x (b ∷ []) h sense label there =
-    at_label label there (owned_tested limits test.Equal (is x ∷ b ∷ []) (simple_owns x, h) sense label)
+    at_label label there (owned_tested limits Test.Equal (is x ∷ b ∷ []) (simple_owns x, h) sense label)
 owned_threes limits x (b ∷ c ∷ []) h sense label there =
-    at_label label there (owned_tested limits test.Equal (is x ∷ b ∷ c ∷ []) (simple_owns x, h) sense label)
+    at_label label there (owned_tested limits Test.Equal (is x ∷ b ∷ c ∷ []) (simple_owns x, h) sense label)
 owned_threes limits x (b ∷ c ∷ d ∷ []) h sense label there =
-    at_label label there (owned_tested limits test.Equal (is x ∷ b ∷ c ∷ d ∷ []) (simple_owns x, h) sense label)
+    at_label label there (owned_tested limits Test.Equal (is x ∷ b ∷ c ∷ d ∷ []) (simple_owns x, h) sense label)
 owned_threes limits x (b ∷ c ∷ d ∷ e ∷ others) h sense label there =
     owned_behind
     (at_there label there
-    (owned_tested limits test.Equal (is x ∷ b ∷ c ∷ d ∷ []) (simple_owns x, (h.0, (h.1.0, (h.1.1.0, tt)))) true there))
+    (owned_tested limits Test.Equal (is x ∷ b ∷ c ∷ d ∷ []) (simple_owns x, (h.0, (h.1.0, (h.1.1.0, tt)))) true there))
     (owned_threes limits x (e ∷ others) h.1.1.1 sense label there)
 
 owned_ones : (limits : Limits) (t : Test) (x : Simple) (ps : List Part) → OwnsParts ps → (sense : Bool) (label there : Label) →
@@ -381,7 +364,7 @@ owned_tests limits t x ps h sense label there = owned_groups limits (code.takes_
 owned_kept : (limits : Limits) (z : Bool) (t : Test) (a : Meaning) → OwnsAll a → (ps : List Part) → OwnsParts ps → (sense : Bool)
     (label there : Label) → Owned (code.kept_tests limits z t a ps sense label there) (label.number ∷ there.number ∷ []) []
 owned_kept limits true t a h ps k sense label there =
-    owned_before (h.value TEMP) (owned_tests limits t (Variable TEMP) ps k sense label there)
+    owned_before (h.value TEMP) (owned_tests limits t (Simple.Variable TEMP) ps k sense label there)
 owned_kept limits false t a h ps k sense label there =
     owned_before (owned_parts (part a ∷ ps) (h.value, k))
     (at_label label there (owned_compared limits t (take (code.most_compared t) (operands (part a ∷ ps))) sense label))
@@ -413,20 +396,20 @@ owned_test limits t a b h k sense label =
 -- All rows
 
 operation_target : (o : Operation) (ps : List Part) → OwnsParts ps → OwnsTarget (code.operation_target o ps)
-operation_target operation.Add ps h = tt
-operation_target operation.Subtract ps h = tt
-operation_target operation.Multiply ps h = tt
-operation_target operation.Divide ps h = tt
-operation_target operation.Remainder ps h = tt
-operation_target operation.BitAnd ps h = tt
-operation_target operation.BitOr ps h = tt
-operation_target operation.Byte ps h = h
-operation_target operation.Word ps h = h
+operation_target Operation.Add ps h = tt
+operation_target Operation.Subtract ps h = tt
+operation_target Operation.Multiply ps h = tt
+operation_target Operation.Divide ps h = tt
+operation_target Operation.Remainder ps h = tt
+operation_target Operation.BitAnd ps h = tt
+operation_target Operation.BitOr ps h = tt
+operation_target Operation.Byte ps h = h
+operation_target Operation.Word ps h = h
 
 property_target : (how : PropertyPart) (ps : List Part) → OwnsParts ps → OwnsTarget (code.property_target how ps)
-property_target property.Value ps h = h
-property_target property.Address ps h = tt
-property_target property.Length ps h = tt
+property_target PropertyPart.Value ps h = h
+property_target PropertyPart.Address ps h = tt
+property_target PropertyPart.Length ps h = tt
 
 aimed : (m : Meaning) (t : Target) → OwnsTarget t → OwnsAll m → OwnsAll (record m { target = t })
 aimed m t k h = record {
@@ -439,47 +422,48 @@ aimed m t k h = record {
 }
 
 one_owns : (limits : Limits) (op : Unary) (a : Meaning) → OwnsAll a → OwnsAll (code.one limits op a)
-one_owns limits unary.Negate a h = computed_owns limits opcode.Sub (is (Known 0) ∷ part a ∷ []) (simple_owns (Known 0), (h.value, tt))
-one_owns limits unary.Not a h =
+one_owns limits Unary.Negate a h =
+    computed_owns limits Opcode.Sub (is (Simple.Known 0) ∷ part a ∷ []) (simple_owns (Simple.Known 0), (h.value, tt))
+one_owns limits Unary.Not a h =
     condition_owns limits (λ sense label. a.branch (not sense) label) (λ sense label. h.branch (not sense) label)
-one_owns limits (unary.Single s) a h = computed_owns limits (code.single_opcode s) (part a ∷ []) (h.value, tt)
-one_owns limits (unary.Before s) a h = step_owns limits true s a h
-one_owns limits (unary.Behind s) a h = step_owns limits false s a h
-one_owns limits (unary.Relative r) a h =
+one_owns limits (Unary.Single s) a h = computed_owns limits (code.single_opcode s) (part a ∷ []) (h.value, tt)
+one_owns limits (Unary.Before s) a h = step_owns limits true s a h
+one_owns limits (Unary.Behind s) a h = step_owns limits false s a h
+one_owns limits (Unary.Relative r) a h =
     let find = code.related limits (code.related_opcode r) (part a) in
     valued_owns limits find (find TEMP) (owned_related limits (code.related_opcode r) (part a) h.value)
     (owned_related limits (code.related_opcode r) (part a) h.value TEMP)
-one_owns limits unary.Children a h =
-    called_owns limits (call_routine limits veneer.Children (part a ∷ [])) (owned_ask limits veneer.Children (part a ∷ []) (h.value, tt))
-one_owns limits unary.Call f h = call_owns limits f h [] tt
-one_owns limits unary.Indirect list h =
+one_owns limits Unary.Children a h =
+    called_owns limits (call_routine limits Veneer.Children (part a ∷ [])) (owned_ask limits Veneer.Children (part a ∷ []) (h.value, tt))
+one_owns limits Unary.Call f h = call_owns limits f h [] tt
+one_owns limits Unary.Indirect list h =
     called_owns limits (call limits list.first list.others) (owned_call limits list.first list.others h.first h.others)
 
 two_owns : (limits : Limits) (op : Binary) (a b : Meaning) → OwnsAll a → OwnsAll b → OwnsAll (code.two limits op a b)
-two_owns limits (binary.Operation o) a b h k =
+two_owns limits (Binary.Operation o) a b h k =
     let ps = part a ∷ part b ∷ [] in
     aimed (code.computed limits (code.operation_opcode o) ps) (code.operation_target o ps) (operation_target o ps (h.value, (k.value, tt)))
     (computed_owns limits (code.operation_opcode o) ps (h.value, (k.value, tt)))
-two_owns limits (binary.Property p) a b h k =
+two_owns limits (Binary.Property p) a b h k =
     let ps = part a ∷ part b ∷ [] in
     let asks = call_routine limits (code.reader p) ps in
     aimed (code.called limits asks) (code.property_target p ps) (property_target p ps (h.value, (k.value, tt)))
     (called_owns limits asks (owned_ask limits (code.reader p) ps (h.value, (k.value, tt))))
-two_owns limits (binary.Test t) a b h k = condition_owns limits (code.test_branch limits t a b) (owned_test limits t a b h k)
-two_owns limits (binary.Fails t) a b h k =
+two_owns limits (Binary.Test t) a b h k = condition_owns limits (code.test_branch limits t a b) (owned_test limits t a b h k)
+two_owns limits (Binary.Fails t) a b h k =
     condition_owns limits (λ sense. code.test_branch limits t a b (not sense)) (λ sense label. owned_test limits t a b h k
     (not sense) label)
-two_owns limits binary.Assign v a h k = assign_owns limits v a h k
-two_owns limits binary.Comma a b h k =
+two_owns limits Binary.Assign v a h k = assign_owns limits v a h k
+two_owns limits Binary.Comma a b h k =
     valued_owns limits (λ d. a.alone ▸ b.value d) (a.alone ▸ b.value TEMP) (λ d. owned_before h.alone (k.value d)) (owned_before h.alone
     (k.value TEMP))
-two_owns limits binary.And a b h k = condition_owns limits (code.and_branch limits a b) (owned_and limits a b h k)
-two_owns limits binary.Or a b h k = condition_owns limits (code.or_branch limits a b) (owned_or limits a b h k)
-two_owns limits binary.Call f list h k = call_owns limits f h (parts list) (k.first, k.others)
-two_owns limits binary.Then a list h k =
+two_owns limits Binary.And a b h k = condition_owns limits (code.and_branch limits a b) (owned_and limits a b h k)
+two_owns limits Binary.Or a b h k = condition_owns limits (code.or_branch limits a b) (owned_or limits a b h k)
+two_owns limits Binary.Call f list h k = call_owns limits f h (parts list) (k.first, k.others)
+two_owns limits Binary.Then a list h k =
     let c = valued_owns limits a.value a.alone h.value h.alone in
     record { target = c.target; first = h.value; others = (k.first, k.others); value = c.value; alone = c.alone; branch = c.branch }
-two_owns limits binary.To a b h k = valued_owns limits a.value a.alone h.value h.alone
+two_owns limits Binary.To a b h k = valued_owns limits a.value a.alone h.value h.alone
 
 pub owns : (limits : Limits) (t : Tree) → OwnsAll (meaning limits t)
 owns limits (Leaf x) = leaf_owns limits (simple x)

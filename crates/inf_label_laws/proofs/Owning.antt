@@ -1,34 +1,19 @@
 -- Which labels code marks: those that are handed out while it is laid, and some that are given to it.
 use Rattle.std.proofs.Common.{arith, ◌≡◌, ◌≤◌, ℕ, suc, List, [], ◌∷◌, ◌++◌, Bool, true, false, Option, Some, None, refl, ◌∙◌, ap, sym}
-use Rattle.std.proofs.Common.{subst}
-use Rattle.std.proofs.Common.{append_assoc, append-nil, inl, inr}
+use Rattle.std.proofs.Common.{subst, append_assoc, append-nil, inl, inr, ◌+◌, ◌<◌, ◌==◌, ◌⊎◌, map, min, nat_lt, if◌then◌else◌}
 use Rattle.std.proofs.lemmas.Bool.{cases_eq, cases_lt, eq-eqb, ne_eqb}
 use Rattle.std.proofs.Math.Nat.{min-eq_left, min-eq_right}
-use Rattle.std.specs.Prelude.{◌+◌, ◌<◌, ◌==◌, ◌⊎◌, map, min, nat_lt, if◌then◌else◌}
 use Rattle.inf_settings.specs.Bounds.{Limits}
-use Rattle.inf_opcode.specs.declared.instructions.Branch.{Branch}
-use Rattle.inf_opcode.specs.declared.instructions.Label.{Label}
-use Rattle.inf_opcode.specs.declared.instructions.Operand.{Operand}
-use Rattle.inf_opcode.specs.declared.instructions.Operand.TheVariants as operand
-use Rattle.inf_opcode.specs.declared.instructions.Operand.TheVariants.{Small}
-use Rattle.inf_opcode.specs.Instructions.{Parts}
-use Rattle.inf_opcode.specs.declared.opcodes.Opcode.{Opcode}
-use Rattle.inf_output.specs.declared.items.Item.{Item}
-use Rattle.inf_output.specs.declared.items.Item.TheVariants.{Instruction, Mark}
-use Rattle.inf_output.specs.declared.operands.Simple.{Simple}
-use Rattle.inf_output.specs.declared.operands.Simple.TheVariants.{Known, Later, Variable}
-use Rattle.inf_output.specs.Operands.{written}
+use Rattle.inf_opcode.specs.{Instructions.Parts, declared.instructions.Branch.Branch, declared.instructions.Label.Label}
+use Rattle.inf_opcode.specs.{declared.instructions.Operand.Operand, declared.opcodes.Opcode.Opcode}
+use Rattle.inf_output.specs.{Operands.written, Veneer.name_of, declared.Past.Past, declared.items.Item.Item}
+use Rattle.inf_output.specs.{declared.operands.Simple.Simple, declared.veneer.Veneer.Veneer}
 use Rattle.inf_output.specs.Output.{Code, Out, behind, fitted, full_item, in_routine, instruction, jumped, laid, laid_by, marked, naming}
 use Rattle.inf_output.specs.Output.{next_label, nothing, routine, used, used_by, with_label, with_routine, ◌▸◌}
-use Rattle.inf_output.specs.declared.veneer.Veneer.{Veneer}
-use Rattle.inf_output.specs.declared.Past.{Past}
-use Rattle.inf_output.specs.Veneer.{name_of}
 use Rattle.inf_assembler.specs.declared.routines.Limit.{Limit}
-use Rattle.inf_names.specs.declared.symbols.ReferFault.{ReferFault}
-use Rattle.inf_names.specs.Symbols.{refer_fault}
-use Rattle.inf_label_laws.specs.Labels.{times}
+use Rattle.inf_names.specs.{Symbols.refer_fault, declared.symbols.ReferFault.ReferFault}
+use Rattle.inf_label_laws.specs.{Labels.times, Programs.branch_labels, Programs.marks, Programs.operand_labels, Programs.uses}
 use Rattle.inf_interpreter.specs.Claims.{Laid, code_behind, kept_behind}
-use Rattle.inf_label_laws.specs.Programs.{branch_labels, marks, operand_labels, uses}
 use Rattle.inf_interpreter.proofs.Laying.{code_none, item_laid, kept_none, laid_then, used_code, used_fits, used_kept}
 
 -- Numbers in lists
@@ -50,28 +35,28 @@ times_other n m ms h =
 
 pub marks_joined : (a b : List Item) → marks (a ++ b) ≡ marks a ++ marks b
 marks_joined [] b = refl
-marks_joined ((Instruction i) ∷ a) b = marks_joined a b
-marks_joined ((Mark l) ∷ a) b = ap (λ ms. l.number ∷ ms) (marks_joined a b)
+marks_joined ((Item.Instruction i) ∷ a) b = marks_joined a b
+marks_joined ((Item.Mark l) ∷ a) b = ap (λ ms. l.number ∷ ms) (marks_joined a b)
 
 pub uses_joined : (a b : List Item) → uses (a ++ b) ≡ uses a ++ uses b
 uses_joined [] b = refl
-uses_joined ((Instruction i) ∷ a) b =
+uses_joined ((Item.Instruction i) ∷ a) b =
     ap (λ ns. operand_labels i.operands ++ (branch_labels i.branch ++ ns)) (uses_joined a b)
     ∙ (ap (λ ns. operand_labels i.operands ++ ns) (sym (append_assoc (branch_labels i.branch) (uses a) (uses b)))
     ∙ sym (append_assoc (operand_labels i.operands) (branch_labels i.branch ++ uses a) (uses b)))
-uses_joined ((Mark l) ∷ a) b = uses_joined a b
+uses_joined ((Item.Mark l) ∷ a) b = uses_joined a b
 
 -- operands that are written have no offset
 written_known : (n : ℕ) (b : Bool) (others : List Operand) → operand_labels others ≡ []
-    → operand_labels ((if b then operand.Small n else operand.Large n) ∷ others) ≡ []
+    → operand_labels ((if b then Operand.Small n else Operand.Large n) ∷ others) ≡ []
 written_known n true others e = e
 written_known n false others e = e
 
 written_none : (operands : List Simple) → operand_labels (map written operands) ≡ []
 written_none [] = refl
-written_none ((Known n) ∷ operands) = written_known n (nat_lt n 256) (map written operands) (written_none operands)
-written_none ((Variable v) ∷ operands) = written_none operands
-written_none ((Later t) ∷ operands) = written_none operands
+written_none ((Simple.Known n) ∷ operands) = written_known n (nat_lt n 256) (map written operands) (written_none operands)
+written_none ((Simple.Variable v) ∷ operands) = written_none operands
+written_none ((Simple.Later t) ∷ operands) = written_none operands
 
 pub some_of_two : (a b : ℕ) → 1 ≤ a + b → (1 ≤ a) ⊎ (1 ≤ b)
 some_of_two a b h = go (cases_lt 0 a)
@@ -385,10 +370,11 @@ owned_item limits item o = record {
 
 -- an instruction needs the label of its branch
 pub owned_parts_laid : (limits : Limits) (i : Parts) (needs : List ℕ) → operand_labels i.operands ≡ [] → branch_labels i.branch ≡ needs →
-    Owned (laid limits (Instruction i)) needs []
+    Owned (laid limits (Item.Instruction i)) needs []
 owned_parts_laid limits i needs none e =
-    owned_wide {c = laid limits (Instruction i)} {a = uses (Instruction i ∷ [])} {b = needs} (λ n h. subst (λ ns. 1 ≤ times n ns) is h)
-    (owned_item limits (Instruction i))
+    owned_wide {c = laid limits (Item.Instruction i)} {a = uses (Item.Instruction i ∷ [])} {b = needs}
+    (λ n h. subst (λ ns. 1 ≤ times n ns) is h)
+    (owned_item limits (Item.Instruction i))
   where
     is : operand_labels i.operands ++ (branch_labels i.branch ++ []) ≡ needs
     is = ap (λ ns. ns ++ (branch_labels i.branch ++ [])) none ∙ (append-nil (branch_labels i.branch) ∙ e)
@@ -405,17 +391,17 @@ pub owned_naming : (limits : Limits) (op : Opcode) (v : ℕ) (operands : List Si
 unfolding naming
 owned_naming limits op v operands store branch o =
     owned_parts_laid limits
-    (record { opcode = op; operands = Small v ∷ map written operands; store = store; branch = branch; text = [] })
+    (record { opcode = op; operands = Operand.Small v ∷ map written operands; store = store; branch = branch; text = [] })
     (branch_labels branch) (written_none operands) refl o
 
 pub owned_jump : (limits : Limits) (l : Label) → Owned (jumped limits l) (l.number ∷ []) []
 unfolding jumped
-owned_jump limits l o = owned_item limits (Instruction _) o
+owned_jump limits l o = owned_item limits (Item.Instruction _) o
 
 pub owned_mark : {needs : List ℕ} (limits : Limits) (l : Label) → Owned (marked limits l) needs (l.number ∷ [])
 unfolding marked
 owned_mark {needs} limits l o =
-    owned_free {c = laid limits (Mark l)} {needs = needs} {given = l.number ∷ []} (owned_item limits (Mark l)) o
+    owned_free {c = laid limits (Item.Mark l)} {needs = needs} {given = l.number ∷ []} (owned_item limits (Item.Mark l)) o
 
 -- nor does the name of a supplied routine
 by_used_next : (limits : Limits) (f : Option ReferFault) (name : List ℕ) (o : Out) → (used_by limits f name o).next ≡ o.next

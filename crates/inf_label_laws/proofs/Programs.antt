@@ -1,43 +1,37 @@
 -- Code at any place of a program whose labels are looked up.
-use Rattle.std.proofs.Common.{◌≡◌, ℕ, List, [], ◌∷◌, ◌++◌, false, refl, ◌∙◌, ap, sym, subst, append_assoc}
+use Rattle.std.proofs.Common.{◌≡◌, ℕ, List, [], ◌∷◌, ◌++◌, false, refl, ◌∙◌, ap, sym, subst, append_assoc, ◌==◌, if◌then◌else◌}
 use Rattle.std.proofs.lemmas.Bool.{eq-eqb}
-use Rattle.std.specs.Prelude.{◌==◌, if◌then◌else◌}
 use Rattle.inf_opcode.specs.declared.instructions.Label.{Label}
-use Rattle.inf_output.specs.declared.items.Item.{Item}
-use Rattle.inf_output.specs.declared.items.Item.TheVariants.{Instruction, Mark}
-use Rattle.inf_output.specs.Output.{Code, Out, apart, items_of}
+use Rattle.inf_output.specs.{Output.Code, Output.Out, Output.apart, Output.items_of, declared.items.Item.Item}
 use Rattle.inf_templates.specs.Meaning.{meaning}
-use Rattle.inf_interpreter.specs.Machine.{World, Place, Stands, ◌then◌}
-use Rattle.inf_interpreter.specs.Claims.{Does}
-use Rattle.inf_label_laws.specs.Programs.{AreDifferent, IsAbsent, ProgramsCompute, ProgramsPush, RunsTo, behind_mark, items_laid}
-use Rattle.inf_interpreter.specs.Claims.{Claim, state}
-use Rattle.inf_meaning_laws.specs.Laws.{GivesValue, taken}
-use Rattle.inf_label_laws.specs.Programs.{marks}
-use Rattle.inf_meaning_laws.specs.Values.{sense}
+use Rattle.inf_interpreter.specs.{Claims.Claim, Claims.Does, Claims.state, Machine.Place, Machine.Stands, Machine.World, Machine.◌then◌}
+use Rattle.inf_label_laws.specs.Programs.{AreDifferent, IsAbsent, ProgramsCompute, ProgramsPush, RunsTo, behind_mark, items_laid, marks}
+use Rattle.inf_meaning_laws.specs.{Laws.GivesValue, Laws.taken, Values.sense}
 use Rattle.inf_meaning_laws.proofs.Expressions.{values_are_computed}
 
-absent_before : (n : ℕ) (front tail : List Item) (l : Label) → IsAbsent n (marks (front ++ Mark l ∷ tail)) → (n == l.number) ≡ false
+absent_before : (n : ℕ) (front tail : List Item) (l : Label) → IsAbsent n (marks (front ++ Item.Mark l ∷ tail)) → (n == l.number) ≡ false
 absent_before n [] tail l h = h.0
-absent_before n ((Instruction i) ∷ front) tail l h = absent_before n front tail l h
-absent_before n ((Mark m) ∷ front) tail l h = absent_before n front tail l h.1
+absent_before n ((Item.Instruction i) ∷ front) tail l h = absent_before n front tail l h
+absent_before n ((Item.Mark m) ∷ front) tail l h = absent_before n front tail l h.1
 
-found_mark : (front tail : List Item) (l : Label) → AreDifferent (marks (front ++ Mark l ∷ tail)) →
-    behind_mark (front ++ Mark l ∷ tail) l ≡ tail
+found_mark : (front tail : List Item) (l : Label) → AreDifferent (marks (front ++ Item.Mark l ∷ tail)) →
+    behind_mark (front ++ Item.Mark l ∷ tail) l ≡ tail
 found_mark [] tail l h = ap (λ b. if b then tail else behind_mark tail l) (eq-eqb l.number l.number refl)
-found_mark ((Instruction i) ∷ front) tail l h = found_mark front tail l h
-found_mark ((Mark m) ∷ front) tail l h =
-    ap (λ b. if b then front ++ Mark l ∷ tail else behind_mark (front ++ Mark l ∷ tail) l) (absent_before m.number front tail l h.0)
+found_mark ((Item.Instruction i) ∷ front) tail l h = found_mark front tail l h
+found_mark ((Item.Mark m) ∷ front) tail l h =
+    ap (λ b. if b then front ++ Item.Mark l ∷ tail else behind_mark (front ++ Item.Mark l ∷ tail) l)
+    (absent_before m.number front tail l h.0)
     ∙ found_mark front tail l h.1
 
 -- The labels of a piece are at the places where the program marks them.
 stand : (program front items : List Item) (rest : Place) → program ≡ front ++ (items ++ rest) → AreDifferent (marks program) →
     Stands (behind_mark program) items rest
 stand program front [] rest e h = tt
-stand program front ((Instruction i) ∷ items) rest e h =
-    stand program (front ++ Instruction i ∷ []) items rest (e ∙ sym (append_assoc front (Instruction i ∷ []) (items ++ rest))) h
-stand program front ((Mark l) ∷ items) rest e h = (
+stand program front ((Item.Instruction i) ∷ items) rest e h =
+    stand program (front ++ Item.Instruction i ∷ []) items rest (e ∙ sym (append_assoc front (Item.Instruction i ∷ []) (items ++ rest))) h
+stand program front ((Item.Mark l) ∷ items) rest e h = (
   ap (λ p. behind_mark p l) e ∙ found_mark front (items ++ rest) l (subst (λ p. AreDifferent (marks p)) e h),
-  stand program (front ++ Mark l ∷ []) items rest (e ∙ sym (append_assoc front (Mark l ∷ []) (items ++ rest))) h,
+  stand program (front ++ Item.Mark l ∷ []) items rest (e ∙ sym (append_assoc front (Item.Mark l ∷ []) (items ++ rest))) h,
 )
 
 laid_apart : (w : World) (c : Code) (P : Claim) (o : Out) (x : Does w c P (apart o)) → items_laid c o ≡ x.items

@@ -3,26 +3,16 @@
 use Rattle.std.specs.Prelude.{◌≡◌, ℕ, zero, suc, ◌==◌, false, List, [], ◌∷◌, Option, Some, None, if◌then◌else◌}
 use Rattle.inf_settings.specs.Bounds.{Limits}
 use Rattle.inf_opcode.specs.declared.instructions.Label.{Label}
-use Rattle.inf_expressions.specs.declared.operators.Operand.TheVariants.{Known, Later, Variable}
-use Rattle.inf_expressions.specs.declared.operators.Operation.{Operation}
-use Rattle.inf_expressions.specs.declared.operators.Operation.TheVariants as operation
-use Rattle.inf_expressions.specs.declared.operators.Test.{Test}
-use Rattle.inf_expressions.specs.declared.operators.Test.TheVariants as test
-use Rattle.inf_expressions.specs.declared.operators.Binary.TheVariants as binary
-use Rattle.inf_expressions.specs.Trees.{Tree, Leaf, Two}
-use Rattle.inf_area.specs.declared.scale.Scale.TheVariants.{Four}
-use Rattle.inf_area.specs.declared.targets.Target.TheVariants as target
+use Rattle.inf_expressions.specs.{Trees.Leaf, Trees.Tree, Trees.Two, declared.operators.Binary.Binary, declared.operators.Operand.Operand}
+use Rattle.inf_expressions.specs.{declared.operators.Operation.Operation, declared.operators.Test.Test}
+use Rattle.inf_area.specs.{declared.scale.Scale.Scale, declared.targets.Target.Target}
 use Rattle.inf_code.specs.Code.{no_routines}
 use Rattle.inf_names.specs.Symbols.{no_names}
-use Rattle.inf_output.specs.Strings.{no_strings}
-use Rattle.inf_output.specs.Texts.{no_texts}
+use Rattle.inf_output.specs.{Output.Out, Strings.no_strings, Texts.no_texts, declared.items.Item.Item}
 use Rattle.inf_tables.specs.Tables.{no_tables}
-use Rattle.inf_output.specs.declared.items.Item.{Item}
-use Rattle.inf_output.specs.Output.{Out}
 use Rattle.inf_templates.specs.Meaning.{meaning}
-use Rattle.inf_interpreter.specs.Machine.{State, Store, World, ◌then◌, stepped}
+use Rattle.inf_interpreter.specs.{Claims.state, Machine.State, Machine.Store, Machine.World, Machine.stepped, Machine.◌then◌}
 use Rattle.inf_meaning_laws.specs.Values.{value_of}
-use Rattle.inf_interpreter.specs.Claims.{state}
 use Rattle.inf_label_laws.specs.Programs.{behind_mark, items_laid}
 
 abbrev pub many : Limits
@@ -30,8 +20,8 @@ many s = 1000
 
 abbrev pub empty : Out
 empty = record {
-  code = no_routines Four;
-  strings = no_strings Four;
+  code = no_routines Scale.Four;
+  strings = no_strings Scale.Four;
   tables = no_tables;
   texts = no_texts;
   names = no_names false;
@@ -73,26 +63,26 @@ abbrev pub store : Store
 store = record { variables = λ v. if v == 1 then 2 else if v == 2 then 4 else 0; bytes = byte_of; chance = 0 }
 
 abbrev pub x : Tree
-x = Leaf (Variable 1)
+x = Leaf (Operand.Variable 1)
 
 abbrev pub y : Tree
-y = Leaf (Variable 2)
+y = Leaf (Operand.Variable 2)
 
 abbrev pub words : Tree
-words = Leaf (Later (target.Name 0))
+words = Leaf (Operand.Later (Target.Name 0))
 
 abbrev pub number : ℕ → Tree
-number n = Leaf (Known n)
+number n = Leaf (Operand.Known n)
 
 abbrev pub operated : Operation → Tree → Tree → Tree
-operated o a b = Two (binary.Operation o) a b
+operated o a b = Two (Binary.Operation o) a b
 
 abbrev pub tested : Test → Tree → Tree → Tree
-tested t a b = Two (binary.Test t) a b
+tested t a b = Two (Binary.Test t) a b
 
 -- the alternative `a`, and others behind it
 abbrev pub or_others : Tree → Tree → Tree
-or_others a others = Two binary.Then a others
+or_others a others = Two Binary.Then a others
 
 -- the stack at the end of some items, which at most this number of steps leads to
 abbrev pub ended : (Label → List Item) → ℕ → List Item → State → Option (List ℕ)
@@ -107,31 +97,31 @@ stack_behind t =
 
 -- `x + (x = 9)`: the variable is read last
 abbrev pub late : Tree
-late = operated operation.Add x (Two binary.Assign x (number 9))
+late = operated Operation.Add x (Two Binary.Assign x (number 9))
 
 -- `(x - 9) / y` is -1
 abbrev pub rounded : Tree
-rounded = operated operation.Divide (operated operation.Subtract x (number 9)) y
+rounded = operated Operation.Divide (operated Operation.Subtract x (number 9)) y
 
 -- `(x == 2 or 3 && y > 5)`
 abbrev pub condition : Tree
-condition = Two binary.And (tested test.Equal x (or_others (number 2) (number 3))) (tested test.Greater y (number 5))
+condition = Two Binary.And (tested Test.Equal x (or_others (number 2) (number 3))) (tested Test.Greater y (number 5))
 
 -- `x + words-->(x = 3)`: the element is 40, and the variable is read last
 abbrev pub element : Tree
-element = operated operation.Add x (operated operation.Word words (Two binary.Assign x (number 3)))
+element = operated Operation.Add x (operated Operation.Word words (Two Binary.Assign x (number 3)))
 
 -- `y + 1 == 1 or 2 or 3 or 4`: the value waits for the fourth alternative in variable 255
 abbrev pub inner : Tree
 inner =
-    tested test.Equal (operated operation.Add y (number 1))
+    tested Test.Equal (operated Operation.Add y (number 1))
     (or_others (number 1) (or_others (number 2) (or_others (number 3) (number 4))))
 
 -- `(x + 1 == 10 or 11 or 12 or (y + 1 == 1 or 2 or 3 or 4) or 3)`: the fourth alternative puts a value of its own into variable 255, where
 -- `x + 1` waits for the fifth. So the laws do not cover it: it is true, and its code finds it false, as frotz does, which prints 0.
 abbrev pub disturbed : Tree
 disturbed =
-    tested test.Equal (operated operation.Add x (number 1))
+    tested Test.Equal (operated Operation.Add x (number 1))
     (or_others (number 10) (or_others (number 11) (or_others (number 12) (or_others inner (number 3)))))
 
 abbrev pub WaitingValuesAreLost : Type 0

@@ -1,40 +1,30 @@
 -- The code of an expression, anywhere in a program, with the labels looked up.
 use Rattle.std.specs.Prelude.{◌≡◌, ℕ, ◌==◌, Bool, false, List, [], ◌∷◌, ◌++◌, Option, Some, None, if◌then◌else◌}
 use Rattle.inf_settings.specs.Bounds.{Limits}
-use Rattle.inf_opcode.specs.declared.instructions.Branch.{Branch}
-use Rattle.inf_opcode.specs.declared.instructions.Destination.{Destination}
-use Rattle.inf_opcode.specs.declared.instructions.Destination.TheVariants.{To, ReturnFalse, ReturnTrue}
-use Rattle.inf_opcode.specs.declared.instructions.Label.{Label}
-use Rattle.inf_opcode.specs.declared.instructions.Operand.{Operand}
-use Rattle.inf_opcode.specs.declared.instructions.Operand.TheVariants.{Offset}
+use Rattle.inf_opcode.specs.{declared.instructions.Branch.Branch, declared.instructions.Destination.Destination}
+use Rattle.inf_opcode.specs.{declared.instructions.Label.Label, declared.instructions.Operand.Operand}
 use Rattle.inf_expressions.specs.Trees.{Tree}
-use Rattle.inf_output.specs.declared.items.Item.{Item}
-use Rattle.inf_output.specs.declared.items.Item.TheVariants.{Instruction, Mark}
-use Rattle.inf_output.specs.Output.{Code, Out, apart, items_of}
+use Rattle.inf_output.specs.{Output.Code, Output.Out, Output.apart, Output.items_of, declared.items.Item.Item}
 use Rattle.inf_templates.specs.Meaning.{meaning}
-use Rattle.inf_interpreter.specs.Machine.{World, Store, State, Place, run}
-use Rattle.inf_interpreter.specs.Supplied.{Supplies}
-use Rattle.inf_meaning_laws.specs.Values.{sense, value_of}
-use Rattle.inf_meaning_laws.specs.Covered.{Covered}
-use Rattle.inf_interpreter.specs.Claims.{state}
-use Rattle.inf_meaning_laws.specs.Laws.{taken, taker}
+use Rattle.inf_interpreter.specs.{Claims.state, Machine.Place, Machine.State, Machine.Store, Machine.World, Machine.run, Supplied.Supplies}
+use Rattle.inf_meaning_laws.specs.{Covered.Covered, Laws.taken, Laws.taker, Values.sense, Values.value_of}
 
 -- the place of a label, behind its first mark
 abbrev pub behind_mark : List Item → Label → Place
 behind_mark [] l = []
-behind_mark ((Instruction i) ∷ items) l = behind_mark items l
-behind_mark ((Mark m) ∷ items) l = if m.number == l.number then items else behind_mark items l
+behind_mark ((Item.Instruction i) ∷ items) l = behind_mark items l
+behind_mark ((Item.Mark m) ∷ items) l = if m.number == l.number then items else behind_mark items l
 
 abbrev pub marks : List Item → List ℕ
 marks [] = []
-marks ((Instruction i) ∷ items) = marks items
-marks ((Mark m) ∷ items) = m.number ∷ marks items
+marks ((Item.Instruction i) ∷ items) = marks items
+marks ((Item.Mark m) ∷ items) = m.number ∷ marks items
 
 -- the labels to which items branch or jump
 abbrev pub target_labels : Destination → List ℕ
-target_labels (To label) = label.number ∷ []
-target_labels ReturnFalse = []
-target_labels ReturnTrue = []
+target_labels (Destination.To label) = label.number ∷ []
+target_labels Destination.ReturnFalse = []
+target_labels Destination.ReturnTrue = []
 
 abbrev pub branch_labels : Option Branch → List ℕ
 branch_labels None = []
@@ -42,13 +32,13 @@ branch_labels (Some branch) = target_labels branch.target
 
 abbrev pub operand_labels : List Operand → List ℕ
 operand_labels [] = []
-operand_labels ((Offset label) ∷ others) = label.number ∷ operand_labels others
+operand_labels ((Operand.Offset label) ∷ others) = label.number ∷ operand_labels others
 operand_labels (operand ∷ others) = operand_labels others
 
 abbrev pub uses : List Item → List ℕ
 uses [] = []
-uses ((Instruction i) ∷ items) = operand_labels i.operands ++ (branch_labels i.branch ++ uses items)
-uses ((Mark m) ∷ items) = uses items
+uses ((Item.Instruction i) ∷ items) = operand_labels i.operands ++ (branch_labels i.branch ++ uses items)
+uses ((Item.Mark m) ∷ items) = uses items
 
 -- All labels that a program marks are different.
 abbrev pub IsAbsent : ℕ → List ℕ → Type 0

@@ -1,35 +1,27 @@
 -- Tokens that begin as `Constant NAME =` are read: their derivation, their tree, and its effect.
 use Rattle.std.proofs.Common.{◌≡◌, ℕ, ◌+◌, ◌≤◌, ◌<◌, List, [], ◌∷◌, ◌++◌, length, true, Some, refl, sym, ◌∙◌, ap, subst, arith}
 use Rattle.inf_settings.specs.Bounds.{Limits}
-use Rattle.inf_scanner.specs.declared.tokens.Mark.TheVariants as mark
+use Rattle.inf_scanner.specs.declared.tokens.Mark.{Mark}
+use Rattle.inf_machine.specs.{Laws.IsSpaced, Machine.taken as read}
 use Rattle.inf_machine.specs.Grammar.{Did, Event, IsText, Leads, Took, action, first, here, later, token}
-use Rattle.inf_machine.specs.Laws.{IsSpaced}
-use Rattle.inf_machine.specs.Machine.{taken as read}
-use Rattle.inf_syntax.specs.Atoms.{mark_atom}
+use Rattle.inf_syntax.specs.{Atoms.mark_atom, declared.actions.Action.Action}
 use Rattle.inf_syntax.specs.Parts.{ !end_directive, !outer, 'semicolon', NAME, assign, piece, whole_directive_3}
-use Rattle.inf_syntax.specs.declared.actions.Action.{Action}
-use Rattle.inf_syntax.specs.declared.actions.Action.TheVariants as action_of
 use Rattle.inf_grammar.specs.Language.{grammar, known}
 use Rattle.inf_expressions.specs.Sources.{Source}
 use Rattle.inf_gathering.specs.Gatherings.{nothing_gathered}
 use Rattle.inf_unit.specs.Units.{Unit, no_unit}
 use Rattle.inf_compilation.specs.Actions.{piece_begun}
-use Rattle.inf_expression_laws.specs.Gathered.{AreSeen, read_by, with_source}
-use Rattle.inf_expression_laws.specs.Precedence.{Written, assignments}
+use Rattle.inf_expression_laws.specs.{Gathered.AreSeen, Gathered.read_by, Gathered.with_source, Precedence.Written, Precedence.assignments}
 use Rattle.inf_expression_laws.proofs.ExpressionsRead.{expressions_are_read}
-use Rattle.inf_statement_laws.specs.Happenings.{Takes}
-use Rattle.inf_statement_laws.specs.Laid.{run}
-use Rattle.inf_statement_laws.specs.Readings.{Seen}
+use Rattle.inf_statement_laws.specs.{Happenings.Takes, Laid.run, Readings.Seen}
+use Rattle.inf_language.specs.{Texts.NoneClosesAhead, Texts.atoms_of, Texts.happenings_of, Texts.tokens_of, Units.TakeAll}
 use Rattle.inf_language.specs.Constants.{BeginsConstant, Constant, ConstantsAreRead, IsConstant, brackets_behind, constant_atom, piece_done}
 use Rattle.inf_language.specs.Constants.{unit_of}
-use Rattle.inf_language.specs.Texts.{NoneClosesAhead, atoms_of, happenings_of, tokens_of}
-use Rattle.inf_language.specs.Units.{TakeAll}
+use Rattle.inf_language.proofs.{ExpressionsTold.fields_stay, ExpressionsTold.with_expression, TextsActed.texts_do_their_actions}
 use Rattle.inf_language.proofs.ConstantsDone.{IsReadBy, constant_happenings, constants_do}
 use Rattle.inf_language.proofs.Derivations.{happenings-append, last_apart, past_action, past_read, past_token, seen_front, texts_take_all}
-use Rattle.inf_language.proofs.ExpressionsTold.{fields_stay, with_expression}
-use Rattle.inf_language.proofs.TextsActed.{texts_do_their_actions}
-use Rattle.inf_grammar.proofs.Spaced.{rule_is_spaced}
 use Rattle.inf_language.proofs.TextsSplit.{assign_steps, only_steps, split}
+use Rattle.inf_grammar.proofs.Spaced.{rule_is_spaced}
 
 -- The steps of the machine at the word and at the sign, by evaluation
 
@@ -38,7 +30,7 @@ word_read : read grammar known constant_atom (piece ∷ [])
 unfolding grammar known
 word_read = refl
 
-sign_read : read grammar known (mark_atom mark.Assign) (whole_directive_3 ∷ !end_directive ∷ 'semicolon' ∷ [])
+sign_read : read grammar known (mark_atom Mark.Assign) (whole_directive_3 ∷ !end_directive ∷ 'semicolon' ∷ [])
     ≡ record { actions = []; left = !outer ∷ assign ∷ !end_directive ∷ 'semicolon' ∷ [] }
 unfolding grammar known
 sign_read = refl
@@ -48,7 +40,7 @@ sign_read = refl
 record EndsUnit (atoms : List ℕ) (events : List (Event Action)) : Type 0 where
   atom : ℕ
   one : atoms ≡ atom ∷ []
-  are : events ≡ Did action_of.EndDirective ∷ Took atom ∷ []
+  are : events ≡ Did Action.EndDirective ∷ Took atom ∷ []
 
 ends_unit : (atoms : List ℕ) (events : List (Event Action)) → Leads grammar (!end_directive ∷ 'semicolon' ∷ []) atoms events []
     → EndsUnit atoms events
@@ -61,7 +53,7 @@ record Valued (seen : List Seen) (events : List (Event Action)) : Type 0 where
   atom : ℕ
   steps : List (Event Action)
   same : tokens ++ semicolon ∷ [] ≡ seen
-  are : events ≡ steps ++ (Did action_of.EndDirective ∷ Took atom ∷ [])
+  are : events ≡ steps ++ (Did Action.EndDirective ∷ Took atom ∷ [])
   text : IsText grammar (assign ∷ []) (atoms_of tokens) steps
 
 valued_by : (seen : List Seen) (events steps late : List (Event Action)) (front rest : List ℕ) → atoms_of seen ≡ front ++ rest
@@ -91,29 +83,29 @@ record Behind (seen : List Seen) (before events : List (Event Action)) : Type 0 
   are : events ≡ before ++ rest
   value : Valued seen rest
 
-behind_sign : (seen : List Seen) (events : List (Event Action)) (atom : ℕ) → atom ≡ mark_atom mark.Assign
+behind_sign : (seen : List Seen) (events : List (Event Action)) (atom : ℕ) → atom ≡ mark_atom Mark.Assign
     → IsSpaced grammar known (whole_directive_3 ∷ !end_directive ∷ 'semicolon' ∷ [])
     → Leads grammar (whole_directive_3 ∷ !end_directive ∷ 'semicolon' ∷ []) (atom ∷ atoms_of seen) events []
-    → Behind seen (Took (mark_atom mark.Assign) ∷ Did action_of.Outer ∷ []) events
+    → Behind seen (Took (mark_atom Mark.Assign) ∷ Did Action.Outer ∷ []) events
 behind_sign seen events atom is_sign spaced leads =
     let sign =
-    past_read (mark_atom mark.Assign) (whole_directive_3 ∷ !end_directive ∷ 'semicolon' ∷ [])
+    past_read (mark_atom Mark.Assign) (whole_directive_3 ∷ !end_directive ∷ 'semicolon' ∷ [])
     (!outer ∷ assign ∷ !end_directive ∷ 'semicolon' ∷ []) (atoms_of seen) events sign_read spaced
     (subst (λ a. Leads grammar (whole_directive_3 ∷ !end_directive ∷ 'semicolon' ∷ []) (a ∷ atoms_of seen) events []) is_sign leads) in
     let outer =
-    past_action action_of.Outer (assign ∷ !end_directive ∷ 'semicolon' ∷ []) (atoms_of seen) sign.rest sign.spaced sign.leads in
+    past_action Action.Outer (assign ∷ !end_directive ∷ 'semicolon' ∷ []) (atoms_of seen) sign.rest sign.spaced sign.leads in
     record {
       rest = outer.rest;
-      are = sign.are ∙ ap (λ r. Took (mark_atom mark.Assign) ∷ r) outer.are;
+      are = sign.are ∙ ap (λ r. Took (mark_atom Mark.Assign) ∷ r) outer.are;
       value = valued seen outer.rest outer.leads;
     }
 
 -- the events before the expression, where the name has an atom
 abbrev first_events : ℕ → List (Event Action)
-first_events name = Took constant_atom ∷ Took name ∷ Took (mark_atom mark.Assign) ∷ Did action_of.Outer ∷ []
+first_events name = Took constant_atom ∷ Took name ∷ Took (mark_atom Mark.Assign) ∷ Did Action.Outer ∷ []
 
 behind_word : (name sign : Seen) (seen : List Seen) (events : List (Event Action)) (atom : ℕ) → atom ≡ constant_atom
-    → sign.atom ≡ mark_atom mark.Assign → Leads grammar (piece ∷ []) (atom ∷ name.atom ∷ sign.atom ∷ atoms_of seen) events []
+    → sign.atom ≡ mark_atom Mark.Assign → Leads grammar (piece ∷ []) (atom ∷ name.atom ∷ sign.atom ∷ atoms_of seen) events []
     → Behind seen (first_events name.atom) events
 behind_word name sign seen events atom is_word is_sign leads =
     let others = name.atom ∷ sign.atom ∷ atoms_of seen in
@@ -178,19 +170,19 @@ is_read word name sign tokens semicolon steps text are_seen few =
 
 happenings_are : (word name sign : Seen) (tokens : List Seen) (semicolon : Seen) (value : Source) (atom : ℕ)
     (steps events : List (Event Action)) (seen : List Seen) → tokens ++ semicolon ∷ [] ≡ seen
-    → events ≡ first_events name.atom ++ (steps ++ (Did action_of.EndDirective ∷ Took atom ∷ [])) → TakeAll steps tokens
+    → events ≡ first_events name.atom ++ (steps ++ (Did Action.EndDirective ∷ Took atom ∷ [])) → TakeAll steps tokens
     → happenings_of events (word ∷ name ∷ sign ∷ seen)
     ≡ constant_happenings (tree_of word name sign tokens semicolon value) steps
 happenings_are word name sign tokens semicolon value atom steps events seen same are all =
-    let late : List (Event Action) = Did action_of.EndDirective ∷ Took atom ∷ [] in
+    let late : List (Event Action) = Did Action.EndDirective ∷ Took atom ∷ [] in
     ap (λ es. happenings_of es (word ∷ name ∷ sign ∷ seen)) are
     ∙ (ap (λ l. happenings_of (first_events name.atom ++ (steps ++ late)) (word ∷ name ∷ sign ∷ l)) (sym same)
     ∙ ap (λ hs. Takes word.token word.behind ∷ Takes name.token name.behind ∷ Takes sign.token sign.behind ∷ hs)
-    (happenings-append (Did action_of.Outer ∷ steps) late tokens semicolon [] all))
+    (happenings-append (Did Action.Outer ∷ steps) late tokens semicolon [] all))
 
 is_constant : (limits : Limits) (word name sign : Seen) (tokens : List Seen) (semicolon : Seen) (atom : ℕ)
     (steps events : List (Event Action)) (seen : List Seen) → tokens ++ semicolon ∷ [] ≡ seen
-    → events ≡ first_events name.atom ++ (steps ++ (Did action_of.EndDirective ∷ Took atom ∷ []))
+    → events ≡ first_events name.atom ++ (steps ++ (Did Action.EndDirective ∷ Took atom ∷ []))
     → IsText grammar (assign ∷ []) (atoms_of tokens) steps → BeginsConstant word name sign seen
     → IsText grammar (piece ∷ []) (atoms_of (word ∷ name ∷ sign ∷ seen)) events → NoneClosesAhead (word ∷ name ∷ sign ∷ seen)
     → IsRead word name sign tokens semicolon steps → IsConstant limits (word ∷ name ∷ sign ∷ seen)

@@ -5,30 +5,23 @@ use Rattle.inf_machine.specs.declared.symbols.Symbol.{Symbol}
 use Rattle.inf_machine.specs.Grammar.{Event, IsOneOf, Leads, action, here, row, token}
 use Rattle.inf_syntax.specs.declared.actions.Action.{Action}
 use Rattle.inf_grammar.specs.Language.{grammar}
-use Rattle.inf_unit.specs.Roles.{role_of}
-use Rattle.inf_unit.specs.Steps.{step_in}
-use Rattle.inf_unit.specs.Units.{Unit}
-use Rattle.inf_unit.specs.declared.roles.Role.{Role}
-use Rattle.inf_unit.specs.declared.roles.Role.TheVariants as role
-use Rattle.inf_expression_laws.proofs.ExpressionsRead.{expressions_are_read}
-use Rattle.inf_expression_laws.proofs.Items.{Item}
-use Rattle.inf_expression_laws.proofs.Typed as typed
+use Rattle.inf_unit.specs.{Roles.role_of, Steps.step_in, Units.Unit, declared.roles.Role.Role}
+use Rattle.inf_expression_laws.proofs.{ExpressionsRead.expressions_are_read, Items.Item}
 use Rattle.inf_expression_laws.proofs.Typed.{Change, Passes, below, form_passes, joined, row_passes, step_changes}
-use Rattle.inf_language.specs.Gathered.{ExpressionsAreGathered}
-use Rattle.inf_language.specs.Texts.{atoms_of, tokens_of}
-use Rattle.inf_language.specs.Units.{AllGather, gathers_in}
+use Rattle.inf_expression_laws.proofs.Typed as typed
+use Rattle.inf_language.specs.{Gathered.ExpressionsAreGathered, Texts.atoms_of, Texts.tokens_of, Units.AllGather, Units.gathers_in}
 use Rattle.inf_language.proofs.UnitsAlone.{units_are_read_alone}
 
 step_gathers : (r : Role) (c : Change) → IsOneOf c (step_changes (step_in r)) → gathers_in r ≡ true
-step_gathers (role.Gather s) c one = refl
-step_gathers (role.Note n) c one = elim one [ ]
-step_gathers (role.End e) c one = elim one [ ]
-step_gathers (role.Open o) c one = elim one [ ]
-step_gathers role.Join c one = elim one [ ]
-step_gathers role.Close c one = elim one [ ]
-step_gathers role.Deeper c one = elim one [ ]
-step_gathers role.MaybeDeeper c one = elim one [ ]
-step_gathers role.Nothing c one = elim one [ ]
+step_gathers (Role.Gather s) c one = refl
+step_gathers (Role.Note n) c one = elim one [ ]
+step_gathers (Role.End e) c one = elim one [ ]
+step_gathers (Role.Open o) c one = elim one [ ]
+step_gathers Role.Join c one = elim one [ ]
+step_gathers Role.Close c one = elim one [ ]
+step_gathers Role.Deeper c one = elim one [ ]
+step_gathers Role.MaybeDeeper c one = elim one [ ]
+step_gathers Role.Nothing c one = elim one [ ]
 
 all_gather : {symbols left : List (Symbol Action)} {atoms : List ℕ} {events : List (Event Action)}
     → Leads grammar symbols atoms events left → {items target : List Item} → Passes items symbols target → AllGather events

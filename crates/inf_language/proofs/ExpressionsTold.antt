@@ -1,33 +1,23 @@
 -- While an expression is read, the reports of its tokens do not depend on what is gathered of it, nor the other way round.
 use Rattle.std.proofs.Common.{◌≡◌, ℕ, ◌+◌, ◌-◌, List, [], ◌∷◌, ◌++◌, length, Bool, true, false, Option, Some, None, refl, sym, ◌∙◌, ap}
-use Rattle.std.proofs.Common.{append_assoc, arith, subst}
-use Rattle.std.specs.Prelude.{◌&&◌, if◌then◌else◌, nat_lt, option_map, slice_get, suc, is_some}
-use Rattle.std.proofs.lemmas.List.{length-append}
-use Rattle.std.proofs.Math.Nat.{max-zero}
+use Rattle.std.proofs.Common.{append_assoc, arith, subst, ◌&&◌, if◌then◌else◌, nat_lt, option_map, slice_get, suc, is_some}
+use Rattle.std.proofs.{Math.Nat.max-zero, lemmas.List.length-append}
 use Rattle.inf_settings.specs.Bounds.{Limits}
 use Rattle.inf_scanner.specs.declared.tokens.Place.{Place}
 use Rattle.inf_machine.specs.Grammar.{Did, Event, Took}
 use Rattle.inf_syntax.specs.declared.actions.Action.{Action}
 use Rattle.inf_gathering.specs.Gatherings.{Gathering}
 use Rattle.inf_constructs.specs.Constructs.{depth as open_depth}
-use Rattle.inf_unit.specs.Roles.{role_of}
-use Rattle.inf_unit.specs.Steps.{step_in}
-use Rattle.inf_unit.specs.Tokens.{SourceToken}
+use Rattle.inf_unit.specs.{Roles.role_of, Steps.step_in, Tokens.SourceToken, declared.roles.Role.Role, declared.steps.GatherStep.GatherStep}
 use Rattle.inf_unit.specs.Units.{Unit, acted, depth_behind, long_at, long_from, outer_tokens, place_at, played as unit_played, stepped}
 use Rattle.inf_unit.specs.Units.{taken}
-use Rattle.inf_unit.specs.declared.roles.Role.{Role}
-use Rattle.inf_unit.specs.declared.roles.Role.TheVariants as role
-use Rattle.inf_unit.specs.declared.steps.GatherStep.{GatherStep}
-use Rattle.inf_unit.specs.declared.steps.GatherStep.TheVariants as step
 use Rattle.inf_compilation.specs.Context.{Context, longest}
 use Rattle.inf_compilation.specs.Actions.{Compilation, nested, opens, stopped, token_checked, took}
 use Rattle.inf_reader.specs.Acting.{act, played}
 use Rattle.inf_expression_laws.specs.Gathered.{read_by}
-use Rattle.inf_statement_laws.specs.Laid.{next_comes, passed, run}
-use Rattle.inf_statement_laws.specs.Readings.{Seen}
+use Rattle.inf_statement_laws.specs.{Laid.next_comes, Laid.passed, Laid.run, Readings.Seen}
+use Rattle.inf_language.specs.{Texts.happenings_before, Texts.tokens_of, Units.AllSteps, Units.TakeAll, Units.is_step}
 use Rattle.inf_language.specs.Constants.{brackets_behind, expression_told, first_past, is_too_deep, length_told, token_told}
-use Rattle.inf_language.specs.Texts.{happenings_before, tokens_of}
-use Rattle.inf_language.specs.Units.{AllSteps, TakeAll, is_step}
 
 -- The report of a token leaves the unit unchanged, and does not depend on it.
 
@@ -107,14 +97,14 @@ with_expression before u g brackets front = record u {
 -- A step changes nothing but what is gathered.
 
 stepped_gathers : (s : GatherStep) (u : Unit) → stepped s u ≡ record u { gathering = (stepped s u).gathering }
-stepped_gathers step.Leaf u = refl
-stepped_gathers step.Action u = refl
-stepped_gathers step.System u = refl
+stepped_gathers GatherStep.Leaf u = refl
+stepped_gathers GatherStep.Action u = refl
+stepped_gathers GatherStep.System u = refl
 stepped_gathers _ u = refl
 
 played_gathers : (r : Role) (u : Unit) → is_some (step_in r) ≡ true
     → unit_played r u ≡ record u { gathering = (unit_played r u).gathering }
-played_gathers (role.Gather s) u is = stepped_gathers s u
+played_gathers (Role.Gather s) u is = stepped_gathers s u
 played_gathers _ u is = cc
 
 acted_gathers : (a : Action) (u : Unit) → is_step a ≡ true → acted a u ≡ record u { gathering = (acted a u).gathering }
@@ -122,7 +112,7 @@ acted_gathers a u is = played_gathers (role_of a) u is
 
 played_alone : (limits : Limits) (context : Context) (place : Place) (r : Role) (w : Compilation) → is_some (step_in r) ≡ true
     → played limits context place r w ≡ record w { unit = unit_played r w.unit }
-played_alone limits context place (role.Gather s) w is = refl
+played_alone limits context place (Role.Gather s) w is = refl
 played_alone limits context place _ w is = cc
 
 step_acts : (limits : Limits) (context : Context) (place : Place) (a : Action) (w : Compilation) (u : Unit) → is_step a ≡ true

@@ -1,20 +1,16 @@
 -- The locals of a header, name by name: of a unit by itself, and in a compilation.
-use Rattle.std.proofs.Common.{◌≡◌, ◌-◌, List, [], ◌∷◌, ◌++◌, length, take, false, Some, refl, ◌∙◌, ap, arith}
-use Rattle.std.specs.Prelude.{if◌then◌else◌, slice_get}
-use Rattle.std.proofs.lemmas.List.{length-append}
-use Rattle.std.proofs.Math.Seq.{take-append_seam}
+use Rattle.std.proofs.Common.{◌≡◌, ◌-◌, List, [], ◌∷◌, ◌++◌, length, take, false, Some, refl, ◌∙◌, ap, arith, if◌then◌else◌, slice_get}
+use Rattle.std.proofs.{Math.Seq.take-append_seam, lemmas.List.length-append}
 use Rattle.inf_settings.specs.Bounds.{Limits}
-use Rattle.inf_scanner.specs.declared.tokens.TokenKind.TheVariants as kind
-use Rattle.inf_syntax.specs.declared.actions.Action.TheVariants as action
+use Rattle.inf_scanner.specs.declared.tokens.TokenKind.{TokenKind}
+use Rattle.inf_syntax.specs.declared.actions.Action.{Action}
 use Rattle.inf_names.specs.Locals.{with_local}
 use Rattle.inf_unit.specs.Tokens.{SourceToken, name_of_kind}
 use Rattle.inf_unit.specs.Units.{Unit, acted, depth_behind, headed_by, headed_more, name_by, taken}
 use Rattle.inf_expression_laws.specs.Gathered.{read_by}
 use Rattle.inf_statement_laws.specs.Readings.{Seen}
-use Rattle.inf_language.specs.HeaderNames.{HeadersNoteTheirNames, local_events}
+use Rattle.inf_language.specs.{HeaderNames.HeadersNoteTheirNames, HeaderNames.local_events, Texts.tokens_of, Units.AllGather}
 use Rattle.inf_language.specs.Headers.{HeadersHaveTheirLocals, as_name, locals_read}
-use Rattle.inf_language.specs.Texts.{tokens_of}
-use Rattle.inf_language.specs.Units.{AllGather}
 use Rattle.inf_language.proofs.UnitsAlone.{units_are_read_alone}
 
 -- The last member of a list
@@ -33,14 +29,14 @@ all_but_last xs x =
 
 -- A name is taken, and then noted as a local.
 
-name_taken : (t : SourceToken) (u : Unit) → u.is_over ≡ false → t.kind ≡ kind.Name
+name_taken : (t : SourceToken) (u : Unit) → u.is_over ≡ false → t.kind ≡ TokenKind.Name
     → taken t u ≡ record u { tokens = u.tokens ++ t ∷ [] }
 name_taken t u goes_on is_name =
     ap (λ b. if b then record u { is_over = false } else record u { tokens = u.tokens ++ t ∷ []; depth = depth_behind t.kind u.depth })
     goes_on ∙ ap (λ k. record u { tokens = u.tokens ++ t ∷ []; depth = depth_behind k u.depth }) is_name
 
-local_read : (t : SourceToken) (u : Unit) → u.is_over ≡ false → t.kind ≡ kind.Name
-    → acted action.Local (taken t u) ≡ record u { headed = with_local (as_name t) u.headed }
+local_read : (t : SourceToken) (u : Unit) → u.is_over ≡ false → t.kind ≡ TokenKind.Name
+    → acted Action.Local (taken t u) ≡ record u { headed = with_local (as_name t) u.headed }
 local_read t u goes_on is_name =
     ap headed_more (name_taken t u goes_on is_name)
     ∙ (ap (λ tokens. record u {
@@ -60,7 +56,7 @@ headers_have_their_locals (t ∷ names) u are goes_on =
 
 one_by_one : (names : List Seen) (u : Unit) → read_by (local_events names) (tokens_of names) u ≡ locals_read (tokens_of names) u
 one_by_one [] u = refl
-one_by_one (s ∷ names) u = one_by_one names (acted action.Local (taken s.token u))
+one_by_one (s ∷ names) u = one_by_one names (acted Action.Local (taken s.token u))
 
 locals_gather : (names : List Seen) → AllGather (local_events names)
 locals_gather [] = tt

@@ -2,25 +2,17 @@
 use Rattle.std.proofs.Common.{◌≡◌, ℕ, List, [], ◌∷◌, ◌++◌, Option, None, true, refl, sym, ◌∙◌, ap, subst}
 use Rattle.std.proofs.lemmas.Bool.{and_from}
 use Rattle.inf_settings.specs.Bounds.{Limits}
-use Rattle.inf_machine.specs.declared.symbols.Symbol.{Symbol}
-use Rattle.inf_machine.specs.declared.symbols.Symbol.TheVariants.{Rule}
-use Rattle.inf_machine.specs.Grammar.{Did, Event, Leads, Took}
-use Rattle.inf_machine.specs.Laws.{IsSpaced}
-use Rattle.inf_machine.specs.Machine.{events_of, fits, taken, work}
+use Rattle.inf_machine.specs.{Grammar.Did, Grammar.Event, Grammar.Leads, Grammar.Took, Laws.IsSpaced, Machine.events_of, Machine.fits}
+use Rattle.inf_machine.specs.{Machine.taken, Machine.work, declared.symbols.Symbol.Symbol}
 use Rattle.inf_machine.proofs.Taking.{leads_only, spaced_left}
 use Rattle.inf_syntax.specs.declared.actions.Action.{Action}
-use Rattle.inf_grammar.specs.Evaluated.{language_is_decided}
-use Rattle.inf_grammar.specs.Language.{grammar, known}
-use Rattle.inf_grammar.specs.Routines.{closings}
-use Rattle.inf_compilation.specs.Context.{Context}
-use Rattle.inf_compilation.specs.Actions.{Compilation, took}
+use Rattle.inf_grammar.specs.{Evaluated.language_is_decided, Language.grammar, Language.known, Routines.closings}
+use Rattle.inf_compilation.specs.{Actions.Compilation, Actions.took, Context.Context}
 use Rattle.inf_reader.specs.Acting.{all_acted}
-use Rattle.inf_statement_laws.specs.Happenings.{Acts, Between, Happening}
-use Rattle.inf_statement_laws.specs.Laid.{next_comes, passed, run}
+use Rattle.inf_statement_laws.specs.{Happenings.Acts, Happenings.Between, Happenings.Happening, Laid.next_comes, Laid.passed, Laid.run}
 use Rattle.inf_statement_laws.specs.Readings.{Seen, all_fit, all_happenings, all_taken, behind_ends, behind_token, directed, plainly_at}
 use Rattle.inf_statement_laws.specs.Readings.{token_happenings}
-use Rattle.inf_statement_laws.proofs.Laying.{run_then}
-use Rattle.inf_statement_laws.proofs.Reading.{tokens_happen}
+use Rattle.inf_statement_laws.proofs.{Laying.run_then, Reading.tokens_happen}
 use Rattle.inf_language.specs.Texts.{NoneClosesAhead, TextsDoTheirActions, atoms_of, happenings_of}
 use Rattle.inf_grammar.proofs.Spaced.{rule_is_spaced}
 
@@ -93,8 +85,9 @@ tokens_run limits context (s ∷ seen) symbols w none =
 
 pub texts_do_their_actions : (limits : Limits) → TextsDoTheirActions limits
 texts_do_their_actions limits = record {
-  fit = λ rule seen events text. texts_fit seen (Rule rule ∷ []) [] events text (rule_is_spaced rule);
+  fit = λ rule seen events text. texts_fit seen (Symbol.Rule rule ∷ []) [] events text (rule_is_spaced rule);
   act = λ rule seen events text none context w.
-      tokens_run limits context seen (Rule rule ∷ []) w none
-      ∙ ap (λ hs. run limits context hs (next_comes w)) (texts_happen seen (Rule rule ∷ []) [] events text (rule_is_spaced rule) none);
+      tokens_run limits context seen (Symbol.Rule rule ∷ []) w none
+      ∙ ap (λ hs. run limits context hs (next_comes w))
+      (texts_happen seen (Symbol.Rule rule ∷ []) [] events text (rule_is_spaced rule) none);
 }

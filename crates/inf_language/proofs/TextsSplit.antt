@@ -1,21 +1,17 @@
 -- A text of some symbols and of others behind them is a text of these and one of those; and the text of an expression only
 -- gathers.
 use Rattle.std.proofs.Common.{◌≡◌, ℕ, List, [], ◌∷◌, ◌++◌, Bool, true, false, not, ◌&&◌, ◌||◌, refl, sym, ◌∙◌, ap, subst, append_assoc, inl}
-use Rattle.std.proofs.Common.{inr}
-use Rattle.std.specs.Prelude.{◌==◌}
+use Rattle.std.proofs.Common.{inr, ◌==◌}
 use Rattle.std.proofs.lemmas.Bool.{agree_below, agree_below_at, and_parts, cases_lt}
-use Rattle.inf_machine.specs.declared.symbols.Symbol.{Symbol}
-use Rattle.inf_machine.specs.declared.symbols.Symbol.TheVariants.{Act, Rule, Token}
+use Rattle.inf_machine.specs.{Pieces.all_rows, declared.symbols.Symbol.Symbol}
 use Rattle.inf_machine.specs.Grammar.{Did, Event, IsNext_not, IsOneOf, IsText, Leads, Row, Took, action, here, row, token, first, later}
-use Rattle.inf_machine.specs.Pieces.{all_rows}
 use Rattle.inf_syntax.specs.Parts.{address_operator, address_tail, after_prim, after_unary, array_operator, array_tail, assign, assign_tail}
 use Rattle.inf_syntax.specs.Parts.{assign_tail_1, bit, bracketed, call, call_1, call_2, expression, expression_tail, inc, logic_operator}
 use Rattle.inf_syntax.specs.Parts.{logic_tail, neg, negated, other_prim, plain_prim, post, post_tail, prefixed, prim, step_operator}
 use Rattle.inf_syntax.specs.Parts.{step_prefix, step_tail, sum, sum_operator, sum_tail, term, term_operator, term_tail, test, test_tail}
 use Rattle.inf_syntax.specs.Parts.{test_tail_1, tested, tested_1}
 use Rattle.inf_syntax.specs.declared.actions.Action.{Action}
-use Rattle.inf_grammar.specs.Evaluated.{rows_past}
-use Rattle.inf_grammar.specs.Language.{grammar}
+use Rattle.inf_grammar.specs.{Evaluated.rows_past, Language.grammar}
 use Rattle.inf_language.specs.Units.{AllSteps, is_step}
 
 -- Two parts of a text
@@ -104,7 +100,7 @@ expression_rules =
 
 abbrev is_among : ℕ → List (Symbol Action) → Bool
 is_among rule [] = false
-is_among rule (Rule other ∷ symbols) = (rule == other) || is_among rule symbols
+is_among rule (Symbol.Rule other ∷ symbols) = (rule == other) || is_among rule symbols
 is_among rule (x ∷ symbols) = is_among rule symbols
 
 unfoldable pub is_rule : ℕ → Bool
@@ -113,9 +109,9 @@ is_rule rule = is_among rule expression_rules
 -- whether symbols are tokens, these rules and such actions
 abbrev all_steps : List (Symbol Action) → Bool
 all_steps [] = true
-all_steps (Token class ∷ symbols) = all_steps symbols
-all_steps (Act a ∷ symbols) = is_step a && all_steps symbols
-all_steps (Rule rule ∷ symbols) = is_rule rule && all_steps symbols
+all_steps (Symbol.Token class ∷ symbols) = all_steps symbols
+all_steps (Symbol.Act a ∷ symbols) = is_step a && all_steps symbols
+all_steps (Symbol.Rule rule ∷ symbols) = is_rule rule && all_steps symbols
 
 -- Each row of these rules has nothing else, as evaluation shows.
 abbrev keeps : ℕ → Bool
@@ -147,9 +143,10 @@ rows_keep false rows is keep = cc
 
 steps-append : (xs ys : List (Symbol Action)) → all_steps xs ≡ true → all_steps ys ≡ true → all_steps (xs ++ ys) ≡ true
 steps-append [] ys x y = y
-steps-append (Token class ∷ xs) ys x y = steps-append xs ys x y
-steps-append (Act a ∷ xs) ys x y = let both = and_parts (is_step a) (all_steps xs) x in rw both.0 (steps-append xs ys both.1 y)
-steps-append (Rule rule ∷ xs) ys x y = let both = and_parts (is_rule rule) (all_steps xs) x in rw both.0 (steps-append xs ys both.1 y)
+steps-append (Symbol.Token class ∷ xs) ys x y = steps-append xs ys x y
+steps-append (Symbol.Act a ∷ xs) ys x y = let both = and_parts (is_step a) (all_steps xs) x in rw both.0 (steps-append xs ys both.1 y)
+steps-append (Symbol.Rule rule ∷ xs) ys x y =
+    let both = and_parts (is_rule rule) (all_steps xs) x in rw both.0 (steps-append xs ys both.1 y)
 
 -- While a text of these rules is read, tokens are taken and steps are gathered, and nothing else happens.
 pub only_steps : {symbols left : List (Symbol Action)} {atoms : List ℕ} {events : List (Event Action)}

@@ -1,26 +1,17 @@
 -- The unit at hand, step by step: each step in a compilation changes it as the step changes a unit by itself.
-use Rattle.std.proofs.Common.{◌≡◌, [], ◌∷◌, Bool, true, false, Option, Some, None, refl, ◌∙◌, ap}
-use Rattle.std.specs.Prelude.{◌&&◌}
+use Rattle.std.proofs.Common.{◌≡◌, [], ◌∷◌, Bool, true, false, Option, Some, None, refl, ◌∙◌, ap, ◌&&◌}
 use Rattle.inf_settings.specs.Bounds.{Limits}
 use Rattle.inf_scanner.specs.declared.tokens.Place.{Place}
 use Rattle.inf_machine.specs.Grammar.{Did, Took}
 use Rattle.inf_syntax.specs.declared.actions.Action.{Action}
-use Rattle.inf_unit.specs.Roles.{role_of}
-use Rattle.inf_unit.specs.Tokens.{SourceToken}
+use Rattle.inf_unit.specs.{Roles.role_of, Tokens.SourceToken, declared.roles.Note.Note, declared.roles.Role.Role}
 use Rattle.inf_unit.specs.Units.{acted, long_at, noted as unit_noted, played as unit_played, taken}
-use Rattle.inf_unit.specs.declared.roles.Note.{Note}
-use Rattle.inf_unit.specs.declared.roles.Note.TheVariants as note
-use Rattle.inf_unit.specs.declared.roles.Role.{Role}
-use Rattle.inf_unit.specs.declared.roles.Role.TheVariants as role
 use Rattle.inf_compilation.specs.Context.{Context, longest}
 use Rattle.inf_compilation.specs.Actions.{Compilation, is_deep, nested, opens, sized, stopped, took}
 use Rattle.inf_reader.specs.Acting.{act, noted, noted_of, played}
 use Rattle.inf_expression_laws.specs.Gathered.{read_by}
-use Rattle.inf_statement_laws.specs.Happenings.{Acts, Takes}
-use Rattle.inf_statement_laws.specs.Laid.{happens}
-use Rattle.inf_statement_laws.specs.Readings.{plainly_at}
-use Rattle.inf_language.specs.Texts.{tokens_of}
-use Rattle.inf_language.specs.Units.{UnitsAreReadAlone, gathers, gathers_in, is_kept_whole}
+use Rattle.inf_statement_laws.specs.{Happenings.Acts, Happenings.Takes, Laid.happens, Readings.plainly_at}
+use Rattle.inf_language.specs.{Texts.tokens_of, Units.UnitsAreReadAlone, Units.gathers, Units.gathers_in, Units.is_kept_whole}
 
 -- A token is taken.
 
@@ -44,29 +35,29 @@ took_unit context t w =
 -- An action acts.
 
 noted_of_unit : (context : Context) (n : Note) (w : Compilation) → (noted_of context n w).unit ≡ unit_noted n w.unit
-noted_of_unit context note.OuterSure w = sized_unit context (record w { unit = unit_noted note.OuterSure w.unit })
-noted_of_unit context note.OuterWord w = sized_unit context (record w { unit = unit_noted note.OuterWord w.unit })
+noted_of_unit context Note.OuterSure w = sized_unit context (record w { unit = unit_noted Note.OuterSure w.unit })
+noted_of_unit context Note.OuterWord w = sized_unit context (record w { unit = unit_noted Note.OuterWord w.unit })
 noted_of_unit context _ w = refl
 
 noted_unit : (limits : Limits) (context : Context) (n : Note) (w : Compilation) → is_kept_whole n ≡ true
     → (noted limits context n w).unit ≡ unit_noted n w.unit
-noted_unit limits context note.PrintText w kept = cc
-noted_unit limits context note.Arrow w kept = cc
-noted_unit limits context note.OuterEnd w kept = cc
-noted_unit limits context note.LineToken w kept = cc
-noted_unit limits context note.PrintValue w kept = cc
-noted_unit limits context note.PrintRuled w kept = cc
-noted_unit limits context note.Set w kept = cc
-noted_unit limits context note.Clear w kept = cc
-noted_unit limits context note.VerbWord w kept = cc
-noted_unit limits context note.OuterSure w kept = noted_of_unit context note.OuterSure w
-noted_unit limits context note.OuterWord w kept = noted_of_unit context note.OuterWord w
+noted_unit limits context Note.PrintText w kept = cc
+noted_unit limits context Note.Arrow w kept = cc
+noted_unit limits context Note.OuterEnd w kept = cc
+noted_unit limits context Note.LineToken w kept = cc
+noted_unit limits context Note.PrintValue w kept = cc
+noted_unit limits context Note.PrintRuled w kept = cc
+noted_unit limits context Note.Set w kept = cc
+noted_unit limits context Note.Clear w kept = cc
+noted_unit limits context Note.VerbWord w kept = cc
+noted_unit limits context Note.OuterSure w kept = noted_of_unit context Note.OuterSure w
+noted_unit limits context Note.OuterWord w kept = noted_of_unit context Note.OuterWord w
 noted_unit limits context _ w kept = refl
 
 played_unit : (limits : Limits) (context : Context) (place : Place) (r : Role) (w : Compilation) → gathers_in r ≡ true
     → (played limits context place r w).unit ≡ unit_played r w.unit
-played_unit limits context place (role.Gather s) w gather = refl
-played_unit limits context place (role.Note n) w gather = noted_unit limits context n w gather
+played_unit limits context place (Role.Gather s) w gather = refl
+played_unit limits context place (Role.Note n) w gather = noted_unit limits context n w gather
 played_unit limits context place _ w gather = cc
 
 act_unit : (limits : Limits) (context : Context) (place : Place) (a : Action) (w : Compilation) → gathers a ≡ true

@@ -1,13 +1,8 @@
 -- The names of a unit name its locals, one after the other.
 use Rattle.std.proofs.Common.{◌≡◌, List, [], ◌∷◌, ◌++◌, refl, sym, ◌∙◌, ap}
 use Rattle.inf_gathering.specs.declared.gathering.Leaf.{Leaf}
-use Rattle.inf_gathering.specs.declared.gathering.Leaf.TheVariants as leaf
-use Rattle.inf_names.specs.Locals.{Local, with_all_named, with_named}
-use Rattle.inf_names.specs.Spellings.{Name}
-use Rattle.inf_unit.specs.Tokens.{SourceToken}
-use Rattle.inf_unit.specs.Units.{bytes_at}
-use Rattle.inf_unit.specs.declared.items.Item.{Item}
-use Rattle.inf_unit.specs.declared.items.Item.TheVariants as item
+use Rattle.inf_names.specs.{Locals.Local, Locals.with_all_named, Locals.with_named, Spellings.Name}
+use Rattle.inf_unit.specs.{Tokens.SourceToken, Units.bytes_at, declared.items.Item.Item}
 use Rattle.inf_operands.specs.Operands.{leaves_named, stores_named}
 use Rattle.inf_language.specs.NamedLocals.{UnitsNameTheirLocals, leaves_names, stores_names}
 
@@ -19,14 +14,14 @@ named-append (name ∷ first) second locals = named-append first second (with_na
 leaves_name : (tokens : List SourceToken) (leaves : List Leaf) (locals : List Local)
     → leaves_named tokens leaves locals ≡ with_all_named (leaves_names tokens leaves) locals
 leaves_name tokens [] locals = refl
-leaves_name tokens (leaf.Name at ∷ leaves) locals = leaves_name tokens leaves (with_named (bytes_at tokens at) locals)
-leaves_name tokens (leaf.Alone at ∷ leaves) locals = leaves_name tokens leaves (with_named (bytes_at tokens at) locals)
+leaves_name tokens (Leaf.Name at ∷ leaves) locals = leaves_name tokens leaves (with_named (bytes_at tokens at) locals)
+leaves_name tokens (Leaf.Alone at ∷ leaves) locals = leaves_name tokens leaves (with_named (bytes_at tokens at) locals)
 leaves_name tokens (_ ∷ leaves) locals = leaves_name tokens leaves locals
 
 stores_name : (tokens : List SourceToken) (items : List Item) (locals : List Local)
     → stores_named tokens items locals ≡ with_all_named (stores_names tokens items) locals
 stores_name tokens [] locals = refl
-stores_name tokens (item.Store at ∷ items) locals = stores_name tokens items (with_named (bytes_at tokens at) locals)
+stores_name tokens (Item.Store at ∷ items) locals = stores_name tokens items (with_named (bytes_at tokens at) locals)
 stores_name tokens (_ ∷ items) locals = stores_name tokens items locals
 
 pub units_name_their_locals : UnitsNameTheirLocals

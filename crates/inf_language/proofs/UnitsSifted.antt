@@ -1,30 +1,19 @@
 -- The unit at hand and the locals of its routine, step by step: each step in a compilation changes them as it changes them by themselves.
-use Rattle.std.proofs.Common.{◌≡◌, [], ◌∷◌, Bool, true, false, Option, Some, None, refl, ◌∙◌, ap}
-use Rattle.std.specs.Prelude.{◌&&◌, not, nat_lt, if◌then◌else◌, List}
-use Rattle.inf_settings.specs.Bounds.{Limits}
-use Rattle.inf_settings.specs.Settings.{number_of}
-use Rattle.inf_settings.specs.declared.setting.Setting.TheVariants as setting
-use Rattle.inf_settings.specs.declared.settings.Settings.{Settings}
+use Rattle.std.proofs.Common.{◌≡◌, [], ◌∷◌, Bool, true, false, Option, Some, None, refl, ◌∙◌, ap, ◌&&◌, not, nat_lt, if◌then◌else◌, List}
+use Rattle.inf_settings.specs.{Bounds.Limits, Settings.number_of, declared.setting.Setting.Setting, declared.settings.Settings.Settings}
 use Rattle.inf_names.specs.Locals.{Local}
 use Rattle.inf_output.specs.Output.{Out}
 use Rattle.inf_scanner.specs.declared.tokens.Place.{Place}
 use Rattle.inf_machine.specs.Grammar.{Did, Event, Took}
 use Rattle.inf_syntax.specs.declared.actions.Action.{Action}
-use Rattle.inf_unit.specs.Roles.{role_of}
-use Rattle.inf_unit.specs.Tokens.{SourceToken}
+use Rattle.inf_unit.specs.{Roles.role_of, Tokens.SourceToken, declared.roles.Note.Note, declared.roles.Role.Role}
 use Rattle.inf_unit.specs.Units.{Unit, acted, last_leaf, long_at, noted as unit_noted, played as unit_played, taken}
-use Rattle.inf_unit.specs.declared.roles.Note.{Note}
-use Rattle.inf_unit.specs.declared.roles.Note.TheVariants as note
-use Rattle.inf_unit.specs.declared.roles.Role.{Role}
-use Rattle.inf_unit.specs.declared.roles.Role.TheVariants as role
 use Rattle.inf_compilation.specs.Context.{Context, longest}
 use Rattle.inf_compilation.specs.Actions.{Compilation, is_deep, nested, opens, sized, stopped, took}
 use Rattle.inf_reader.specs.Acting.{act, is_crowded, is_wordy, noted, noted_of, played, value_noted as valued}
 use Rattle.inf_verb_lines.specs.Verbs.{word_sifted}
 use Rattle.inf_expression_laws.specs.Gathered.{read_by}
-use Rattle.inf_statement_laws.specs.Happenings.{Acts, Takes}
-use Rattle.inf_statement_laws.specs.Laid.{happens, run}
-use Rattle.inf_statement_laws.specs.Readings.{Seen, plainly_at}
+use Rattle.inf_statement_laws.specs.{Happenings.Acts, Happenings.Takes, Laid.happens, Laid.run, Readings.Seen, Readings.plainly_at}
 use Rattle.inf_language.specs.Texts.{happenings_before, tokens_of}
 use Rattle.inf_language.specs.Sifting.{AllSift, NothingDropped, Read, UnitsAreSiftedAlone, action_read, drops_nothing, is_kept_or_sifted}
 use Rattle.inf_language.specs.Sifting.{note_read, noted_whole, read_of, role_drops_nothing, role_read, sifted_by, sifts_in, value_noted}
@@ -57,8 +46,8 @@ took_known context t w =
 -- An action acts.
 
 noted_of_known : (context : Context) (n : Note) (w : Compilation) → known (noted_of context n w) ≡ (noted_whole n (read_of w), w.output)
-noted_of_known context note.OuterSure w = sized_known context (record w { unit = unit_noted note.OuterSure w.unit })
-noted_of_known context note.OuterWord w = sized_known context (record w { unit = unit_noted note.OuterWord w.unit })
+noted_of_known context Note.OuterSure w = sized_known context (record w { unit = unit_noted Note.OuterSure w.unit })
+noted_of_known context Note.OuterWord w = sized_known context (record w { unit = unit_noted Note.OuterWord w.unit })
 noted_of_known context _ w = refl
 
 either_known : (b : Bool) (x : Compilation) (y : Compilation) (p : Read) (q : Read) (o : Out) → known x ≡ (p, o) → known y ≡ (q, o)
@@ -76,25 +65,25 @@ value_known limits context n w plain sifted =
 
 noted_known : (limits : Limits) (context : Context) (n : Note) (w : Compilation) → is_kept_or_sifted n ≡ true
     → known (noted limits context n w) ≡ (note_read limits context.settings w.output n (read_of w), w.output)
-noted_known limits context note.PrintText w kept = cc
-noted_known limits context note.Arrow w kept = cc
-noted_known limits context note.OuterEnd w kept = cc
-noted_known limits context note.LineToken w kept = cc
-noted_known limits context note.PrintValue w kept = value_known limits context note.PrintValue w refl refl
-noted_known limits context note.PrintRuled w kept = value_known limits context note.PrintRuled w refl refl
-noted_known limits context note.Set w kept = value_known limits context note.Set w refl refl
-noted_known limits context note.Clear w kept = value_known limits context note.Clear w refl refl
-noted_known limits context note.VerbWord w kept =
-    either_known (is_wordy context w) (word_sifted w) (noted_of context note.VerbWord w) (word_read (read_of w))
-    (noted_whole note.VerbWord (read_of w)) w.output refl refl
-noted_known limits context note.OuterSure w kept = noted_of_known context note.OuterSure w
-noted_known limits context note.OuterWord w kept = noted_of_known context note.OuterWord w
+noted_known limits context Note.PrintText w kept = cc
+noted_known limits context Note.Arrow w kept = cc
+noted_known limits context Note.OuterEnd w kept = cc
+noted_known limits context Note.LineToken w kept = cc
+noted_known limits context Note.PrintValue w kept = value_known limits context Note.PrintValue w refl refl
+noted_known limits context Note.PrintRuled w kept = value_known limits context Note.PrintRuled w refl refl
+noted_known limits context Note.Set w kept = value_known limits context Note.Set w refl refl
+noted_known limits context Note.Clear w kept = value_known limits context Note.Clear w refl refl
+noted_known limits context Note.VerbWord w kept =
+    either_known (is_wordy context w) (word_sifted w) (noted_of context Note.VerbWord w) (word_read (read_of w))
+    (noted_whole Note.VerbWord (read_of w)) w.output refl refl
+noted_known limits context Note.OuterSure w kept = noted_of_known context Note.OuterSure w
+noted_known limits context Note.OuterWord w kept = noted_of_known context Note.OuterWord w
 noted_known limits context _ w kept = refl
 
 played_known : (limits : Limits) (context : Context) (place : Place) (r : Role) (w : Compilation) → sifts_in r ≡ true
     → known (played limits context place r w) ≡ (role_read limits context.settings w.output r (read_of w), w.output)
-played_known limits context place (role.Gather s) w sifts = refl
-played_known limits context place (role.Note n) w sifts = noted_known limits context n w sifts
+played_known limits context place (Role.Gather s) w sifts = refl
+played_known limits context place (Role.Note n) w sifts = noted_known limits context n w sifts
 played_known limits context place _ w sifts = cc
 
 act_known : (limits : Limits) (context : Context) (place : Place) (a : Action) (w : Compilation) → sifts_in (role_of a) ≡ true
@@ -134,21 +123,23 @@ value_whole false p q kept = refl
 
 note_whole : (limits : Limits) (settings : Settings) (o : Out) (n : Note) (r : Read) → drops_nothing limits settings n r.0 ≡ true
     → note_read limits settings o n r ≡ noted_whole n r
-note_whole limits settings o note.PrintValue r kept =
-    value_whole (nat_lt (limits setting.Code) r.0.code) (value_read settings o (noted_whole note.PrintValue r)) (noted_whole note.PrintValue r) kept
-note_whole limits settings o note.PrintRuled r kept =
-    value_whole (nat_lt (limits setting.Code) r.0.code) (value_read settings o (noted_whole note.PrintRuled r)) (noted_whole note.PrintRuled r) kept
-note_whole limits settings o note.Set r kept =
-    value_whole (nat_lt (limits setting.Code) r.0.code) (value_read settings o (noted_whole note.Set r)) (noted_whole note.Set r) kept
-note_whole limits settings o note.Clear r kept =
-    value_whole (nat_lt (limits setting.Code) r.0.code) (value_read settings o (noted_whole note.Clear r)) (noted_whole note.Clear r) kept
-note_whole limits settings o note.VerbWord r kept =
-    value_whole (nat_lt (number_of setting.DictionaryEntries settings) (last_leaf r.0)) (word_read r) (noted_whole note.VerbWord r) kept
+note_whole limits settings o Note.PrintValue r kept =
+    value_whole (nat_lt (limits Setting.Code) r.0.code) (value_read settings o (noted_whole Note.PrintValue r))
+    (noted_whole Note.PrintValue r) kept
+note_whole limits settings o Note.PrintRuled r kept =
+    value_whole (nat_lt (limits Setting.Code) r.0.code) (value_read settings o (noted_whole Note.PrintRuled r))
+    (noted_whole Note.PrintRuled r) kept
+note_whole limits settings o Note.Set r kept =
+    value_whole (nat_lt (limits Setting.Code) r.0.code) (value_read settings o (noted_whole Note.Set r)) (noted_whole Note.Set r) kept
+note_whole limits settings o Note.Clear r kept =
+    value_whole (nat_lt (limits Setting.Code) r.0.code) (value_read settings o (noted_whole Note.Clear r)) (noted_whole Note.Clear r) kept
+note_whole limits settings o Note.VerbWord r kept =
+    value_whole (nat_lt (number_of Setting.DictionaryEntries settings) (last_leaf r.0)) (word_read r) (noted_whole Note.VerbWord r) kept
 note_whole limits settings o _ r kept = refl
 
 role_whole : (limits : Limits) (settings : Settings) (o : Out) (p : Role) (r : Read) → role_drops_nothing limits settings p r.0 ≡ true
     → role_read limits settings o p r ≡ (unit_played p r.0, r.1)
-role_whole limits settings o (role.Note n) r kept = note_whole limits settings o n r kept
+role_whole limits settings o (Role.Note n) r kept = note_whole limits settings o n r kept
 role_whole limits settings o _ r kept = refl
 
 all_whole : (limits : Limits) (settings : Settings) (o : Out) (events : List (Event Action)) (seen : List Seen) (u : Unit)

@@ -2,32 +2,22 @@
 -- filled token by token.
 use Rattle.std.specs.Prelude.{◌≡◌, ℕ, ◌+◌, ◌<◌, List, [], ◌∷◌, ◌++◌, length, max, nat_lt, Bool, true, false, ◌&&◌, Option, Some, None}
 use Rattle.std.specs.Prelude.{if◌then◌else◌}
-use Rattle.inf_settings.specs.Bounds.{Limits}
-use Rattle.inf_settings.specs.declared.setting.Setting.TheVariants as setting
-use Rattle.inf_scanner.specs.declared.tokens.Mark.TheVariants as mark
-use Rattle.inf_scanner.specs.declared.tokens.Place.{Place}
-use Rattle.inf_scanner.specs.declared.tokens.TokenKind.TheVariants as kind
+use Rattle.inf_settings.specs.{Bounds.Limits, declared.setting.Setting.Setting}
+use Rattle.inf_scanner.specs.{declared.tokens.Mark.Mark, declared.tokens.Place.Place, declared.tokens.TokenKind.TokenKind}
 use Rattle.inf_report.specs.Messages.{Exceeded}
 use Rattle.inf_machine.specs.Grammar.{Event, IsText}
-use Rattle.inf_syntax.specs.Atoms.{mark_atom}
-use Rattle.inf_syntax.specs.Parts.{piece}
-use Rattle.inf_syntax.specs.declared.actions.Action.{Action}
-use Rattle.inf_syntax.specs.declared.words.Keyword.TheVariants as keyword_of
+use Rattle.inf_syntax.specs.{Atoms.mark_atom, Parts.piece, declared.actions.Action.Action, declared.words.Keyword.Keyword}
 use Rattle.inf_grammar.specs.Language.{grammar}
 use Rattle.inf_expressions.specs.Sources.{Source}
 use Rattle.inf_gathering.specs.Gatherings.{nothing_gathered}
 use Rattle.inf_constructs.specs.Constructs.{depth as open_depth}
-use Rattle.inf_unit.specs.Messages.{location, with_fatal}
-use Rattle.inf_unit.specs.Tokens.{SourceToken, keyword}
+use Rattle.inf_unit.specs.{Messages.location, Messages.with_fatal, Tokens.SourceToken, Tokens.keyword}
 use Rattle.inf_unit.specs.Units.{Unit, depth_behind, no_unit, place_at}
 use Rattle.inf_compilation.specs.Context.{Context, longest}
 use Rattle.inf_compilation.specs.Actions.{Compilation, code_begun, constant, most_nested, nested, opens, piece_begun}
-use Rattle.inf_expression_laws.specs.Gathered.{AreSeen, with_source}
-use Rattle.inf_expression_laws.specs.Precedence.{Written, assignments}
-use Rattle.inf_statement_laws.specs.Laid.{passed}
-use Rattle.inf_statement_laws.specs.Readings.{Seen, all_taken}
-use Rattle.inf_language.specs.Headers.{as_name}
-use Rattle.inf_language.specs.Texts.{NoneClosesAhead, atoms_of, tokens_of}
+use Rattle.inf_expression_laws.specs.{Gathered.AreSeen, Gathered.with_source, Precedence.Written, Precedence.assignments}
+use Rattle.inf_statement_laws.specs.{Laid.passed, Readings.Seen, Readings.all_taken}
+use Rattle.inf_language.specs.{Headers.as_name, Texts.NoneClosesAhead, Texts.atoms_of, Texts.tokens_of}
 
 -- The reports of the tokens of an expression
 
@@ -36,7 +26,7 @@ use Rattle.inf_language.specs.Texts.{NoneClosesAhead, atoms_of, tokens_of}
 abbrev pub length_told : Context → Option Place → ℕ → Compilation → Compilation
 length_told context None count w = record w { most_tokens = max w.most_tokens count }
 length_told context (Some too_many) count w =
-    record w { report = with_fatal (location context.names too_many) (Exceeded setting.ExpressionNodes) w.report }
+    record w { report = with_fatal (location context.names too_many) (Exceeded Setting.ExpressionNodes) w.report }
 
 -- whether brackets are nested too deep in one another and in statements
 abbrev pub is_too_deep : ℕ → ℕ → ℕ → Bool
@@ -118,11 +108,11 @@ constant_atom = 47
 -- opens no bracket.
 pub record BeginsConstant (word name sign : Seen) (seen : List Seen) : Type 0 where
   pub is_word : word.atom ≡ constant_atom
-  pub is_sign : sign.atom ≡ mark_atom mark.Assign
-  pub word_kind : word.token.kind ≡ kind.Name
-  pub word_means : keyword word.token ≡ Some keyword_of.Constant
-  pub name_kind : name.token.kind ≡ kind.Name
-  pub sign_kind : sign.token.kind ≡ kind.Mark mark.Assign
+  pub is_sign : sign.atom ≡ mark_atom Mark.Assign
+  pub word_kind : word.token.kind ≡ TokenKind.Name
+  pub word_means : keyword word.token ≡ Some Keyword.Constant
+  pub name_kind : name.token.kind ≡ TokenKind.Name
+  pub sign_kind : sign.token.kind ≡ TokenKind.Mark Mark.Assign
   pub are_seen : AreSeen (atoms_of seen) (tokens_of seen)
   pub few : length (tokens_of seen) + 3 < 4294967295
   pub plain_last : (front : List Seen) (last : Seen) → seen ≡ front ++ last ∷ [] → opens last.token.kind ≡ false

@@ -2,19 +2,14 @@
 use Rattle.std.specs.Prelude.{◌≡◌, ℕ, ◌≤◌, ◌<◌, List, ◌++◌, length, false}
 use Rattle.inf_settings.specs.Bounds.{Limits}
 use Rattle.inf_scanner.specs.declared.tokens.Place.{Place}
-use Rattle.inf_machine.specs.declared.symbols.Symbol.{Symbol}
-use Rattle.inf_machine.specs.Grammar.{Event, IsOneOf, IsText}
+use Rattle.inf_machine.specs.{Grammar.Event, Grammar.IsOneOf, Grammar.IsText, declared.symbols.Symbol.Symbol}
 use Rattle.inf_syntax.specs.declared.actions.Action.{Action}
 use Rattle.inf_grammar.specs.Language.{grammar}
 use Rattle.inf_expressions.specs.Sources.{Source}
 use Rattle.inf_unit.specs.Units.{Unit}
-use Rattle.inf_compilation.specs.Context.{Context}
-use Rattle.inf_compilation.specs.Actions.{Compilation}
-use Rattle.inf_expression_laws.specs.Gathered.{AreSeen, with_source}
-use Rattle.inf_expression_laws.specs.Laws.{forms}
-use Rattle.inf_expression_laws.specs.Precedence.{Written}
-use Rattle.inf_statement_laws.specs.Laid.{run}
-use Rattle.inf_statement_laws.specs.Readings.{Seen}
+use Rattle.inf_compilation.specs.{Actions.Compilation, Context.Context}
+use Rattle.inf_expression_laws.specs.{Gathered.AreSeen, Gathered.with_source, Laws.forms, Precedence.Written}
+use Rattle.inf_statement_laws.specs.{Laid.run, Readings.Seen}
 use Rattle.inf_language.specs.Texts.{atoms_of, happenings_before, tokens_of}
 
 -- The unit of the compilation once the events of a text acted on its tokens, before another token at a place.

@@ -2,16 +2,10 @@
 -- whatever it gathers.
 use Rattle.std.specs.Prelude.{◌≡◌, ℕ, List, [], ◌∷◌, ◌++◌, unwrap_or}
 use Rattle.inf_gathering.specs.declared.gathering.Leaf.{Leaf}
-use Rattle.inf_gathering.specs.declared.gathering.Leaf.TheVariants as leaf
-use Rattle.inf_names.specs.Locals.{Local, with_all_named}
-use Rattle.inf_names.specs.Spellings.{Name}
-use Rattle.inf_unit.specs.Tokens.{SourceToken}
-use Rattle.inf_unit.specs.Units.{bytes_at, place_at}
-use Rattle.inf_unit.specs.declared.items.Item.{Item}
-use Rattle.inf_unit.specs.declared.items.Item.TheVariants as item
+use Rattle.inf_names.specs.{Locals.Local, Locals.with_all_named, Spellings.Name}
+use Rattle.inf_unit.specs.{Tokens.SourceToken, Units.bytes_at, Units.place_at, declared.items.Item.Item}
 use Rattle.inf_operands.specs.Operands.{leaves_named, stores_named}
-use Rattle.inf_compilation.specs.Actions.{Compilation, named}
-use Rattle.inf_compilation.specs.Words.{nowhere}
+use Rattle.inf_compilation.specs.{Actions.Compilation, Actions.named, Words.nowhere}
 
 -- the name at a place among the tokens of a unit
 abbrev pub name_read : List SourceToken → ℕ → Name
@@ -20,8 +14,8 @@ name_read tokens at = record { bytes = bytes_at tokens at; place = unwrap_or (pl
 -- The names of a leaf: one, where it is a name, also where that is an operand of an assembly line by itself; otherwise
 -- none.
 abbrev pub leaf_names : List SourceToken → Leaf → List Name
-leaf_names tokens (leaf.Name at) = name_read tokens at ∷ []
-leaf_names tokens (leaf.Alone at) = name_read tokens at ∷ []
+leaf_names tokens (Leaf.Name at) = name_read tokens at ∷ []
+leaf_names tokens (Leaf.Alone at) = name_read tokens at ∷ []
 leaf_names tokens _ = []
 
 -- the names of all leaves of a unit, in their order
@@ -31,7 +25,7 @@ leaves_names tokens (l ∷ leaves) = leaf_names tokens l ++ leaves_names tokens 
 
 -- the names in which a unit stores
 abbrev pub store_names : List SourceToken → Item → List Name
-store_names tokens (item.Store at) = name_read tokens at ∷ []
+store_names tokens (Item.Store at) = name_read tokens at ∷ []
 store_names tokens _ = []
 
 abbrev pub stores_names : List SourceToken → List Item → List Name

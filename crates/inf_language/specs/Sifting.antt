@@ -1,29 +1,18 @@
 -- The unit at hand while it is read, where of the values and the words that are too many only those are kept that tell something. By them
 -- locals are named, and they are judged by what is known when the reading begins.
 use Rattle.std.specs.Prelude.{◌≡◌, List, [], ◌∷◌, Bool, true, false, nat_lt, not, if◌then◌else◌, ⊤}
-use Rattle.inf_settings.specs.Bounds.{Limits}
-use Rattle.inf_settings.specs.Settings.{number_of}
-use Rattle.inf_settings.specs.declared.setting.Setting.TheVariants as setting
-use Rattle.inf_settings.specs.declared.settings.Settings.{Settings}
+use Rattle.inf_settings.specs.{Bounds.Limits, Settings.number_of, declared.setting.Setting.Setting, declared.settings.Settings.Settings}
 use Rattle.inf_names.specs.Locals.{Local}
 use Rattle.inf_output.specs.Output.{Out}
 use Rattle.inf_scanner.specs.declared.tokens.Place.{Place}
 use Rattle.inf_machine.specs.Grammar.{Event, Took, Did}
 use Rattle.inf_syntax.specs.declared.actions.Action.{Action}
-use Rattle.inf_unit.specs.Roles.{role_of}
-use Rattle.inf_unit.specs.Tokens.{SourceToken}
+use Rattle.inf_unit.specs.{Roles.role_of, Tokens.SourceToken, declared.roles.Note.Note, declared.roles.Role.Role}
 use Rattle.inf_unit.specs.Units.{Unit, acted, crowd_begun, last_leaf, noted, played, sifted, taken, value_sifted}
-use Rattle.inf_unit.specs.declared.roles.Note.{Note}
-use Rattle.inf_unit.specs.declared.roles.Note.TheVariants as note
-use Rattle.inf_unit.specs.declared.roles.Role.{Role}
-use Rattle.inf_unit.specs.declared.roles.Role.TheVariants as role
-use Rattle.inf_compilation.specs.Context.{Context}
-use Rattle.inf_compilation.specs.Actions.{Compilation}
-use Rattle.inf_compilation.specs.Crowds.{value_brought, value_finding, value_named}
+use Rattle.inf_compilation.specs.{Actions.Compilation, Context.Context, Crowds.value_brought, Crowds.value_finding, Crowds.value_named}
 use Rattle.inf_verb_lines.specs.Verbs.{word_came}
 use Rattle.inf_expression_laws.specs.Gathered.{read_by}
-use Rattle.inf_statement_laws.specs.Laid.{run}
-use Rattle.inf_statement_laws.specs.Readings.{Seen}
+use Rattle.inf_statement_laws.specs.{Laid.run, Readings.Seen}
 use Rattle.inf_language.specs.Texts.{happenings_before, tokens_of}
 
 -- the unit at hand, and the locals of its routine
@@ -46,7 +35,7 @@ value_read settings o r = judged_value (value_brought settings r.1 o (crowd_begu
 
 abbrev pub value_noted : Limits → Settings → Out → Note → Read → Read
 value_noted limits settings o n r =
-    if nat_lt (limits setting.Code) r.0.code then value_read settings o (noted_whole n r) else noted_whole n r
+    if nat_lt (limits Setting.Code) r.0.code then value_read settings o (noted_whole n r) else noted_whole n r
 
 -- A further word comes of a verb that has more tokens than there may be words.
 abbrev pub word_read : Read → Read
@@ -54,18 +43,18 @@ word_read r = let came = word_came r.0 in (sifted came.1 true came.0, r.1)
 
 abbrev pub word_noted : Settings → Read → Read
 word_noted settings r =
-    if nat_lt (number_of setting.DictionaryEntries settings) (last_leaf r.0) then word_read r else noted_whole note.VerbWord r
+    if nat_lt (number_of Setting.DictionaryEntries settings) (last_leaf r.0) then word_read r else noted_whole Note.VerbWord r
 
 abbrev pub note_read : Limits → Settings → Out → Note → Read → Read
-note_read limits settings o note.PrintValue r = value_noted limits settings o note.PrintValue r
-note_read limits settings o note.PrintRuled r = value_noted limits settings o note.PrintRuled r
-note_read limits settings o note.Set r = value_noted limits settings o note.Set r
-note_read limits settings o note.Clear r = value_noted limits settings o note.Clear r
-note_read limits settings o note.VerbWord r = word_noted settings r
+note_read limits settings o Note.PrintValue r = value_noted limits settings o Note.PrintValue r
+note_read limits settings o Note.PrintRuled r = value_noted limits settings o Note.PrintRuled r
+note_read limits settings o Note.Set r = value_noted limits settings o Note.Set r
+note_read limits settings o Note.Clear r = value_noted limits settings o Note.Clear r
+note_read limits settings o Note.VerbWord r = word_noted settings r
 note_read limits settings o n r = noted_whole n r
 
 abbrev pub role_read : Limits → Settings → Out → Role → Read → Read
-role_read limits settings o (role.Note n) r = note_read limits settings o n r
+role_read limits settings o (Role.Note n) r = note_read limits settings o n r
 role_read limits settings o p r = (played p r.0, r.1)
 
 abbrev pub action_read : Limits → Settings → Out → Action → Read → Read
@@ -83,15 +72,15 @@ sifted_by limits settings o (Took atom ∷ events) (s ∷ seen) r =
 -- Whether a note keeps what comes, or drops some of it as `note_read` says. Of four notes nothing is said: a text that is printed, an arrow
 -- before the name of an object, the end of an operand, and a token of a line of grammar.
 abbrev pub is_kept_or_sifted : Note → Bool
-is_kept_or_sifted note.PrintText = false
-is_kept_or_sifted note.Arrow = false
-is_kept_or_sifted note.OuterEnd = false
-is_kept_or_sifted note.LineToken = false
+is_kept_or_sifted Note.PrintText = false
+is_kept_or_sifted Note.Arrow = false
+is_kept_or_sifted Note.OuterEnd = false
+is_kept_or_sifted Note.LineToken = false
 is_kept_or_sifted _ = true
 
 abbrev pub sifts_in : Role → Bool
-sifts_in (role.Gather s) = true
-sifts_in (role.Note n) = is_kept_or_sifted n
+sifts_in (Role.Gather s) = true
+sifts_in (Role.Note n) = is_kept_or_sifted n
 sifts_in _ = false
 
 -- Tells whether all actions among some events gather steps of expressions, or make such notes.
@@ -102,15 +91,15 @@ AllSift (Took atom ∷ events) = AllSift events
 
 -- Whether a note drops nothing of a unit: no setting is passed so far that bounds its values or its words.
 abbrev pub drops_nothing : Limits → Settings → Note → Unit → Bool
-drops_nothing limits settings note.PrintValue u = not (nat_lt (limits setting.Code) u.code)
-drops_nothing limits settings note.PrintRuled u = not (nat_lt (limits setting.Code) u.code)
-drops_nothing limits settings note.Set u = not (nat_lt (limits setting.Code) u.code)
-drops_nothing limits settings note.Clear u = not (nat_lt (limits setting.Code) u.code)
-drops_nothing limits settings note.VerbWord u = not (nat_lt (number_of setting.DictionaryEntries settings) (last_leaf u))
+drops_nothing limits settings Note.PrintValue u = not (nat_lt (limits Setting.Code) u.code)
+drops_nothing limits settings Note.PrintRuled u = not (nat_lt (limits Setting.Code) u.code)
+drops_nothing limits settings Note.Set u = not (nat_lt (limits Setting.Code) u.code)
+drops_nothing limits settings Note.Clear u = not (nat_lt (limits Setting.Code) u.code)
+drops_nothing limits settings Note.VerbWord u = not (nat_lt (number_of Setting.DictionaryEntries settings) (last_leaf u))
 drops_nothing limits settings _ u = true
 
 abbrev pub role_drops_nothing : Limits → Settings → Role → Unit → Bool
-role_drops_nothing limits settings (role.Note n) u = drops_nothing limits settings n u
+role_drops_nothing limits settings (Role.Note n) u = drops_nothing limits settings n u
 role_drops_nothing limits settings _ u = true
 
 -- Tells whether nothing is dropped of a unit while tokens are taken and actions carried out, one behind the other.

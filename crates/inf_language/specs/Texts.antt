@@ -3,15 +3,12 @@
 use Rattle.std.specs.Prelude.{◌≡◌, ℕ, List, [], ◌∷◌, map, None, true}
 use Rattle.inf_settings.specs.Bounds.{Limits}
 use Rattle.inf_scanner.specs.declared.tokens.Place.{Place}
-use Rattle.inf_machine.specs.Grammar.{Event, Took, Did, IsText}
-use Rattle.inf_machine.specs.declared.symbols.Symbol.TheVariants.{Rule}
+use Rattle.inf_machine.specs.{Grammar.Did, Grammar.Event, Grammar.IsText, Grammar.Took, declared.symbols.Symbol.Symbol}
 use Rattle.inf_syntax.specs.declared.actions.Action.{Action}
 use Rattle.inf_grammar.specs.Language.{grammar}
 use Rattle.inf_unit.specs.Tokens.{SourceToken}
-use Rattle.inf_compilation.specs.Context.{Context}
-use Rattle.inf_compilation.specs.Actions.{Compilation}
-use Rattle.inf_statement_laws.specs.Happenings.{Acts, Happening, Takes}
-use Rattle.inf_statement_laws.specs.Laid.{next_comes, run}
+use Rattle.inf_compilation.specs.{Actions.Compilation, Context.Context}
+use Rattle.inf_statement_laws.specs.{Happenings.Acts, Happenings.Happening, Happenings.Takes, Laid.next_comes, Laid.run}
 use Rattle.inf_statement_laws.specs.Readings.{Seen, all_fit, all_taken, plainly_at}
 
 -- the tokens that were seen, and their atoms, by which the grammar knows them
@@ -47,8 +44,8 @@ NoneClosesAhead (s ∷ seen) = (s.directive ≡ None) × NoneClosesAhead seen
 -- Tokens that are a text of a rule all fit, one after the other, and have the effect of the happenings of the text's
 -- events.
 pub record TextsDoTheirActions (limits : Limits) : Type 0 where
-  pub fit : (rule : ℕ) (seen : List Seen) (events : List (Event Action)) → IsText grammar (Rule rule ∷ []) (atoms_of seen) events
-      → all_fit seen (Rule rule ∷ []) ≡ true
-  pub act : (rule : ℕ) (seen : List Seen) (events : List (Event Action)) → IsText grammar (Rule rule ∷ []) (atoms_of seen) events
+  pub fit : (rule : ℕ) (seen : List Seen) (events : List (Event Action)) → IsText grammar (Symbol.Rule rule ∷ []) (atoms_of seen) events
+      → all_fit seen (Symbol.Rule rule ∷ []) ≡ true
+  pub act : (rule : ℕ) (seen : List Seen) (events : List (Event Action)) → IsText grammar (Symbol.Rule rule ∷ []) (atoms_of seen) events
       → NoneClosesAhead seen → (context : Context) (w : Compilation)
-      → next_comes (all_taken limits context seen (Rule rule ∷ []) w) ≡ run limits context (happenings_of events seen) (next_comes w)
+      → next_comes (all_taken limits context seen (Symbol.Rule rule ∷ []) w) ≡ run limits context (happenings_of events seen) (next_comes w)

@@ -5,38 +5,31 @@ use Rattle.inf_settings.specs.Bounds.{Limits}
 use Rattle.inf_scanner.specs.declared.tokens.Place.{Place}
 use Rattle.inf_machine.specs.Grammar.{Event, Took, Did}
 use Rattle.inf_syntax.specs.declared.actions.Action.{Action}
-use Rattle.inf_unit.specs.Roles.{role_of}
-use Rattle.inf_unit.specs.Steps.{step_of}
-use Rattle.inf_unit.specs.declared.roles.Note.{Note}
-use Rattle.inf_unit.specs.declared.roles.Note.TheVariants as note
-use Rattle.inf_unit.specs.declared.roles.Role.{Role}
-use Rattle.inf_unit.specs.declared.roles.Role.TheVariants as role
-use Rattle.inf_compilation.specs.Context.{Context}
-use Rattle.inf_compilation.specs.Actions.{Compilation}
+use Rattle.inf_unit.specs.{Roles.role_of, Steps.step_of, declared.roles.Note.Note, declared.roles.Role.Role}
+use Rattle.inf_compilation.specs.{Actions.Compilation, Context.Context}
 use Rattle.inf_expression_laws.specs.Gathered.{read_by}
-use Rattle.inf_statement_laws.specs.Laid.{run}
-use Rattle.inf_statement_laws.specs.Readings.{Seen}
+use Rattle.inf_statement_laws.specs.{Laid.run, Readings.Seen}
 use Rattle.inf_language.specs.Texts.{happenings_before, tokens_of}
 
 -- Whether a note is always kept, whatever is noted already. Some are dropped where a setting would be passed: a text that is
 -- printed, a value that is printed or given, an arrow before the name of an object, the end of an operand, a token of a line of
 -- grammar, and a further word of a verb.
 abbrev pub is_kept_whole : Note → Bool
-is_kept_whole note.PrintText = false
-is_kept_whole note.Arrow = false
-is_kept_whole note.OuterEnd = false
-is_kept_whole note.LineToken = false
-is_kept_whole note.PrintValue = false
-is_kept_whole note.PrintRuled = false
-is_kept_whole note.Set = false
-is_kept_whole note.Clear = false
-is_kept_whole note.VerbWord = false
+is_kept_whole Note.PrintText = false
+is_kept_whole Note.Arrow = false
+is_kept_whole Note.OuterEnd = false
+is_kept_whole Note.LineToken = false
+is_kept_whole Note.PrintValue = false
+is_kept_whole Note.PrintRuled = false
+is_kept_whole Note.Set = false
+is_kept_whole Note.Clear = false
+is_kept_whole Note.VerbWord = false
 is_kept_whole _ = true
 
 -- whether an action only changes the unit at hand, and in a way that depends on that unit alone
 abbrev pub gathers_in : Role → Bool
-gathers_in (role.Gather s) = true
-gathers_in (role.Note n) = is_kept_whole n
+gathers_in (Role.Gather s) = true
+gathers_in (Role.Note n) = is_kept_whole n
 gathers_in _ = false
 
 abbrev pub gathers : Action → Bool

@@ -1,13 +1,8 @@
 //! Laws that tokens, read one by one, do what the pieces of the language do as a whole.
 ghost use Rattle.inf_settings.specs.Bounds.{Limits};
-ghost use Rattle.inf_language.specs.Constants.{ConstantsAreRead};
-ghost use Rattle.inf_language.specs.Gathered.{ExpressionsAreGathered};
-ghost use Rattle.inf_language.specs.HeaderNames.{HeadersNoteTheirNames};
-ghost use Rattle.inf_language.specs.Headers.{HeadersHaveTheirLocals};
-ghost use Rattle.inf_language.specs.NamedLocals.{UnitsNameTheirLocals};
-ghost use Rattle.inf_language.specs.Texts.{TextsDoTheirActions};
-ghost use Rattle.inf_language.specs.Sifting.{UnitsAreSiftedAlone};
-ghost use Rattle.inf_language.specs.Units.{UnitsAreReadAlone};
+ghost use Rattle.inf_language.specs.{Constants.ConstantsAreRead, Gathered.ExpressionsAreGathered, HeaderNames.HeadersNoteTheirNames};
+ghost use Rattle.inf_language.specs.{Headers.HeadersHaveTheirLocals, NamedLocals.UnitsNameTheirLocals, Sifting.UnitsAreSiftedAlone};
+ghost use Rattle.inf_language.specs.{Texts.TextsDoTheirActions, Units.UnitsAreReadAlone};
 
 /// Shows that tokens that are a text of a rule of the grammar fit one after the other, and that they have this effect: the
 /// actions of the text act in their order, each before the token that comes next, and each token is taken.

@@ -1,37 +1,25 @@
 -- The references and the bytes of the areas of a story.
 use Rattle.std.proofs.Common.{◌≡◌, ◌∙◌, ◌+◌, ◌-◌, ◌≤◌, ℕ, zero, suc, List, [], ◌∷◌, ◌++◌, cond, length, ltb, map, Bool, true, false, Option}
-use Rattle.std.proofs.Common.{Some, None, refl, sym, ap, subst, arith}
+use Rattle.std.proofs.Common.{Some, None, refl, sym, ap, subst, arith, sum_by}
+use Rattle.std.proofs.{Math.Nat.min-eq_left, lemmas.List.Sums.sum_by-cons}
 use Rattle.std.proofs.lemmas.Bool.{le-ltb, lt-ltb, ltb-false, ltb-true}
-use Rattle.std.proofs.Math.Nat.{min-eq_left}
-use Rattle.std.proofs.lemmas.List.Sums.{sum_by-cons}
-use Rattle.std.specs.Prelude.{sum_by}
-use Rattle.inf_area.specs.declared.targets.AreaName.TheVariants as area
-use Rattle.inf_area.specs.declared.targets.Target.TheVariants as target
-use Rattle.inf_arrays.specs.Arrays.{all_of, arrays_laters}
-use Rattle.inf_arrays.specs.Kinds.{laters}
+use Rattle.inf_area.specs.{Cells.later_count, Cells.size_of, declared.targets.AreaName.AreaName, declared.targets.Target.Target}
+use Rattle.inf_arrays.specs.{Arrays.all_of, Arrays.arrays_laters, Kinds.laters}
 use Rattle.inf_arrays.proofs.Sizes.{globals_later, laters_written as arrays_written}
-use Rattle.inf_area.specs.Cells.{later_count, size_of}
 use Rattle.inf_code.specs.Code.{Routines, code_cells, known, rest, rest_behind}
 use Rattle.inf_dictionary.specs.Words.{dictionary_bytes}
 use Rattle.inf_link.specs.Areas.{order}
-use Rattle.inf_objects.specs.Objects.{ended, head_fixups, object_fixups}
+use Rattle.inf_objects.specs.{Objects.ended, Objects.head_fixups, Objects.object_fixups, declared.objects.Object.Object}
 use Rattle.inf_objects.proofs.Written.{later_joined}
-use Rattle.inf_objects.specs.declared.objects.Object.{Object}
 use Rattle.inf_output.specs.Output.{Out, counted, full, full_of, full_past, less, or_full, past_by, whole}
+use Rattle.inf_properties.specs.{declared.sizes.Owner.Owner, declared.values.Property.Property}
 use Rattle.inf_properties.specs.Sizes.{bytes_of, fixups_of, size_of as property_size, total, with_table}
-use Rattle.inf_properties.specs.declared.sizes.Owner.{Owner}
-use Rattle.inf_properties.specs.declared.sizes.Owner.TheVariants as owner
-use Rattle.inf_properties.specs.declared.values.Property.{Property}
-use Rattle.inf_settings.specs.Bounds.{Limits}
-use Rattle.inf_settings.specs.declared.setting.Setting.{Setting}
-use Rattle.inf_settings.specs.declared.setting.Setting.TheVariants as setting
+use Rattle.inf_settings.specs.{Bounds.Limits, declared.setting.Setting.Setting}
 use Rattle.inf_story.specs.Tables as story
-use Rattle.inf_tables.specs.Tables.{AllTables, more, references}
+use Rattle.inf_tables.specs.{Areas.area_cells, Tables.AllTables, Tables.more, Tables.references, declared.kinds.WorldArea.WorldArea}
+use Rattle.inf_tables.specs.World.{WorldOf, ended_fixups, fixups_now, later_defaults}
 use Rattle.inf_verbs.specs.Verbs.{verbs_laters}
 use Rattle.inf_verbs.proofs.Sizes.{later_routines, laters_written as verbs_written}
-use Rattle.inf_tables.specs.Areas.{area_cells}
-use Rattle.inf_tables.specs.World.{WorldOf, ended_fixups, fixups_now, later_defaults}
-use Rattle.inf_tables.specs.declared.kinds.WorldArea.TheVariants as world_area
 use Rattle.inf_laws.specs.Counts.{IsFinished, LimitsCountTheStory, areas_of, first_passed, later_in}
 
 -- bytes alone have no references
@@ -68,15 +56,15 @@ nothing_sum : (f : Property → ℕ) (ps : List Property) → ((p : Property) �
 nothing_sum f [] none = refl
 nothing_sum f (p ∷ ps) none = omega (arith, sum_by-cons f p ps, none p, nothing_sum f ps none)
 
-nothing_later : (ps : List Property) → head_fixups owner.Nothing + (with_table (total owner.Nothing ps)).fixups ≡ 0
+nothing_later : (ps : List Property) → head_fixups Owner.Nothing + (with_table (total Owner.Nothing ps)).fixups ≡ 0
 nothing_later ps =
-    let none : (with_table (total owner.Nothing ps)).fixups ≡ 0 =
-    ap (λ n. (with_table (record { bytes = bytes_of owner.Nothing ps; fixups = fixups_of owner.Nothing ps; individuals = n })).fixups)
-    (nothing_sum (λ p. (property_size owner.Nothing p).individuals) ps (λ p. refl))
-    ∙ nothing_sum (λ p. (property_size owner.Nothing p).fixups) ps (λ p. refl) in
+    let none : (with_table (total Owner.Nothing ps)).fixups ≡ 0 =
+    ap (λ n. (with_table (record { bytes = bytes_of Owner.Nothing ps; fixups = fixups_of Owner.Nothing ps; individuals = n })).fixups)
+    (nothing_sum (λ p. (property_size Owner.Nothing p).individuals) ps (λ p. refl))
+    ∙ nothing_sum (λ p. (property_size Owner.Nothing p).fixups) ps (λ p. refl) in
     omega (arith, none)
 
-none_open : (o : Object) → o.owner ≡ owner.Nothing → object_fixups o ≡ 0
+none_open : (o : Object) → o.owner ≡ Owner.Nothing → object_fixups o ≡ 0
 none_open o e = ap (λ (w : Owner). head_fixups w + (with_table (total w o.properties)).fixups) e ∙ nothing_later o.properties
 
 -- counts that stay below the greatest number are added
@@ -134,12 +122,13 @@ finished_code code = record code { has_begun = true; opened = None }
 full_at : (limits : Limits) (code : Routines) (refs : ℕ) → full_past (counted refs (whole limits (finished_code code)))
     ≡ first_passed limits (8 + size_of code.finished) (5 + later_count code.finished + refs)
 full_at limits code refs =
-    none_used (limits setting.Labels) setting.Labels (or_full None (full_of (rest (limits setting.Code) (8 + size_of code.finished)) setting.Code
-    (full_of (less (rest_behind (rest (limits setting.References) (5 + later_count code.finished)) 0) refs) setting.References None)))
-    ∙ some_used (limits setting.Code) (8 + size_of code.finished) setting.Code
-    (full_of (less (rest_behind (rest (limits setting.References) (5 + later_count code.finished)) 0) refs) setting.References None)
-    ∙ ap (cond (ltb (limits setting.Code) (8 + size_of code.finished)) (Some setting.Code))
-    (both_used (limits setting.References) (5 + later_count code.finished) refs setting.References)
+    none_used (limits Setting.Labels) Setting.Labels
+    (or_full None (full_of (rest (limits Setting.Code) (8 + size_of code.finished)) Setting.Code
+    (full_of (less (rest_behind (rest (limits Setting.References) (5 + later_count code.finished)) 0) refs) Setting.References None)))
+    ∙ some_used (limits Setting.Code) (8 + size_of code.finished) Setting.Code
+    (full_of (less (rest_behind (rest (limits Setting.References) (5 + later_count code.finished)) 0) refs) Setting.References None)
+    ∙ ap (cond (ltb (limits Setting.Code) (8 + size_of code.finished)) (Some Setting.Code))
+    (both_used (limits Setting.References) (5 + later_count code.finished) refs Setting.References)
 
 full_finished : (limits : Limits) (o : Out) → IsFinished o
     → full limits o ≡ first_passed limits (8 + size_of o.code.finished) (5 + later_count o.code.finished + references o.tables)
@@ -151,9 +140,9 @@ full_finished limits o is =
 
 -- the references of the areas of a world are counted
 abbrev pub Counted : WorldOf → Type 0
-Counted w = later_count (area_cells world_area.PropertyDefaults w) + later_count (area_cells world_area.Objects w)
-    + later_count (area_cells world_area.PropertyTables w) + later_count (area_cells world_area.ClassNumbers w)
-    + later_count (area_cells world_area.IndividualTables w) ≡ ended_fixups w.objects + later_defaults w.declared
+Counted w = later_count (area_cells WorldArea.PropertyDefaults w) + later_count (area_cells WorldArea.Objects w)
+    + later_count (area_cells WorldArea.PropertyTables w) + later_count (area_cells WorldArea.ClassNumbers w)
+    + later_count (area_cells WorldArea.IndividualTables w) ≡ ended_fixups w.objects + later_defaults w.declared
 
 -- The references of the tables, with those of the code, are those of all areas.
 references_are : (o : Out) (main : ℕ) → Counted o.tables.world → IsFinished o → later_in order (areas_of main o) ≤ 18446744073709551615
@@ -162,7 +151,7 @@ references_are o main of_world is few =
     let finished = o.code.finished in
     let tables = o.tables in
     let world = tables.world in
-    let of_code : later_count (code_cells (target.Place area.Code main) finished) ≡ 1 + later_count finished = refl in
+    let of_code : later_count (code_cells (Target.Place AreaName.Code main) finished) ≡ 1 + later_count finished = refl in
     let none : object_fixups (ended world.body) ≡ 0 = none_open (ended world.body) is.unowned in
     let in_world : fixups_now world - 4 ≡ sum_by object_fixups world.objects + later_defaults world.declared = omega (arith, none) in
     let all : 5 + later_count finished + ((fixups_now world - 4) + (laters tables.globals + (arrays_laters (all_of tables.arrays)

@@ -1,31 +1,24 @@
 -- The first error of a header.
 use Rattle.std.proofs.Common.{◌≡◌, ◌⊎◌, inl, inr, ℕ, suc, zero, ◌+◌, ◌<◌, ◌≤◌, List, [], ◌∷◌, ◌++◌, append_assoc, append-nil, length, length-append}
 use Rattle.std.proofs.Common.{cond, ltb, Bool, true, false, Option, None, Some, refl, sym, ap, subst, ◌∙◌, arith}
-use Rattle.std.specs.Prelude.{Contains, find, is_some, option_map, slice_index_or, if◌then◌else◌}
-use Rattle.std.specs.Str.{bytes_eq, str_eq_ignore_ascii_case}
 use Rattle.std.proofs.lemmas.Bool.{cond_both, le-ltb, lt-ltb, ltb-false, ltb-true}
 use Rattle.std.proofs.lemmas.List.Elements.{Contains-append_cases, Contains-append_left, Contains-append_right}
+use Rattle.std.specs.Prelude.{Contains, find, is_some, option_map, slice_index_or, if◌then◌else◌}
+use Rattle.std.specs.Str.{bytes_eq, str_eq_ignore_ascii_case}
 use Rattle.inf_settings.specs.Bounds.{Limits}
 use Rattle.inf_scanner.specs.declared.tokens.Place.{Place}
-use Rattle.inf_syntax.specs.declared.actions.Action.TheVariants as action
+use Rattle.inf_syntax.specs.declared.actions.Action.{Action}
+use Rattle.inf_names.specs.{Spellings.Name, declared.symbols.DeclareFault.DeclareFault, declared.symbols.Found.Found as FoundName}
 use Rattle.inf_names.specs.Symbols.{Table, declare_fault, declare_fault_by, folded, found_in, is_full}
-use Rattle.inf_names.specs.declared.symbols.Found.{Found as FoundName}
-use Rattle.inf_names.specs.declared.symbols.Found.TheVariants as found
-use Rattle.inf_names.specs.Spellings.{Name}
 use Rattle.inf_names.specs.Locals.{Headed, Local, Repeated, earlier, local_of, most_locals, no_locals, with_local_by, with_locals}
-use Rattle.inf_unit.specs.Messages.{Diagnostic, FileNames}
-use Rattle.inf_unit.specs.Units.{first_place}
-use Rattle.inf_names.specs.declared.symbols.DeclareFault.{DeclareFault}
-use Rattle.inf_unit.specs.Tokens.{SourceToken}
-use Rattle.inf_compilation.specs.Actions.{Compilation, header_of, header_with, passed}
-use Rattle.inf_compilation.specs.Context.{Context}
+use Rattle.inf_unit.specs.{Messages.Diagnostic, Messages.FileNames, Tokens.SourceToken, Units.first_place}
+use Rattle.inf_compilation.specs.{Actions.Compilation, Actions.header_of, Actions.header_with, Actions.passed, Context.Context}
 use Rattle.inf_compilation.specs.Findings.{Again, again_by, again_local, again_told, header_findings as found_in_header, told_as, told_by}
 use Rattle.inf_reader.specs.Acting.{act}
 use Rattle.inf_laws.specs.Findings.{Finding, HeadersTellTheFirst, IsBefore, IsLeast, IsTold, declared_before, different, first_named}
 use Rattle.inf_laws.specs.Findings.{header_findings, many_locals, repeated_local, repeated_locals, repeated_one, system_routine, taken_as}
 use Rattle.inf_laws.specs.Findings.{taken_name, told_behind, too_many_locals}
-use Rattle.inf_laws.proofs.Choices.{either, either-none}
-use Rattle.inf_laws.proofs.SameNames.{same_names}
+use Rattle.inf_laws.proofs.{Choices.either, Choices.either-none, SameNames.same_names}
 
 abbrev first_fault : Option Diagnostic → Option Diagnostic → Option Diagnostic
 first_fault (Some b) later = Some b
@@ -314,21 +307,22 @@ ends (n ∷ names) before h of fits few = go (first_named n.bytes before) refl (
 
 routine_told_by : (files : FileNames) (f : FoundName Place) (full : Bool) (name : Name) →
     IsTold (name_fault files name (declare_fault_by f full)) (taken_as files f name)
-routine_told_by files (found.System meaning) full name = told_one (system_routine name)
-routine_told_by files (found.Declared meaning first) full name = told_one (declared_before files first name)
-routine_told_by files found.Used full name = refl
-routine_told_by files found.Unknown true name = refl
-routine_told_by files found.Unknown false name = refl
+routine_told_by files (FoundName.System meaning) full name = told_one (system_routine name)
+routine_told_by files (FoundName.Declared meaning first) full name = told_one (declared_before files first name)
+routine_told_by files FoundName.Used full name = refl
+routine_told_by files FoundName.Unknown true name = refl
+routine_told_by files FoundName.Unknown false name = refl
 
 routine_told : (limits : Limits) (files : FileNames) (names : Table Place) (name : Name) →
     IsTold (name_fault files name (declare_fault limits name.bytes names)) (taken_name files names name)
 routine_told limits files names name = routine_told_by files (found_in name.bytes names) (is_full limits names) name
 
 among_routine : (files : FileNames) (f : FoundName Place) (name : Name) (g : Finding) → Contains (taken_as files f name) g → g.token ≡ 1
-among_routine files (found.System meaning) name g among = ap (λ f. f.token) (one_of_one (system_routine name) g among)
-among_routine files (found.Declared meaning first) name g among = ap (λ f. f.token) (one_of_one (declared_before files first name) g among)
-among_routine files found.Used name g among = absurd (one_of_none g among)
-among_routine files found.Unknown name g among = absurd (one_of_none g among)
+among_routine files (FoundName.System meaning) name g among = ap (λ f. f.token) (one_of_one (system_routine name) g among)
+among_routine files (FoundName.Declared meaning first) name g among =
+    ap (λ f. f.token) (one_of_one (declared_before files first name) g among)
+among_routine files FoundName.Used name g among = absurd (one_of_none g among)
+among_routine files FoundName.Unknown name g among = absurd (one_of_none g among)
 
 -- The error that is told of a header: the least of its findings.
 abbrev header_fault : FileNames → Place → Option Again → Headed → Option Diagnostic
@@ -418,7 +412,7 @@ pub headers_tell_the_first : (limits : Limits) → HeadersTellTheFirst limits
 headers_tell_the_first limits context place name others locals w named headed kept =
     let first = first_place w.unit.tokens place in
     let after = opened_by limits context first name w.unit.headed w in
-    let same : act limits context place action.EndLocals w ≡ after =
+    let same : act limits context place Action.EndLocals w ≡ after =
     ap (λ names. header_of limits context first names w) named
     ∙ ap (λ b. if b then passed true (record w { is_replaced = true; is_embedded = false; constructs = [] }) else after) kept in
     let all = header_findings context.names first w.output.names name locals in

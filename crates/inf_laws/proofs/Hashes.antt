@@ -2,24 +2,20 @@
 use Rattle.std.proofs.Common.{◌≡◌, ℕ, zero, suc, List, [], ◌∷◌, ◌++◌, ◌&&◌, not, Bool, true, false, Option, Some, None, refl, sym, ap}
 use Rattle.std.proofs.Common.{subst, ◌∙◌, append-nil}
 use Rattle.std.proofs.lemmas.Bool.{and_parts}
-use Rattle.inf_machine.specs.declared.symbols.Symbol.{Symbol}
-use Rattle.inf_machine.specs.declared.symbols.Symbol.TheVariants.{Token, Rule, Act}
+use Rattle.inf_machine.specs.{Pieces.all_rows, Pieces.last_symbol, declared.symbols.Symbol.Symbol}
 use Rattle.inf_machine.specs.Grammar.{Event, Grammar, IsOneOf, Leads, Row, action, first, has, here, later, row, token}
-use Rattle.inf_machine.specs.Pieces.{all_rows, last_symbol}
-use Rattle.inf_scanner.specs.declared.tokens.Mark.TheVariants as mark
-use Rattle.inf_syntax.specs.Atoms.{mark_atom}
-use Rattle.inf_syntax.specs.declared.actions.Action.{Action}
-use Rattle.inf_grammar.specs.Language.{grammar}
-use Rattle.inf_grammar.specs.Sources.{piece_rule}
+use Rattle.inf_scanner.specs.declared.tokens.Mark.{Mark}
+use Rattle.inf_syntax.specs.{Atoms.mark_atom, declared.actions.Action.Action}
+use Rattle.inf_grammar.specs.{Language.grammar, Sources.piece_rule}
 use Rattle.inf_laws.specs.Hashes.{NoPieceEndsWithAHash}
 
 -- whether the texts of a symbol end with a token that is none of one atom, found within `n` rules
 abbrev closes_without : Grammar Action → ℕ → Option (Symbol Action) → ℕ → Bool
 closes_without g atom None n = false
-closes_without g atom (Some (Token class)) n = not (has (g.atoms_of class) atom)
-closes_without g atom (Some (Act a)) n = false
-closes_without g atom (Some (Rule rule)) zero = false
-closes_without g atom (Some (Rule rule)) (suc n) = all_rows (λ parts. closes_without g atom (last_symbol parts) n) (g.rows_of rule)
+closes_without g atom (Some (Symbol.Token class)) n = not (has (g.atoms_of class) atom)
+closes_without g atom (Some (Symbol.Act a)) n = false
+closes_without g atom (Some (Symbol.Rule rule)) zero = false
+closes_without g atom (Some (Symbol.Rule rule)) (suc n) = all_rows (λ parts. closes_without g atom (last_symbol parts) n) (g.rows_of rule)
 
 each_row : (test : List (Symbol Action) → Bool) (rows : List (Row Action)) (r : Row Action) → IsOneOf r rows → all_rows test rows ≡ true →
     test r.parts ≡ true
@@ -38,7 +34,7 @@ record Closes (g : Grammar Action) (atom : ℕ) (symbols : List (Symbol Action))
   closes : closes_without g atom (last_symbol symbols) deep ≡ true
 
 closes_row : (g : Grammar Action) (atom rule : ℕ) (r : Row Action) (symbols : List (Symbol Action)) → IsOneOf r (g.rows_of rule) → (n : ℕ) →
-    closes_without g atom (last_symbol (Rule rule ∷ symbols)) n ≡ true
+    closes_without g atom (last_symbol (Symbol.Rule rule ∷ symbols)) n ≡ true
     → Closes g atom (r.parts ++ symbols)
 closes_row g atom rule r [] m zero c = cc
 closes_row g atom rule r [] m (suc n) c = record {
@@ -83,9 +79,9 @@ not_last g atom (action {symbols = s ∷ symbols} l) n c front e = not_last g at
 not_last g atom (row {rule} {r} {symbols} m free l) n c front e =
     let k = closes_row g atom rule r symbols m n c in not_last g atom l k.deep k.closes front e
 
-hash_closes : closes_without grammar (mark_atom mark.Hash) (Some (Rule piece_rule)) 3 ≡ true
+hash_closes : closes_without grammar (mark_atom Mark.Hash) (Some (Symbol.Rule piece_rule)) 3 ≡ true
 unfolding grammar
 hash_closes = refl
 
 pub no_piece_ends_with_a_hash : NoPieceEndsWithAHash
-no_piece_ends_with_a_hash front events text = not_last grammar (mark_atom mark.Hash) text 3 hash_closes front refl
+no_piece_ends_with_a_hash front events text = not_last grammar (mark_atom Mark.Hash) text 3 hash_closes front refl

@@ -6,29 +6,19 @@ use Rattle.inf_settings.specs.Bounds.{Limits}
 use Rattle.inf_scanner.specs.declared.tokens.Place.{Place}
 use Rattle.inf_unit.specs.Tokens.{SourceToken, atom_of, is_end}
 use Rattle.inf_unit.proofs.Cases.{of_both}
-use Rattle.inf_machine.specs.declared.symbols.Symbol.{Symbol}
-use Rattle.inf_machine.specs.declared.symbols.Symbol.TheVariants.{Rule}
-use Rattle.inf_machine.specs.Grammar.{IsText, here}
+use Rattle.inf_machine.specs.{Grammar.IsText, Grammar.here, declared.symbols.Symbol.Symbol}
 use Rattle.inf_machine.specs.Machine.{Read, fits, read, taken}
 use Rattle.inf_machine.proofs.ReadOn.{OneMore, reads_none, reads_one}
 use Rattle.inf_machine.proofs.TokenLaws.{bad_tokens_begin_nothing, texts_are_taken}
 use Rattle.inf_syntax.specs.declared.actions.Action.{Action}
-use Rattle.inf_grammar.specs.Brackets.{is_bracket_open}
-use Rattle.inf_grammar.specs.Evaluated.{language_is_decided}
+use Rattle.inf_grammar.specs.{Brackets.is_bracket_open, Evaluated.language_is_decided, Routines.is_in_routine, Sources.is_inside}
 use Rattle.inf_grammar.specs.Language.{grammar, known}
-use Rattle.inf_grammar.specs.Routines.{is_in_routine}
-use Rattle.inf_grammar.specs.Sources.{is_inside}
-use Rattle.inf_conditionals.specs.declared.filtered.Forwarded.{Forwarded}
-use Rattle.inf_conditionals.specs.declared.filtered.Forwarded.TheVariants as handed
-use Rattle.inf_conditionals.specs.declared.filtered.Sign.{Sign}
-use Rattle.inf_compilation.specs.Context.{Context}
-use Rattle.inf_compilation.specs.Actions.{Compilation, piece_begun as work_begun}
+use Rattle.inf_conditionals.specs.{declared.filtered.Forwarded.Forwarded, declared.filtered.Sign.Sign}
+use Rattle.inf_compilation.specs.{Actions.Compilation, Actions.piece_begun as work_begun, Context.Context}
+use Rattle.inf_reader.specs.{Pieces.BeginsPiece, Pieces.IsPiece, declared.recovery.Recovery.Recovery}
 use Rattle.inf_reader.specs.Handing.{handed_as, hash, lone_told, sign_taken, token_taken, unfit_in, unit_ended}
-use Rattle.inf_reader.specs.Pieces.{BeginsPiece, IsPiece}
 use Rattle.inf_reader.specs.Reading.{Reading, ReaderState, bad, between, judged, passed, piece_begun, piece_rule, read_at, skip_of, step_in}
 use Rattle.inf_reader.specs.Reading.{took}
-use Rattle.inf_reader.specs.declared.recovery.Recovery.{Recovery}
-use Rattle.inf_reader.specs.declared.recovery.Recovery.TheVariants as mode
 use Rattle.inf_laws.specs.BadTokens.{skip_behind}
 use Rattle.inf_laws.specs.KeptTokens.{BehindABadToken, BehindAPiece, BehindTheEnd, Given, GoesBehind, InAPiece, IsBad, Kept}
 use Rattle.inf_laws.specs.KeptTokens.{KeptTokensAreRead, Stands, TokensAreHandedOn, Unfit, all_given_to, bad_by, given_as, given_sign}
@@ -51,33 +41,33 @@ reads_at : (limits : Limits) (context : Context) (t : SourceToken) (stack : List
 reads_at limits context t [] r w = go (is_end t.kind)
   where
     go : (b : Bool) →
-        (cond b (record { reading = record r { mode = mode.Ended }; work = w })
+        (cond b (record { reading = record r { mode = Recovery.Ended }; work = w })
         (judged limits context t (piece_begun r) (work_begun w))).reading
-        ≡ cond b (record r { mode = mode.Ended }) (judged_by t (piece_begun r))
+        ≡ cond b (record r { mode = Recovery.Ended }) (judged_by t (piece_begun r))
     go true = refl
     go false = judged_reads limits context t (piece_begun r) (work_begun w)
 reads_at limits context t (symbol ∷ symbols) r w = judged_reads limits context t r w
 
 step_reads : (limits : Limits) (m : Recovery) (context : Context) (t : SourceToken) (r : Reading) (w : Compilation) →
     (step_in limits m context t r w).reading ≡ kept_by m t r
-step_reads limits mode.Reads context t r w = reads_at limits context t r.stack r w
-step_reads limits mode.SkipsRoutine context t r w = refl
-step_reads limits mode.SkipsDirective context t r w = refl
-step_reads limits mode.Ended context t r w = refl
+step_reads limits Recovery.Reads context t r w = reads_at limits context t r.stack r w
+step_reads limits Recovery.SkipsRoutine context t r w = refl
+step_reads limits Recovery.SkipsDirective context t r w = refl
+step_reads limits Recovery.Ended context t r w = refl
 
 -- a token that is passed over needs no grammar
 unfit_step : (limits : Limits) (m : Recovery) (context : Context) (t : SourceToken) (s : ReaderState) → s.reading.mode ≡ m →
     (unfit_in limits m context t s).reading ≡ unfit_by m t s.reading
-unfit_step limits mode.Reads context t s e = refl
-unfit_step limits mode.SkipsRoutine context t s e = ap (λ m. (step_in limits m context t s.reading s.work).reading) e
-unfit_step limits mode.SkipsDirective context t s e = ap (λ m. (step_in limits m context t s.reading s.work).reading) e
-unfit_step limits mode.Ended context t s e = ap (λ m. (step_in limits m context t s.reading s.work).reading) e
+unfit_step limits Recovery.Reads context t s e = refl
+unfit_step limits Recovery.SkipsRoutine context t s e = ap (λ m. (step_in limits m context t s.reading s.work).reading) e
+unfit_step limits Recovery.SkipsDirective context t s e = ap (λ m. (step_in limits m context t s.reading s.work).reading) e
+unfit_step limits Recovery.Ended context t s e = ap (λ m. (step_in limits m context t s.reading s.work).reading) e
 
 handed_reads : (limits : Limits) (h : Forwarded) (context : Context) (t : SourceToken) (s : ReaderState) →
     (handed_as limits h context t s).reading ≡ all_given_to (given_as h t) s.reading
-handed_reads limits handed.Kept context t s = step_reads limits s.reading.mode context t s.reading s.work
-handed_reads limits handed.Unfit context t s = unfit_step limits s.reading.mode context t s refl
-handed_reads limits handed.Condition context t s = refl
+handed_reads limits Forwarded.Kept context t s = step_reads limits s.reading.mode context t s.reading s.work
+handed_reads limits Forwarded.Unfit context t s = unfit_step limits s.reading.mode context t s refl
+handed_reads limits Forwarded.Condition context t s = refl
 
 sign_reads : (limits : Limits) (o : Option Sign) (context : Context) (s : ReaderState) →
     (sign_taken limits o context s).reading ≡ all_given_to (given_sign o) s.reading
@@ -115,10 +105,10 @@ tokens_are_handed_on limits context t j s =
 -- A piece so far
 
 abbrev piece : List (Symbol Action)
-piece = Rule piece_rule ∷ []
+piece = Symbol.Rule piece_rule ∷ []
 
 pub record At (tokens : List SourceToken) (r : Reading) : Type 0 where
-  pub reads : r.mode ≡ mode.Reads
+  pub reads : r.mode ≡ Recovery.Reads
   pub is_read : OneMore grammar known piece (map atom_of tokens) r.stack
 
 pub begins : (tokens : List SourceToken) (r : Reading) → At tokens r → BeginsPiece (map atom_of tokens)
@@ -156,7 +146,7 @@ ends tokens r at empty =
           (q, [], at.is_read.is_read, refl, subst (λ symbols. IsText grammar symbols [] []) nothing_left here);
     }
 
-pub no_token : At [] (piece_begun (between mode.Reads))
+pub no_token : At [] (piece_begun (between Recovery.Reads))
 no_token = record {
   reads = refl;
   is_read = record { r = record { events = []; left = piece }; is_read = refl; leaves = refl };
@@ -168,17 +158,17 @@ skips_as tokens r at =
     let left : is_in_routine r.stack ≡ is_bracket_open (map atom_of tokens) =
     ap is_in_routine (sym at.is_read.leaves) ∙ sym (ap is_inside at.is_read.is_read)
     ∙ bracketed (map atom_of tokens) (begins tokens r at) in
-    ap (λ b. cond b mode.SkipsRoutine mode.SkipsDirective) left
+    ap (λ b. cond b Recovery.SkipsRoutine Recovery.SkipsDirective) left
 
 -- The state of the reading
 
 pub data Now (given : List Given) (r : Reading) : Type 0 where
   Inside : (tokens : List SourceToken) → given ≡ map Kept tokens → At tokens r → (r.stack ≡ [] → ⊥) → Now given r
-  Whole : (tokens : List SourceToken) → given ≡ map Kept tokens → IsPiece (map atom_of tokens) → r ≡ between mode.Reads → Now given r
+  Whole : (tokens : List SourceToken) → given ≡ map Kept tokens → IsPiece (map atom_of tokens) → r ≡ between Recovery.Reads → Now given r
   Skips : (tokens : List SourceToken) (wrong : Given) (behind : List Given) → given ≡ map Kept tokens ++ wrong ∷ behind →
       BeginsPiece (map atom_of tokens) → IsBad tokens wrong →
       r ≡ between (skipped (skip_behind (map atom_of tokens)) (wrong ∷ behind)) → Now given r
-  Ended : (t : SourceToken) → given ≡ Kept t ∷ [] → is_end t.kind ≡ true → r ≡ between mode.Ended → Now given r
+  Ended : (t : SourceToken) → given ≡ Kept t ∷ [] → is_end t.kind ≡ true → r ≡ between Recovery.Ended → Now given r
 
 pub stands : (given : List Given) (r : Reading) → Now given r → Stands given r
 stands given r (Inside tokens e at some) = InAPiece tokens e (begins tokens r at) at.reads
@@ -198,7 +188,7 @@ taken_now given tokens r t e at = by_stack r.stack refl
     by_stack : (stack : List (Symbol Action)) → r.stack ≡ stack → Now given r
     by_stack [] empty =
         Whole (tokens ++ t ∷ []) e (ends (tokens ++ t ∷ []) r at empty)
-        (ap (λ m. record { mode = m; stack = r.stack }) at.reads ∙ ap (λ stack. record { mode = mode.Reads; stack = stack }) empty)
+        (ap (λ m. record { mode = m; stack = r.stack }) at.reads ∙ ap (λ stack. record { mode = Recovery.Reads; stack = stack }) empty)
     by_stack (symbol ∷ symbols) some = Inside (tokens ++ t ∷ []) e at (λ empty. let never : [] ≡ symbol ∷ symbols = sym empty ∙ some in cc)
 
 -- the state after a bad token
@@ -220,15 +210,16 @@ judged_now given tokens r t e at =
 
 -- The first token
 
-pub first : (g : Given) (r : Reading) → r ≡ between mode.Reads → Now (g ∷ []) (given_to g r)
+pub first : (g : Given) (r : Reading) → r ≡ between Recovery.Reads → Now (g ∷ []) (given_to g r)
 first (Kept t) r fresh =
     subst (λ (x : Reading). Now (Kept t ∷ []) x) (sym (ap (λ (x : Reading). given_to (Kept t) x) fresh))
-    (of_both (λ (x : Reading). Now (Kept t ∷ []) x) (is_end t.kind) (record (between mode.Reads) { mode = mode.Ended })
-    (judged_by t (piece_begun (between mode.Reads)))
+    (of_both (λ (x : Reading). Now (Kept t ∷ []) x) (is_end t.kind) (record (between Recovery.Reads) { mode = Recovery.Ended })
+    (judged_by t (piece_begun (between Recovery.Reads)))
     (λ e. Ended t refl e refl)
-    (λ _. judged_now [] [] (piece_begun (between mode.Reads)) t refl no_token))
+    (λ _. judged_now [] [] (piece_begun (between Recovery.Reads)) t refl no_token))
 first (Unfit t) r fresh =
-    Skips [] (Unfit t) [] refl (begins [] (piece_begun (between mode.Reads)) no_token) tt (ap (λ (x : Reading). given_to (Unfit t) x) fresh)
+    Skips [] (Unfit t) [] refl (begins [] (piece_begun (between Recovery.Reads)) no_token) tt
+    (ap (λ (x : Reading). given_to (Unfit t) x) fresh)
 
 -- A further token
 
@@ -239,12 +230,12 @@ skipped_more m (x ∷ behind) g = skipped_more (passed m (token_in x).kind) behi
 
 skips_on : (m : Recovery) (g : Given) (r : Reading) → r ≡ between m → rests (between m) ≡ false →
     given_to g r ≡ between (passed m (token_in g).kind)
-skips_on mode.Reads g r e on = cc
-skips_on mode.Ended g r e on = cc
-skips_on mode.SkipsRoutine (Kept t) r e on = ap (λ (x : Reading). given_to (Kept t) x) e
-skips_on mode.SkipsDirective (Kept t) r e on = ap (λ (x : Reading). given_to (Kept t) x) e
-skips_on mode.SkipsRoutine (Unfit t) r e on = ap (λ (x : Reading). given_to (Unfit t) x) e
-skips_on mode.SkipsDirective (Unfit t) r e on = ap (λ (x : Reading). given_to (Unfit t) x) e
+skips_on Recovery.Reads g r e on = cc
+skips_on Recovery.Ended g r e on = cc
+skips_on Recovery.SkipsRoutine (Kept t) r e on = ap (λ (x : Reading). given_to (Kept t) x) e
+skips_on Recovery.SkipsDirective (Kept t) r e on = ap (λ (x : Reading). given_to (Kept t) x) e
+skips_on Recovery.SkipsRoutine (Unfit t) r e on = ap (λ (x : Reading). given_to (Unfit t) x) e
+skips_on Recovery.SkipsDirective (Unfit t) r e on = ap (λ (x : Reading). given_to (Unfit t) x) e
 
 -- inside of a piece
 reads_inside : (stack : List (Symbol Action)) (t : SourceToken) (r : Reading) → (stack ≡ [] → ⊥) → read_by stack t r ≡ judged_by t r
@@ -274,5 +265,5 @@ onward (g ∷ given) before r now on =
 
 pub kept_tokens_are_read : KeptTokensAreRead
 kept_tokens_are_read [] r fresh on =
-    InAPiece [] refl (begins [] (piece_begun (between mode.Reads)) no_token) (ap (λ (x : Reading). x.mode) fresh)
+    InAPiece [] refl (begins [] (piece_begun (between Recovery.Reads)) no_token) (ap (λ (x : Reading). x.mode) fresh)
 kept_tokens_are_read (g ∷ given) r fresh on = onward given (g ∷ []) (given_to g r) (first g r fresh) on

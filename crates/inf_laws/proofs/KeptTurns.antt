@@ -6,11 +6,9 @@ use Rattle.inf_scanner.specs.declared.tokens.Place.{Place}
 use Rattle.inf_devices.specs.Files.{Sources}
 use Rattle.inf_sources.specs.Inclusions.{Inclusion, Opens, OpensNone, inclusion}
 use Rattle.inf_sources.specs.declared.open_files.Included.{Included}
-use Rattle.inf_sources.specs.declared.open_files.Included.TheVariants as answer
 use Rattle.inf_unit.specs.Directives.{Request, Characters, End, Include, Nothing}
 use Rattle.inf_conditionals.specs.Judging.{judged}
-use Rattle.inf_reader.specs.Handing.{said_told, site_of}
-use Rattle.inf_reader.specs.Reading.{Reading, is_mode_ended}
+use Rattle.inf_reader.specs.{Handing.said_told, Handing.site_of, Reading.Reading, Reading.is_mode_ended}
 use Rattle.inf_session.specs.Choices.{Choices}
 use Rattle.inf_session.specs.Session.{State, answered, asked_nothing, context_of, has_ended, carried_out, included_by, is_resting, left}
 use Rattle.inf_session.specs.Session.{none_included, piece_closed, rested, stand_of, stepped, token_of, turn}
@@ -22,9 +20,9 @@ use Rattle.inf_unit.proofs.Cases.{of_both}
 -- The reading of pieces is not changed behind the token of a turn, unless a file ends
 
 none_reading : (unit : Place) (text : List ℕ) (why : Included) (s : State) → (none_included unit text why s).reading ≡ s.reading
-none_reading unit text answer.Entered s = refl
-none_reading unit text answer.NotThere s = refl
-none_reading unit text answer.TooDeep s = refl
+none_reading unit text Included.Entered s = refl
+none_reading unit text Included.NotThere s = refl
+none_reading unit text Included.TooDeep s = refl
 
 included_reading : (sources : Sources) (o : Choices) (unit : Place) (text : List ℕ) (i : Inclusion) (s : State) →
     (included_by sources o unit text i s).reading ≡ s.reading

@@ -1,12 +1,11 @@
 -- The least of some findings, list by list.
 use Rattle.std.proofs.Common.{◌≡◌, ◌⊎◌, inl, inr, ℕ, ◌-◌, ◌<◌, ◌≤◌, nat_eq, List, [], ◌∷◌, ◌++◌, append-nil, ltb}
 use Rattle.std.proofs.Common.{◌&&◌, ◌||◌, Bool, true, false, Option, None, Some, refl, sym, ap, subst, ◌∙◌, arith}
-use Rattle.std.specs.Prelude.{◌≢◌, if◌then◌else◌}
 use Rattle.std.proofs.lemmas.Bool.{and_from, and_parts, cases_lt, eqb-true, false_from_ne_true, lt-ltb, ltb-false, ltb-true, or_cases, or_parts}
 use Rattle.std.proofs.lemmas.Bool.Decides.{eqb_tells}
+use Rattle.std.specs.Prelude.{◌≢◌, if◌then◌else◌}
 use Rattle.inf_machine.specs.Grammar.{IsOneOf, first, later}
-use Rattle.inf_expressions.specs.declared.findings.Finding.{Finding}
-use Rattle.inf_expressions.specs.Findings.{error_number, is_before, least_of_both}
+use Rattle.inf_expressions.specs.{Findings.error_number, Findings.is_before, Findings.least_of_both, declared.findings.Finding.Finding}
 use Rattle.inf_laws.specs.UnitFaults.{IsLeastOf}
 
 -- The order of findings

@@ -1,28 +1,20 @@
 -- The findings of look-ups of names after declarations and uses.
 use Rattle.std.proofs.Common.{◌≡◌, ◌+◌, ◌<◌, ◌≤◌, ℕ, List, [], ◌∷◌, ◌++◌, append_assoc, append-nil, arith, length, filter, cond, not, ◌||◌}
-use Rattle.std.proofs.Common.{Bool, true, false, Option, None, Some, refl, sym, ap, subst, ◌∙◌}
-use Rattle.std.specs.Prelude.{find, is_some}
-use Rattle.std.specs.List.{list_any}
-use Rattle.std.specs.Str.{bytes_eq}
+use Rattle.std.proofs.Common.{Bool, true, false, Option, None, Some, refl, sym, ap, subst, ◌∙◌, bytes_eq, find, is_some}
 use Rattle.std.proofs.lemmas.Bool.{lt-leb, or_from, or_left, or_parts}
 use Rattle.std.proofs.lemmas.List.Elements.{filter-append}
-use Rattle.inf_settings.specs.Bounds.{Limits}
-use Rattle.inf_settings.specs.declared.setting.Setting.TheVariants as setting
+use Rattle.std.specs.List.{list_any}
+use Rattle.inf_settings.specs.{Bounds.Limits, declared.setting.Setting.Setting}
 use Rattle.inf_scanner.specs.declared.tokens.Place.{Place}
+use Rattle.inf_names.specs.{Spellings.Name, declared.meanings.Meaning.Meaning, declared.symbols.DeclareFault.DeclareFault}
+use Rattle.inf_names.specs.{declared.symbols.Found.Found, declared.symbols.ReferFault.ReferFault}
 use Rattle.inf_names.specs.SystemNames.{meaning_if, name_of, system_meaning, system_names}
 use Rattle.inf_names.specs.Symbols.{IsDeclared, IsUsed, Named, Standing, Table, declare_fault, declare_fault_by, folded, found_as, found_in}
 use Rattle.inf_names.specs.Symbols.{is_full, no_names, put, refer_fault, refer_fault_by, standing_of, with_declared, with_used_by}
-use Rattle.inf_names.specs.declared.meanings.Meaning.{Meaning}
-use Rattle.inf_names.specs.declared.symbols.DeclareFault.{DeclareFault}
-use Rattle.inf_names.specs.declared.symbols.Found.{Found}
-use Rattle.inf_names.specs.declared.symbols.Found.TheVariants as found
-use Rattle.inf_names.specs.declared.symbols.ReferFault.{ReferFault}
 use Rattle.inf_names.proofs.Putting.{length-put}
 use Rattle.inf_report.specs.Messages.{Undeclared}
-use Rattle.inf_names.specs.Spellings.{Name}
 use Rattle.inf_unit.specs.Messages.{FileNames, Reported, location, with_error}
 use Rattle.inf_unit.specs.Names.{with_all_undeclared, with_undeclared}
-use Rattle.inf_names.specs.declared.symbols.DeclareFault.TheVariants as declaring
 use Rattle.inf_output.specs.Output.{declared_by, referred_by}
 use Rattle.inf_laws.specs.NameEvents.{Declares, Event, is_full_fault, FirstDeclarationsCount, FewHaveRoom, HaveRoom, OperandsUse}
 use Rattle.inf_laws.specs.NameEvents.{UndeclaredAreTold, UnitsDeclare, Use, Uses, declares, first_declaration, is_too_many, stands_for}
@@ -38,9 +30,9 @@ units_declare limits n m o = go (declare_fault limits n.bytes o.names)
     go : (f : Option (DeclareFault Place)) →
         (declared_by limits f n.bytes n.place m o).names ≡ cond (is_some f) o.names (with_declared n.bytes n.place m o.names)
     go None = refl
-    go (Some declaring.Full) = refl
-    go (Some declaring.Memory) = refl
-    go (Some (declaring.Present place)) = refl
+    go (Some DeclareFault.Full) = refl
+    go (Some DeclareFault.Memory) = refl
+    go (Some (DeclareFault.Present place)) = refl
 
 pub operands_use : (limits : Limits) → OperandsUse limits
 operands_use limits n o = go (refer_fault limits n.bytes o.names)
@@ -58,17 +50,17 @@ no_fault limits (Declares name m place) t room =
     ap (λ full. is_full_fault (declare_fault_by (found_in name t) full)) room ∙ go (found_in name t)
   where
     go : (f : Found Place) → is_full_fault (declare_fault_by f false) ≡ false
-    go (found.System x) = refl
-    go (found.Declared x first) = refl
-    go found.Used = refl
-    go found.Unknown = refl
+    go (Found.System x) = refl
+    go (Found.Declared x first) = refl
+    go Found.Used = refl
+    go Found.Unknown = refl
 no_fault limits (Uses name place) t room = ap (λ full. is_some (refer_fault_by (found_in name t) full)) room ∙ go (found_in name t)
   where
     go : (f : Found Place) → is_some (refer_fault_by f false) ≡ false
-    go (found.System x) = refl
-    go (found.Declared x first) = refl
-    go found.Used = refl
-    go found.Unknown = refl
+    go (Found.System x) = refl
+    go (Found.Declared x first) = refl
+    go Found.Used = refl
+    go Found.Unknown = refl
 
 -- there is at most one name more than before
 abbrev OneMore : Table Place → Table Place → Type 0
@@ -91,18 +83,18 @@ one_more limits (Uses name place) t = go (is_some (refer_fault limits name t)) (
   where
     go : (b : Bool) (f : Found Place) → OneMore t (cond b t (with_used_by f name place t))
     go true f = omega arith
-    go false (found.System m) = omega arith
-    go false (found.Declared m first) = omega arith
-    go false found.Used = omega arith
-    go false found.Unknown = put_one (folded name) (IsUsed name place) t.names
+    go false (Found.System m) = omega arith
+    go false (Found.Declared m first) = omega arith
+    go false Found.Used = omega arith
+    go false Found.Unknown = put_one (folded name) (IsUsed name place) t.names
 
-few_fit : (limits : Limits) (events : List Event) (t : Table Place) → length t.names + length events ≤ limits setting.Symbols →
+few_fit : (limits : Limits) (events : List Event) (t : Table Place) → length t.names + length events ≤ limits Setting.Symbols →
     HaveRoom limits events t
 few_fit limits [] t few = tt
 few_fit limits (e ∷ events) t few =
     let more = one_more limits e t in
-    let room : length t.names < limits setting.Symbols = omega (arith, few) in (
-      no_fault limits e t (lt-leb (limits setting.Symbols) (length t.names) room),
+    let room : length t.names < limits Setting.Symbols = omega (arith, few) in (
+      no_fault limits e t (lt-leb (limits Setting.Symbols) (length t.names) room),
       few_fit limits events (with_event limits e t)
           (omega (arith, few, more)),
     )
@@ -141,32 +133,32 @@ found_same a b t e =
 
 -- the finding of a name after a declaration and after a use, of this name or another
 abbrev behind_declared : Bool → Meaning → Place → Found Place → Found Place
-behind_declared same m place (found.System x) = found.System x
-behind_declared same m place (found.Declared x first) = found.Declared x first
-behind_declared same m place found.Used = cond same (found.Declared m place) found.Used
-behind_declared same m place found.Unknown = cond same (found.Declared m place) found.Unknown
+behind_declared same m place (Found.System x) = Found.System x
+behind_declared same m place (Found.Declared x first) = Found.Declared x first
+behind_declared same m place Found.Used = cond same (Found.Declared m place) Found.Used
+behind_declared same m place Found.Unknown = cond same (Found.Declared m place) Found.Unknown
 
 abbrev behind_used : Bool → Found Place → Found Place
-behind_used same (found.System x) = found.System x
-behind_used same (found.Declared x first) = found.Declared x first
-behind_used same found.Used = found.Used
-behind_used same found.Unknown = cond same found.Used found.Unknown
+behind_used same (Found.System x) = Found.System x
+behind_used same (Found.Declared x first) = Found.Declared x first
+behind_used same Found.Used = Found.Used
+behind_used same Found.Unknown = cond same Found.Used Found.Unknown
 
 abbrev behind_event : List ℕ → Event → Found Place → Found Place
 behind_event name (Declares other m place) f = behind_declared (bytes_eq (folded name) (folded other)) m place f
 behind_event name (Uses other place) f = behind_used (bytes_eq (folded name) (folded other)) f
 
 other_declared : (m : Meaning) (place : Place) (f : Found Place) → behind_declared false m place f ≡ f
-other_declared m place (found.System x) = refl
-other_declared m place (found.Declared x first) = refl
-other_declared m place found.Used = refl
-other_declared m place found.Unknown = refl
+other_declared m place (Found.System x) = refl
+other_declared m place (Found.Declared x first) = refl
+other_declared m place Found.Used = refl
+other_declared m place Found.Unknown = refl
 
 other_used : (f : Found Place) → behind_used false f ≡ f
-other_used (found.System x) = refl
-other_used (found.Declared x first) = refl
-other_used found.Used = refl
-other_used found.Unknown = refl
+other_used (Found.System x) = refl
+other_used (Found.Declared x first) = refl
+other_used Found.Used = refl
+other_used Found.Unknown = refl
 
 -- the state of one name leaves the finding of another as it is
 found-other : (name other : List ℕ) (s : Standing Place) (t : Table Place) → bytes_eq (folded name) (folded other) ≡ false →
@@ -198,11 +190,11 @@ declared_behind limits name other m place t room = go (bytes_eq (folded name) (f
     same : (f : Found Place) (full : Bool) → found_in name t ≡ f → bytes_eq (folded name) (folded other) ≡ true →
         is_full_fault (declare_fault_by f full) ≡ false →
         found_in name (cond (is_some (declare_fault_by f full)) t (with_declared other place m t)) ≡ behind_declared true m place f
-    same (found.System x) full is e room = is
-    same (found.Declared x first) full is e room = is
-    same found.Used full is e room = found-put name other new t e
-    same found.Unknown true is e room = cc
-    same found.Unknown false is e room = found-put name other new t e
+    same (Found.System x) full is e room = is
+    same (Found.Declared x first) full is e room = is
+    same Found.Used full is e room = found-put name other new t e
+    same Found.Unknown true is e room = cc
+    same Found.Unknown false is e room = found-put name other new t e
 
     go : (b : Bool) → bytes_eq (folded name) (folded other) ≡ b →
         found_in name (with_event limits (Declares other m place) t) ≡ behind_declared b m place (found_in name t)
@@ -221,19 +213,19 @@ used_behind limits name other place t room = go (bytes_eq (folded name) (folded 
     apart : (b : Bool) (f : Found Place) → bytes_eq (folded name) (folded other) ≡ false →
         found_in name (cond b t (with_used_by f other place t)) ≡ found_in name t
     apart true f e = refl
-    apart false (found.System x) e = refl
-    apart false (found.Declared x first) e = refl
-    apart false found.Used e = refl
-    apart false found.Unknown e = found-other name other new t e
+    apart false (Found.System x) e = refl
+    apart false (Found.Declared x first) e = refl
+    apart false Found.Used e = refl
+    apart false Found.Unknown e = found-other name other new t e
 
     same : (f : Found Place) (full : Bool) → found_in name t ≡ f → bytes_eq (folded name) (folded other) ≡ true →
         is_some (refer_fault_by f full) ≡ false →
         found_in name (cond (is_some (refer_fault_by f full)) t (with_used_by f other place t)) ≡ behind_used true f
-    same (found.System x) full is e room = is
-    same (found.Declared x first) full is e room = is
-    same found.Used full is e room = is
-    same found.Unknown true is e room = cc
-    same found.Unknown false is e room = found-put name other new t e
+    same (Found.System x) full is e room = is
+    same (Found.Declared x first) full is e room = is
+    same Found.Used full is e room = is
+    same Found.Unknown true is e room = cc
+    same Found.Unknown false is e room = found-put name other new t e
 
     go : (b : Bool) → bytes_eq (folded name) (folded other) ≡ b →
         found_in name (with_event limits (Uses other place) t) ≡ behind_used b (found_in name t)
@@ -401,10 +393,10 @@ sound-event limits (Uses name place) t sound = go (is_some (refer_fault limits n
   where
     go : (b : Bool) (f : Found Place) → Sound (cond b t (with_used_by f name place t)).names
     go true f = sound
-    go false (found.System m) = sound
-    go false (found.Declared m first) = sound
-    go false found.Used = sound
-    go false found.Unknown = sound-put (folded name) (IsUsed name place) t.names refl sound
+    go false (Found.System m) = sound
+    go false (Found.Declared m first) = sound
+    go false Found.Used = sound
+    go false Found.Unknown = sound-put (folded name) (IsUsed name place) t.names refl sound
 
 -- the uses of other names
 abbrev others : List ℕ → List Use → List Use
@@ -500,7 +492,7 @@ used_of-put key s (n ∷ names) is = go (bytes_eq key n.name) is (used_of-put ke
         ap (λ u. use_in n.standing ++ u) (later is) ∙ sym (append_assoc (use_in n.standing) (used_of names) (use_in s))
 
 abbrev is_unknown : Found Place → Bool
-is_unknown found.Unknown = true
+is_unknown Found.Unknown = true
 is_unknown _ = false
 
 abbrev one_use : List ℕ → Place → List Use

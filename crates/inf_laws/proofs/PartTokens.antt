@@ -1,45 +1,30 @@
 -- Behind a token that conditionals hand on no conditional directive is being read, and no side is left out.
 use Rattle.std.proofs.Common.{◌≡◌, ℕ, List, [], ◌∷◌, ◌&&◌, ◌||◌, ◌⊎◌, inl, inr, cond, not, Bool, true, false, Option, Some, None, refl, sym}
 use Rattle.std.proofs.Common.{subst}
-use Rattle.inf_scanner.specs.declared.tokens.Mark.TheVariants as mark
-use Rattle.inf_scanner.specs.declared.tokens.Place.{Place}
-use Rattle.inf_scanner.specs.declared.tokens.TokenKind.{TokenKind}
-use Rattle.inf_scanner.specs.declared.tokens.TokenKind.TheVariants as kind
+use Rattle.inf_scanner.specs.{declared.tokens.Mark.Mark, declared.tokens.Place.Place, declared.tokens.TokenKind.TokenKind}
 use Rattle.inf_machine.specs.Machine.{fits}
 use Rattle.inf_grammar.specs.Language.{grammar, known}
 use Rattle.inf_output.specs.Output.{Out}
 use Rattle.inf_unit.specs.Tokens.{SourceToken, atom_of, is_end, is_mark, keyword}
 use Rattle.inf_unit.proofs.Cases.{of_both}
+use Rattle.inf_conditionals.specs.{Said.told_by, Said.too_much, Words.word_of}
+use Rattle.inf_conditionals.specs.declared.{condition.Verdict.Verdict, filtered.Filtered.Filtered, filtered.Forwarded.Forwarded}
+use Rattle.inf_conditionals.specs.declared.{filtered.Sign.Sign, filtered.Site.Site, open.LeftOut.LeftOut, pending.Awaits.Awaits}
+use Rattle.inf_conditionals.specs.declared.{pending.Effect.Effect, pending.Pending.Pending, words.ConditionalWord.ConditionalWord}
 use Rattle.inf_conditionals.specs.Condition.{Condition, condition_begun, condition_took, is_whole, verdict_of}
 use Rattle.inf_conditionals.specs.Open.{Conditions, closed, closed_by, ended_by, is_none_open, is_second, latest, turned, turned_by}
-use Rattle.inf_conditionals.specs.Said.{too_much, told_by}
-use Rattle.inf_conditionals.specs.Words.{word_of}
-use Rattle.inf_conditionals.specs.declared.condition.Verdict.{Verdict}
-use Rattle.inf_conditionals.specs.declared.filtered.Forwarded.{Forwarded}
-use Rattle.inf_conditionals.specs.declared.filtered.Forwarded.TheVariants as handed
-use Rattle.inf_conditionals.specs.declared.filtered.Filtered.{Filtered}
-use Rattle.inf_conditionals.specs.declared.filtered.Sign.{Sign}
-use Rattle.inf_conditionals.specs.declared.filtered.Site.{Site}
-use Rattle.inf_sources.specs.declared.open_file.Conditional.{Conditional}
-use Rattle.inf_conditionals.specs.declared.open.LeftOut.{LeftOut}
-use Rattle.inf_conditionals.specs.declared.pending.Awaits.{Awaits}
-use Rattle.inf_conditionals.specs.declared.pending.Awaits.TheVariants as awaits
-use Rattle.inf_conditionals.specs.declared.pending.Effect.{Effect}
-use Rattle.inf_conditionals.specs.declared.pending.Effect.TheVariants as effect
-use Rattle.inf_conditionals.specs.declared.pending.Pending.{Pending}
-use Rattle.inf_conditionals.specs.declared.words.ConditionalWord.{ConditionalWord}
-use Rattle.inf_conditionals.specs.declared.words.ConditionalWord.TheVariants as word
 use Rattle.inf_conditionals.specs.Judging.{Behind, asked, asked_on, asking, at_front, awaited, awaiting, begun, behind_front, behind_sign}
 use Rattle.inf_conditionals.specs.Judging.{decided, effected, effected_by, given_up, hash, held, in_side, is_none_pending, judged}
 use Rattle.inf_conditionals.specs.Judging.{judged_by, kept, unmatched, named, offered, offered_to, passed, passed_by, saying, sign_asked}
 use Rattle.inf_conditionals.specs.Judging.{sign_awaited, sign_handed, sign_offered, taken, tokens_counted, unfit, went_on}
+use Rattle.inf_sources.specs.declared.open_file.Conditional.{Conditional}
 
 -- whether a token is handed on
 abbrev pub gives : Option Forwarded → Bool
 gives None = false
-gives (Some handed.Kept) = true
-gives (Some handed.Unfit) = true
-gives (Some handed.Condition) = false
+gives (Some Forwarded.Kept) = true
+gives (Some Forwarded.Unfit) = true
+gives (Some Forwarded.Condition) = false
 
 abbrev pub gives_sign : Option Sign → Bool
 gives_sign None = false
@@ -50,7 +35,7 @@ gives_some j = gives_sign j.sign || gives j.token
 
 -- a `#` at the front of a directive waits behind all others
 abbrev pub IsLast : Awaits → List Pending → Type 0
-IsLast awaits.Word pending = pending ≡ []
+IsLast Awaits.Word pending = pending ≡ []
 IsLast _ pending = Unit {0}
 
 abbrev pub AreProper : List Pending → Type 0
@@ -90,26 +75,26 @@ closed_pending [] c = refl
 closed_pending (x ∷ inner) c = refl
 
 ended_pending : (w : ConditionalWord) (c : Conditions) → (ended_by w c).pending ≡ c.pending
-ended_pending word.Endif c = closed_pending c.inner c
-ended_pending word.Ifnot c = turned_pending c.inner c
-ended_pending word.Ifdef c = turned_pending c.inner c
-ended_pending word.Ifndef c = turned_pending c.inner c
-ended_pending word.Iftrue c = turned_pending c.inner c
-ended_pending word.Iffalse c = turned_pending c.inner c
+ended_pending ConditionalWord.Endif c = closed_pending c.inner c
+ended_pending ConditionalWord.Ifnot c = turned_pending c.inner c
+ended_pending ConditionalWord.Ifdef c = turned_pending c.inner c
+ended_pending ConditionalWord.Ifndef c = turned_pending c.inner c
+ended_pending ConditionalWord.Iftrue c = turned_pending c.inner c
+ended_pending ConditionalWord.Iffalse c = turned_pending c.inner c
 
 abbrev ended_at : Option Place → Behind → Behind
 ended_at place b = record b { judged = record b.judged { ended = place } }
 
 effect_fine : (e : Effect) (is_quiet : Bool) (p : Pending) (place : Option Place) (c : Conditions) → AreProper c.pending →
     Fine (ended_at place (effected_by e is_quiet p c))
-effect_fine (effect.Opens is_kept) is_quiet p place c proper = record { proper = proper; clear = inl refl }
-effect_fine effect.Nothing is_quiet p place c proper = record { proper = proper; clear = inl refl }
-effect_fine effect.Turns is_quiet p place c proper =
+effect_fine (Effect.Opens is_kept) is_quiet p place c proper = record { proper = proper; clear = inl refl }
+effect_fine Effect.Nothing is_quiet p place c proper = record { proper = proper; clear = inl refl }
+effect_fine Effect.Turns is_quiet p place c proper =
     of_both (λ (b : Behind). Fine (ended_at place b)) (is_second (latest c)) (unmatched is_quiet p.place c)
     (passed (record (turned c) { left_out = Some (record { is_inner = not (is_none_open c.inner); levels = 0 }) }))
     (λ _. record { proper = proper; clear = inl refl })
     (λ _. record { proper = subst (λ ps. AreProper ps) (sym (turned_pending c.inner c)) proper; clear = inl refl })
-effect_fine effect.Closes is_quiet p place c proper =
+effect_fine Effect.Closes is_quiet p place c proper =
     of_both (λ (b : Behind). Fine (ended_at place b)) (is_none_open (latest c)) (unmatched is_quiet p.place c) (passed (closed c))
     (λ _. record { proper = proper; clear = inl refl })
     (λ _. record { proper = subst (λ ps. AreProper ps) (sym (closed_pending c.inner c)) proper; clear = inl refl })
@@ -121,15 +106,15 @@ effected_fine e is_quiet p c proper = effect_fine e is_quiet p (cond is_quiet No
 
 begun_fine : (w : ConditionalWord) (t : SourceToken) (place : Place) (is_inner : Bool) (c : Conditions) → AreProper c.pending → AllKept c →
     Fine (begun w t place is_inner c)
-begun_fine word.Ifdef t place is_inner c proper all = record { proper = (tt, proper); clear = inl refl }
-begun_fine word.Ifndef t place is_inner c proper all = record { proper = (tt, proper); clear = inl refl }
-begun_fine word.Ifnot t place is_inner c proper all = record { proper = (tt, proper); clear = inl refl }
-begun_fine word.Endif t place is_inner c proper all = record { proper = (tt, proper); clear = inl refl }
-begun_fine word.Iftrue t place is_inner c proper all =
+begun_fine ConditionalWord.Ifdef t place is_inner c proper all = record { proper = (tt, proper); clear = inl refl }
+begun_fine ConditionalWord.Ifndef t place is_inner c proper all = record { proper = (tt, proper); clear = inl refl }
+begun_fine ConditionalWord.Ifnot t place is_inner c proper all = record { proper = (tt, proper); clear = inl refl }
+begun_fine ConditionalWord.Endif t place is_inner c proper all = record { proper = (tt, proper); clear = inl refl }
+begun_fine ConditionalWord.Iftrue t place is_inner c proper all =
     of_both Fine (fits grammar known (atom_of (record t { place = place })) condition_begun.stack)
     (passed (asking place is_inner true (condition_took (record t { place = place }) condition_begun) c)) (unfit c)
     (λ _. record { proper = (tt, proper); clear = inl refl }) (λ _. unfit_fine c all)
-begun_fine word.Iffalse t place is_inner c proper all =
+begun_fine ConditionalWord.Iffalse t place is_inner c proper all =
     of_both Fine (fits grammar known (atom_of (record t { place = place })) condition_begun.stack)
     (passed (asking place is_inner false (condition_took (record t { place = place }) condition_begun) c)) (unfit c)
     (λ _. record { proper = (tt, proper); clear = inl refl }) (λ _. unfit_fine c all)
@@ -143,14 +128,14 @@ front_fine (Some w) t p c e all = begun_fine w t p.place p.is_inner c (none_prop
 
 named_fine : (k : TokenKind) (bytes : List ℕ) (if_declared : Bool) (o : Out) (p : Pending) (c : Conditions) → AreProper c.pending →
     AllKept c → Fine (named k bytes if_declared o p c)
-named_fine kind.Name bytes if_declared o p c proper all = record { proper = (tt, proper); clear = inl refl }
-named_fine (kind.Number n) bytes if_declared o p c proper all = unfit_fine c all
-named_fine kind.Text bytes if_declared o p c proper all = unfit_fine c all
-named_fine (kind.Char z) bytes if_declared o p c proper all = unfit_fine c all
-named_fine (kind.Word w) bytes if_declared o p c proper all = unfit_fine c all
-named_fine (kind.Mark m) bytes if_declared o p c proper all = unfit_fine c all
-named_fine (kind.Bad b) bytes if_declared o p c proper all = unfit_fine c all
-named_fine kind.End bytes if_declared o p c proper all = unfit_fine c all
+named_fine TokenKind.Name bytes if_declared o p c proper all = record { proper = (tt, proper); clear = inl refl }
+named_fine (TokenKind.Number n) bytes if_declared o p c proper all = unfit_fine c all
+named_fine TokenKind.Text bytes if_declared o p c proper all = unfit_fine c all
+named_fine (TokenKind.Char z) bytes if_declared o p c proper all = unfit_fine c all
+named_fine (TokenKind.Word w) bytes if_declared o p c proper all = unfit_fine c all
+named_fine (TokenKind.Mark m) bytes if_declared o p c proper all = unfit_fine c all
+named_fine (TokenKind.Bad b) bytes if_declared o p c proper all = unfit_fine c all
+named_fine TokenKind.End bytes if_declared o p c proper all = unfit_fine c all
 
 went_fine : (wanted : Bool) (site : Site) (o : Out) (t : SourceToken) (k : Condition) (p : Pending) (c : Conditions) → AreProper c.pending →
     Fine (went_on wanted site o t k p c)
@@ -158,7 +143,7 @@ went_fine wanted site o t k p c proper =
     of_both Fine (is_whole k) (decided (verdict_of c.declared o k) wanted site.is_quiet k p c)
     (taken (asking p.place p.is_inner wanted k (saying site.is_quiet (too_much site.longest t k) (tokens_counted site.is_quiet k c))))
     (λ _. let v : Verdict = verdict_of c.declared o k in
-    effected_fine (effect.Opens (cond wanted v.is_true (not v.is_true))) site.is_quiet p
+    effected_fine (Effect.Opens (cond wanted v.is_true (not v.is_true))) site.is_quiet p
     (saying site.is_quiet (told_by p.place k v.finding) c)
     proper)
     (λ _. record { proper = (tt, proper); clear = inl refl })
@@ -173,11 +158,11 @@ asked_fine (k ∷ conditions) wanted site o t p c proper all =
 
 awaited_fine : (a : Awaits) (site : Site) (o : Out) (t : SourceToken) (p : Pending) (c : Conditions) → IsLast a c.pending →
     AreProper c.pending → AllKept c → Fine (awaited a site o t p c)
-awaited_fine awaits.Word site o t p c last proper all = front_fine (word_of (keyword t)) t p c last all
-awaited_fine (awaits.Name if_declared) site o t p c last proper all = named_fine t.kind t.bytes if_declared o p c proper all
-awaited_fine (awaits.Condition wanted) site o t p c last proper all = asked_fine c.conditions wanted site o t p c proper all
-awaited_fine (awaits.End e) site o t p c last proper all =
-    of_both Fine (is_mark mark.Semicolon t.kind) (effected e site.is_quiet p c) (unfit c) (λ _. effected_fine e site.is_quiet p c proper)
+awaited_fine Awaits.Word site o t p c last proper all = front_fine (word_of (keyword t)) t p c last all
+awaited_fine (Awaits.Name if_declared) site o t p c last proper all = named_fine t.kind t.bytes if_declared o p c proper all
+awaited_fine (Awaits.Condition wanted) site o t p c last proper all = asked_fine c.conditions wanted site o t p c proper all
+awaited_fine (Awaits.End e) site o t p c last proper all =
+    of_both Fine (is_mark Mark.Semicolon t.kind) (effected e site.is_quiet p c) (unfit c) (λ _. effected_fine e site.is_quiet p c proper)
     (λ _. unfit_fine c all)
 
 -- A token of a kept side
@@ -202,7 +187,7 @@ to_fine (p ∷ pending) is_front site o t c e proper all =
 offered_fine : (is_front : Bool) (site : Site) (o : Out) (t : SourceToken) (c : Conditions) → (is_front ≡ true → c.pending ≡ []) →
     AreProper c.pending → AllKept c → Fine (offered is_front site o t c)
 offered_fine is_front site o t c front proper all =
-    of_both Fine (is_mark mark.Hash t.kind) (passed (held is_front t.place c)) (offered_to c.pending is_front site o t c)
+    of_both Fine (is_mark Mark.Hash t.kind) (passed (held is_front t.place c)) (offered_to c.pending is_front site o t c)
     (λ _. passed_fine (held is_front t.place c) (held_proper is_front t.place c front proper))
     (λ _. to_fine c.pending is_front site o t c refl proper all)
 
@@ -216,7 +201,7 @@ SignFine place site o t s = Fine (signed place s.judged.token (offered false sit
 signed_fine : (place : Place) (h : Forwarded) (site : Site) (o : Out) (t : SourceToken) (c : Conditions) → c.pending ≡ [] → AllKept c →
     Fine (signed place (Some h) (offered false site o t c))
 signed_fine place h site o t c e all =
-    of_both (λ (b : Behind). Fine (signed place (Some h) b)) (is_mark mark.Hash t.kind) (passed (held false t.place c))
+    of_both (λ (b : Behind). Fine (signed place (Some h) b)) (is_mark Mark.Hash t.kind) (passed (held false t.place c))
     (offered_to c.pending false site o t c)
     (λ _. record { proper = none_proper c.pending e; clear = inr (e, all) })
     (λ _. subst (λ ps. Fine (signed place (Some h) (offered_to ps false site o t c))) (sym e)
@@ -245,7 +230,7 @@ taken_sign_fine place site o t c proper all =
 
 unfit_sign_fine : (place : Place) (site : Site) (o : Out) (t : SourceToken) (c : Conditions) → AllKept c →
     SignFine place site o t (unfit c)
-unfit_sign_fine place site o t c all = signed_fine place handed.Unfit site o t (given_up c) refl all
+unfit_sign_fine place site o t c all = signed_fine place Forwarded.Unfit site o t (given_up c) refl all
 
 asked_sign_fine : (ks : List Condition) (wanted : Bool) (place : Place) (site : Site) (o : Out) (t : SourceToken) (p : Pending)
     (c : Conditions) → AreProper c.pending → AllKept c → SignFine place site o t (sign_asked ks wanted place site p c)
@@ -261,15 +246,15 @@ asked_sign_fine (k ∷ ks) wanted place site o t p c proper all =
 
 awaited_sign_fine : (a : Awaits) (place : Place) (site : Site) (o : Out) (t : SourceToken) (p : Pending) (c : Conditions) →
     AreProper c.pending → AllKept c → SignFine place site o t (sign_awaited a place site p c)
-awaited_sign_fine awaits.Word place site o t p c proper all = unfit_sign_fine place site o t c all
-awaited_sign_fine (awaits.Name if_declared) place site o t p c proper all = unfit_sign_fine place site o t c all
-awaited_sign_fine (awaits.Condition wanted) place site o t p c proper all =
+awaited_sign_fine Awaits.Word place site o t p c proper all = unfit_sign_fine place site o t c all
+awaited_sign_fine (Awaits.Name if_declared) place site o t p c proper all = unfit_sign_fine place site o t c all
+awaited_sign_fine (Awaits.Condition wanted) place site o t p c proper all =
     asked_sign_fine c.conditions wanted place site o t p c proper all
-awaited_sign_fine (awaits.End e) place site o t p c proper all = unfit_sign_fine place site o t c all
+awaited_sign_fine (Awaits.End e) place site o t p c proper all = unfit_sign_fine place site o t c all
 
 offered_sign_fine : (pending : List Pending) (place : Place) (site : Site) (o : Out) (t : SourceToken) (c : Conditions) →
     AreProper pending → AllKept c → SignFine place site o t (sign_offered pending place site c)
-offered_sign_fine [] place site o t c proper all = signed_fine place handed.Kept site o t (given_up c) refl all
+offered_sign_fine [] place site o t c proper all = signed_fine place Forwarded.Kept site o t (given_up c) refl all
 offered_sign_fine (p ∷ pending) place site o t c proper all =
     awaited_sign_fine p.awaits place site o t p (record c { pending = pending }) proper.1 all
 
@@ -285,7 +270,7 @@ passed_proper : (w : Option ConditionalWord) (t : SourceToken) (side : LeftOut) 
 passed_proper None t side c proper = proper
 passed_proper (Some w) t side c proper =
     of_both (λ (x : Conditions). AreProper x.pending) _
-    (awaiting _ false (awaits.End effect.Nothing) (record (ended_by w c) { left_out = None; sign = None })) _
+    (awaiting _ false (Awaits.End Effect.Nothing) (record (ended_by w c) { left_out = None; sign = None })) _
     (λ _. (tt, subst (λ ps. AreProper ps) (sym (ended_pending w c)) proper)) (λ _. proper)
 
 side_fine : (site : Site) (o : Out) (t : SourceToken) (side : LeftOut) (c : Conditions) → AreProper c.pending →

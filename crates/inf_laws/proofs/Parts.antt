@@ -4,42 +4,29 @@ use Rattle.std.proofs.Common.{None, refl, sym, ap, subst, ◌∙◌, append_asso
 use Rattle.std.proofs.lemmas.List.{append-nil, map-append}
 use Rattle.inf_settings.specs.Bounds.{Limits}
 use Rattle.inf_devices.specs.Files.{Sources}
-use Rattle.inf_scanner.specs.declared.tokens.Mark.TheVariants as mark
-use Rattle.inf_scanner.specs.declared.tokens.Place.{Place}
-use Rattle.inf_scanner.specs.declared.tokens.TokenKind.TheVariants as kind
-use Rattle.inf_machine.specs.declared.symbols.Symbol.{Symbol}
-use Rattle.inf_machine.specs.declared.symbols.Symbol.TheVariants.{Rule}
-use Rattle.inf_machine.specs.Grammar.{IsText}
+use Rattle.inf_scanner.specs.{declared.tokens.Mark.Mark, declared.tokens.Place.Place, declared.tokens.TokenKind.TokenKind}
+use Rattle.inf_machine.specs.{Grammar.IsText, declared.symbols.Symbol.Symbol}
 use Rattle.inf_grammar.specs.Language.{grammar}
-use Rattle.inf_laws.specs.BadTokens.{skip_behind}
-use Rattle.inf_syntax.specs.Atoms.{mark_atom}
-use Rattle.inf_syntax.specs.declared.actions.Action.{Action}
+use Rattle.inf_laws.specs.{BadTokens.skip_behind, KeptTurns.given_by, KeptTurns.given_in, KeptTurns.turned, Parts.PartsArePieces}
+use Rattle.inf_laws.specs.{Parts.PartsEndWithPieces, Parts.StayInPart}
+use Rattle.inf_laws.specs.KeptTokens.{Given, Kept, Stands, Unfit, all_given_to, given_as, given_of, given_sign, given_to, given_token}
+use Rattle.inf_laws.specs.KeptTokens.{rests, skipped, token_in}
+use Rattle.inf_syntax.specs.{Atoms.mark_atom, declared.actions.Action.Action}
 use Rattle.inf_sources.specs.Inclusions.{Inclusion, Opens, OpensNone, Waiting, inclusion}
 use Rattle.inf_sources.specs.declared.open_files.Included.{Included}
-use Rattle.inf_sources.specs.declared.open_files.Included.TheVariants as answer
 use Rattle.inf_unit.specs.Directives.{Request, Characters, End, Include, Nothing}
 use Rattle.inf_unit.specs.Tokens.{SourceToken, atom_of, is_end}
 use Rattle.inf_unit.proofs.Cases.{of_both}
-use Rattle.inf_conditionals.specs.declared.filtered.Forwarded.{Forwarded}
-use Rattle.inf_conditionals.specs.declared.filtered.Forwarded.TheVariants as handed
-use Rattle.inf_conditionals.specs.declared.filtered.Filtered.{Filtered}
-use Rattle.inf_conditionals.specs.declared.filtered.Sign.{Sign}
-use Rattle.inf_conditionals.specs.Ends.{side_kept}
-use Rattle.inf_conditionals.specs.Judging.{Behind, judged, may_part}
+use Rattle.inf_conditionals.specs.{Ends.side_kept, Judging.Behind, Judging.judged, Judging.may_part, declared.filtered.Filtered.Filtered}
+use Rattle.inf_conditionals.specs.{declared.filtered.Forwarded.Forwarded, declared.filtered.Sign.Sign}
 use Rattle.inf_reader.specs.Handing.{hash, is_between, is_empty, reads, site_of}
 use Rattle.inf_reader.specs.Reading.{Reading, between, is_mode_ended, passed, piece_rule}
 use Rattle.inf_reader.specs.declared.recovery.Recovery.{Recovery}
-use Rattle.inf_reader.specs.declared.recovery.Recovery.TheVariants as mode
 use Rattle.inf_session.specs.Choices.{Choices}
 use Rattle.inf_session.specs.Session.{State, answered, asked_nothing, file_closed, has_ended, carried_out, included_by, is_parted}
 use Rattle.inf_session.specs.Session.{is_resting, left, left_by, none_included, piece_closed, rested, start, stepped, token_of, turn}
-use Rattle.inf_laws.specs.KeptTokens.{Given, Kept, Stands, Unfit, all_given_to, given_as, given_of, given_sign, given_to, given_token}
-use Rattle.inf_laws.specs.KeptTokens.{rests, skipped, token_in}
-use Rattle.inf_laws.specs.KeptTurns.{given_by, given_in, turned}
-use Rattle.inf_laws.specs.Parts.{PartsArePieces, PartsEndWithPieces, StayInPart}
-use Rattle.inf_laws.proofs.Hashes.{no_piece_ends_with_a_hash}
+use Rattle.inf_laws.proofs.{Hashes.no_piece_ends_with_a_hash, KeptTurns.rested_reading, KeptTurns.stepped_reading, KeptTurns.turn_reading}
 use Rattle.inf_laws.proofs.KeptTokens.{Ended, Inside, Now, Skips, Whole, first, given_both, next, skipped_more, stands}
-use Rattle.inf_laws.proofs.KeptTurns.{rested_reading, stepped_reading, turn_reading}
 use Rattle.inf_laws.proofs.PartTokens.{AreProper, gives, gives_sign, gives_some, judged_fine}
 
 -- Behind a `#` no piece ends
@@ -74,15 +61,15 @@ empty_not : (stack : List (Symbol Action)) → (stack ≡ [] → ⊥) → is_emp
 empty_not [] some = absurd (some refl)
 empty_not (s ∷ stack) some = refl
 
-goes_inside : (r : Reading) → r.mode ≡ mode.Reads → (r.stack ≡ [] → ⊥) → rests r ≡ false
+goes_inside : (r : Reading) → r.mode ≡ Recovery.Reads → (r.stack ≡ [] → ⊥) → rests r ≡ false
 goes_inside r is some =
     ap (λ m. (reads m && is_empty r.stack) || is_mode_ended m) is ∙ ap (λ b. b || false) (empty_not r.stack some)
 
-passed_hash : (m : Recovery) → rests (between (passed m (kind.Mark mark.Hash))) ≡ false
-passed_hash mode.Reads = refl
-passed_hash mode.SkipsRoutine = refl
-passed_hash mode.SkipsDirective = refl
-passed_hash mode.Ended = refl
+passed_hash : (m : Recovery) → rests (between (passed m (TokenKind.Mark Mark.Hash))) ≡ false
+passed_hash Recovery.Reads = refl
+passed_hash Recovery.SkipsRoutine = refl
+passed_hash Recovery.SkipsDirective = refl
+passed_hash Recovery.Ended = refl
 
 no_end : true ≡ false → ⊥
 no_end e = cc
@@ -93,11 +80,11 @@ hash_goes before h place r is (Inside tokens e at some) = goes_inside r at.reads
 hash_goes before h place r is (Whole tokens e piece at) =
     let l = last_kept before h tokens e in
     let token : l.1 ≡ hash place = ap token_in (sym l.3) ∙ is in
-    let atom : atom_of l.1 ≡ mark_atom mark.Hash = ap atom_of token in
-    let atoms : map atom_of tokens ≡ map atom_of l.0 ++ mark_atom mark.Hash ∷ [] =
+    let atom : atom_of l.1 ≡ mark_atom Mark.Hash = ap atom_of token in
+    let atoms : map atom_of tokens ≡ map atom_of l.0 ++ mark_atom Mark.Hash ∷ [] =
     ap (map atom_of) l.2 ∙ map-append atom_of l.0 (l.1 ∷ []) ∙ ap (λ a. map atom_of l.0 ++ a ∷ []) atom in
     absurd (no_piece_ends_with_a_hash (map atom_of l.0) piece.events
-    (subst (λ xs. IsText grammar (Rule piece_rule ∷ []) xs piece.events) atoms piece.is_text))
+    (subst (λ xs. IsText grammar (Symbol.Rule piece_rule ∷ []) xs piece.events) atoms piece.is_text))
 hash_goes before h place r is (Skips tokens wrong behind e begun bad at) =
     let m = skip_behind (map atom_of tokens) in
     let l = last_behind before h (map Kept tokens) wrong behind e in
@@ -113,7 +100,7 @@ hash_goes before h place r is (Ended t e ends at) =
 -- The state of a part behind some of its tokens
 
 data Goes (given : List Given) (r : Reading) : Type 0 where
-  None_yet : given ≡ [] → r ≡ between mode.Reads → Goes given r
+  None_yet : given ≡ [] → r ≡ between Recovery.Reads → Goes given r
   Some_yet : Now given r → rests r ≡ false → Goes given r
 
 one_more : (before : List Given) (g : Given) (r : Reading) → Goes before r → Now (before ++ g ∷ []) (given_to g r)
@@ -129,13 +116,13 @@ sign_goes None before r goes = same_goes before r goes
 sign_goes (Some sign) before r goes = go sign.handed
   where
     go : (h : Forwarded) → Goes (before ++ given_as h (hash sign.place)) (all_given_to (given_as h (hash sign.place)) r)
-    go handed.Kept =
+    go Forwarded.Kept =
         let h = Kept (hash sign.place) in
         let now = one_more before h r goes in Some_yet now (hash_goes before h sign.place (given_to h r) refl now)
-    go handed.Unfit =
+    go Forwarded.Unfit =
         let h = Unfit (hash sign.place) in
         let now = one_more before h r goes in Some_yet now (hash_goes before h sign.place (given_to h r) refl now)
-    go handed.Condition = same_goes before r goes
+    go Forwarded.Condition = same_goes before r goes
 
 -- the state behind a turn: the part goes on, or the reading rests behind a token that was handed on
 data Comes (before given : List Given) (r : Reading) : Type 0 where
@@ -164,9 +151,9 @@ one_comes before signed g r goes =
 token_comes : (o : Option Forwarded) (t : SourceToken) (before signed : List Given) (r : Reading) →
     Goes (before ++ signed) r → Comes before (signed ++ given_token o t) (all_given_to (given_token o t) r)
 token_comes None t before signed r goes = Still (subst (λ gs. Goes (before ++ gs) r) (sym (append-nil signed)) goes)
-token_comes (Some handed.Kept) t before signed r goes = one_comes before signed (Kept t) r goes
-token_comes (Some handed.Unfit) t before signed r goes = one_comes before signed (Unfit t) r goes
-token_comes (Some handed.Condition) t before signed r goes = Still (subst (λ gs. Goes (before ++ gs) r) (sym (append-nil signed)) goes)
+token_comes (Some Forwarded.Kept) t before signed r goes = one_comes before signed (Kept t) r goes
+token_comes (Some Forwarded.Unfit) t before signed r goes = one_comes before signed (Unfit t) r goes
+token_comes (Some Forwarded.Condition) t before signed r goes = Still (subst (λ gs. Goes (before ++ gs) r) (sym (append-nil signed)) goes)
 
 step_comes : (limits : Limits) (o : Choices) (before : List Given) (s : State) → Goes before s.reading →
     Comes before (given_by o s) (stepped limits o s).reading
@@ -196,9 +183,9 @@ carried_out_same sources o s =
     left_same (w ∷ waiting) = (refl, refl)
 
     none_same : (unit : Place) (text : List ℕ) (why : Included) → Same (none_included unit text why (asked_nothing s))
-    none_same unit text answer.Entered = (refl, refl)
-    none_same unit text answer.NotThere = (refl, refl)
-    none_same unit text answer.TooDeep = (refl, refl)
+    none_same unit text Included.Entered = (refl, refl)
+    none_same unit text Included.NotThere = (refl, refl)
+    none_same unit text Included.TooDeep = (refl, refl)
 
     included_same : (unit : Place) (text : List ℕ) (i : Inclusion) → Same (included_by sources o unit text i (asked_nothing s))
     included_same unit text (Opens name) = (refl, refl)
@@ -251,15 +238,15 @@ none_signed None e = refl
 none_signed (Some sign) e = go sign.handed e
   where
     go : (h : Forwarded) → gives (Some h) ≡ false → given_as h (hash sign.place) ≡ []
-    go handed.Kept e = cc
-    go handed.Unfit e = cc
-    go handed.Condition e = refl
+    go Forwarded.Kept e = cc
+    go Forwarded.Unfit e = cc
+    go Forwarded.Condition e = refl
 
 none_given : (o : Option Forwarded) (t : SourceToken) → gives o ≡ false → given_token o t ≡ []
 none_given None t e = refl
-none_given (Some handed.Kept) t e = cc
-none_given (Some handed.Unfit) t e = cc
-none_given (Some handed.Condition) t e = refl
+none_given (Some Forwarded.Kept) t e = cc
+none_given (Some Forwarded.Unfit) t e = cc
+none_given (Some Forwarded.Condition) t e = refl
 
 or_parts : (a b : Bool) → (a || b) ≡ false → (a ≡ false) × (b ≡ false)
 or_parts true b e = cc
@@ -295,7 +282,8 @@ ended_parts s e =
     ∙ ap (λ b. (s.is_over || b) || (is_between s.reading && may_part s.conditions)) (or_true over)
     ∙ ap (λ b. b || (is_between s.reading && may_part s.conditions)) (or_true s.is_over)
 
-clear_parts : (s : State) → s.reading ≡ between mode.Reads → s.conditions.pending ≡ [] → s.conditions.left_out ≡ None → is_parted s ≡ true
+clear_parts : (s : State) → s.reading ≡ between Recovery.Reads → s.conditions.pending ≡ [] → s.conditions.left_out ≡ None →
+    is_parted s ≡ true
 clear_parts s fresh none all =
     let parts : may_part s.conditions ≡ true =
     ap (λ ps. may_part (record s.conditions { pending = ps })) none
@@ -307,36 +295,36 @@ clear_parts s fresh none all =
 -- at the end of a file reading goes on between two pieces, or ends
 left_ends : (s : State) (waiting : List Waiting) → is_mode_ended s.reading.mode ≡ true → s.reading.stack ≡ []
     → (is_mode_ended (left_by waiting (file_closed s)).reading.mode ≡ true) ⊎
-    ((left_by waiting (file_closed s)).reading ≡ between mode.Reads)
+    ((left_by waiting (file_closed s)).reading ≡ between Recovery.Reads)
 left_ends s [] e empty = inl e
-left_ends s (w ∷ waiting) e empty = inr (ap (λ stack. record { mode = mode.Reads; stack = stack }) empty)
+left_ends s (w ∷ waiting) e empty = inr (ap (λ stack. record { mode = Recovery.Reads; stack = stack }) empty)
 
 carried_out_ends : (sources : Sources) (o : Choices) (s : State) → is_mode_ended s.reading.mode ≡ true → s.reading.stack ≡ []
-    → (is_mode_ended (carried_out sources o s).reading.mode ≡ true) ⊎ ((carried_out sources o s).reading ≡ between mode.Reads)
+    → (is_mode_ended (carried_out sources o s).reading.mode ≡ true) ⊎ ((carried_out sources o s).reading ≡ between Recovery.Reads)
 carried_out_ends sources o s e empty =
-    of_both (λ (x : State). (is_mode_ended x.reading.mode ≡ true) ⊎ (x.reading ≡ between mode.Reads)) s.work.report.counts.is_over s
+    of_both (λ (x : State). (is_mode_ended x.reading.mode ≡ true) ⊎ (x.reading ≡ between Recovery.Reads)) s.work.report.counts.is_over s
     (cond (is_mode_ended s.reading.mode) (left s) (answered s.work.asked sources o (asked_nothing s)))
     (λ _. inl e)
     (λ _. subst (λ b. (is_mode_ended (cond b (left s) (answered s.work.asked sources o (asked_nothing s))).reading.mode ≡ true) ⊎
-    ((cond b (left s) (answered s.work.asked sources o (asked_nothing s))).reading ≡ between mode.Reads))
+    ((cond b (left s) (answered s.work.asked sources o (asked_nothing s))).reading ≡ between Recovery.Reads))
     (sym e) (left_ends s s.nesting.waiting e empty))
 
 -- a reading that rests is between two pieces, or at the end
 now_rests : (given : List Given) (r : Reading) → Now given r → rests r ≡ true →
-    (r ≡ between mode.Reads) ⊎ ((is_mode_ended r.mode ≡ true) × (r.stack ≡ []))
+    (r ≡ between Recovery.Reads) ⊎ ((is_mode_ended r.mode ≡ true) × (r.stack ≡ []))
 now_rests given r (Inside tokens e at some) rest_now = absurd (no_end (sym rest_now ∙ goes_inside r at.reads some))
 now_rests given r (Whole tokens e piece at) rest_now = inl at
 now_rests given r (Skips tokens wrong behind e begun bad at) rest_now =
     go (skipped (skip_behind (map atom_of tokens)) (wrong ∷ behind)) at
   where
-    go : (m : Recovery) → r ≡ between m → (r ≡ between mode.Reads) ⊎ ((is_mode_ended r.mode ≡ true) × (r.stack ≡ []))
-    go mode.Reads same = inl same
-    go mode.Ended same = inr (ap (λ (x : Reading). is_mode_ended x.mode) same, ap (λ (x : Reading). x.stack) same)
-    go mode.SkipsRoutine same = absurd (no_end (sym rest_now ∙ ap rests same))
-    go mode.SkipsDirective same = absurd (no_end (sym rest_now ∙ ap rests same))
+    go : (m : Recovery) → r ≡ between m → (r ≡ between Recovery.Reads) ⊎ ((is_mode_ended r.mode ≡ true) × (r.stack ≡ []))
+    go Recovery.Reads same = inl same
+    go Recovery.Ended same = inr (ap (λ (x : Reading). is_mode_ended x.mode) same, ap (λ (x : Reading). x.stack) same)
+    go Recovery.SkipsRoutine same = absurd (no_end (sym rest_now ∙ ap rests same))
+    go Recovery.SkipsDirective same = absurd (no_end (sym rest_now ∙ ap rests same))
 now_rests given r (Ended t e ends at) rest_now = inr (ap (λ (x : Reading). is_mode_ended x.mode) at, ap (λ (x : Reading). x.stack) at)
 
-going_on : (m : Recovery) → m ≡ mode.Reads → is_mode_ended m ≡ false
+going_on : (m : Recovery) → m ≡ Recovery.Reads → is_mode_ended m ≡ false
 going_on m e = ap is_mode_ended e
 
 rests_parts : (limits : Limits) (sources : Sources) (o : Choices) (s : State) (given : List Given) →

@@ -1,8 +1,7 @@
 -- Names that are the same, in any case.
+use Rattle.std.proofs.{lemmas.Bool.Decides.Decides-like, lemmas.Bool.Decides.same_from_decides, lemmas.Slice.Eq.bytes_eq-Decides}
 use Rattle.std.proofs.Common.{◌≡◌, ℕ, true, List, sym}
 use Rattle.std.specs.Str.{bytes_eq, str_eq_ignore_ascii_case}
-use Rattle.std.proofs.lemmas.Bool.Decides.{Decides-like, same_from_decides}
-use Rattle.std.proofs.lemmas.Slice.Eq.{bytes_eq-Decides}
 use Rattle.inf_names.specs.Symbols.{folded}
 
 pub same_key : (a b : List ℕ) → bytes_eq a b ≡ true → a ≡ b

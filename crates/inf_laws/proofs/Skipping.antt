@@ -1,18 +1,13 @@
 -- The skipping of a bad piece.
 use Rattle.std.proofs.Common.{◌≡◌, ℕ, suc, zero, ◌≤◌, List, [], ◌∷◌, ◌++◌, length, take, cond, not, ◌||◌, true, false, refl, ap, ◌∙◌, arith}
-use Rattle.std.specs.List.{list_all}
 use Rattle.std.proofs.lemmas.Bool.{and_parts, not-true, or_parts}
+use Rattle.std.specs.List.{list_all}
 use Rattle.inf_settings.specs.Bounds.{Limits}
-use Rattle.inf_scanner.specs.declared.tokens.Mark.{Mark}
-use Rattle.inf_scanner.specs.declared.tokens.Mark.TheVariants as mark
-use Rattle.inf_scanner.specs.declared.tokens.TokenKind.{TokenKind}
-use Rattle.inf_scanner.specs.declared.tokens.TokenKind.TheVariants as kind
+use Rattle.inf_scanner.specs.{declared.tokens.Mark.Mark, declared.tokens.TokenKind.TokenKind}
 use Rattle.inf_compilation.specs.Context.{Context}
 use Rattle.inf_unit.specs.Tokens.{SourceToken, is_end, is_mark}
-use Rattle.inf_reader.specs.Handing.{skips, unfit_in}
+use Rattle.inf_reader.specs.{Handing.skips, Handing.unfit_in, declared.recovery.Recovery.Recovery}
 use Rattle.inf_reader.specs.Reading.{ReaderState, passed, passed_mark, step_in}
-use Rattle.inf_reader.specs.declared.recovery.Recovery.{Recovery}
-use Rattle.inf_reader.specs.declared.recovery.Recovery.TheVariants as mode
 use Rattle.inf_laws.specs.KeptTokens.{Given, Kept, Unfit, skipped, token_in}
 use Rattle.inf_laws.specs.Skipping.{at, Lack, PassesTo, PassedTokensDoNothing, DirectivesAreSkipped, RoutinesAreSkipped, SourcesEnd}
 
@@ -20,17 +15,17 @@ use Rattle.inf_laws.specs.Skipping.{at, Lack, PassesTo, PassedTokensDoNothing, D
 
 steps_over : (limits : Limits) (m : Recovery) (context : Context) (t : SourceToken) (s : ReaderState) → s.reading.mode ≡ m → skips m ≡ true
     → step_in limits m context t s.reading s.work ≡ at (passed m t.kind) s
-steps_over limits mode.SkipsRoutine context t s e is = refl
-steps_over limits mode.SkipsDirective context t s e is = refl
-steps_over limits mode.Reads context t s e is = cc
-steps_over limits mode.Ended context t s e is = cc
+steps_over limits Recovery.SkipsRoutine context t s e is = refl
+steps_over limits Recovery.SkipsDirective context t s e is = refl
+steps_over limits Recovery.Reads context t s e is = cc
+steps_over limits Recovery.Ended context t s e is = cc
 
 unfit_steps : (limits : Limits) (m : Recovery) (context : Context) (t : SourceToken) (s : ReaderState) → s.reading.mode ≡ m → skips m ≡ true
     → unfit_in limits m context t s ≡ step_in limits s.reading.mode context t s.reading s.work
-unfit_steps limits mode.SkipsRoutine context t s e is = refl
-unfit_steps limits mode.SkipsDirective context t s e is = refl
-unfit_steps limits mode.Reads context t s e is = cc
-unfit_steps limits mode.Ended context t s e is = cc
+unfit_steps limits Recovery.SkipsRoutine context t s e is = refl
+unfit_steps limits Recovery.SkipsDirective context t s e is = refl
+unfit_steps limits Recovery.Reads context t s e is = cc
+unfit_steps limits Recovery.Ended context t s e is = cc
 
 pub passed_tokens_do_nothing : (limits : Limits) → PassedTokensDoNothing limits
 passed_tokens_do_nothing limits context (Kept t) s is = steps_over limits s.reading.mode context t s refl is
@@ -38,12 +33,12 @@ passed_tokens_do_nothing limits context (Unfit t) s is =
     unfit_steps limits s.reading.mode context t s refl is ∙ steps_over limits s.reading.mode context t s refl is
 
 pub sources_end : SourcesEnd
-sources_end m token e = ap (λ b. cond b mode.Ended (passed_mark m token)) e
+sources_end m token e = ap (λ b. cond b Recovery.Ended (passed_mark m token)) e
 
 -- The tokens of a piece
 
 mark_is_no_end : (m : Mark) (k : TokenKind) → is_mark m k ≡ true → is_end k ≡ false
-mark_is_no_end m kind.End e = cc
+mark_is_no_end m TokenKind.End e = cc
 mark_is_no_end m _ e = refl
 
 -- From this mode a mark leads to the next, and every other token but the end leads nowhere.
@@ -51,22 +46,24 @@ record Passes (m : Mark) (before after : Recovery) : Type 0 where
   stays : (k : TokenKind) → is_end k ≡ false → is_mark m k ≡ false → passed before k ≡ before
   leaves : (k : TokenKind) → is_mark m k ≡ true → passed before k ≡ after
 
-in_routine : Passes mark.CloseBracket mode.SkipsRoutine mode.SkipsDirective
+in_routine : Passes Mark.CloseBracket Recovery.SkipsRoutine Recovery.SkipsDirective
 in_routine = record {
   stays = λ k going other.
-      ap (λ b. cond b mode.Ended (passed_mark mode.SkipsRoutine k)) going ∙ ap (λ b. cond b mode.SkipsDirective mode.SkipsRoutine) other;
+      ap (λ b. cond b Recovery.Ended (passed_mark Recovery.SkipsRoutine k)) going
+      ∙ ap (λ b. cond b Recovery.SkipsDirective Recovery.SkipsRoutine) other;
   leaves = λ k is.
-      ap (λ b. cond b mode.Ended (passed_mark mode.SkipsRoutine k)) (mark_is_no_end mark.CloseBracket k is)
-      ∙ ap (λ b. cond b mode.SkipsDirective mode.SkipsRoutine) is;
+      ap (λ b. cond b Recovery.Ended (passed_mark Recovery.SkipsRoutine k)) (mark_is_no_end Mark.CloseBracket k is)
+      ∙ ap (λ b. cond b Recovery.SkipsDirective Recovery.SkipsRoutine) is;
 }
 
-in_directive : Passes mark.Semicolon mode.SkipsDirective mode.Reads
+in_directive : Passes Mark.Semicolon Recovery.SkipsDirective Recovery.Reads
 in_directive = record {
   stays = λ k going other.
-      ap (λ b. cond b mode.Ended (passed_mark mode.SkipsDirective k)) going ∙ ap (λ b. cond b mode.Reads mode.SkipsDirective) other;
+      ap (λ b. cond b Recovery.Ended (passed_mark Recovery.SkipsDirective k)) going
+      ∙ ap (λ b. cond b Recovery.Reads Recovery.SkipsDirective) other;
   leaves = λ k is.
-      ap (λ b. cond b mode.Ended (passed_mark mode.SkipsDirective k)) (mark_is_no_end mark.Semicolon k is)
-      ∙ ap (λ b. cond b mode.Reads mode.SkipsDirective) is;
+      ap (λ b. cond b Recovery.Ended (passed_mark Recovery.SkipsDirective k)) (mark_is_no_end Mark.Semicolon k is)
+      ∙ ap (λ b. cond b Recovery.Reads Recovery.SkipsDirective) is;
 }
 
 module _ (m : Mark) (before after : Recovery) (passes : Passes m before after) where
@@ -106,8 +103,8 @@ module _ (m : Mark) (before after : Recovery) (passes : Passes m before after) w
 
 pub directives_are_skipped : DirectivesAreSkipped
 directives_are_skipped inside semicolon lack is =
-    passes_to mark.Semicolon mode.SkipsDirective mode.Reads in_directive inside semicolon lack is
+    passes_to Mark.Semicolon Recovery.SkipsDirective Recovery.Reads in_directive inside semicolon lack is
 
 pub routines_are_skipped : RoutinesAreSkipped
 routines_are_skipped inside bracket lack is =
-    passes_to mark.CloseBracket mode.SkipsRoutine mode.SkipsDirective in_routine inside bracket lack is
+    passes_to Mark.CloseBracket Recovery.SkipsRoutine Recovery.SkipsDirective in_routine inside bracket lack is

@@ -1,16 +1,11 @@
 -- Each part to which a table refers is among the parts of its area.
 use Rattle.std.proofs.Common.{◌≡◌, ℕ, zero, suc, ◌+◌, ◌≤◌, ◌<◌, List, [], ◌∷◌, ◌++◌, length, Bool, true, refl, arith}
 use Rattle.std.specs.Prelude.{◌*◌, ◌%◌, is_some, slice_get}
+use Rattle.inf_area.specs.{declared.cells.Cell.Cell, declared.targets.AreaName.AreaName, declared.targets.Target.Target}
 use Rattle.inf_area.specs.Cells.{bytes_of, word_cells}
-use Rattle.inf_area.specs.declared.cells.Cell.{Cell}
-use Rattle.inf_area.specs.declared.cells.Cell.TheVariants as cell
-use Rattle.inf_area.specs.declared.targets.AreaName.TheVariants as area_name
-use Rattle.inf_area.specs.declared.targets.Target.TheVariants as target
 use Rattle.inf_link.specs.Targets.{Lookup}
-use Rattle.inf_objects.specs.Attributes.{attribute_cells}
-use Rattle.inf_objects.specs.Tables.{individual_table_cells, table_cells}
-use Rattle.inf_objects.specs.Tree.{child_of, sibling_of}
-use Rattle.inf_objects.specs.declared.objects.Object.{Object}
+use Rattle.inf_objects.specs.{Attributes.attribute_cells, Tables.individual_table_cells, Tables.table_cells, Tree.child_of, Tree.sibling_of}
+use Rattle.inf_objects.specs.{declared.objects.Object.Object}
 use Rattle.inf_story.specs.Tables.{looked_up}
 use Rattle.inf_tables.specs.Areas.{all_objects, individual_places_from, object_cells, objects_from, parents_of, shown_attributes}
 use Rattle.inf_tables.specs.Areas.{table_places_from}
@@ -53,7 +48,7 @@ attributes_found targets attributes = (tt, (tt, (tt, (tt, (tt, (tt, tt))))))
 abbrev link_cells : ℕ → ℕ → ℕ → ℕ → List Cell
 link_cells parent sibling child part =
     word_cells (parent % 65536) ++ word_cells (sibling % 65536) ++ word_cells (child % 65536)
-    ++ cell.Later (target.Part area_name.PropertyTables part) ∷ []
+    ++ Cell.Later (Target.Part AreaName.PropertyTables part) ∷ []
 
 links_found : (targets : Lookup) (parent sibling child part : ℕ) → part < length targets.property_tables
     → AllFound targets (link_cells parent sibling child part)
@@ -83,7 +78,8 @@ objects_found targets parents part (o ∷ objects) within =
 addresses_found : (targets : Lookup) (number : ℕ) → number ≤ length targets.verbs → AllFound targets (address_cells number)
 addresses_found targets zero within = tt
 addresses_found targets (suc number) within =
-    found_in_both targets (address_cells number) (cell.Later (target.Part area_name.Grammar number) ∷ []) (addresses_found targets number (omega (arith, within)))
+    found_in_both targets (address_cells number) (Cell.Later (Target.Part AreaName.Grammar number) ∷ [])
+    (addresses_found targets number (omega (arith, within)))
     (found_below targets.verbs number (omega (arith, within)), tt)
 
 pub parts_are_found : AllPartsAreFound

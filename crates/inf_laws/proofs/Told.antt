@@ -4,19 +4,15 @@ use Rattle.std.proofs.lemmas.List.{append-nil}
 use Rattle.inf_settings.specs.Bounds.{Limits}
 use Rattle.inf_unit.specs.Tokens.{SourceToken, atom_of, is_end}
 use Rattle.inf_unit.proofs.Cases.{of_both}
-use Rattle.inf_machine.specs.declared.symbols.Symbol.{Symbol}
-use Rattle.inf_machine.specs.Machine.{fits}
+use Rattle.inf_machine.specs.{Machine.fits, declared.symbols.Symbol.Symbol}
 use Rattle.inf_syntax.specs.declared.actions.Action.{Action}
 use Rattle.inf_grammar.specs.Language.{grammar, known}
-use Rattle.inf_compilation.specs.Context.{Context}
-use Rattle.inf_compilation.specs.Actions.{Compilation, piece_begun as work_begun}
-use Rattle.inf_reader.specs.Handing.{unfit_in}
+use Rattle.inf_compilation.specs.{Actions.Compilation, Actions.piece_begun as work_begun, Context.Context}
+use Rattle.inf_reader.specs.{Handing.unfit_in, declared.recovery.Recovery.Recovery}
 use Rattle.inf_reader.specs.Pieces.{BeginsPiece, at_hand, at_hand_by, work_by}
 use Rattle.inf_reader.specs.Reading.{Reading, ReaderState, bad, between, judged, piece_begun, read_at, step_in, took}
-use Rattle.inf_reader.specs.declared.recovery.Recovery.TheVariants as mode
+use Rattle.inf_laws.specs.{Skipping.given_at, Told.IsAt, Told.TokensAreTakenOrTold, Told.UnfitTokensAreTold}
 use Rattle.inf_laws.specs.KeptTokens.{Given, GoesBehind, Kept, Unfit, all_given_to, given_to, rests}
-use Rattle.inf_laws.specs.Skipping.{given_at}
-use Rattle.inf_laws.specs.Told.{IsAt, TokensAreTakenOrTold, UnfitTokensAreTold}
 use Rattle.inf_laws.proofs.KeptTokens.{At, Ended, Inside, Now, Skips, Whole, begins, first, goes, next, no_token, stops}
 
 -- The tokens that were kept
@@ -41,7 +37,7 @@ onward (g ∷ given) before r now on =
 
 -- A piece that goes on
 
-open_at : (tokens : List SourceToken) (r : Reading) → Now (map Kept tokens) r → r.mode ≡ mode.Reads → rests r ≡ false → At tokens r
+open_at : (tokens : List SourceToken) (r : Reading) → Now (map Kept tokens) r → r.mode ≡ Recovery.Reads → rests r ≡ false → At tokens r
 open_at tokens r (Inside others e at some) reads on = subst (λ ts. At ts r) (sym (same_tokens tokens others e)) at
 open_at tokens r (Whole others e is at) reads on = absurd (let never : true ≡ false = sym (ap rests at) ∙ on in cc)
 open_at tokens r (Ended t e is at) reads on = absurd (let never : true ≡ false = sym (ap rests at) ∙ on in cc)
@@ -54,13 +50,14 @@ some_at : (t : SourceToken) (tokens : List SourceToken) (s : ReaderState) → Is
 some_at t tokens s at on =
     open_at (t ∷ tokens) s.reading
     (subst (λ (r : Reading). Now (map Kept (t ∷ tokens)) r) (sym at.is_read)
-    (onward (map Kept tokens) (Kept t ∷ []) (given_to (Kept t) (between mode.Reads)) (first (Kept t) (between mode.Reads) refl) at.goes_on))
+    (onward (map Kept tokens) (Kept t ∷ []) (given_to (Kept t) (between Recovery.Reads)) (first (Kept t) (between Recovery.Reads) refl)
+    at.goes_on))
     at.reads on
 
-open_stack : (stack : List (Symbol Action)) (r : Reading) → r.mode ≡ mode.Reads → r.stack ≡ stack → rests r ≡ false → stack ≡ [] → ⊥
+open_stack : (stack : List (Symbol Action)) (r : Reading) → r.mode ≡ Recovery.Reads → r.stack ≡ stack → rests r ≡ false → stack ≡ [] → ⊥
 open_stack stack r reads e on empty =
-    let same : r ≡ between mode.Reads =
-    ap (λ m. record { mode = m; stack = r.stack }) reads ∙ ap (λ x. record { mode = mode.Reads; stack = x }) (e ∙ empty) in
+    let same : r ≡ between Recovery.Reads =
+    ap (λ m. record { mode = m; stack = r.stack }) reads ∙ ap (λ x. record { mode = Recovery.Reads; stack = x }) (e ∙ empty) in
     let never : true ≡ false = sym (ap rests same) ∙ on in
     cc
 
@@ -87,7 +84,7 @@ comes : (limits : Limits) (context : Context) (t : SourceToken) (stack : List (S
     (is_end t.kind ≡ false) ⊎ (stack ≡ [] → ⊥)
     → read_at limits context t stack r w ≡ judged limits context t (at_hand_by stack r) (work_by stack w)
 comes limits context t [] r w (inl going) =
-    ap (λ b. cond b (record { reading = record r { mode = mode.Ended }; work = w })
+    ap (λ b. cond b (record { reading = record r { mode = Recovery.Ended }; work = w })
     (judged limits context t (piece_begun r) (work_begun w))) going
 comes limits context t [] r w (inr some) = absurd (some refl)
 comes limits context t (symbol ∷ symbols) r w going = refl
@@ -107,7 +104,7 @@ hand_at (t ∷ tokens) s at (inr on) =
     (open_stack s.reading.stack s.reading at.reads refl on)))
     (some_at t tokens s at on)
 
-goes_by : (t : SourceToken) (s : ReaderState) → s.reading.mode ≡ mode.Reads → (is_end t.kind ≡ false) ⊎ (rests s.reading ≡ false) →
+goes_by : (t : SourceToken) (s : ReaderState) → s.reading.mode ≡ Recovery.Reads → (is_end t.kind ≡ false) ⊎ (rests s.reading ≡ false) →
     (is_end t.kind ≡ false) ⊎ (s.reading.stack ≡ [] → ⊥)
 goes_by t s reads (inl going) = inl going
 goes_by t s reads (inr on) = inr (open_stack s.reading.stack s.reading reads refl on)

@@ -1,21 +1,13 @@
 -- The ends of units tell the least of what is wrong with them.
-use Rattle.std.proofs.Common.{◌≡◌, List, [], ◌∷◌, map, true, Option, None, Some, refl, sym, ap, subst, ◌∙◌}
-use Rattle.std.specs.Prelude.{if◌then◌else◌}
+use Rattle.std.proofs.Common.{◌≡◌, List, [], ◌∷◌, map, true, Option, None, Some, refl, sym, ap, subst, ◌∙◌, if◌then◌else◌}
 use Rattle.inf_settings.specs.Bounds.{Limits}
 use Rattle.inf_scanner.specs.declared.tokens.Place.{Place}
-use Rattle.inf_expressions.specs.declared.findings.Finding.{Finding}
-use Rattle.inf_expressions.specs.declared.units.Wanted.TheVariants as wanted
-use Rattle.inf_expressions.specs.Findings.{no_constant}
-use Rattle.inf_expressions.specs.Rooted.{Rooted}
-use Rattle.inf_names.specs.Symbols.{declare_fault}
-use Rattle.inf_names.specs.declared.meanings.Meaning.{Meaning}
+use Rattle.inf_expressions.specs.{Findings.no_constant, Rooted.Rooted, declared.findings.Finding.Finding, declared.units.Wanted.Wanted}
+use Rattle.inf_names.specs.{Symbols.declare_fault, declared.meanings.Meaning.Meaning}
 use Rattle.inf_output.specs.Output.{declared, full}
 use Rattle.inf_constructs.specs.Roots.{tree_in}
-use Rattle.inf_statements.specs.Effects.{site_finding}
-use Rattle.inf_statements.specs.declared.statements.Statement.{Statement}
-use Rattle.inf_statements.specs.declared.statements.Statement.TheVariants as statement
-use Rattle.inf_unit.specs.Messages.{with_full}
-use Rattle.inf_unit.specs.Units.{name_order, order}
+use Rattle.inf_statements.specs.{Effects.site_finding, declared.statements.Statement.Statement}
+use Rattle.inf_unit.specs.{Messages.with_full, Units.name_order, Units.order}
 use Rattle.inf_compilation.specs.Actions.{Compilation, constant_added, constant_finding, constant_findings, constant_meaning}
 use Rattle.inf_compilation.specs.Actions.{constant_of, finding_at, named, operands_of, passed, settled_of, trees_at, unit_ended}
 use Rattle.inf_compilation.specs.Context.{Context}
@@ -23,10 +15,8 @@ use Rattle.inf_compilation.specs.Findings.{Findings, again_by, again_finding, fo
 use Rattle.inf_parts.specs.Parts.{found_in, has_last, order_of, own_finding, part_begun, part_carried}
 use Rattle.inf_parts.specs.Parts.{part_effect, part_ended, part_finished, place_of, site_of, wanted_of}
 use Rattle.inf_parts.specs.declared.parts.Part.{Part}
-use Rattle.inf_parts.specs.declared.parts.Part.TheVariants as part
 use Rattle.inf_laws.specs.Findings.{told_behind}
-use Rattle.inf_laws.specs.UnitFaults.{ConstantsTellTheLeast, IsLeastOf, PartsTellTheLeast, listed, own_faults, ready}
-use Rattle.inf_laws.specs.UnitFaults.{value_faults}
+use Rattle.inf_laws.specs.UnitFaults.{ConstantsTellTheLeast, IsLeastOf, PartsTellTheLeast, listed, own_faults, ready, value_faults}
 use Rattle.inf_laws.proofs.LeastFaults.{least_of_lists, least_of_one}
 
 least_listed : (o : Option Finding) → IsLeastOf o (listed o)
@@ -37,31 +27,33 @@ least_listed (Some f) = least_of_one f
 
 own_least : (limits : Limits) (context : Context) (p : Part) (w : Compilation)
     → IsLeastOf (own_finding limits context p w) (own_faults limits context p w)
-own_least limits context (part.Statement s) w = of_statement s
+own_least limits context (Part.Statement s) w = of_statement s
   where
-    of_statement : (s : Statement) → IsLeastOf (own_finding limits context (part.Statement s) w) (own_faults limits context (part.Statement s) w)
-    of_statement statement.Assembly =
+    of_statement : (s : Statement) →
+        IsLeastOf (own_finding limits context (Part.Statement s) w) (own_faults limits context (Part.Statement s) w)
+    of_statement Statement.Assembly =
         let own =
-        site_finding limits (site_of context w) w.output.names (map tree_in (trees_at (order w.unit.begun) wanted.Operand (operands_of w) w)) in
+        site_finding limits (site_of context w) w.output.names
+        (map tree_in (trees_at (order w.unit.begun) Wanted.Operand (operands_of w) w)) in
         least_of_lists w.unit.passed own (listed w.unit.passed) (listed own) (least_listed w.unit.passed) (least_listed own)
-    of_statement s = least_listed (own_finding limits context (part.Statement s) w)
-own_least limits context part.Condition w = refl
-own_least limits context part.Start w = refl
-own_least limits context part.Step w = refl
-own_least limits context part.Loop w = refl
-own_least limits context part.Switched w = refl
-own_least limits context part.Case w = least_listed (own_finding limits context part.Case w)
+    of_statement s = least_listed (own_finding limits context (Part.Statement s) w)
+own_least limits context Part.Condition w = refl
+own_least limits context Part.Start w = refl
+own_least limits context Part.Step w = refl
+own_least limits context Part.Loop w = refl
+own_least limits context Part.Switched w = refl
+own_least limits context Part.Case w = least_listed (own_finding limits context Part.Case w)
 
 effect_report : (limits : Limits) (context : Context) (p : Part) (trees : List Rooted) (w : Compilation)
     → (part_effect limits context p trees w).report ≡ w.report
 unfolding part_effect
-effect_report limits context (part.Statement s) trees w = refl
-effect_report limits context part.Condition trees w = refl
-effect_report limits context part.Start trees w = refl
-effect_report limits context part.Step trees w = refl
-effect_report limits context part.Loop trees w = refl
-effect_report limits context part.Switched trees w = refl
-effect_report limits context part.Case trees w = refl
+effect_report limits context (Part.Statement s) trees w = refl
+effect_report limits context Part.Condition trees w = refl
+effect_report limits context Part.Start trees w = refl
+effect_report limits context Part.Step trees w = refl
+effect_report limits context Part.Loop trees w = refl
+effect_report limits context Part.Switched trees w = refl
+effect_report limits context Part.Case trees w = refl
 
 carried_told : (limits : Limits) (context : Context) (first : Place) (p : Part) (f : Option Finding) (w : Compilation)
     → (part_carried limits context first p f w).report
@@ -77,11 +69,11 @@ abbrev begun_named : Limits → Part → Compilation → Compilation
 begun_named limits p w = named (part_begun limits p w)
 
 begun_report : (limits : Limits) (p : Part) (w : Compilation) → (begun_named limits p w).report ≡ w.report
-begun_report limits part.Case w = refl
+begun_report limits Part.Case w = refl
 begun_report limits _ w = refl
 
 begun_tokens : (limits : Limits) (p : Part) (w : Compilation) → (begun_named limits p w).unit.tokens ≡ w.unit.tokens
-begun_tokens limits part.Case w = refl
+begun_tokens limits Part.Case w = refl
 begun_tokens limits _ w = refl
 
 finished_told : (limits : Limits) (context : Context) (first : Place) (p : Part) (w : Compilation)
@@ -133,8 +125,8 @@ added_told limits context first found (Some f) w = refl
 
 pub constants_tell_the_least : (limits : Limits) → ConstantsTellTheLeast limits
 constants_tell_the_least limits context first name others w =
-    let m = constant_of (map tree_in (trees_at 0 wanted.Constant (operands_of w) w)) w in
-    let judged = finding_at 0 wanted.Constant w in
+    let m = constant_of (map tree_in (trees_at 0 Wanted.Constant (operands_of w) w)) w in
+    let judged = finding_at 0 Wanted.Constant w in
     let finding = constant_finding m judged in
     let again = again_by name (declare_fault limits name.bytes w.output.names) in
     let of_name = again_finding (name_order w.unit.tokens) again in

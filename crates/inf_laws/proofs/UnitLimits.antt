@@ -1,28 +1,19 @@
 -- Units that end without a fatal message keep labels, code, references and tokens within their settings.
-use Rattle.std.proofs.Common.{◌≡◌, ◌∙◌, ◌+◌, ◌-◌, ◌≤◌, ℕ, zero, suc, List, [], ◌∷◌, length, cond, ltb, Bool, true, false, Option, Some, None}
-use Rattle.std.proofs.Common.{refl, sym, arith}
-use Rattle.std.proofs.Math.Nat.{max-le, min-le_left}
-use Rattle.std.proofs.lemmas.Bool.{ltb-false}
-use Rattle.std.specs.Prelude.{option_map}
+use Rattle.std.proofs.Common.{◌≡◌, ◌∙◌, ◌+◌, ◌-◌, ◌≤◌, ℕ, zero, suc, List, [], ◌∷◌, length, cond, ltb, Bool, true, false, Option, Some}
+use Rattle.std.proofs.Common.{None, refl, sym, arith, option_map}
+use Rattle.std.proofs.{Math.Nat.max-le, Math.Nat.min-le_left, lemmas.Bool.ltb-false}
 use Rattle.std.specs.List.{slice_get}
 use Rattle.inf_code.specs.Code.{Routines, bytes_of_code, labels, reference_count, references_open, rest, rest_behind}
+use Rattle.inf_compilation.specs.{Context.Context, Context.longest, Findings.Findings, Findings.told_as}
 use Rattle.inf_compilation.specs.Actions.{Compilation, begun_at, sized, stopped, unit_ended}
-use Rattle.inf_compilation.specs.Context.{Context, longest}
-use Rattle.inf_compilation.specs.Findings.{Findings, told_as}
-use Rattle.inf_conditionals.specs.Condition.{Condition}
-use Rattle.inf_conditionals.specs.Judging.{tokens_counted}
-use Rattle.inf_conditionals.specs.Open.{Conditions}
-use Rattle.inf_conditionals.specs.Said.{too_much, too_much_by}
+use Rattle.inf_conditionals.specs.{Condition.Condition, Judging.tokens_counted, Open.Conditions, Said.too_much, Said.too_much_by}
 use Rattle.inf_output.specs.Output.{Out, begun, counted, full, full_of, full_past, less, past_by, whole}
 use Rattle.inf_output.specs.declared.past.Past.{Past}
 use Rattle.inf_report.specs.Reports.{Counts, with_fatal as fatal_counted}
 use Rattle.inf_scanner.specs.declared.tokens.Place.{Place}
-use Rattle.inf_settings.specs.Bounds.{Limits}
-use Rattle.inf_settings.specs.declared.setting.Setting.{Setting}
-use Rattle.inf_settings.specs.declared.setting.Setting.TheVariants as setting
+use Rattle.inf_settings.specs.{Bounds.Limits, declared.setting.Setting.Setting}
 use Rattle.inf_tables.specs.Tables.{AllTables, more, references}
-use Rattle.inf_unit.specs.Messages.{FileNames, Reported, with_fault, with_full}
-use Rattle.inf_unit.specs.Tokens.{SourceToken}
+use Rattle.inf_unit.specs.{Messages.FileNames, Messages.Reported, Messages.with_fault, Messages.with_full, Tokens.SourceToken}
 use Rattle.inf_unit.specs.Units.{Unit, long_at, long_by, long_from, outer_count, outer_tokens, place_at}
 use Rattle.inf_laws.specs.UnitLimits.{IsWithin, KeepsWithin, StopsForALimit, UnitsKeepWithin}
 
@@ -76,16 +67,16 @@ more_within a b limit few = omega (arith, few, min-le_left (a + b) 1844674407370
 
 -- the limits of an output of which all was laid
 whole_fits : (limits : Limits) (code : Routines) (tables : AllTables) → full_past (counted (references tables) (whole limits code)) ≡ None
-    → (labels code ≤ limits setting.Labels) × ((bytes_of_code code ≤ limits setting.Code)
-    × (reference_count code + references_open code.opened + references tables ≤ limits setting.References))
+    → (labels code ≤ limits Setting.Labels) × ((bytes_of_code code ≤ limits Setting.Code)
+    × (reference_count code + references_open code.opened + references tables ≤ limits Setting.References))
 whole_fits limits code tables free =
-    let refs = full_of (less (rest_behind (rest (limits setting.References) (reference_count code)) (references_open code.opened))
-    (references tables)) setting.References None in
-    let first = rest_fits (limits setting.Labels) (labels code) setting.Labels
-    (full_of (rest (limits setting.Code) (bytes_of_code code)) setting.Code refs) free in
-    let second = rest_fits (limits setting.Code) (bytes_of_code code) setting.Code refs first.1 in
+    let refs = full_of (less (rest_behind (rest (limits Setting.References) (reference_count code)) (references_open code.opened))
+    (references tables)) Setting.References None in
+    let first = rest_fits (limits Setting.Labels) (labels code) Setting.Labels
+    (full_of (rest (limits Setting.Code) (bytes_of_code code)) Setting.Code refs) free in
+    let second = rest_fits (limits Setting.Code) (bytes_of_code code) Setting.Code refs first.1 in
     let third =
-    references_fit (limits setting.References) (reference_count code) (references_open code.opened) (references tables) setting.References
+    references_fit (limits Setting.References) (reference_count code) (references_open code.opened) (references tables) Setting.References
     second.1 in
     (first.0, (second.0, third))
 
@@ -120,7 +111,7 @@ within_by limits o None is stops free =
     record {
       few_labels = fits.0;
       few_bytes = fits.1.0;
-      few_references = more_within (reference_count o.code) (references o.tables) (limits setting.References) (omega (arith, fits.1.1));
+      few_references = more_within (reference_count o.code) (references o.tables) (limits Setting.References) (omega (arith, fits.1.1));
       few_with_open = fits.1.1;
     }
 

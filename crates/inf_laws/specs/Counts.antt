@@ -1,15 +1,10 @@
 -- The counts of two limits: the bytes of code and the references of the story that is made.
 use Rattle.std.specs.Prelude.{◌≡◌, ◌+◌, ◌≤◌, ℕ, List, [], ◌∷◌, true, nat_lt, if◌then◌else◌, Option, Some, None}
-use Rattle.inf_settings.specs.Bounds.{Limits}
-use Rattle.inf_settings.specs.declared.setting.Setting.{Setting}
-use Rattle.inf_settings.specs.declared.setting.Setting.TheVariants as setting
-use Rattle.inf_area.specs.declared.targets.AreaName.{AreaName}
-use Rattle.inf_area.specs.Cells.{later_count, size_of}
-use Rattle.inf_area.specs.declared.cells.Cell.{Cell}
-use Rattle.inf_link.specs.Areas.{area_of, order}
-use Rattle.inf_link.specs.declared.areas.Areas.{Areas}
+use Rattle.inf_settings.specs.{Bounds.Limits, declared.setting.Setting.Setting}
+use Rattle.inf_area.specs.{Cells.later_count, Cells.size_of, declared.cells.Cell.Cell, declared.targets.AreaName.AreaName}
+use Rattle.inf_link.specs.{Areas.area_of, Areas.order, declared.areas.Areas.Areas}
 use Rattle.inf_output.specs.Output.{Out, full}
-use Rattle.inf_properties.specs.declared.sizes.Owner.TheVariants as owner
+use Rattle.inf_properties.specs.declared.sizes.Owner.{Owner}
 use Rattle.inf_story.specs.Tables.{areas}
 use Rattle.inf_tables.specs.Tables.{AllTables}
 
@@ -21,15 +16,15 @@ later_in (name ∷ names) cells = later_count (area_of name cells) + later_in na
 -- the first limit that code of some bytes, or some references, would pass
 abbrev pub first_passed : Limits → ℕ → ℕ → Option Setting
 first_passed limits bytes references =
-    if nat_lt (limits setting.Code) bytes then Some setting.Code else
-    if nat_lt (limits setting.References) references then Some setting.References else None
+    if nat_lt (limits Setting.Code) bytes then Some Setting.Code else
+    if nat_lt (limits Setting.References) references then Some Setting.References else None
 
 -- Tells whether the output of a source is finished: code has begun, no routine and no body of an object is open, and no limit was passed
 -- before.
 pub record IsFinished (o : Out) : Type 0 where
   pub begun : o.code.has_begun ≡ true
   pub closed : o.code.opened ≡ None
-  pub unowned : o.tables.world.body.properties.owner ≡ owner.Nothing
+  pub unowned : o.tables.world.body.properties.owner ≡ Owner.Nothing
   pub unpassed : o.past ≡ None
 
 -- the cells of all areas of the story of an output whose first routine calls the one at `main`

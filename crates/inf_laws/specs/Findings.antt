@@ -4,22 +4,15 @@ use Rattle.std.specs.Prelude.{None, is_some}
 use Rattle.std.specs.Str.{str_eq_ignore_ascii_case}
 use Rattle.inf_settings.specs.Bounds.{Limits}
 use Rattle.inf_scanner.specs.declared.tokens.Place.{Place}
-use Rattle.inf_syntax.specs.declared.actions.Action.TheVariants as action
-use Rattle.inf_names.specs.Symbols.{Table, found_in}
-use Rattle.inf_names.specs.declared.symbols.Found.{Found as FoundName}
-use Rattle.inf_names.specs.declared.symbols.Found.TheVariants as found
-use Rattle.inf_report.specs.Messages.{Declared, SystemName, TooMany}
-use Rattle.inf_report.specs.declared.messages.FixedLimit.TheVariants as countable
-use Rattle.inf_names.specs.Spellings.{Name}
-use Rattle.inf_names.specs.Locals.{with_locals, no_locals}
-use Rattle.inf_expressions.specs.declared.findings.UnitError.{UnitError}
-use Rattle.inf_expressions.specs.declared.findings.UnitError.TheVariants as unit_error
-use Rattle.inf_expressions.specs.Findings.{error_number}
+use Rattle.inf_syntax.specs.declared.actions.Action.{Action}
+use Rattle.inf_names.specs.{Locals.no_locals, Locals.with_locals, Spellings.Name, Symbols.Table, Symbols.found_in}
+use Rattle.inf_names.specs.{declared.symbols.Found.Found as FoundName}
+use Rattle.inf_report.specs.{Messages.Declared, Messages.SystemName, Messages.TooMany, declared.messages.FixedLimit.FixedLimit}
+use Rattle.inf_expressions.specs.{Findings.error_number, declared.findings.UnitError.UnitError}
 use Rattle.inf_output.specs.Output.{full}
 use Rattle.inf_unit.specs.Messages.{FileNames, Diagnostic, Reported, location, with_fault, with_full}
 use Rattle.inf_unit.specs.Units.{first_place, names_in}
-use Rattle.inf_compilation.specs.Actions.{Compilation, is_to_be_replaced}
-use Rattle.inf_compilation.specs.Context.{Context}
+use Rattle.inf_compilation.specs.{Actions.Compilation, Actions.is_to_be_replaced, Context.Context}
 use Rattle.inf_reader.specs.Acting.{act}
 
 -- The finding of a rule: the token of the unit at which it is, where the unit's first token is 0; the error; and the message at its
@@ -50,7 +43,7 @@ IsTold (Some b) all = (f : Finding) × (f.blame ≡ b) × IsLeast f all
 abbrev pub repeated_local : FileNames → Name → ℕ → Name → Finding
 repeated_local files first token n = record {
   token = token;
-  error = unit_error.Declared;
+  error = UnitError.Declared;
   blame = record { place = n.place; message = Declared n.bytes (location files first.place) };
 }
 
@@ -75,7 +68,7 @@ different before (n ∷ names) =
 
 -- the finding of more than 15 different locals, which is told at the bracket
 abbrev pub too_many_locals : Place → Finding
-too_many_locals unit = record { token = 0; error = unit_error.TooMany; blame = record { place = unit; message = TooMany countable.Locals } }
+too_many_locals unit = record { token = 0; error = UnitError.TooMany; blame = record { place = unit; message = TooMany FixedLimit.Locals } }
 
 abbrev pub many_locals : Place → List Name → List Finding
 many_locals unit locals = if nat_lt 15 (different [] locals) then too_many_locals unit ∷ [] else []
@@ -84,21 +77,21 @@ many_locals unit locals = if nat_lt 15 (different [] locals) then too_many_local
 abbrev pub declared_before : FileNames → Place → Name → Finding
 declared_before files first name = record {
   token = 1;
-  error = unit_error.Declared;
+  error = UnitError.Declared;
   blame = record { place = name.place; message = Declared name.bytes (location files first) };
 }
 
 -- the finding of a routine's name that is a system name, which the language itself declares
 abbrev pub system_routine : Name → Finding
 system_routine name =
-    record { token = 1; error = unit_error.Declared; blame = record { place = name.place; message = SystemName name.bytes } }
+    record { token = 1; error = UnitError.Declared; blame = record { place = name.place; message = SystemName name.bytes } }
 
 -- The findings by the meaning of the name before its header. A new name that would be one too many is no finding.
 abbrev pub taken_as : FileNames → FoundName Place → Name → List Finding
-taken_as files (found.System meaning) name = system_routine name ∷ []
-taken_as files (found.Declared meaning first) name = declared_before files first name ∷ []
-taken_as files found.Used name = []
-taken_as files found.Unknown name = []
+taken_as files (FoundName.System meaning) name = system_routine name ∷ []
+taken_as files (FoundName.Declared meaning first) name = declared_before files first name ∷ []
+taken_as files FoundName.Used name = []
+taken_as files FoundName.Unknown name = []
 
 abbrev pub taken_name : FileNames → Table Place → Name → List Finding
 taken_name files names name = taken_as files (found_in name.bytes names) name
@@ -116,8 +109,8 @@ told_behind limits context first told before after =
 pub record HeaderTells (limits : Limits) (context : Context) (place : Place) (all : List Finding) (w : Compilation) : Type 0 where
   pub told : Option Diagnostic
   pub is_told : IsTold told all
-  pub report : (act limits context place action.EndLocals w).report
-      ≡ told_behind limits context (first_place w.unit.tokens place) told w.report (act limits context place action.EndLocals w)
+  pub report : (act limits context place Action.EndLocals w).report
+      ≡ told_behind limits context (first_place w.unit.tokens place) told w.report (act limits context place Action.EndLocals w)
 
 -- Of every header with a name, whose routine is not to be replaced and for whose locals names were noted, the end tells the least finding.
 abbrev pub HeadersTellTheFirst : Limits → Type 0

@@ -4,19 +4,13 @@ use Rattle.inf_settings.specs.Bounds.{Limits}
 use Rattle.inf_unit.specs.Tokens.{SourceToken, atom_of, is_end}
 use Rattle.inf_scanner.specs.declared.tokens.TokenKind.{TokenKind}
 use Rattle.inf_syntax.specs.declared.actions.Action.{Action}
-use Rattle.inf_machine.specs.declared.symbols.Symbol.{Symbol}
-use Rattle.inf_machine.specs.Machine.{fits, taken}
+use Rattle.inf_machine.specs.{Machine.fits, Machine.taken, declared.symbols.Symbol.Symbol}
 use Rattle.inf_grammar.specs.Language.{grammar, known}
-use Rattle.inf_conditionals.specs.declared.filtered.Forwarded.{Forwarded}
-use Rattle.inf_conditionals.specs.declared.filtered.Forwarded.TheVariants as handed
-use Rattle.inf_conditionals.specs.declared.filtered.Filtered.{Filtered}
-use Rattle.inf_conditionals.specs.declared.filtered.Sign.{Sign}
+use Rattle.inf_conditionals.specs.{declared.filtered.Filtered.Filtered, declared.filtered.Forwarded.Forwarded, declared.filtered.Sign.Sign}
 use Rattle.inf_compilation.specs.Context.{Context}
+use Rattle.inf_reader.specs.{Pieces.BeginsPiece, Pieces.IsPiece, declared.recovery.Recovery.Recovery}
 use Rattle.inf_reader.specs.Handing.{hash, is_empty, judged_taken, reads}
-use Rattle.inf_reader.specs.Pieces.{BeginsPiece, IsPiece}
 use Rattle.inf_reader.specs.Reading.{Reading, ReaderState, between, is_mode_ended, passed, piece_begun, skip_of}
-use Rattle.inf_reader.specs.declared.recovery.Recovery.{Recovery}
-use Rattle.inf_reader.specs.declared.recovery.Recovery.TheVariants as mode
 use Rattle.inf_laws.specs.BadTokens.{skip_behind}
 
 -- Tokens that are handed on
@@ -33,9 +27,9 @@ token_in (Unfit t) = t
 
 -- the tokens that are handed on for a token, by the judgement of it: first a `#` that was held back before it
 abbrev pub given_as : Forwarded → SourceToken → List Given
-given_as handed.Kept t = Kept t ∷ []
-given_as handed.Unfit t = Unfit t ∷ []
-given_as handed.Condition t = []
+given_as Forwarded.Kept t = Kept t ∷ []
+given_as Forwarded.Unfit t = Unfit t ∷ []
+given_as Forwarded.Condition t = []
 
 abbrev pub given_sign : Option Sign → List Given
 given_sign None = []
@@ -62,19 +56,19 @@ judged_by t r = if fits grammar known (atom_of t) r.stack then took_by (atom_of 
 
 -- the reading after a token of a new piece, or of the one at hand
 abbrev pub read_by : List (Symbol Action) → SourceToken → Reading → Reading
-read_by [] t r = if is_end t.kind then record r { mode = mode.Ended } else judged_by t (piece_begun r)
+read_by [] t r = if is_end t.kind then record r { mode = Recovery.Ended } else judged_by t (piece_begun r)
 read_by (_ ∷ _) t r = judged_by t r
 
 abbrev pub kept_by : Recovery → SourceToken → Reading → Reading
-kept_by mode.Reads t r = read_by r.stack t r
-kept_by mode.Ended t r = r
+kept_by Recovery.Reads t r = read_by r.stack t r
+kept_by Recovery.Ended t r = r
 kept_by skip t r = record r { mode = passed skip t.kind }
 
 -- the reading after a token that does not fit its conditional directive: it is bad, and among tokens that are passed over it is one
 -- of them
 abbrev pub unfit_by : Recovery → SourceToken → Reading → Reading
-unfit_by mode.Reads t r = bad_by t.kind r
-unfit_by mode.Ended t r = r
+unfit_by Recovery.Reads t r = bad_by t.kind r
+unfit_by Recovery.Ended t r = r
 unfit_by skip t r = record r { mode = passed skip t.kind }
 
 -- the reading after a token that is handed on
@@ -120,16 +114,17 @@ skipped m (g ∷ given) = skipped (passed m (token_in g).kind) given
 
 -- The state of the reading behind the tokens that were handed on since it was between two pieces.
 pub data Stands (given : List Given) (r : Reading) : Type 0 where
-  InAPiece : (tokens : List SourceToken) → given ≡ map Kept tokens → BeginsPiece (map atom_of tokens) → r.mode ≡ mode.Reads → Stands given r
-  BehindAPiece : (tokens : List SourceToken) → given ≡ map Kept tokens → IsPiece (map atom_of tokens) → r ≡ between mode.Reads →
+  InAPiece : (tokens : List SourceToken) → given ≡ map Kept tokens → BeginsPiece (map atom_of tokens) → r.mode ≡ Recovery.Reads →
+      Stands given r
+  BehindAPiece : (tokens : List SourceToken) → given ≡ map Kept tokens → IsPiece (map atom_of tokens) → r ≡ between Recovery.Reads →
       Stands given r
   BehindABadToken : (tokens : List SourceToken) (bad : Given) (behind : List Given) → given ≡ map Kept tokens ++ bad ∷ behind →
       BeginsPiece (map atom_of tokens) → IsBad tokens bad → r ≡ between (skipped (skip_behind (map atom_of tokens)) (bad ∷ behind)) →
       Stands given r
-  BehindTheEnd : (t : SourceToken) → given ≡ Kept t ∷ [] → is_end t.kind ≡ true → r ≡ between mode.Ended → Stands given r
+  BehindTheEnd : (t : SourceToken) → given ≡ Kept t ∷ [] → is_end t.kind ≡ true → r ≡ between Recovery.Ended → Stands given r
 
 -- The state of the reading as long as the first piece goes on: the tokens are kept and begin a piece, or they are one, and the
 -- reading is behind it; or the bad one among them is the first that does not fit or with which they begin no piece, and it and those
 -- behind it are passed over, as in a routine where the routine's bracket is open before it; or the file has ended before a piece.
 abbrev pub KeptTokensAreRead : Type 0
-KeptTokensAreRead = (given : List Given) (r : Reading) → r ≡ between mode.Reads → GoesOn given r → Stands given (all_given_to given r)
+KeptTokensAreRead = (given : List Given) (r : Reading) → r ≡ between Recovery.Reads → GoesOn given r → Stands given (all_given_to given r)

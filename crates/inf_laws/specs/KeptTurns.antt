@@ -3,11 +3,8 @@ use Rattle.std.specs.Prelude.{◌≡◌, ℕ, zero, suc, List, [], ◌++◌, fal
 use Rattle.inf_settings.specs.Bounds.{Limits}
 use Rattle.inf_devices.specs.Files.{Sources}
 use Rattle.inf_conditionals.specs.Judging.{judged}
-use Rattle.inf_reader.specs.Handing.{site_of}
-use Rattle.inf_reader.specs.Reading.{between, is_mode_ended}
-use Rattle.inf_reader.specs.declared.recovery.Recovery.TheVariants as mode
-use Rattle.inf_session.specs.Choices.{Choices}
-use Rattle.inf_session.specs.Session.{State, stepped, token_of, turn}
+use Rattle.inf_reader.specs.{Handing.site_of, Reading.between, Reading.is_mode_ended, declared.recovery.Recovery.Recovery}
+use Rattle.inf_session.specs.{Choices.Choices, Session.State, Session.stepped, Session.token_of, Session.turn}
 use Rattle.inf_laws.specs.KeptTokens.{Given, GoesOn, Stands, given_of}
 
 -- the tokens that a turn hands on
@@ -34,6 +31,6 @@ StayInFile limits sources o (suc n) s =
 -- behind the bad one, which is the first with which they begin none.
 abbrev pub TurnsReadPieces : Limits → Type 0
 TurnsReadPieces limits =
-    (sources : Sources) (o : Choices) (n : ℕ) (s : State) → s.reading ≡ between mode.Reads → StayInFile limits sources o n s
+    (sources : Sources) (o : Choices) (n : ℕ) (s : State) → s.reading ≡ between Recovery.Reads → StayInFile limits sources o n s
     → GoesOn (given_in limits sources o (suc n) s) s.reading
     → Stands (given_in limits sources o (suc n) s) (stepped limits o (turned limits sources o n s)).reading

@@ -1,22 +1,14 @@
 -- The findings of look-ups of names, by the declarations and uses of a source in their order.
+use Rattle.std.specs.{List.list_any, Str.str_eq_ignore_ascii_case}
 use Rattle.std.specs.Prelude.{◌≡◌, ◌≤◌, ℕ, List, [], ◌∷◌, ◌++◌, length, Bool, true, false, ◌||◌, if◌then◌else◌, Option, Some, None, is_some}
 use Rattle.std.specs.Prelude.{⊤}
-use Rattle.std.specs.List.{list_any}
-use Rattle.std.specs.Str.{str_eq_ignore_ascii_case}
-use Rattle.inf_settings.specs.Bounds.{Limits}
-use Rattle.inf_settings.specs.declared.setting.Setting.TheVariants as setting
+use Rattle.inf_settings.specs.{Bounds.Limits, declared.setting.Setting.Setting}
 use Rattle.inf_scanner.specs.declared.tokens.Place.{Place}
-use Rattle.inf_names.specs.SystemNames.{system_meaning}
+use Rattle.inf_names.specs.{Spellings.Name, SystemNames.system_meaning, declared.meanings.Meaning.Meaning}
+use Rattle.inf_names.specs.{declared.symbols.DeclareFault.DeclareFault, declared.symbols.Found.Found}
 use Rattle.inf_names.specs.Symbols.{Table, declare_fault, found_in, no_names, refer_fault, with_declared, with_used}
-use Rattle.inf_names.specs.declared.meanings.Meaning.{Meaning}
-use Rattle.inf_names.specs.declared.symbols.Found.{Found}
-use Rattle.inf_names.specs.declared.symbols.Found.TheVariants as found
 use Rattle.inf_report.specs.Messages.{Undeclared}
-use Rattle.inf_names.specs.Spellings.{Name}
-use Rattle.inf_unit.specs.Messages.{FileNames, Reported, location, with_error}
-use Rattle.inf_unit.specs.Names.{with_all_undeclared}
-use Rattle.inf_names.specs.declared.symbols.DeclareFault.{DeclareFault}
-use Rattle.inf_names.specs.declared.symbols.DeclareFault.TheVariants as declaring
+use Rattle.inf_unit.specs.{Messages.FileNames, Messages.Reported, Messages.location, Messages.with_error, Names.with_all_undeclared}
 use Rattle.inf_output.specs.Output.{Out, declared}
 use Rattle.inf_operands.specs.Operands.{settled_by}
 
@@ -36,7 +28,7 @@ with_events limits (e ∷ events) t = with_events limits events (with_event limi
 
 -- whether a name is not declared for want of room
 abbrev pub is_full_fault : Option (DeclareFault Place) → Bool
-is_full_fault (Some declaring.Full) = true
+is_full_fault (Some DeclareFault.Full) = true
 is_full_fault _ = false
 
 -- whether the name of an event is one more than there may be, which ends a compilation
@@ -52,7 +44,7 @@ HaveRoom limits (e ∷ events) t = (is_too_many limits e t ≡ false) × HaveRoo
 -- There is room where there may be as many names as there are events.
 abbrev pub FewHaveRoom : Limits → Type 0
 FewHaveRoom limits =
-    (debugging : Bool) (events : List Event) → length events ≤ limits setting.Symbols → HaveRoom limits events (no_names debugging)
+    (debugging : Bool) (events : List Event) → length events ≤ limits Setting.Symbols → HaveRoom limits events (no_names debugging)
 
 -- The declaration of a name is an event: of a routine with its place, by its header, or of a constant with its number. An operand
 -- that is no local is an event, too: a use.
@@ -85,9 +77,9 @@ uses name (Uses other place) = str_eq_ignore_ascii_case name other
 
 -- The finding for a name: first the meaning that the language gives it, then its first declaration; and else whether it was used.
 abbrev pub stands_for : Option Meaning → Option (Meaning × Place) → Bool → Found Place
-stands_for (Some m) first is_used = found.System m
-stands_for None (Some first) is_used = found.Declared first.0 first.1
-stands_for None None is_used = if is_used then found.Used else found.Unknown
+stands_for (Some m) first is_used = Found.System m
+stands_for None (Some first) is_used = Found.Declared first.0 first.1
+stands_for None None is_used = if is_used then Found.Used else Found.Unknown
 
 abbrev pub FirstDeclarationsCount : Limits → Type 0
 FirstDeclarationsCount limits = (debugging : Bool) (events : List Event) (name : List ℕ)

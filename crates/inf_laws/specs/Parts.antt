@@ -2,12 +2,9 @@
 use Rattle.std.specs.Prelude.{◌≡◌, ◌⊎◌, ℕ, zero, suc, List, [], true, false}
 use Rattle.inf_settings.specs.Bounds.{Limits}
 use Rattle.inf_devices.specs.Files.{Sources}
-use Rattle.inf_reader.specs.Reading.{between}
-use Rattle.inf_reader.specs.declared.recovery.Recovery.TheVariants as mode
-use Rattle.inf_session.specs.Choices.{Choices}
-use Rattle.inf_session.specs.Session.{State, is_parted, start, stepped, turn}
-use Rattle.inf_laws.specs.KeptTokens.{Stands, rests}
-use Rattle.inf_laws.specs.KeptTurns.{given_by, given_in, turned}
+use Rattle.inf_reader.specs.{Reading.between, declared.recovery.Recovery.Recovery}
+use Rattle.inf_session.specs.{Choices.Choices, Session.State, Session.is_parted, Session.start, Session.stepped, Session.turn}
+use Rattle.inf_laws.specs.{KeptTokens.Stands, KeptTokens.rests, KeptTurns.given_by, KeptTurns.given_in, KeptTurns.turned}
 
 -- none of `n` turns ends a part
 abbrev pub StayInPart : Limits → Sources → Choices → ℕ → State → Type 0
@@ -26,7 +23,7 @@ IsOfOnePiece limits sources o n s =
 abbrev pub PartsArePieces : Limits → Type 0
 PartsArePieces limits =
     (sources : Sources) (o : Choices) (name : List ℕ) (m n : ℕ) → (turned limits sources o m (start sources o name)).reading ≡ between
-    mode.Reads
+    Recovery.Reads
     → StayInPart limits sources o n (turned limits sources o m (start sources o name)) → IsOfOnePiece limits sources o n
     (turned limits sources o m (start sources o name))
 
@@ -34,7 +31,7 @@ PartsArePieces limits =
 abbrev pub PartsEndWithPieces : Limits → Type 0
 PartsEndWithPieces limits =
     (sources : Sources) (o : Choices) (name : List ℕ) (m n : ℕ) → (turned limits sources o m (start sources o name)).reading ≡ between
-    mode.Reads
+    Recovery.Reads
     → StayInPart limits sources o n (turned limits sources o m (start sources o name))
     → (given_by o (turned limits sources o n (turned limits sources o m (start sources o name))) ≡ [] → ⊥) → rests
     (stepped limits o (turned limits sources o n (turned limits sources o m (start sources o name)))).reading ≡ true

@@ -2,24 +2,19 @@
 use Rattle.std.specs.Prelude.{◌≡◌, ◌≤◌, ℕ, List, ◌∷◌, ◌++◌, length, take, true, not, ◌||◌}
 use Rattle.std.specs.List.{list_all}
 use Rattle.inf_settings.specs.Bounds.{Limits}
-use Rattle.inf_scanner.specs.declared.tokens.Mark.{Mark}
-use Rattle.inf_scanner.specs.declared.tokens.Mark.TheVariants as mark
-use Rattle.inf_scanner.specs.declared.tokens.TokenKind.{TokenKind}
+use Rattle.inf_scanner.specs.{declared.tokens.Mark.Mark, declared.tokens.TokenKind.TokenKind}
 use Rattle.inf_compilation.specs.Context.{Context}
 use Rattle.inf_unit.specs.Tokens.{is_end, is_mark}
-use Rattle.inf_conditionals.specs.declared.filtered.Forwarded.TheVariants as handed
-use Rattle.inf_reader.specs.Handing.{handed_as, skips}
-use Rattle.inf_reader.specs.Reading.{ReaderState, passed}
-use Rattle.inf_reader.specs.declared.recovery.Recovery.{Recovery}
-use Rattle.inf_reader.specs.declared.recovery.Recovery.TheVariants as mode
+use Rattle.inf_conditionals.specs.declared.filtered.Forwarded.{Forwarded}
+use Rattle.inf_reader.specs.{Handing.handed_as, Handing.skips, Reading.ReaderState, Reading.passed, declared.recovery.Recovery.Recovery}
 use Rattle.inf_laws.specs.KeptTokens.{Given, Kept, Unfit, skipped, token_in}
 
 -- One token
 
 -- the reading, and the compiled work, behind a token that is handed on
 abbrev pub given_at : Limits → Context → Given → ReaderState → ReaderState
-given_at limits context (Kept t) s = handed_as limits handed.Kept context t s
-given_at limits context (Unfit t) s = handed_as limits handed.Unfit context t s
+given_at limits context (Kept t) s = handed_as limits Forwarded.Kept context t s
+given_at limits context (Unfit t) s = handed_as limits Forwarded.Unfit context t s
 
 -- the same work, where the next token is read in another way
 abbrev pub at : Recovery → ReaderState → ReaderState
@@ -32,7 +27,7 @@ PassedTokensDoNothing limits = (context : Context) (g : Given) (s : ReaderState)
 
 -- the end of a source ends the passing over of tokens
 abbrev pub SourcesEnd : Type 0
-SourcesEnd = (m : Recovery) (token : TokenKind) → is_end token ≡ true → passed m token ≡ mode.Ended
+SourcesEnd = (m : Recovery) (token : TokenKind) → is_end token ≡ true → passed m token ≡ Recovery.Ended
 
 -- The tokens of a piece
 
@@ -48,11 +43,11 @@ pub record PassesTo (before after : Recovery) (inside : List Given) (m : Given) 
 -- Outside of a routine all tokens are passed over up to the first semicolon, and reading goes on behind it.
 abbrev pub DirectivesAreSkipped : Type 0
 DirectivesAreSkipped = (inside : List Given) (semicolon : Given)
-    → Lack mark.Semicolon inside → is_mark mark.Semicolon (token_in semicolon).kind ≡ true
-    → PassesTo mode.SkipsDirective mode.Reads inside semicolon
+    → Lack Mark.Semicolon inside → is_mark Mark.Semicolon (token_in semicolon).kind ≡ true
+    → PassesTo Recovery.SkipsDirective Recovery.Reads inside semicolon
 
 -- In a routine all tokens are passed over up to the first closing bracket, and those behind it as outside of a routine.
 abbrev pub RoutinesAreSkipped : Type 0
 RoutinesAreSkipped = (inside : List Given) (bracket : Given)
-    → Lack mark.CloseBracket inside → is_mark mark.CloseBracket (token_in bracket).kind ≡ true
-    → PassesTo mode.SkipsRoutine mode.SkipsDirective inside bracket
+    → Lack Mark.CloseBracket inside → is_mark Mark.CloseBracket (token_in bracket).kind ≡ true
+    → PassesTo Recovery.SkipsRoutine Recovery.SkipsDirective inside bracket

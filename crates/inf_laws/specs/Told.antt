@@ -3,17 +3,16 @@ use Rattle.std.specs.Prelude.{◌≡◌, ◌⊎◌, List, [], ◌∷◌, ◌++�
 use Rattle.inf_settings.specs.Bounds.{Limits}
 use Rattle.inf_unit.specs.Tokens.{SourceToken, atom_of, is_end}
 use Rattle.inf_compilation.specs.Context.{Context}
-use Rattle.inf_reader.specs.Pieces.{BeginsPiece, at_hand, work_by}
+use Rattle.inf_reader.specs.{Pieces.BeginsPiece, Pieces.at_hand, Pieces.work_by, declared.recovery.Recovery.Recovery}
 use Rattle.inf_reader.specs.Reading.{ReaderState, bad, between, took}
-use Rattle.inf_reader.specs.declared.recovery.Recovery.TheVariants as mode
 use Rattle.inf_laws.specs.KeptTokens.{GoesOn, Kept, Unfit, all_given_to, rests}
 use Rattle.inf_laws.specs.Skipping.{given_at}
 
 -- The tokens `tokens` were kept since the reading was between two pieces, and the piece that they begin is not at its end.
 pub record IsAt (tokens : List SourceToken) (s : ReaderState) : Type 0 where
-  pub goes_on : GoesOn (map Kept tokens) (between mode.Reads)
-  pub is_read : s.reading ≡ all_given_to (map Kept tokens) (between mode.Reads)
-  pub reads : s.reading.mode ≡ mode.Reads
+  pub goes_on : GoesOn (map Kept tokens) (between Recovery.Reads)
+  pub is_read : s.reading ≡ all_given_to (map Kept tokens) (between Recovery.Reads)
+  pub reads : s.reading.mode ≡ Recovery.Reads
   pub is_open : (tokens ≡ []) ⊎ (rests s.reading ≡ false)
 
 -- Where the tokens begin a piece with one more, this one is taken, behind the actions on the way to it; where they begin none, it
@@ -34,5 +33,5 @@ TokensAreTakenOrTold limits =
 -- A token that does not fit its conditional directive is told wherever it is not passed over.
 abbrev pub UnfitTokensAreTold : Limits → Type 0
 UnfitTokensAreTold limits =
-    (context : Context) (t : SourceToken) (s : ReaderState) → s.reading.mode ≡ mode.Reads → given_at limits context (Unfit t) s ≡
+    (context : Context) (t : SourceToken) (s : ReaderState) → s.reading.mode ≡ Recovery.Reads → given_at limits context (Unfit t) s ≡
     bad limits context t s.reading s.work

@@ -3,22 +3,15 @@ use Rattle.std.specs.Prelude.{◌≡◌, List, [], ◌∷◌, ◌++◌, map, fal
 use Rattle.inf_settings.specs.Bounds.{Limits}
 use Rattle.inf_scanner.specs.declared.tokens.Place.{Place}
 use Rattle.inf_machine.specs.Grammar.{IsOneOf}
-use Rattle.inf_expressions.specs.declared.findings.Finding.{Finding}
-use Rattle.inf_expressions.specs.declared.units.Wanted.TheVariants as wanted
-use Rattle.inf_expressions.specs.Findings.{is_before, no_constant}
-use Rattle.inf_names.specs.Spellings.{Name}
-use Rattle.inf_names.specs.Symbols.{declare_fault}
-use Rattle.inf_names.specs.declared.meanings.Meaning.{Meaning}
-use Rattle.inf_statements.specs.Effects.{site_finding}
-use Rattle.inf_statements.specs.declared.statements.Statement.TheVariants as statement
+use Rattle.inf_expressions.specs.{Findings.is_before, Findings.no_constant, declared.findings.Finding.Finding, declared.units.Wanted.Wanted}
+use Rattle.inf_names.specs.{Spellings.Name, Symbols.declare_fault, declared.meanings.Meaning.Meaning}
+use Rattle.inf_statements.specs.{Effects.site_finding, declared.statements.Statement.Statement}
 use Rattle.inf_constructs.specs.Roots.{tree_in}
 use Rattle.inf_unit.specs.Units.{name_order, order}
+use Rattle.inf_compilation.specs.{Context.Context, Findings.Findings, Findings.again_by, Findings.again_finding, Findings.told_as}
 use Rattle.inf_compilation.specs.Actions.{Compilation, constant, constant_of, finding_at, operands_of, trees_at}
-use Rattle.inf_compilation.specs.Context.{Context}
-use Rattle.inf_compilation.specs.Findings.{Findings, again_by, again_finding, told_as}
 use Rattle.inf_parts.specs.Parts.{case_prepared, order_of, own_finding, part_ended, part_prepared, place_of, site_of, wanted_of}
 use Rattle.inf_parts.specs.declared.parts.Part.{Part}
-use Rattle.inf_parts.specs.declared.parts.Part.TheVariants as part
 use Rattle.inf_laws.specs.Findings.{told_behind}
 
 -- Nothing is found where nothing is wrong; else a finding that is one of all, before which none of these comes, by the order of their tokens
@@ -42,9 +35,10 @@ listed (Some f) = f ∷ []
 -- All that is wrong with a unit beside its expressions. For an instruction these are two: one of operands that it does not keep, and one of
 -- all else.
 abbrev pub own_faults : Limits → Context → Part → Compilation → List Finding
-own_faults limits context (part.Statement statement.Assembly) w =
+own_faults limits context (Part.Statement Statement.Assembly) w =
     listed w.unit.passed
-    ++ listed (site_finding limits (site_of context w) w.output.names (map tree_in (trees_at (order w.unit.begun) wanted.Operand (operands_of w) w)))
+    ++ listed (site_finding limits (site_of context w) w.output.names
+    (map tree_in (trees_at (order w.unit.begun) Wanted.Operand (operands_of w) w)))
 own_faults limits context p w = listed (own_finding limits context p w)
 
 -- All that is wrong with a unit. All that is wrong with its expressions is one finding here, which is the least of that.
@@ -73,8 +67,8 @@ value_faults _ all = all
 abbrev pub constant_faults : Limits → Name → Compilation → List Finding
 constant_faults limits name w =
     listed (again_finding (name_order w.unit.tokens) (again_by name (declare_fault limits name.bytes w.output.names)))
-    ++ value_faults (constant_of (map tree_in (trees_at 0 wanted.Constant (operands_of w) w)) w)
-    (listed (finding_at 0 wanted.Constant w))
+    ++ value_faults (constant_of (map tree_in (trees_at 0 Wanted.Constant (operands_of w) w)) w)
+    (listed (finding_at 0 Wanted.Constant w))
 
 -- Each end of such a directive tells the least of all that is wrong with it.
 abbrev pub ConstantsTellTheLeast : Limits → Type 0

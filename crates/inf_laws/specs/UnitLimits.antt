@@ -1,29 +1,22 @@
 -- The settings that are compared with their counts where an expression or a unit has ended: those of tokens, labels, code and references.
 use Rattle.std.specs.Prelude.{◌≡◌, ◌+◌, ◌≤◌, ℕ, Bool, false, Some, None}
 use Rattle.inf_code.specs.Code.{bytes_of_code, labels, reference_count, references_open}
+use Rattle.inf_compilation.specs.{Context.Context, Context.longest, Findings.Findings}
 use Rattle.inf_compilation.specs.Actions.{Compilation, begun_at, sized, unit_ended}
-use Rattle.inf_compilation.specs.Context.{Context, longest}
-use Rattle.inf_compilation.specs.Findings.{Findings}
-use Rattle.inf_conditionals.specs.Condition.{Condition}
-use Rattle.inf_conditionals.specs.Judging.{tokens_counted}
-use Rattle.inf_conditionals.specs.Open.{Conditions}
-use Rattle.inf_conditionals.specs.Said.{too_much}
-use Rattle.inf_output.specs.Output.{Out, begun, full_past}
-use Rattle.inf_output.specs.declared.past.Past.{Past}
+use Rattle.inf_conditionals.specs.{Condition.Condition, Judging.tokens_counted, Open.Conditions, Said.too_much}
+use Rattle.inf_output.specs.{Output.Out, Output.begun, Output.full_past, declared.past.Past.Past}
 use Rattle.inf_scanner.specs.declared.tokens.Place.{Place}
-use Rattle.inf_settings.specs.Bounds.{Limits}
-use Rattle.inf_settings.specs.declared.setting.Setting.TheVariants as setting
+use Rattle.inf_settings.specs.{Bounds.Limits, declared.setting.Setting.Setting}
 use Rattle.inf_tables.specs.Tables.{references, references_with}
-use Rattle.inf_unit.specs.Messages.{FileNames}
-use Rattle.inf_unit.specs.Tokens.{SourceToken}
+use Rattle.inf_unit.specs.{Messages.FileNames, Tokens.SourceToken}
 
 -- The labels of the open routine are at most their setting; so are the bytes of all code, with the open routine in its longest form; and
 -- so are the references of finished routines and of tables, also with those of the open routine.
 pub record IsWithin (limits : Limits) (o : Out) : Type 0 where
-  pub few_labels : labels o.code ≤ limits setting.Labels
-  pub few_bytes : bytes_of_code o.code ≤ limits setting.Code
-  pub few_references : references_with (reference_count o.code) o.tables ≤ limits setting.References
-  pub few_with_open : reference_count o.code + references_open o.code.opened + references o.tables ≤ limits setting.References
+  pub few_labels : labels o.code ≤ limits Setting.Labels
+  pub few_bytes : bytes_of_code o.code ≤ limits Setting.Code
+  pub few_references : references_with (reference_count o.code) o.tables ≤ limits Setting.References
+  pub few_with_open : reference_count o.code + references_open o.code.opened + references o.tables ≤ limits Setting.References
 
 -- Code that is no longer laid, but counted alone, has passed a limit.
 abbrev pub StopsForALimit : Out → Type 0
@@ -32,8 +25,8 @@ StopsForALimit o = (past : Past) → o.past ≡ Some past → full_past past ≡
 -- A unit that ended without a fatal message leaves labels, code and references within their settings, and the most labels of a routine.
 pub record KeepsWithin (limits : Limits) (before behind : Compilation) : Type 0 where
   pub within : behind.report.counts.is_over ≡ false → IsWithin limits behind.output
-  pub most_labels : behind.report.counts.is_over ≡ false → before.most_labels ≤ limits setting.Labels
-      → behind.most_labels ≤ limits setting.Labels
+  pub most_labels : behind.report.counts.is_over ≡ false → before.most_labels ≤ limits Setting.Labels
+      → behind.most_labels ≤ limits Setting.Labels
 
 -- Units, conditional directives and sources that end without a fatal message keep within their settings; and so does an expression, of
 -- which the context tells the most tokens, and each part of a condition that is not told to be too long.

@@ -1,16 +1,11 @@
 //! Laws on the definitions of the language, taken together.
 ghost use Rattle.inf_settings.specs.Bounds.{Limits};
-ghost use Rattle.inf_laws.specs.Counts.{LimitsCountTheStory};
-ghost use Rattle.inf_laws.specs.Findings.{HeadersTellTheFirst};
-ghost use Rattle.inf_laws.specs.KeptTokens.{KeptTokensAreRead, TokensAreHandedOn};
-ghost use Rattle.inf_laws.specs.KeptTurns.{TurnsReadPieces};
+ghost use Rattle.inf_laws.specs.{Counts.LimitsCountTheStory, Findings.HeadersTellTheFirst, KeptTokens.KeptTokensAreRead};
+ghost use Rattle.inf_laws.specs.{KeptTokens.TokensAreHandedOn, KeptTurns.TurnsReadPieces, Parts.PartsArePieces, Parts.PartsEndWithPieces};
+ghost use Rattle.inf_laws.specs.{Targets.AllPartsAreFound, Told.TokensAreTakenOrTold, Told.UnfitTokensAreTold};
+ghost use Rattle.inf_laws.specs.{UnitFaults.ConstantsTellTheLeast, UnitFaults.PartsTellTheLeast, UnitLimits.UnitsKeepWithin};
 ghost use Rattle.inf_laws.specs.NameEvents.{FewHaveRoom, FirstDeclarationsCount, OperandsUse, UndeclaredAreTold, UnitsDeclare};
-ghost use Rattle.inf_laws.specs.Parts.{PartsArePieces, PartsEndWithPieces};
 ghost use Rattle.inf_laws.specs.Skipping.{DirectivesAreSkipped, PassedTokensDoNothing, RoutinesAreSkipped, SourcesEnd};
-ghost use Rattle.inf_laws.specs.UnitFaults.{ConstantsTellTheLeast, PartsTellTheLeast};
-ghost use Rattle.inf_laws.specs.Targets.{AllPartsAreFound};
-ghost use Rattle.inf_laws.specs.Told.{TokensAreTakenOrTold, UnfitTokensAreTold};
-ghost use Rattle.inf_laws.specs.UnitLimits.{UnitsKeepWithin};
 
 use inf_settings::bounds::Bounds;
 use inf_tables::{Tables, written_as_counted};

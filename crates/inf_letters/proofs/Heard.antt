@@ -1,7 +1,6 @@
 -- Letters that are heard one by one or two by two.
 use Rattle.std.proofs.Common.{◌≡◌, ℕ, List, [], ◌∷◌, Option, Some, None, ap, sym, ◌∙◌}
-use Rattle.inf_letters.specs.declared.letters.Letters.{Letters}
-use Rattle.inf_letters.specs.declared.letters.Said.{Said}
+use Rattle.inf_letters.specs.{declared.letters.Letters.Letters, declared.letters.Said.Said}
 use Rattle.inf_letters.specs.Letters.{alone, either, followed, paired, spoken, with_letters}
 
 -- A letter by itself makes its choice, and the letters behind it come after that.

@@ -1,9 +1,6 @@
 -- Letters behind others choose as they do alone, over the choices of those.
-use Rattle.std.proofs.Common.{◌≡◌, ℕ, List, [], ◌∷◌, Option, Some, None, refl, ap, ◌∙◌}
-use Rattle.std.specs.Option.{option_map}
-use Rattle.inf_letters.specs.declared.letters.Letters.{Letters}
-use Rattle.inf_letters.specs.declared.letters.Said.{Said}
-use Rattle.inf_letters.specs.declared.letters.Said.TheVariants as said
+use Rattle.std.proofs.Common.{◌≡◌, ℕ, List, [], ◌∷◌, Option, Some, None, refl, ap, ◌∙◌, option_map}
+use Rattle.inf_letters.specs.{declared.letters.Letters.Letters, declared.letters.Said.Said}
 use Rattle.inf_letters.specs.Letters.{alone, either, followed, none_spoken, paired, spoken, spoken_over, with_letters}
 
 -- Choices over none are themselves, and none over choices leave them.
@@ -12,14 +9,14 @@ none_over l = refl
 
 -- One choice more over others is one more of the upper ones.
 pub spoken-over : (s : Said) (l others : Letters) → spoken s (spoken_over l others) ≡ spoken_over (spoken s l) others
-spoken-over (said.Set set) l others = refl
-spoken-over (said.Scale scale) l others = refl
-spoken-over (said.Warns warns) l others = refl
-spoken-over (said.Abbreviates abbreviates) l others = refl
-spoken-over (said.Counts counts) l others = refl
-spoken-over (said.Ignores ignores) l others = refl
-spoken-over (said.Debugs debugs) l others = refl
-spoken-over said.Nothing l others = refl
+spoken-over (Said.Set set) l others = refl
+spoken-over (Said.Scale scale) l others = refl
+spoken-over (Said.Warns warns) l others = refl
+spoken-over (Said.Abbreviates abbreviates) l others = refl
+spoken-over (Said.Counts counts) l others = refl
+spoken-over (Said.Ignores ignores) l others = refl
+spoken-over (Said.Debugs debugs) l others = refl
+spoken-over Said.Nothing l others = refl
 
 -- the choices, if there are any, over those of `others`
 abbrev over_all : Letters → Option Letters → Option Letters

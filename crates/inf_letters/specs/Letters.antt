@@ -3,12 +3,8 @@
 use Rattle.std.specs.Prelude.{ℕ, ◌==◌, Bool, true, false, List, [], ◌∷◌, if◌then◌else◌, Option, Some, None, unwrap_or}
 use Rattle.std.specs.Option.{option_or}
 use Rattle.inf_characters.specs.declared.characters.CharSet.{CharSet}
-use Rattle.inf_characters.specs.declared.characters.CharSet.TheVariants.{Ascii, Latin1}
 use Rattle.inf_area.specs.declared.scale.Scale.{Scale}
-use Rattle.inf_area.specs.declared.scale.Scale.TheVariants.{Four, Eight}
-use Rattle.inf_letters.specs.declared.letters.Letters.{Letters}
-use Rattle.inf_letters.specs.declared.letters.Said.{Said}
-use Rattle.inf_letters.specs.declared.letters.Said.TheVariants as said
+use Rattle.inf_letters.specs.{declared.letters.Letters.Letters, declared.letters.Said.Said}
 
 -- the choices of no letters
 abbrev pub none_spoken : Letters
@@ -18,31 +14,31 @@ none_spoken =
 -- the choice of a letter by itself: of `e`, `s`, `w`, `i` and `D`
 abbrev pub alone : ℕ → Option Said
 alone b =
-    if b == 101 then Some (said.Abbreviates true)
-    else if b == 115 then Some (said.Counts true)
-    else if b == 119 then Some (said.Warns false)
-    else if b == 105 then Some (said.Ignores true)
-    else if b == 68 then Some (said.Debugs true)
+    if b == 101 then Some (Said.Abbreviates true)
+    else if b == 115 then Some (Said.Counts true)
+    else if b == 119 then Some (Said.Warns false)
+    else if b == 105 then Some (Said.Ignores true)
+    else if b == 68 then Some (Said.Debugs true)
     else None
 
 -- the choice of a letter behind `~`: of the same letters, and of `S`
 abbrev pub turned_off : ℕ → Option Said
 turned_off b =
-    if b == 101 then Some (said.Abbreviates false)
-    else if b == 115 then Some (said.Counts false)
-    else if b == 119 then Some (said.Warns true)
-    else if b == 105 then Some (said.Ignores false)
-    else if b == 68 then Some (said.Debugs false)
-    else if b == 83 then Some said.Nothing
+    if b == 101 then Some (Said.Abbreviates false)
+    else if b == 115 then Some (Said.Counts false)
+    else if b == 119 then Some (Said.Warns true)
+    else if b == 105 then Some (Said.Ignores false)
+    else if b == 68 then Some (Said.Debugs false)
+    else if b == 83 then Some Said.Nothing
     else None
 
 -- `v5` and `v8` by the digit
 abbrev pub version_of : ℕ → Option Said
-version_of b = if b == 53 then Some (said.Scale Four) else if b == 56 then Some (said.Scale Eight) else None
+version_of b = if b == 53 then Some (Said.Scale Scale.Four) else if b == 56 then Some (Said.Scale Scale.Eight) else None
 
 -- `C0` and `C1` by the digit
 abbrev pub characters_of : ℕ → Option Said
-characters_of b = if b == 48 then Some (said.Set Ascii) else if b == 49 then Some (said.Set Latin1) else None
+characters_of b = if b == 48 then Some (Said.Set CharSet.Ascii) else if b == 49 then Some (Said.Set CharSet.Latin1) else None
 
 -- the letters that come in pairs: behind `~`, `v`, `C` and `E`
 abbrev pub paired : ℕ → ℕ → Option Said
@@ -50,19 +46,19 @@ paired b c =
     if b == 126 then turned_off c
     else if b == 118 then version_of c
     else if b == 67 then characters_of c
-    else if b == 69 then (if c == 49 then Some said.Nothing else None)
+    else if b == 69 then (if c == 49 then Some Said.Nothing else None)
     else None
 
 -- choices with one more, which is the last on its matter
 abbrev pub spoken : Said → Letters → Letters
-spoken (said.Set set) l = record l { set = Some set }
-spoken (said.Scale scale) l = record l { scale = Some scale }
-spoken (said.Warns warns) l = record l { warns = Some warns }
-spoken (said.Abbreviates abbreviates) l = record l { abbreviates = Some abbreviates }
-spoken (said.Counts counts) l = record l { counts = Some counts }
-spoken (said.Ignores ignores) l = record l { ignores = Some ignores }
-spoken (said.Debugs debugs) l = record l { debugs = Some debugs }
-spoken said.Nothing l = l
+spoken (Said.Set set) l = record l { set = Some set }
+spoken (Said.Scale scale) l = record l { scale = Some scale }
+spoken (Said.Warns warns) l = record l { warns = Some warns }
+spoken (Said.Abbreviates abbreviates) l = record l { abbreviates = Some abbreviates }
+spoken (Said.Counts counts) l = record l { counts = Some counts }
+spoken (Said.Ignores ignores) l = record l { ignores = Some ignores }
+spoken (Said.Debugs debugs) l = record l { debugs = Some debugs }
+spoken Said.Nothing l = l
 
 -- the choices of the letters behind a choice, and none where that is unknown
 abbrev pub followed : (Letters → Option Letters) → Letters → Option Said → Option Letters
@@ -96,11 +92,11 @@ spoken_over l others = record {
 
 -- the character set of the sources
 abbrev pub set_of : Letters → CharSet
-set_of l = unwrap_or l.set Latin1
+set_of l = unwrap_or l.set CharSet.Latin1
 
 -- the version of the story
 abbrev pub scale_of : Letters → Scale
-scale_of l = unwrap_or l.scale Four
+scale_of l = unwrap_or l.scale Scale.Four
 
 -- whether warnings are shown
 abbrev pub warns : Letters → Bool

@@ -1,9 +1,7 @@
 -- The tokens of a source, call by call.
 use Rattle.std.proofs.Common.{◌≡◌, ℕ, List, [], ◌∷◌, length, map, refl, ap, ◌∙◌}
 use Rattle.inf_characters.specs.declared.characters.CharSet.{CharSet}
-use Rattle.inf_scanner.specs.Lines.{first_line}
-use Rattle.inf_scanner.specs.Tokens.{Read}
-use Rattle.inf_scanner.specs.declared.lines.Lines.{Lines}
+use Rattle.inf_scanner.specs.{Lines.first_line, Tokens.Read, declared.lines.Lines.Lines}
 use Rattle.inf_lexer.specs.AnswerLaws.{Answer, AreAnswers, TokensAreTheSources, first_tokens, told}
 
 answered : (set : CharSet) (limit : ℕ) (lines : Lines) (rest : List ℕ) (answers : List Answer) → AreAnswers set limit lines rest answers →

@@ -1,17 +1,14 @@
 -- The names under which a file is looked for, one after the other.
 use Rattle.std.proofs.Common.{◌≡◌, ◌≤◌, ◌<◌, ◌⊎◌, inl, inr, ℕ, zero, suc, ◌+◌, Bool, true, false, cond, nat_le, List, [], ◌∷◌, ◌++◌, length}
 use Rattle.std.proofs.Common.{length-append, drop, map, get_or, Option, Some, None, is_some, Result, Ok, Err, Bor, IsTrue, IfOk, ◌==◌, refl}
-use Rattle.std.proofs.Common.{sym, ap, subst, ◌∙◌, arith, add-one, drop-cons}
-use Rattle.std.specs.Prelude.{slice_get, IsSome}
-use Rattle.std.specs.List.{list_any}
+use Rattle.std.proofs.Common.{sym, ap, subst, ◌∙◌, arith, add-one, drop-cons, slice_get, IsSome}
 use Rattle.std.proofs.lemmas.Bool.{cond-false, ne_eqb, or_left, or_right, or_cases, le-leb}
+use Rattle.std.specs.List.{list_any}
 use Rattle.inf_devices.specs.Files.{Closes, Opening, Sources, Openings, Rose, opened}
+use Rattle.inf_lexer.specs.{Readers.Reader, declared.enter_faults.EnterFault.EnterFault}
 use Rattle.inf_lexer.specs.Entering.{ClosedAgain, Enters, IsEntered, Leaves, first_there, has_one_too_many, is_absent, with_opened}
 use Rattle.inf_lexer.specs.Entering.{with_closed}
 use Rattle.inf_lexer.specs.Names.{Nest, behind_sign, candidates, has_sign, name_beside, name_in, names_in, number_of}
-use Rattle.inf_lexer.specs.Readers.{Reader}
-use Rattle.inf_lexer.specs.declared.enter_faults.EnterFault.{EnterFault}
-use Rattle.inf_lexer.specs.declared.enter_faults.EnterFault.TheVariants as fault
 
 -- One name alone
 
@@ -115,9 +112,9 @@ pub leaves_at : (sources : Sources) (known names : List (List ℕ)) (name : List
     → before ≡ start → ((found : List ℕ) → first_there sources (name ∷ []) ≡ Some found → first_there sources names ≡ Some found)
     → is_absent answer ≡ false → Leaves sources known (name ∷ []) before after answer → Leaves sources known names start after answer
 leaves_at sources known names name start before after (Ok lexer) same later not_absent l = tt
-leaves_at sources known names name start before after (Err fault.Absent) same later not_absent l = cc
-leaves_at sources known names name start before after (Err fault.Device) same later not_absent (inl e) = inl (e ∙ same)
-leaves_at sources known names name start before after (Err fault.Device) same later not_absent (inr c) =
+leaves_at sources known names name start before after (Err EnterFault.Absent) same later not_absent l = cc
+leaves_at sources known names name start before after (Err EnterFault.Device) same later not_absent (inl e) = inl (e ∙ same)
+leaves_at sources known names name start before after (Err EnterFault.Device) same later not_absent (inr c) =
     inr (record {
       name = c.name;
       is_first = later c.name c.is_first;
@@ -125,20 +122,20 @@ leaves_at sources known names name start before after (Err fault.Device) same la
       is_closed = c.is_closed ∙ ap
           (λ o. with_closed c.name o) same;
     })
-leaves_at sources known names name start before after (Err fault.Memory) same later not_absent l = l ∙ same
-leaves_at sources known names name start before after (Err fault.BadName) same later not_absent l = l ∙ same
-leaves_at sources known names name start before after (Err fault.TooDeep) same later not_absent l = l ∙ same
+leaves_at sources known names name start before after (Err EnterFault.Memory) same later not_absent l = l ∙ same
+leaves_at sources known names name start before after (Err EnterFault.BadName) same later not_absent l = l ∙ same
+leaves_at sources known names name start before after (Err EnterFault.TooDeep) same later not_absent l = l ∙ same
 
 -- an attempt that did not find its name changes nothing
 pub absent_after : (sources : Sources) (known : List (List ℕ)) (name : List ℕ) (before after : Openings) (answer : Result Reader EnterFault)
     → is_absent answer ≡ true → Leaves sources known (name ∷ []) before after answer → (first_there sources (name ∷ []) ≡ None) ×
     (after ≡ before)
 absent_after sources known name before after (Ok lexer) e l = cc
-absent_after sources known name before after (Err fault.Absent) e l = l
-absent_after sources known name before after (Err fault.Device) e l = cc
-absent_after sources known name before after (Err fault.Memory) e l = cc
-absent_after sources known name before after (Err fault.BadName) e l = cc
-absent_after sources known name before after (Err fault.TooDeep) e l = cc
+absent_after sources known name before after (Err EnterFault.Absent) e l = l
+absent_after sources known name before after (Err EnterFault.Device) e l = cc
+absent_after sources known name before after (Err EnterFault.Memory) e l = cc
+absent_after sources known name before after (Err EnterFault.BadName) e l = cc
+absent_after sources known name before after (Err EnterFault.TooDeep) e l = cc
 
 -- the entering of one of many names, where none before it is there
 pub enters_in : {A : Type 0} (sources : Sources) (honest : Bool) (f : A → List ℕ) (xs : List A) (i : ℕ) (d : A) (name : List ℕ)

@@ -1,12 +1,9 @@
 -- Names of files: ASCII, and the directory up to the last `/`.
+use Rattle.std.proofs.{lemmas.List.take-append-drop, lemmas.Str.Pattern.NoCharPasses-char, lemmas.Str.Pattern.drop_at_char}
 use Rattle.std.proofs.Common.{◌≡◌, ◌≢◌, ℕ, zero, suc, ◌<◌, ◌≤◌, ◌==◌, nat_lt, List, [], ◌∷◌, ◌++◌, length, get_or, true, false, cond, drop}
 use Rattle.std.proofs.Common.{arith, lit<, ap, refl, sym, ◌∙◌}
-use Rattle.std.specs.List.{list_all}
-use Rattle.std.specs.Str.{IsAscii, IsNotAscii, NoCharPasses}
-use Rattle.std.specs.Str.Pattern.{RFindsChar, SplitsAroundMatch}
 use Rattle.std.proofs.lemmas.Bool.{and_from, and_left, and_right, lt-ltb, le-ltb, or_right, or_from, ne_eqb}
-use Rattle.std.proofs.lemmas.List.{take-append-drop}
-use Rattle.std.proofs.lemmas.Str.Pattern.{NoCharPasses-char, drop_at_char}
+use Rattle.std.specs.{List.list_all, Str.IsAscii, Str.IsNotAscii, Str.NoCharPasses, Str.Pattern.RFindsChar, Str.Pattern.SplitsAroundMatch}
 use Rattle.inf_lexer.specs.Names.{has_slash, directory_of}
 
 pub all_ascii : (bs : List ℕ) → IsAscii bs → list_all (λ b. nat_lt b 128) bs ≡ true

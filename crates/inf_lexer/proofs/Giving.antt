@@ -1,12 +1,10 @@
 -- The bytes that the innermost source gives, reading by reading.
 use Rattle.std.proofs.Common.{◌≡◌, ℕ, suc, ◌+◌, ◌-◌, ◌<◌, ◌≤◌, zero, List, [], ◌∷◌, ◌++◌, length, take, drop, get_or, Bool, true, false}
-use Rattle.std.proofs.Common.{IsTrue, Some, Result, Ok, Err, unwrap_or, refl, sym, ap, subst, ◌∙◌, arith}
-use Rattle.std.proofs.Common.{append-nil, append_assoc, length-append}
-use Rattle.std.specs.Prelude.{IfOk, nat_eq, slice_get, slice_set}
+use Rattle.std.proofs.Common.{IsTrue, Some, Result, Ok, Err, unwrap_or, refl, sym, ap, subst, ◌∙◌, arith, append-nil, append_assoc}
+use Rattle.std.proofs.Common.{length-append, IfOk, nat_eq, slice_get, slice_set}
 use Rattle.std.proofs.lemmas.List.{length-set, drop-take, drop-drop, take-append-le, with_items_is}
-use Rattle.std.specs.Global.{Vec}
-use Rattle.std.specs.Vec.{with_items}
 use Rattle.std.proofs.Math.Seq.{get_or-append_seam}
+use Rattle.std.specs.{Global.Vec, Vec.with_items}
 use Rattle.inf_devices.specs.Files.{Opening, Openings, Sources, GivesInnermost, Reads, opened, after_bytes}
 use Rattle.inf_devices.specs.declared.files.ReadFault.{ReadFault}
 use Rattle.inf_lexer.specs.Unread.{innermost_place, innermost, unread_of, unread, Gave, View, ReadsOn}

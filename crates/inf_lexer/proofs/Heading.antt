@@ -3,18 +3,12 @@ use Rattle.std.proofs.Common.{◌≡◌, ℕ, ◌-◌, ◌≤◌, ◌<◌, ◌�
 use Rattle.std.proofs.Common.{refl, sym, ap, subst, ◌∙◌, arith, append_assoc, length-append}
 use Rattle.inf_devices.specs.Files.{Sources, Openings}
 use Rattle.inf_characters.specs.Characters.{is_line_end}
-use Rattle.inf_scanner.specs.Lines.{past}
-use Rattle.inf_scanner.specs.declared.lines.Lines.{Lines}
+use Rattle.inf_scanner.specs.{Lines.past, declared.lines.Lines.Lines}
+use Rattle.inf_lexer.specs.{Readers.StaysOpen, Readers.TookWord, declared.head.HeadPlace.HeadPlace, declared.head.HeadStep.HeadStep}
 use Rattle.inf_lexer.specs.Heads.{HeadFound, comment_step, gap_step, head_found, head_step, is_behind, is_cut, is_word, line_step}
 use Rattle.inf_lexer.specs.Heads.{goes_on_at, place_behind, with_head_byte}
-use Rattle.inf_lexer.specs.Readers.{StaysOpen, TookWord}
 use Rattle.inf_lexer.specs.Unread.{Heard, ReadsOn, View, to_come, unread}
-use Rattle.inf_lexer.specs.declared.head.HeadPlace.{HeadPlace}
-use Rattle.inf_lexer.specs.declared.head.HeadPlace.TheVariants as place
-use Rattle.inf_lexer.specs.declared.head.HeadStep.{HeadStep}
-use Rattle.inf_lexer.specs.declared.head.HeadStep.TheVariants as step
-use Rattle.inf_lexer.proofs.Hearing.{reads_by}
-use Rattle.inf_lexer.proofs.Unfinished.{going_still, past_of}
+use Rattle.inf_lexer.proofs.{Hearing.reads_by, Unfinished.going_still, Unfinished.past_of}
 
 -- where nothing is left, the head ends there
 pub head_end : (p : HeadPlace) (word : List ℕ) (lines : Lines) (left rest : List ℕ) → left ≡ [] → rest ≡ []
@@ -26,63 +20,64 @@ head_end p word lines left rest e none =
 -- Bytes that are passed over
 
 abbrev leads_behind : HeadStep → Bool
-leads_behind (step.Pass next) = is_behind next
-leads_behind step.Keep = false
-leads_behind step.Stop = false
+leads_behind (HeadStep.Pass next) = is_behind next
+leads_behind HeadStep.Keep = false
+leads_behind HeadStep.Stop = false
 
 of_choice : (b : Bool) (x y : HeadStep) → leads_behind x ≡ false → leads_behind y ≡ false → leads_behind (cond b x y) ≡ false
 of_choice true x y e f = e
 of_choice false x y e f = f
 
 line_leads : (b : ℕ) → leads_behind (line_step b) ≡ false
-line_leads b = of_choice (b == 33) (step.Pass place.Sign) step.Stop refl refl
+line_leads b = of_choice (b == 33) (HeadStep.Pass HeadPlace.Sign) HeadStep.Stop refl refl
 
 comment_leads : (b : ℕ) → leads_behind (comment_step b) ≡ false
-comment_leads b = of_choice (is_line_end b) step.Stop (step.Pass place.Comment) refl refl
+comment_leads b = of_choice (is_line_end b) HeadStep.Stop (HeadStep.Pass HeadPlace.Comment) refl refl
 
 gap_leads : (b : ℕ) → leads_behind (gap_step b) ≡ false
 gap_leads b =
-    of_choice (is_cut b) (step.Pass place.Gap) _ refl
-    (of_choice (b == 13) (step.Pass place.Return) _ refl (of_choice (b == 10) (step.Pass place.Line) step.Keep refl refl))
+    of_choice (is_cut b) (HeadStep.Pass HeadPlace.Gap) _ refl
+    (of_choice (b == 13) (HeadStep.Pass HeadPlace.Return) _ refl
+    (of_choice (b == 10) (HeadStep.Pass HeadPlace.Line) HeadStep.Keep refl refl))
 
 leads_on : (p : HeadPlace) (b : ℕ) → leads_behind (head_step p b) ≡ false
-leads_on place.Line b = line_leads b
-leads_on place.Return b = of_choice (b == 10) (step.Pass place.Line) (line_step b) refl (line_leads b)
-leads_on place.Sign b = of_choice (b == 37) (step.Pass place.Gap) (comment_step b) refl (comment_leads b)
-leads_on place.Gap b = gap_leads b
-leads_on place.Word b = of_choice (is_cut b || is_line_end b) step.Stop step.Keep refl refl
-leads_on place.Comment b = comment_leads b
-leads_on place.Behind b = refl
+leads_on HeadPlace.Line b = line_leads b
+leads_on HeadPlace.Return b = of_choice (b == 10) (HeadStep.Pass HeadPlace.Line) (line_step b) refl (line_leads b)
+leads_on HeadPlace.Sign b = of_choice (b == 37) (HeadStep.Pass HeadPlace.Gap) (comment_step b) refl (comment_leads b)
+leads_on HeadPlace.Gap b = gap_leads b
+leads_on HeadPlace.Word b = of_choice (is_cut b || is_line_end b) HeadStep.Stop HeadStep.Keep refl refl
+leads_on HeadPlace.Comment b = comment_leads b
+leads_on HeadPlace.Behind b = refl
 
 -- no byte that is passed over leads behind the head
-pub passes_before : (p next : HeadPlace) (b : ℕ) → head_step p b ≡ step.Pass next → is_behind next ≡ false
+pub passes_before : (p next : HeadPlace) (b : ℕ) → head_step p b ≡ HeadStep.Pass next → is_behind next ≡ false
 passes_before p next b e = sym (ap leads_behind e) ∙ leads_on p b
 
 -- the place where the head goes on behind a call
 pub goes_on_is : (p : HeadPlace) → place_behind p ≡ goes_on_at (is_word p)
-goes_on_is place.Line = refl
-goes_on_is place.Return = refl
-goes_on_is place.Sign = refl
-goes_on_is place.Gap = refl
-goes_on_is place.Word = refl
-goes_on_is place.Comment = refl
-goes_on_is place.Behind = refl
+goes_on_is HeadPlace.Line = refl
+goes_on_is HeadPlace.Return = refl
+goes_on_is HeadPlace.Sign = refl
+goes_on_is HeadPlace.Gap = refl
+goes_on_is HeadPlace.Word = refl
+goes_on_is HeadPlace.Comment = refl
+goes_on_is HeadPlace.Behind = refl
 
 -- The end that is found
 
 abbrev after_step : HeadStep → HeadPlace → List ℕ → Lines → ℕ → List ℕ → HeadFound
 after_step s p word lines b bs = elim s [
-  | step.Pass next ↦ head_found next word (past b lines) bs
-  | step.Keep ↦ head_found place.Word (with_head_byte b word) (past b lines) bs
-  | step.Stop ↦ record { place = p; word = word; lines = lines; rest = b ∷ bs }
+  | HeadStep.Pass next ↦ head_found next word (past b lines) bs
+  | HeadStep.Keep ↦ head_found HeadPlace.Word (with_head_byte b word) (past b lines) bs
+  | HeadStep.Stop ↦ record { place = p; word = word; lines = lines; rest = b ∷ bs }
 ]
 
 step_within : (s : HeadStep) (p : HeadPlace) (word : List ℕ) (lines : Lines) (b : ℕ) (bs : List ℕ)
     → ((q : HeadPlace) (w : List ℕ) → length (head_found q w (past b lines) bs).rest ≤ length bs)
     → length (after_step s p word lines b bs).rest ≤ length (b ∷ bs)
-step_within (step.Pass next) p word lines b bs h = omega (arith, h next word)
-step_within step.Keep p word lines b bs h = omega (arith, h place.Word (with_head_byte b word))
-step_within step.Stop p word lines b bs h = omega arith
+step_within (HeadStep.Pass next) p word lines b bs h = omega (arith, h next word)
+step_within HeadStep.Keep p word lines b bs h = omega (arith, h HeadPlace.Word (with_head_byte b word))
+step_within HeadStep.Stop p word lines b bs h = omega arith
 
 -- the bytes behind a head are no more than there were
 pub found_within : (p : HeadPlace) (word : List ℕ) (lines : Lines) (bytes : List ℕ)
@@ -97,20 +92,20 @@ record TakesMore (p : HeadPlace) (word : List ℕ) (lines : Lines) : Type 0 wher
   takes : length (head_found p word lines more).rest < length more
 
 found_more : (p : HeadPlace) (word : List ℕ) (lines : Lines) → is_behind p ≡ false → TakesMore p word lines
-found_more place.Line word lines e = record { more = 33 ∷ []; takes = omega arith }
-found_more place.Return word lines e = record { more = 10 ∷ []; takes = omega arith }
-found_more place.Sign word lines e = record { more = 37 ∷ []; takes = omega arith }
-found_more place.Gap word lines e = record { more = 32 ∷ []; takes = omega arith }
-found_more place.Word word lines e = record { more = 65 ∷ []; takes = omega arith }
-found_more place.Comment word lines e = record { more = 65 ∷ []; takes = omega arith }
-found_more place.Behind word lines e = absurd (let never : true ≡ false = e in cc)
+found_more HeadPlace.Line word lines e = record { more = 33 ∷ []; takes = omega arith }
+found_more HeadPlace.Return word lines e = record { more = 10 ∷ []; takes = omega arith }
+found_more HeadPlace.Sign word lines e = record { more = 37 ∷ []; takes = omega arith }
+found_more HeadPlace.Gap word lines e = record { more = 32 ∷ []; takes = omega arith }
+found_more HeadPlace.Word word lines e = record { more = 65 ∷ []; takes = omega arith }
+found_more HeadPlace.Comment word lines e = record { more = 65 ∷ []; takes = omega arith }
+found_more HeadPlace.Behind word lines e = absurd (let never : true ≡ false = e in cc)
 
 -- a word is found behind one of its bytes at least, where none was read before
 word_by : (s : HeadStep) (p : HeadPlace) (word : List ℕ) (lines : Lines) (b : ℕ) (bs : List ℕ) → is_word p ≡ false
     → is_word (after_step s p word lines b bs).place ≡ true → length (after_step s p word lines b bs).rest < length (b ∷ bs)
-word_by (step.Pass next) p word lines b bs none is = omega (arith, found_within next word (past b lines) bs)
-word_by step.Keep p word lines b bs none is = omega (arith, found_within place.Word (with_head_byte b word) (past b lines) bs)
-word_by step.Stop p word lines b bs none is = absurd (let never : true ≡ false = sym is ∙ none in cc)
+word_by (HeadStep.Pass next) p word lines b bs none is = omega (arith, found_within next word (past b lines) bs)
+word_by HeadStep.Keep p word lines b bs none is = omega (arith, found_within HeadPlace.Word (with_head_byte b word) (past b lines) bs)
+word_by HeadStep.Stop p word lines b bs none is = absurd (let never : true ≡ false = sym is ∙ none in cc)
 
 pub words_take : (p : HeadPlace) (word : List ℕ) (lines : Lines) (bytes : List ℕ) → is_word p ≡ false
     → is_word (head_found p word lines bytes).place ≡ true → length (head_found p word lines bytes).rest < length bytes

@@ -1,9 +1,7 @@
 -- The names that are kept, as lists of bytes.
 use Rattle.std.proofs.Common.{◌≡◌, ◌≤◌, ℕ, suc, ◌+◌, not, Bool, true, false, cond, nat_lt, List, [], ◌∷◌, length, map, Some, None, unwrap_or}
 use Rattle.std.proofs.Common.{position, String, refl, ap, ◌∙◌, arith}
-use Rattle.std.specs.List.{position_or_len, prefix_len}
-use Rattle.std.specs.String.{string_bytes}
-use Rattle.std.specs.declared.alloc.Global.{Global}
+use Rattle.std.specs.{List.position_or_len, List.prefix_len, String.string_bytes, declared.alloc.Global.Global}
 
 prefix_map : (test : List ℕ → Bool) (keys : List (String Global)) →
     prefix_len (λ k. test (string_bytes k)) keys ≡ prefix_len test (map string_bytes keys)

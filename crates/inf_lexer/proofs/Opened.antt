@@ -1,18 +1,12 @@
 -- Names of files that are among those opened, and how many these are.
+use Rattle.std.proofs.{lemmas.Bool.or_cases, lemmas.List.Folds.list_any-append, lemmas.List.Sums.prefix_len-le-length}
+use Rattle.std.proofs.{lemmas.Map.Made.length-le_from_is_member, lemmas.Slice.Eq.bytes_eq-Decides}
 use Rattle.std.proofs.Common.{◌≡◌, ◌⊎◌, ◌||◌, inl, inr, ℕ, suc, ◌+◌, ◌<◌, ◌≤◌, not, Bool, true, false, cond, List, [], ◌∷◌, ◌++◌, length}
 use Rattle.std.proofs.Common.{refl, sym, ap, subst, ◌∙◌, arith, length-append}
-use Rattle.std.specs.Cmp.Lexicographic.{nat_list_eq_equiv}
-use Rattle.std.specs.List.{list_any, position_or_len}
-use Rattle.std.specs.Str.{bytes_eq}
-use Rattle.std.proofs.lemmas.Bool.{or_cases}
-use Rattle.std.proofs.lemmas.List.Folds.{list_any-append}
-use Rattle.std.proofs.lemmas.List.Sums.{prefix_len-le-length}
 use Rattle.std.proofs.lemmas.Map.Keys.{IsDistinct-from_apart, IsDistinct-push}
-use Rattle.std.proofs.lemmas.Map.Made.{length-le_from_is_member}
-use Rattle.std.proofs.lemmas.Slice.Eq.{bytes_eq-Decides}
+use Rattle.std.specs.{Cmp.Lexicographic.nat_list_eq_equiv, List.list_any, List.position_or_len, Str.bytes_eq}
 use Rattle.inf_devices.specs.Files.{with_name}
-use Rattle.inf_lexer.specs.Entering.{AreOpened, OpensOn, StaysOpened}
-use Rattle.inf_lexer.specs.Names.{number_of}
+use Rattle.inf_lexer.specs.{Entering.AreOpened, Entering.OpensOn, Entering.StaysOpened, Names.number_of}
 
 -- a name is among names to which it was added
 pub in_with : (name : List ℕ) (names : List (List ℕ)) → list_any (bytes_eq name) (with_name name names) ≡ true

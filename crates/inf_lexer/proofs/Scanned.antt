@@ -2,8 +2,7 @@
 use Rattle.std.proofs.Common.{◌≡◌, ◌<◌, ℕ, List, [], ◌∷◌, ◌++◌, length, arith, true, false, ◌==◌, refl, sym, ap, ◌∙◌}
 use Rattle.std.proofs.lemmas.Bool.Decides.{nat_tests}
 use Rattle.inf_characters.specs.declared.characters.CharSet.{CharSet}
-use Rattle.inf_scanner.specs.Scanning.{Sight, find, at_end, marked}
-use Rattle.inf_scanner.specs.declared.scanner.State.{State}
+use Rattle.inf_scanner.specs.{Scanning.Sight, Scanning.at_end, Scanning.find, Scanning.marked, declared.scanner.State.State}
 
 pub find_end : (set : CharSet) (limit : ℕ) (s : State) (seen after : Sight) (left rest : List ℕ) → left ≡ [] → rest ≡ []
     → after ≡ marked s seen → record { ending = at_end s; seen = after; rest = left ++ rest } ≡ find set limit s seen (left ++ rest)

@@ -3,18 +3,11 @@ use Rattle.std.proofs.Common.{◌≡◌, ◌⊎◌, inl, inr, ℕ, ◌+◌, ◌<
 use Rattle.std.proofs.Common.{append-nil, length-append}
 use Rattle.inf_characters.specs.declared.characters.CharSet.{CharSet}
 use Rattle.inf_devices.specs.Files.{Sources, Openings}
-use Rattle.inf_lexer.specs.Readers.{Took}
-use Rattle.inf_lexer.specs.Unread.{View, Heard}
+use Rattle.inf_lexer.specs.{Readers.Took, Unread.Heard, Unread.View}
 use Rattle.inf_scanner.proofs.TokenLaws.{runs_are_short, tokens_take_bytes}
-use Rattle.inf_scanner.specs.Kinds.{kind_of}
+use Rattle.inf_scanner.specs.{Kinds.kind_of, TokenLaws.is_run, Tokens.Read, Tokens.next_token, Tokens.read_of, declared.lines.Lines.Lines}
+use Rattle.inf_scanner.specs.{declared.scanner.Ending.Ending, declared.scanner.State.State, declared.tokens.TokenKind.TokenKind}
 use Rattle.inf_scanner.specs.Scanning.{Found, Sight, begun, find}
-use Rattle.inf_scanner.specs.TokenLaws.{is_run}
-use Rattle.inf_scanner.specs.Tokens.{Read, next_token, read_of}
-use Rattle.inf_scanner.specs.declared.lines.Lines.{Lines}
-use Rattle.inf_scanner.specs.declared.scanner.Ending.{Ending}
-use Rattle.inf_scanner.specs.declared.scanner.State.TheVariants as state
-use Rattle.inf_scanner.specs.declared.tokens.TokenKind.{TokenKind}
-use Rattle.inf_scanner.specs.declared.tokens.TokenKind.TheVariants as kind
 use Rattle.inf_lexer.proofs.Hearing.{heard_as, heard_taken}
 
 abbrev read_as : TokenKind → Sight → List ℕ → Read
@@ -24,18 +17,19 @@ read_as k seen rest = record { kind = k; line = seen.first; kept = seen.kept; li
 pub heard_token : (h : Bool) (s : Sources) (old new : Openings) (before after : View) (set : CharSet) (limit : ℕ) (lines : Lines)
     (e : Ending) (seen : Sight) (k : TokenKind)
     → Heard Found h s old new before after (λ rest. record { ending = e; seen = seen; rest = rest })
-    (find set limit state.Gap (begun lines))
+    (find set limit State.Gap (begun lines))
     → k ≡ kind_of set e seen.kept → Heard Read h s old new before after (read_as k seen) (next_token set limit lines)
 heard_token h s old new before after set limit lines e seen k found is =
     heard_taken Read h s old new before after after (λ rest. read_of set (record { ending = e; seen = seen; rest = rest })) (read_as k seen)
     (next_token set limit lines)
     (heard_as Found Read (read_of set) h s old new before after (λ rest. record { ending = e; seen = seen; rest = rest })
-    (find set limit state.Gap (begun lines)) found)
+    (find set limit State.Gap (begun lines)) found)
     refl refl (λ rest may. ap (λ x. read_as x seen (after.left ++ rest)) is)
 
 one_of : (k found : TokenKind) (before left bytes rest : List ℕ) (given now : ℕ) → k ≡ found → length (left ++ []) ≡ length rest →
     now ≡ given + length bytes
-    → (found ≡ kind.End) ⊎ (length rest < length (before ++ (bytes ++ []))) → (k ≡ kind.End) ⊎ (given + length left < now + length before)
+    → (found ≡ TokenKind.End) ⊎ (length rest < length (before ++ (bytes ++ []))) → (k ≡ TokenKind.End) ⊎
+    (given + length left < now + length before)
 one_of k found before left bytes rest given now same size count (inl is) = inl (same ∙ is)
 one_of k found before left bytes rest given now same size count (inr less) =
     inr (omega (arith, size, count, less, length-append left [], length-append before (bytes ++ []), length-append bytes []))

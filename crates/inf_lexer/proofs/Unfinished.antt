@@ -3,13 +3,10 @@ use Rattle.std.proofs.Common.{◌≡◌, ◌⊎◌, inl, inr, ℕ, ◌+◌, ◌-
 use Rattle.std.proofs.Common.{sym, ap, subst, ◌∙◌, arith, append_assoc}
 use Rattle.inf_characters.specs.declared.characters.CharSet.{CharSet}
 use Rattle.inf_devices.specs.Files.{Sources, Openings}
+use Rattle.inf_scanner.specs.{declared.lines.Lines.Lines, declared.scanner.State.State}
 use Rattle.inf_scanner.specs.Scanning.{Found, Sight, begun, find, goes_on}
-use Rattle.inf_scanner.specs.declared.lines.Lines.{Lines}
-use Rattle.inf_scanner.specs.declared.scanner.State.{State}
-use Rattle.inf_scanner.specs.declared.scanner.State.TheVariants as state
 use Rattle.inf_scanner.proofs.Growing.{rest_within, takes_more}
-use Rattle.inf_lexer.specs.Readers.{StaysUnfinished}
-use Rattle.inf_lexer.specs.Unread.{Heard, ReadsOn, View, to_come, unread}
+use Rattle.inf_lexer.specs.{Readers.StaysUnfinished, Unread.Heard, Unread.ReadsOn, Unread.View, Unread.to_come, Unread.unread}
 use Rattle.inf_lexer.proofs.Hearing.{reads_by}
 
 pub past_of : (before after some : ℕ) → before ≤ 16777216 → after ≡ before + some →
@@ -25,7 +22,7 @@ going_still false after bytes stops e = refl
 -- Nothing was in view any more and nothing more was given.
 pub stays_unfinished : (h g : Bool) (s t : Sources) (old mid new : Openings) (before between after : View) (set : CharSet) (limit : ℕ)
     (lines : Lines) (at : State) (seen : Sight)
-    → Heard Found h s old mid before between (find set limit at seen) (find set limit state.Gap (begun lines)) → g ≡ h → t ≡ s → ReadsOn g t
+    → Heard Found h s old mid before between (find set limit at seen) (find set limit State.Gap (begun lines)) → g ≡ h → t ≡ s → ReadsOn g t
     mid new between after
     → goes_on at ≡ true → (between.left ≡ []) × (between.is_over ≡ false) → between.given ≤ 16777216
     → (after.given ≡ between.given) ⊎ ((between.given ≡ 16777216) × (after.given ≡ 16777217)) → IsTrue h
@@ -33,11 +30,11 @@ pub stays_unfinished : (h g : Bool) (s t : Sources) (old mid new : Openings) (be
 stays_unfinished h g s t old mid new before between after set limit lines at seen heard e f reads opens refused few last honest =
     let r = reads_by g h t s mid new between after e f reads in
     let going : before.is_over ≡ false = going_still before.is_over between.is_over heard.bytes heard.stops refused.1 in
-    let found : (behind : List ℕ) → find set limit at seen behind ≡ find set limit state.Gap (begun lines)
+    let found : (behind : List ℕ) → find set limit at seen behind ≡ find set limit State.Gap (begun lines)
     ((before.left ++ heard.bytes) ++ behind) = λ behind.
     ap (λ l. find set limit at seen (l ++ behind)) (sym refused.0)
     ∙ heard.same behind (λ over. absurd (let never : true ≡ false = sym over ∙ refused.1 in cc))
-    ∙ ap (find set limit state.Gap (begun lines)) (sym (append_assoc before.left heard.bytes behind)) in
+    ∙ ap (find set limit State.Gap (begun lines)) (sym (append_assoc before.left heard.bytes behind)) in
     let more = takes_more set limit at seen opens in
     record {
       bytes = before.left ++ heard.bytes;

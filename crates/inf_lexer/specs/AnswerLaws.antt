@@ -1,10 +1,7 @@
 -- The tokens of a source, call by call.
 use Rattle.std.specs.Prelude.{◌≡◌, ℕ, List, [], ◌∷◌, length, map, zero, suc}
 use Rattle.inf_characters.specs.declared.characters.CharSet.{CharSet}
-use Rattle.inf_scanner.specs.Lines.{first_line}
-use Rattle.inf_scanner.specs.Tokens.{Read, next_token}
-use Rattle.inf_scanner.specs.declared.lines.Lines.{Lines}
-use Rattle.inf_scanner.specs.declared.tokens.Token.{Token}
+use Rattle.inf_scanner.specs.{Lines.first_line, Tokens.Read, Tokens.next_token, declared.lines.Lines.Lines, declared.tokens.Token.Token}
 use Rattle.inf_lexer.specs.Readers.{Reader, read_out}
 
 -- An answer of a lexer: the token, the lexer behind it, and the bytes that were still to come then.

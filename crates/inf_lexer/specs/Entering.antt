@@ -1,13 +1,10 @@
 -- The sources that are open behind the entering of a file, with a reader that keeps to its sources.
-use Rattle.std.specs.Prelude.{◌≡◌, ℕ, ◌<◌, ◌≤◌, ◌⊎◌, List, [], ◌∷◌, ◌++◌, length, nat_le, Option, Some, None, is_some, slice_get}
-use Rattle.std.specs.Prelude.{Result, Ok, Err, Bool, true, false, IsTrue, if◌then◌else◌}
-use Rattle.std.specs.List.{IsDistinct, list_any}
-use Rattle.std.specs.Str.{bytes_eq}
+use Rattle.std.specs.{List.IsDistinct, List.list_any, Str.bytes_eq}
+use Rattle.std.specs.Prelude.{◌≡◌, ℕ, ◌<◌, ◌≤◌, ◌⊎◌, List, [], ◌∷◌, ◌++◌, length, nat_le, Option, Some, None, is_some, slice_get, Result}
+use Rattle.std.specs.Prelude.{Ok, Err, Bool, true, false, IsTrue, if◌then◌else◌}
 use Rattle.inf_devices.specs.Files.{Sources, Openings, opened}
+use Rattle.inf_lexer.specs.{Readers.Reader, Readers.at_front, declared.enter_faults.EnterFault.EnterFault}
 use Rattle.inf_lexer.specs.Names.{Nest, entered, number_of}
-use Rattle.inf_lexer.specs.Readers.{Reader, at_front}
-use Rattle.inf_lexer.specs.declared.enter_faults.EnterFault.{EnterFault}
-use Rattle.inf_lexer.specs.declared.enter_faults.EnterFault.TheVariants as fault
 
 -- one more source is open, the innermost
 abbrev pub with_opened : List ℕ → Openings → Openings
@@ -75,21 +72,21 @@ pub record WasTooMany (sources : Sources) (is_honest : Bool) (known names : List
 -- the openings of an honest reader where no source of these names was entered
 abbrev pub Leaves : Sources → List (List ℕ) → List (List ℕ) → Openings → Openings → Result Reader EnterFault → Type 0
 Leaves sources known names before after (Ok lexer) = Unit {0}
-Leaves sources known names before after (Err fault.Absent) = (first_there sources names ≡ None) × (after ≡ before)
-Leaves sources known names before after (Err fault.Device) = (after ≡ before) ⊎ ClosedAgain sources known names before after
+Leaves sources known names before after (Err EnterFault.Absent) = (first_there sources names ≡ None) × (after ≡ before)
+Leaves sources known names before after (Err EnterFault.Device) = (after ≡ before) ⊎ ClosedAgain sources known names before after
 Leaves sources known names before after (Err _) = after ≡ before
 
 -- an answer that is no refusal of a name or of a further file
 abbrev pub is_of_opening : Result Reader EnterFault → Bool
-is_of_opening (Err fault.BadName) = false
-is_of_opening (Err fault.TooDeep) = false
+is_of_opening (Err EnterFault.BadName) = false
+is_of_opening (Err EnterFault.TooDeep) = false
 is_of_opening _ = true
 
 abbrev pub is_absent : Result Reader EnterFault → Bool
-is_absent (Err fault.Absent) = true
+is_absent (Err EnterFault.Absent) = true
 is_absent _ = false
 
 -- whether an answer says that the reader failed, or that a name was one too many
 abbrev pub tells_failure : {T : Type 0} → Result T EnterFault → Bool
-tells_failure (Err fault.Device) = true
+tells_failure (Err EnterFault.Device) = true
 tells_failure _ = false

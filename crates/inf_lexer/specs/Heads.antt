@@ -1,14 +1,8 @@
 -- The head of a source: its lines, from the first byte on, that begin with `!%`, and the words of these lines.
 use Rattle.std.specs.Prelude.{ℕ, zero, suc, List, [], ◌∷◌, ◌++◌, length, Bool, true, false, ◌||◌, ◌==◌, nat_lt, if◌then◌else◌}
 use Rattle.inf_characters.specs.Characters.{is_line_end}
-use Rattle.inf_scanner.specs.Lines.{past}
-use Rattle.inf_scanner.specs.declared.lines.Lines.{Lines}
-use Rattle.inf_lexer.specs.declared.head.HeadPlace.{HeadPlace}
-use Rattle.inf_lexer.specs.declared.head.HeadPlace.TheVariants as place
-use Rattle.inf_lexer.specs.declared.head.HeadStep.{HeadStep}
-use Rattle.inf_lexer.specs.declared.head.HeadStep.TheVariants as step
-use Rattle.inf_lexer.specs.declared.head.HeadTurn.{HeadTurn}
-use Rattle.inf_lexer.specs.declared.head.HeadTurn.TheVariants as turn
+use Rattle.inf_scanner.specs.{Lines.past, declared.lines.Lines.Lines}
+use Rattle.inf_lexer.specs.{declared.head.HeadPlace.HeadPlace, declared.head.HeadStep.HeadStep, declared.head.HeadTurn.HeadTurn}
 
 -- words are cut at spaces and tabs
 abbrev pub is_cut : ℕ → Bool
@@ -16,27 +10,27 @@ is_cut b = b == 32 || b == 9
 
 -- the step of a byte at the front of a line
 abbrev pub line_step : ℕ → HeadStep
-line_step b = if b == 33 then step.Pass place.Sign else step.Stop
+line_step b = if b == 33 then HeadStep.Pass HeadPlace.Sign else HeadStep.Stop
 
 -- the step of a byte in a line that begins with `!` and is no line of the head
 abbrev pub comment_step : ℕ → HeadStep
-comment_step b = if is_line_end b then step.Stop else step.Pass place.Comment
+comment_step b = if is_line_end b then HeadStep.Stop else HeadStep.Pass HeadPlace.Comment
 
 -- the step of a byte behind `!%` or behind a word; a line ends with CR, LF or CR LF
 abbrev pub gap_step : ℕ → HeadStep
 gap_step b =
-    if is_cut b then step.Pass place.Gap else if b == 13 then step.Pass place.Return else
-    if b == 10 then step.Pass place.Line else step.Keep
+    if is_cut b then HeadStep.Pass HeadPlace.Gap else if b == 13 then HeadStep.Pass HeadPlace.Return else
+    if b == 10 then HeadStep.Pass HeadPlace.Line else HeadStep.Keep
 
 -- the step of a byte at a place
 abbrev pub head_step : HeadPlace → ℕ → HeadStep
-head_step place.Line b = line_step b
-head_step place.Return b = if b == 10 then step.Pass place.Line else line_step b
-head_step place.Sign b = if b == 37 then step.Pass place.Gap else comment_step b
-head_step place.Gap b = gap_step b
-head_step place.Word b = if is_cut b || is_line_end b then step.Stop else step.Keep
-head_step place.Comment b = comment_step b
-head_step place.Behind b = step.Stop
+head_step HeadPlace.Line b = line_step b
+head_step HeadPlace.Return b = if b == 10 then HeadStep.Pass HeadPlace.Line else line_step b
+head_step HeadPlace.Sign b = if b == 37 then HeadStep.Pass HeadPlace.Gap else comment_step b
+head_step HeadPlace.Gap b = gap_step b
+head_step HeadPlace.Word b = if is_cut b || is_line_end b then HeadStep.Stop else HeadStep.Keep
+head_step HeadPlace.Comment b = comment_step b
+head_step HeadPlace.Behind b = HeadStep.Stop
 
 -- a word with one byte more, of which 256 are kept
 abbrev pub with_head_byte : ℕ → List ℕ → List ℕ
@@ -53,41 +47,41 @@ pub record HeadFound : Type 0 where
 abbrev pub head_found : HeadPlace → List ℕ → Lines → List ℕ → HeadFound
 head_found p word lines [] = record { place = p; word = word; lines = lines; rest = [] }
 head_found p word lines (b ∷ bs) = elim (head_step p b) [
-  | step.Pass next ↦ head_found next word (past b lines) bs
-  | step.Keep ↦ head_found place.Word (with_head_byte b word) (past b lines) bs
-  | step.Stop ↦ record { place = p; word = word; lines = lines; rest = b ∷ bs }
+  | HeadStep.Pass next ↦ head_found next word (past b lines) bs
+  | HeadStep.Keep ↦ head_found HeadPlace.Word (with_head_byte b word) (past b lines) bs
+  | HeadStep.Stop ↦ record { place = p; word = word; lines = lines; rest = b ∷ bs }
 ]
 
 -- the end of a part of a head, behind bytes whose taking ended with a turn
 abbrev pub head_after : HeadTurn → List ℕ → Lines → List ℕ → HeadFound
-head_after (turn.On p) word lines bs = head_found p word lines bs
-head_after (turn.Stopped p) word lines bs = record { place = p; word = word; lines = lines; rest = bs }
+head_after (HeadTurn.On p) word lines bs = head_found p word lines bs
+head_after (HeadTurn.Stopped p) word lines bs = record { place = p; word = word; lines = lines; rest = bs }
 
 abbrev pub is_head_on : HeadTurn → Bool
-is_head_on (turn.On p) = true
+is_head_on (HeadTurn.On p) = true
 is_head_on _ = false
 
 -- the place up to which bytes were taken
 abbrev pub turn_place : HeadTurn → HeadPlace
-turn_place (turn.On p) = p
-turn_place (turn.Stopped p) = p
+turn_place (HeadTurn.On p) = p
+turn_place (HeadTurn.Stopped p) = p
 
 abbrev pub is_behind : HeadPlace → Bool
-is_behind place.Behind = true
+is_behind HeadPlace.Behind = true
 is_behind _ = false
 
 abbrev pub is_word : HeadPlace → Bool
-is_word place.Word = true
+is_word HeadPlace.Word = true
 is_word _ = false
 
 -- where the head goes on behind a word; where there was none, it is at its end
 abbrev pub place_behind : HeadPlace → HeadPlace
-place_behind place.Word = place.Gap
-place_behind _ = place.Behind
+place_behind HeadPlace.Word = HeadPlace.Gap
+place_behind _ = HeadPlace.Behind
 
 -- the place where the head goes on, by whether there was a word
 abbrev pub goes_on_at : Bool → HeadPlace
-goes_on_at is_word = if is_word then place.Gap else place.Behind
+goes_on_at is_word = if is_word then HeadPlace.Gap else HeadPlace.Behind
 
 -- The part of a head that a call reads: whether there was a word, where the head goes on, the bytes that are kept of the word, and
 -- the lines and the bytes behind it.
@@ -125,4 +119,4 @@ head_within (suc n) p lines bytes =
 
 -- the whole head of a source that has these bytes from this line on: each of its words has a byte at least
 abbrev pub whole_head : Lines → List ℕ → WholeHead
-whole_head lines bytes = head_within (suc (length bytes)) place.Line lines bytes
+whole_head lines bytes = head_within (suc (length bytes)) HeadPlace.Line lines bytes

@@ -1,8 +1,7 @@
 -- The names of files, and those that the text of an inclusion means (Designer's Manual, fourth edition, sections 38 and 39).
+use Rattle.std.specs.{List.list_all, List.position_or_len, Str.bytes_eq}
 use Rattle.std.specs.Prelude.{ℕ, ◌-◌, List, [], ◌∷◌, ◌++◌, length, take, map, Bool, false, not, ◌&&◌, ◌||◌, ◌==◌, nat_lt, codes}
 use Rattle.std.specs.Prelude.{if◌then◌else◌, Option, Some, None, unwrap_or, slice_get}
-use Rattle.std.specs.List.{list_all, position_or_len}
-use Rattle.std.specs.Str.{bytes_eq}
 use Rattle.inf_characters.specs.declared.characters.CharSet.{CharSet}
 pub use Rattle.inf_devices.specs.Files.{with_name}
 

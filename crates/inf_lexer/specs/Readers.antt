@@ -1,17 +1,10 @@
 -- Lexers, and the tokens and words that they read.
 use Rattle.std.specs.Prelude.{◌≡◌, ◌+◌, ◌<◌, ◌≤◌, ◌⊎◌, ℕ, List, [], ◌++◌, length, Bool, true, false}
 use Rattle.inf_characters.specs.declared.characters.CharSet.{CharSet}
-use Rattle.inf_scanner.specs.Kept.{Kept, nothing_kept}
-use Rattle.inf_scanner.specs.Lines.{first_line}
-use Rattle.inf_scanner.specs.TokenLaws.{is_run}
-use Rattle.inf_scanner.specs.Tokens.{Read, next_token}
-use Rattle.inf_scanner.specs.declared.lines.Lines.{Lines}
-use Rattle.inf_scanner.specs.declared.tokens.Token.{Token}
-use Rattle.inf_scanner.specs.declared.tokens.TokenKind.{TokenKind}
-use Rattle.inf_scanner.specs.declared.tokens.TokenKind.TheVariants as kind
+use Rattle.inf_scanner.specs.{Kept.Kept, Kept.nothing_kept, Lines.first_line, TokenLaws.is_run, Tokens.Read, Tokens.next_token}
+use Rattle.inf_scanner.specs.{declared.lines.Lines.Lines, declared.tokens.Token.Token, declared.tokens.TokenKind.TokenKind}
+use Rattle.inf_lexer.specs.{Unread.IsAtEnd, Unread.View, declared.head.HeadPlace.HeadPlace}
 use Rattle.inf_lexer.specs.Heads.{HeadRead, is_word, next_head_word}
-use Rattle.inf_lexer.specs.declared.head.HeadPlace.{HeadPlace}
-use Rattle.inf_lexer.specs.Unread.{IsAtEnd, View}
 
 -- A lexer: the character set, the number of bytes that a quoted token may have, the number of its file, its view of the file, the
 -- bytes of the token that was read last, the line behind it, and whether the lexer has refused.
@@ -48,9 +41,9 @@ at_front set limit file = record {
 -- The bytes that a token takes, with any reader: none at the end, and a byte at least of each other token. At the end nothing more
 -- is to come, and then the end is read again. Of a name or a number at most 32 bytes are kept.
 pub record Took (k : TokenKind) (before after : View) (kept : Kept) : Type 0 where
-  pub one : (k ≡ kind.End) ⊎ (before.given + length after.left < after.given + length before.left)
-  pub last : k ≡ kind.End → IsAtEnd after
-  pub again : IsAtEnd before → k ≡ kind.End
+  pub one : (k ≡ TokenKind.End) ⊎ (before.given + length after.left < after.given + length before.left)
+  pub last : k ≡ TokenKind.End → IsAtEnd after
+  pub again : IsAtEnd before → k ≡ TokenKind.End
   pub short : is_run k ≡ true → length kept.bytes ≤ 32
 
 -- The bytes `bytes`, at the front of all that is still to come, do not end the next token: whatever follows them, the token takes

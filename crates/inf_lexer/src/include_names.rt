@@ -1,7 +1,5 @@
 //! The names of files that the text of an inclusion may mean.
-ghost use Rattle.std.specs.Prelude.{◌≡◌, IfOk, false, if◌then◌else◌};
-ghost use Rattle.std.specs.Option.{option_copied};
-ghost use Rattle.std.specs.String.{string_bytes};
+ghost use Rattle.std.specs.Prelude.{option_copied, string_bytes, ◌≡◌, IfOk, false, if◌then◌else◌};
 ghost use Rattle.inf_lexer.specs.Names.{behind_sign, directory_of, has_dot, has_sign, is_fit, name_beside, name_in, placed};
 
 use std::alloc::{AllocError, Global};

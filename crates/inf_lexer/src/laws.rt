@@ -1,6 +1,5 @@
 //! Laws on the tokens of sources and their heads.
-ghost use Rattle.inf_lexer.specs.AnswerLaws.{TokensAreTheSources};
-ghost use Rattle.inf_lexer.specs.HeadLaws.{HeadsHaveNoTokens, WholeHeadsHaveNoTokens};
+ghost use Rattle.inf_lexer.specs.{AnswerLaws.TokensAreTheSources, HeadLaws.HeadsHaveNoTokens, HeadLaws.WholeHeadsHaveNoTokens};
 
 /// Tokens that a lexer answers are those of the source, however few bytes each reading gives.
 pub fn tokens_are_the_sources()

@@ -5,9 +5,9 @@ ghost use Rattle.inf_devices.specs.Files.{Rose};
 ghost use Rattle.inf_lexer.specs.Counted.{CountsOn};
 ghost use Rattle.inf_lexer.specs.Heads.{HeadFound, HeadRead, goes_on_at, head_found, is_behind, next_head_word};
 ghost use Rattle.inf_lexer.specs.Unread.{Along, Ends, Heard, StillGives, to_come, unread};
+ghost use Rattle.inf_lexer.specs.Readers.{HeadStaysOpen, StaysOpen, StaysUnfinished, Took, TookWord, at_front, head_out, read_out};
 ghost use Rattle.inf_scanner.specs.Scanning.{Found, begun, find, is_quoted, sight};
 ghost use Rattle.inf_scanner.specs.Tokens.{Read, next_token};
-ghost use Rattle.inf_lexer.specs.Readers.{HeadStaysOpen, StaysOpen, StaysUnfinished, Took, TookWord, at_front, head_out, read_out};
 
 use crate::faults::LexFault;
 use crate::head::{HeadPlace, HeadTurn, is_word, place_behind, take_head};

@@ -1,8 +1,6 @@
 //! The files that are open, one inside the other.
-ghost use Rattle.std.specs.Prelude.{◌≡◌, ◌+◌, ◌<◌, ◌≤◌, ◌⊎◌, ◌∷◌, [], true, false, length, map, if◌then◌else◌, slice_get, nat_le};
-ghost use Rattle.std.specs.Prelude.{is_ok, IsTrue, IsErrOf, IfOk, OnErr, Err};
-ghost use Rattle.std.specs.Option.{option_copied};
-ghost use Rattle.std.specs.String.{string_bytes};
+ghost use Rattle.std.specs.Prelude.{option_copied, string_bytes, ◌≡◌, ◌+◌, ◌<◌, ◌≤◌, ◌⊎◌, ◌∷◌, [], true, false, length, map, if◌then◌else◌};
+ghost use Rattle.std.specs.Prelude.{slice_get, nat_le, is_ok, IsTrue, IsErrOf, IfOk, OnErr, Err};
 ghost use Rattle.inf_devices.specs.Files.{Rose, Closes, counts_closed, counts_opened};
 ghost use Rattle.inf_lexer.specs.Names.{can_name, candidates, innermost_name, left, name_in, number_of};
 ghost use Rattle.inf_lexer.specs.Entering.{Enters, Leaves, OpensOn, WasTooMany, is_absent, is_of_opening, tells_failure};

@@ -2,8 +2,7 @@
 ghost use Rattle.std.specs.Prelude.{◌≡◌, ◌+◌, ◌-◌, ◌<◌, ◌≤◌, ◌^◌, ◌⊎◌, ◌∷◌, [], drop, length, false, true, IsTrue, IsErr, IfOk};
 ghost use Rattle.std.specs.Prelude.{IfErr, IsOk, OnErr, OnOk};
 ghost use Rattle.inf_devices.specs.Files.{Reads, Rose, counts_given};
-ghost use Rattle.inf_lexer.specs.Counted.{CountsOn};
-ghost use Rattle.inf_lexer.specs.Unread.{Ends, ReadsOn, StillGives};
+ghost use Rattle.inf_lexer.specs.{Counted.CountsOn, Unread.Ends, Unread.ReadsOn, Unread.StillGives};
 
 use crate::faults::LexFault;
 use inf_devices::files::{Files, ReadFault};

@@ -1,60 +1,45 @@
 -- Objects and classes: their headers, and the entries in their bodies.
 use Rattle.std.proofs.Common.{◌≡◌, ◌+◌, ◌-◌, ◌≤◌, ◌++◌, ℕ, List, [], ◌∷◌, Bool, true, false, Option, Some, None, refl, arith}
-use Rattle.std.specs.Prelude.{is_some, if◌then◌else◌, sum_by}
 use Rattle.std.proofs.lemmas.List.Sums.{sum_by-append}
+use Rattle.std.specs.Prelude.{is_some, if◌then◌else◌, sum_by}
 use Rattle.inf_settings.specs.Bounds.{Limits}
 use Rattle.inf_scanner.specs.declared.tokens.Place.{Place}
 use Rattle.inf_characters.specs.declared.texts.TextItem.{TextItem}
 use Rattle.inf_area.specs.declared.targets.Value.{Value}
-use Rattle.inf_dictionary.specs.declared.uses.WordUse.TheVariants as word_use
-use Rattle.inf_expressions.specs.Findings.{least_of_both}
-use Rattle.inf_expressions.specs.declared.findings.Finding.{Finding}
-use Rattle.inf_expressions.specs.declared.units.Wanted.TheVariants as wanted
-use Rattle.inf_names.specs.Locals.{Headed}
-use Rattle.inf_names.specs.Spellings.{Name}
-use Rattle.inf_objects.specs.declared.body.Body.{Body}
+use Rattle.inf_dictionary.specs.declared.uses.WordUse.{WordUse}
+use Rattle.inf_expressions.specs.{Findings.least_of_both, declared.findings.Finding.Finding, declared.units.Wanted.Wanted}
+use Rattle.inf_names.specs.{Locals.Headed, Spellings.Name}
+use Rattle.inf_objects.specs.{declared.body.Body.Body, declared.objects.Object.Object}
 use Rattle.inf_objects.specs.Objects.{ended, is_lost, nothing_read, object_fixups}
-use Rattle.inf_objects.specs.declared.objects.Object.{Object}
-use Rattle.inf_report.specs.declared.messages.FixedLimit.TheVariants as countable
+use Rattle.inf_report.specs.declared.messages.FixedLimit.{FixedLimit}
+use Rattle.inf_tables.specs.{declared.faults.WorldFault.WorldFault, declared.kinds.Parent.Parent}
 use Rattle.inf_tables.specs.Tables.{AllTables, more, references}
 use Rattle.inf_tables.specs.World.{WorldOf, ended_objects, fixups_now, no_body_fault, set_attribute_fault, with_end, with_individual}
 use Rattle.inf_tables.specs.World.{class_header_fault, class_of_fault, further_value_fault, given_property_fault, individual_fault}
 use Rattle.inf_tables.specs.World.{lost_header_fault, object_header_fault}
-use Rattle.inf_tables.specs.declared.faults.WorldFault.{WorldFault}
-use Rattle.inf_tables.specs.declared.faults.WorldFault.TheVariants as fault
-use Rattle.inf_tables.specs.declared.kinds.Parent.{Parent}
 use Rattle.inf_unit.specs.Units.{first_place, name_at, name_order}
-use Rattle.inf_bodies.specs.Bodies.{attribute_finding, attribute_of, attribute_read, attribute_set_by, attribute_set_some}
-use Rattle.inf_bodies.specs.Bodies.{class_finding, class_read, further_added, further_added_by, further_found, further_placed, given}
-use Rattle.inf_bodies.specs.Bodies.{given_finding, given_with, individual_declared, individual_given, individual_given_by, is_given}
-use Rattle.inf_bodies.specs.Bodies.{is_words}
-use Rattle.inf_bodies.specs.Bodies.{last_at, place_finding, placed, property_given, property_given_by, property_gives_by}
-use Rattle.inf_bodies.specs.Bodies.{property_lost, property_of, property_read}
+use Rattle.inf_bodies.specs.Bodies.{attribute_finding, attribute_of, attribute_read, attribute_set_by, attribute_set_some, class_finding}
+use Rattle.inf_bodies.specs.Bodies.{class_read, further_added, further_added_by, further_found, further_placed, given, given_finding}
+use Rattle.inf_bodies.specs.Bodies.{given_with, individual_declared, individual_given, individual_given_by, is_given, is_words, last_at}
+use Rattle.inf_bodies.specs.Bodies.{place_finding, placed, property_given, property_given_by, property_gives_by, property_lost, property_of}
+use Rattle.inf_bodies.specs.Bodies.{property_read}
 use Rattle.inf_bodies.specs.Objects.{class_begun, class_begun_by, class_declared, class_header, class_lost, class_of, class_of_word}
-use Rattle.inf_bodies.specs.Objects.{class_opened}
-use Rattle.inf_bodies.specs.Objects.{entry_told, found_at, header_in, joined_by, joined_fault, joined_some, lost_begun, lost_begun_by}
-use Rattle.inf_bodies.specs.Objects.{noted, object_begun, object_begun_by, object_declared, object_ended, object_header, object_known}
-use Rattle.inf_bodies.specs.Objects.{object_lost}
-use Rattle.inf_bodies.specs.Objects.{object_opened, object_with, own_name, parent_in, setting_of}
+use Rattle.inf_bodies.specs.Objects.{class_opened, entry_told, found_at, header_in, joined_by, joined_fault, joined_some, lost_begun}
+use Rattle.inf_bodies.specs.Objects.{lost_begun_by, noted, object_begun, object_begun_by, object_declared, object_ended, object_header}
+use Rattle.inf_bodies.specs.Objects.{object_known, object_lost, object_opened, object_with, own_name, parent_in, setting_of}
 use Rattle.inf_bodies.specs.ShortNames.{bracketed, name_packed, packed_name, short_text}
-use Rattle.inf_bodies.specs.Values.{any_placed, bracket_in, embedded, embedded_read, found_embedded}
-use Rattle.inf_bodies.specs.Values.{next_routine, place_before, routine_placed, settled_work, takes_words, text_finding_by, text_placed}
-use Rattle.inf_bodies.specs.Values.{value_by}
-use Rattle.inf_bodies.specs.Values.{value_finding, value_placed, value_read, word_text, word_used, wrong_if, name_place, text_value}
+use Rattle.inf_bodies.specs.Values.{any_placed, bracket_in, embedded, embedded_read, found_embedded, next_routine, place_before}
+use Rattle.inf_bodies.specs.Values.{routine_placed, settled_work, takes_words, text_finding_by, text_placed, value_by, value_finding}
+use Rattle.inf_bodies.specs.Values.{value_placed, value_read, word_text, word_used, wrong_if, name_place, text_value}
 use Rattle.inf_bodies.specs.declared.headers.Header.{Header}
+use Rattle.inf_compilation.specs.{Context.Context, Findings.found_alone}
 use Rattle.inf_compilation.specs.Actions.{Compilation, body_ended, finding_at, given_up, settled_of, world_ended_by}
-use Rattle.inf_compilation.specs.Context.{Context}
-use Rattle.inf_compilation.specs.Findings.{found_alone}
-use Rattle.inf_named_values.specs.Values.{looked_value, variables_from}
-use Rattle.inf_named_values.specs.Declarations.{declared_findings, plainly_known, with_world}
-use Rattle.inf_named_values.specs.Values.{value_of}
-use Rattle.inf_named_values.specs.declared.declarations.Declared.{Declared}
-use Rattle.inf_limit_laws.specs.Rooms.{Before, Counted, Keeps}
-use Rattle.inf_limit_laws.specs.Within.{Ends, Lays, Steps}
+use Rattle.inf_named_values.specs.{Declarations.declared_findings, Declarations.plainly_known, Declarations.with_world, Values.looked_value}
+use Rattle.inf_named_values.specs.{Values.value_of, Values.variables_from, declared.declarations.Declared.Declared}
+use Rattle.inf_limit_laws.specs.{Rooms.Before, Rooms.Counted, Rooms.Keeps, Within.Ends, Within.Lays, Within.Steps}
 use Rattle.inf_limit_laws.proofs.Outputs.{declare_keeps, none_open_keeps, table_keeps, word_keeps}
 use Rattle.inf_limit_laws.proofs.Units.{opened_ends, used_keeps}
-use Rattle.inf_limit_laws.proofs.Ways.{lay_of, lays_end, lays_step, lays_then, output_lays, stays, unit_ends, unit_steps}
-use Rattle.inf_limit_laws.proofs.Ways.{steps_then}
+use Rattle.inf_limit_laws.proofs.Ways.{lay_of, lays_end, lays_step, lays_then, output_lays, stays, unit_ends, unit_steps, steps_then}
 
 -- The end of a body
 
@@ -112,10 +97,10 @@ given_up_steps {limits} {context} {was} w = record {
 -- Refusals, and names
 
 noted_keeps : {was : Before} (limits : Limits) (f : WorldFault) → Keeps limits was (noted limits f)
-noted_keeps {was} limits (fault.Limit l) o h = h
-noted_keeps {was} limits (fault.Misfit m) o h = h
-noted_keeps {was} limits (fault.Full s) o h = table_keeps limits (setting_of s) o h
-noted_keeps {was} limits fault.Memory o h = h
+noted_keeps {was} limits (WorldFault.Limit l) o h = h
+noted_keeps {was} limits (WorldFault.Misfit m) o h = h
+noted_keeps {was} limits (WorldFault.Full s) o h = table_keeps limits (setting_of s) o h
+noted_keeps {was} limits WorldFault.Memory o h = h
 
 lost_keeps : {was : Before} (limits : Limits) → Keeps limits was lost_begun
 lost_keeps {was} limits o h = go (lost_header_fault o.tables.world)
@@ -155,7 +140,7 @@ pub class_steps : {limits : Limits} {context : Context} {was : Before} (first : 
 class_steps {limits} {context} {was} first name w =
     let d = plainly_known name (name_order w.unit.tokens) w in
     lays_step (class_lays d.finding name w)
-    (unit_ends first false (declared_findings name countable.Globals d) (class_opened limits context d.finding name w))
+    (unit_ends first false (declared_findings name FixedLimit.Globals d) (class_opened limits context d.finding name w))
 
 -- Objects
 
@@ -196,7 +181,7 @@ object_lays {limits} {context} {was} (Some f) header name w =
 object_ends : {limits : Limits} {context : Context} {was : Before} (first : Place) (name : Option Name) (d : Declared) (w : Compilation)
     → Ends limits context was w (object_ended limits context first name d w)
 object_ends first None d w = unit_ends first false (found_alone d.finding) w
-object_ends first (Some name) d w = unit_ends first false (declared_findings name countable.Values d) w
+object_ends first (Some name) d w = unit_ends first false (declared_findings name FixedLimit.Values d) w
 
 object_with_steps : {limits : Limits} {context : Context} {was : Before} (first : Place) (h : Header) (name : Option Name) (w : Compilation)
     → Steps limits context was w (object_with limits context first h name w)
@@ -317,7 +302,7 @@ property_read_steps {limits} {context} {was} place w =
 
 word_lays : {limits : Limits} {context : Context} {was : Before} (found : Option Finding) (items : List TextItem) (w : Compilation)
     → Lays limits context was w (word_used limits found items w)
-word_lays {limits} None items w = output_lays w _ (word_keeps limits _ word_use.Other false w.output)
+word_lays {limits} None items w = output_lays w _ (word_keeps limits _ WordUse.Other false w.output)
 word_lays (Some f) items w = lay_of (stays w)
 
 text_lays : {limits : Limits} {context : Context} {was : Before} (name : Option ℕ) (items : List TextItem) (w : Compilation)
@@ -338,7 +323,7 @@ value_by_lays (Some f) name judged looked w = placed_lays name looked judged w
 any_lays : {limits : Limits} {context : Context} {was : Before} (items : Option (List TextItem)) (name : Option ℕ) (w : Compilation)
     → Lays limits context was w (any_placed limits context items name w)
 any_lays {limits} None name w =
-    let judged = finding_at 0 wanted.Constant w in
+    let judged = finding_at 0 Wanted.Constant w in
     value_by_lays (least_of_both judged (place_finding limits name (looked_value w) w)) name judged (looked_value w) w
 any_lays (Some items) name w = text_lays name items w
 

@@ -2,34 +2,24 @@
 use Rattle.std.proofs.Common.{◌≡◌, ◌≤◌, ℕ, List, [], ◌∷◌, Bool, true, false, Option, Some, None, refl, sym, subst}
 use Rattle.std.proofs.Math.Nat.{max-le}
 use Rattle.std.specs.Prelude.{◌==◌, ◌&&◌, if◌then◌else◌, max, not, unwrap_or}
-use Rattle.inf_scanner.specs.declared.tokens.Mark.TheVariants as mark
-use Rattle.inf_scanner.specs.declared.tokens.Place.{Place}
-use Rattle.inf_scanner.specs.declared.tokens.TokenKind.{TokenKind}
-use Rattle.inf_scanner.specs.declared.tokens.TokenKind.TheVariants as kind
+use Rattle.inf_scanner.specs.{declared.tokens.Mark.Mark, declared.tokens.Place.Place, declared.tokens.TokenKind.TokenKind}
 use Rattle.inf_machine.specs.Machine.{fits}
 use Rattle.inf_grammar.specs.Language.{grammar, known}
 use Rattle.inf_output.specs.Output.{Out}
 use Rattle.inf_sources.specs.declared.open_file.Conditional.{Conditional}
-use Rattle.inf_unit.specs.Messages.{FileNames, Reported}
+use Rattle.inf_unit.specs.{Messages.FileNames, Messages.Reported, Units.long_at, Units.outer_tokens}
 use Rattle.inf_unit.specs.Tokens.{SourceToken, atom_of, is_end, is_mark, keyword}
-use Rattle.inf_unit.specs.Units.{long_at, outer_tokens}
+use Rattle.inf_conditionals.specs.declared.{filtered.Site.Site, open.LeftOut.LeftOut, pending.Awaits.Awaits, pending.Effect.Effect}
+use Rattle.inf_conditionals.specs.declared.{pending.Pending.Pending, words.ConditionalWord.ConditionalWord}
 use Rattle.inf_conditionals.specs.Condition.{Condition, condition_begun, condition_took, is_whole, verdict_of}
 use Rattle.inf_conditionals.specs.Judging.{Behind, asked, asked_on, at_front, awaited, awaiting, begun, begun_by, behind_front, behind_sign}
-use Rattle.inf_conditionals.specs.Judging.{decided, effected, effected_by, hash, held, is_none_pending, judged, judged_by, kept, named, offered}
-use Rattle.inf_conditionals.specs.Judging.{offered_to, passed, passed_by, saying, sign_asked, sign_awaited, sign_offered, unfit, unmatched, went_on}
-use Rattle.inf_conditionals.specs.Open.{Conditions, closed, closed_by, ended_by, ends_at, is_none_open, is_second, latest, levels_behind, turned}
-use Rattle.inf_conditionals.specs.Open.{turned_by}
+use Rattle.inf_conditionals.specs.Judging.{decided, effected, effected_by, hash, held, is_none_pending, judged, judged_by, kept, named}
+use Rattle.inf_conditionals.specs.Judging.{offered, offered_to, passed, passed_by, saying, sign_asked, sign_awaited, sign_offered, unfit}
+use Rattle.inf_conditionals.specs.Judging.{unmatched, went_on}
+use Rattle.inf_conditionals.specs.Open.{Conditions, closed, closed_by, ended_by, ends_at, is_none_open, is_second, latest, levels_behind}
+use Rattle.inf_conditionals.specs.Open.{turned, turned_by}
 use Rattle.inf_conditionals.specs.Said.{Deep, Long, Right, Said, Wrong, told_by, too_much, too_much_by, with_said}
 use Rattle.inf_conditionals.specs.Words.{awaits_of, word_of}
-use Rattle.inf_conditionals.specs.declared.filtered.Site.{Site}
-use Rattle.inf_conditionals.specs.declared.open.LeftOut.{LeftOut}
-use Rattle.inf_conditionals.specs.declared.pending.Awaits.{Awaits}
-use Rattle.inf_conditionals.specs.declared.pending.Awaits.TheVariants as awaits
-use Rattle.inf_conditionals.specs.declared.pending.Effect.{Effect}
-use Rattle.inf_conditionals.specs.declared.pending.Effect.TheVariants as effect
-use Rattle.inf_conditionals.specs.declared.pending.Pending.{Pending}
-use Rattle.inf_conditionals.specs.declared.words.ConditionalWord.{ConditionalWord}
-use Rattle.inf_conditionals.specs.declared.words.ConditionalWord.TheVariants as word
 use Rattle.inf_limit_laws.specs.Signs.{SignFits, is_loud}
 use Rattle.inf_limit_laws.proofs.Ways.{fatal_is_over, tokens_within}
 
@@ -70,14 +60,14 @@ if_most false x y most e f = f
 
 effected_most : (e : Effect) (is_quiet : Bool) (p : Pending) (c : Conditions)
     → (effected_by e is_quiet p c).now.most_tokens ≡ c.most_tokens
-effected_most (effect.Opens is_kept) is_quiet p c = refl
-effected_most effect.Turns is_quiet p c =
+effected_most (Effect.Opens is_kept) is_quiet p c = refl
+effected_most Effect.Turns is_quiet p c =
     if_most (is_second (latest c)) (unmatched is_quiet p.place c)
     (passed (record (turned c) { left_out = Some (record { is_inner = not (is_none_open c.inner); levels = 0 }) })) c.most_tokens refl
     (turned_most c.inner c)
-effected_most effect.Closes is_quiet p c =
+effected_most Effect.Closes is_quiet p c =
     if_most (is_none_open (latest c)) (unmatched is_quiet p.place c) (passed (closed c)) c.most_tokens refl (closed_most c.inner c)
-effected_most effect.Nothing is_quiet p c = refl
+effected_most Effect.Nothing is_quiet p c = refl
 
 effected_few : {longest : ℕ} (e : Effect) (is_quiet : Bool) (p : Pending) (c : Conditions) → c.most_tokens ≤ longest
     → FewTokens longest (effected e is_quiet p c)
@@ -105,7 +95,7 @@ went_few : (wanted : Bool) (site : Site) (o : Out) (t : SourceToken) (k : Condit
 went_few wanted site o t k p c few =
     let v = verdict_of c.declared o k in
     let told = saying site.is_quiet (told_by p.place k v.finding) c in
-    let opens = effect.Opens (if wanted then v.is_true else not v.is_true) in
+    let opens = Effect.Opens (if wanted then v.is_true else not v.is_true) in
     if_few (is_whole k) (decided v wanted site.is_quiet k p c) (asked_on wanted site t k p c)
     (effected_few opens site.is_quiet p told few) (on_few wanted site t k p c few)
 
@@ -121,11 +111,11 @@ asked_few (k ∷ conditions) wanted site o t p c few =
 
 by_few : {longest : ℕ} (a : Awaits) (t : SourceToken) (is_inner : Bool) (c : Conditions) → c.most_tokens ≤ longest
     → FewTokens longest (begun_by a t is_inner c)
-by_few (awaits.Condition wanted) t is_inner c few =
+by_few (Awaits.Condition wanted) t is_inner c few =
     if_few (fits grammar known (atom_of t) condition_begun.stack) (passed _) (unfit c) (λ quiet. few) (λ quiet. few)
-by_few awaits.Word t is_inner c few = λ quiet. few
-by_few (awaits.Name if_declared) t is_inner c few = λ quiet. few
-by_few (awaits.End e) t is_inner c few = λ quiet. few
+by_few Awaits.Word t is_inner c few = λ quiet. few
+by_few (Awaits.Name if_declared) t is_inner c few = λ quiet. few
+by_few (Awaits.End e) t is_inner c few = λ quiet. few
 
 begun_few : {longest : ℕ} (w : ConditionalWord) (t : SourceToken) (place : Place) (is_inner : Bool) (c : Conditions)
     → c.most_tokens ≤ longest → FewTokens longest (begun w t place is_inner c)
@@ -138,16 +128,16 @@ front_few (Some w) t p c few = begun_few w t p.place p.is_inner c few
 
 named_few : {longest : ℕ} (k : TokenKind) (bytes : List ℕ) (if_declared : Bool) (o : Out) (p : Pending) (c : Conditions)
     → c.most_tokens ≤ longest → FewTokens longest (named k bytes if_declared o p c)
-named_few kind.Name bytes if_declared o p c few quiet = few
+named_few TokenKind.Name bytes if_declared o p c few quiet = few
 named_few _ bytes if_declared o p c few quiet = few
 
 awaited_few : (a : Awaits) (site : Site) (o : Out) (t : SourceToken) (p : Pending) (c : Conditions) → c.most_tokens ≤ site.longest
     → FewTokens site.longest (awaited a site o t p c)
-awaited_few awaits.Word site o t p c few = front_few (word_of (keyword t)) t p c few
-awaited_few (awaits.Name if_declared) site o t p c few = named_few t.kind t.bytes if_declared o p c few
-awaited_few (awaits.Condition wanted) site o t p c few = asked_few c.conditions wanted site o t p c few
-awaited_few (awaits.End e) site o t p c few =
-    if_few (is_mark mark.Semicolon t.kind) (effected e site.is_quiet p c) (unfit c) (effected_few e site.is_quiet p c few) (λ quiet. few)
+awaited_few Awaits.Word site o t p c few = front_few (word_of (keyword t)) t p c few
+awaited_few (Awaits.Name if_declared) site o t p c few = named_few t.kind t.bytes if_declared o p c few
+awaited_few (Awaits.Condition wanted) site o t p c few = asked_few c.conditions wanted site o t p c few
+awaited_few (Awaits.End e) site o t p c few =
+    if_few (is_mark Mark.Semicolon t.kind) (effected e site.is_quiet p c) (unfit c) (effected_few e site.is_quiet p c few) (λ quiet. few)
 
 -- Tokens of a kept side, and of one that is left out
 
@@ -170,16 +160,16 @@ to_few (p ∷ pending) is_front site o t c few = awaited_few p.awaits site o t p
 offered_few : (is_front : Bool) (site : Site) (o : Out) (t : SourceToken) (c : Conditions) → c.most_tokens ≤ site.longest
     → FewTokens site.longest (offered is_front site o t c)
 offered_few is_front site o t c few =
-    if_few (is_mark mark.Hash t.kind) (passed (held is_front t.place c)) (offered_to c.pending is_front site o t c)
+    if_few (is_mark Mark.Hash t.kind) (passed (held is_front t.place c)) (offered_to c.pending is_front site o t c)
     (λ quiet. held_few is_front t.place c few) (to_few c.pending is_front site o t c few)
 
 ended_few : {longest : ℕ} (w : ConditionalWord) (c : Conditions) → c.most_tokens ≤ longest → (ended_by w c).most_tokens ≤ longest
-ended_few {longest} word.Endif c few = subst (λ (n : ℕ). n ≤ longest) (sym (closed_most c.inner c)) few
-ended_few {longest} word.Ifdef c few = subst (λ (n : ℕ). n ≤ longest) (sym (turned_most c.inner c)) few
-ended_few {longest} word.Ifndef c few = subst (λ (n : ℕ). n ≤ longest) (sym (turned_most c.inner c)) few
-ended_few {longest} word.Iftrue c few = subst (λ (n : ℕ). n ≤ longest) (sym (turned_most c.inner c)) few
-ended_few {longest} word.Iffalse c few = subst (λ (n : ℕ). n ≤ longest) (sym (turned_most c.inner c)) few
-ended_few {longest} word.Ifnot c few = subst (λ (n : ℕ). n ≤ longest) (sym (turned_most c.inner c)) few
+ended_few {longest} ConditionalWord.Endif c few = subst (λ (n : ℕ). n ≤ longest) (sym (closed_most c.inner c)) few
+ended_few {longest} ConditionalWord.Ifdef c few = subst (λ (n : ℕ). n ≤ longest) (sym (turned_most c.inner c)) few
+ended_few {longest} ConditionalWord.Ifndef c few = subst (λ (n : ℕ). n ≤ longest) (sym (turned_most c.inner c)) few
+ended_few {longest} ConditionalWord.Iftrue c few = subst (λ (n : ℕ). n ≤ longest) (sym (turned_most c.inner c)) few
+ended_few {longest} ConditionalWord.Iffalse c few = subst (λ (n : ℕ). n ≤ longest) (sym (turned_most c.inner c)) few
+ended_few {longest} ConditionalWord.Ifnot c few = subst (λ (n : ℕ). n ≤ longest) (sym (turned_most c.inner c)) few
 
 side_few : {longest : ℕ} (b : Bool) (x y : Conditions) → x.most_tokens ≤ longest → y.most_tokens ≤ longest
     → (if b then x else y).most_tokens ≤ longest
@@ -191,7 +181,7 @@ word_few : {longest : ℕ} (w : Option ConditionalWord) (t : SourceToken) (side 
 word_few None t side c few = few
 word_few (Some w) t side c few =
     side_few ((side.levels == 0) && ends_at w (is_second (latest c)))
-    (awaiting (unwrap_or c.sign t.place) false (awaits.End effect.Nothing) (record (ended_by w c) { left_out = None; sign = None }))
+    (awaiting (unwrap_or c.sign t.place) false (Awaits.End Effect.Nothing) (record (ended_by w c) { left_out = None; sign = None }))
     (record c { left_out = Some (record side { levels = levels_behind w side.levels }); sign = None }) (ended_few w c few) few
 
 -- Any token
@@ -206,10 +196,10 @@ sign_asked_few (k ∷ conditions) wanted place site p c few =
 
 sign_awaited_few : (a : Awaits) (place : Place) (site : Site) (p : Pending) (c : Conditions) → c.most_tokens ≤ site.longest
     → FewTokens site.longest (sign_awaited a place site p c)
-sign_awaited_few (awaits.Condition wanted) place site p c few = sign_asked_few c.conditions wanted place site p c few
-sign_awaited_few awaits.Word place site p c few = λ quiet. few
-sign_awaited_few (awaits.Name if_declared) place site p c few = λ quiet. few
-sign_awaited_few (awaits.End e) place site p c few = λ quiet. few
+sign_awaited_few (Awaits.Condition wanted) place site p c few = sign_asked_few c.conditions wanted place site p c few
+sign_awaited_few Awaits.Word place site p c few = λ quiet. few
+sign_awaited_few (Awaits.Name if_declared) place site p c few = λ quiet. few
+sign_awaited_few (Awaits.End e) place site p c few = λ quiet. few
 
 sign_few : (pending : List Pending) (place : Place) (site : Site) (c : Conditions) → c.most_tokens ≤ site.longest
     → FewTokens site.longest (sign_offered pending place site c)

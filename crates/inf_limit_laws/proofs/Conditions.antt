@@ -1,34 +1,23 @@
 -- The actions of a condition appear where its directive ends, which is a unit.
 use Rattle.std.proofs.Common.{◌≡◌, ◌∙◌, ℕ, List, [], ◌∷◌, Bool, true, false, Option, Some, None, refl, ap, sym}
 use Rattle.std.specs.Prelude.{◌==◌, ◌&&◌, if◌then◌else◌, is_some, nat_lt, not, unwrap_or}
-use Rattle.inf_scanner.specs.declared.tokens.Mark.TheVariants as mark
-use Rattle.inf_scanner.specs.declared.tokens.Place.{Place}
-use Rattle.inf_scanner.specs.declared.tokens.TokenKind.{TokenKind}
-use Rattle.inf_scanner.specs.declared.tokens.TokenKind.TheVariants as kind
+use Rattle.inf_scanner.specs.{declared.tokens.Mark.Mark, declared.tokens.Place.Place, declared.tokens.TokenKind.TokenKind}
 use Rattle.inf_machine.specs.Machine.{fits}
 use Rattle.inf_grammar.specs.Language.{grammar, known}
 use Rattle.inf_output.specs.Output.{Out}
 use Rattle.inf_sources.specs.declared.open_file.Conditional.{Conditional}
-use Rattle.inf_unit.specs.Tokens.{SourceToken, atom_of, is_end, is_mark, keyword}
-use Rattle.inf_unit.specs.Units.{long_at}
+use Rattle.inf_unit.specs.{Tokens.SourceToken, Tokens.atom_of, Tokens.is_end, Tokens.is_mark, Tokens.keyword, Units.long_at}
+use Rattle.inf_conditionals.specs.declared.{condition.Verdict.Verdict, filtered.Site.Site, open.LeftOut.LeftOut, pending.Awaits.Awaits}
+use Rattle.inf_conditionals.specs.declared.{pending.Effect.Effect, pending.Pending.Pending, words.ConditionalWord.ConditionalWord}
 use Rattle.inf_conditionals.specs.Condition.{Condition, condition_begun, condition_took, is_whole, verdict_of}
-use Rattle.inf_conditionals.specs.Judging.{Behind, asked, asked_first, asked_on, at_front, awaited, awaiting, begun, begun_by, behind_front, behind_sign}
-use Rattle.inf_conditionals.specs.Judging.{decided, effected, effected_by, hash, held, in_side, is_none_pending, judged, judged_by}
-use Rattle.inf_conditionals.specs.Judging.{kept, named, offered, offered_to, passed, passed_by, saying, sign_asked, sign_awaited}
+use Rattle.inf_conditionals.specs.Judging.{Behind, asked, asked_first, asked_on, at_front, awaited, awaiting, begun, begun_by, behind_front}
+use Rattle.inf_conditionals.specs.Judging.{behind_sign, decided, effected, effected_by, hash, held, in_side, is_none_pending, judged}
+use Rattle.inf_conditionals.specs.Judging.{judged_by, kept, named, offered, offered_to, passed, passed_by, saying, sign_asked, sign_awaited}
 use Rattle.inf_conditionals.specs.Judging.{sign_offered, unfit, unmatched, went_on, word_passed}
-use Rattle.inf_conditionals.specs.Open.{Conditions, closed, closed_by, ended_by, ends_at, is_none_open, is_second, latest, levels_behind, turned, turned_by}
+use Rattle.inf_conditionals.specs.Open.{Conditions, closed, closed_by, ended_by, ends_at, is_none_open, is_second, latest, levels_behind}
+use Rattle.inf_conditionals.specs.Open.{turned, turned_by}
 use Rattle.inf_conditionals.specs.Said.{Deep, Long, Right, Said, Wrong, told_by, too_deep, too_much, too_much_by}
 use Rattle.inf_conditionals.specs.Words.{awaits_of, word_of}
-use Rattle.inf_conditionals.specs.declared.condition.Verdict.{Verdict}
-use Rattle.inf_conditionals.specs.declared.filtered.Site.{Site}
-use Rattle.inf_conditionals.specs.declared.open.LeftOut.{LeftOut}
-use Rattle.inf_conditionals.specs.declared.pending.Awaits.{Awaits}
-use Rattle.inf_conditionals.specs.declared.pending.Awaits.TheVariants as awaits
-use Rattle.inf_conditionals.specs.declared.pending.Effect.{Effect}
-use Rattle.inf_conditionals.specs.declared.pending.Effect.TheVariants as effect
-use Rattle.inf_conditionals.specs.declared.pending.Pending.{Pending}
-use Rattle.inf_conditionals.specs.declared.words.ConditionalWord.{ConditionalWord}
-use Rattle.inf_conditionals.specs.declared.words.ConditionalWord.TheVariants as word
 
 -- whether a condition is told to be right, whose actions then appear
 abbrev pub is_right : Option Said → Bool
@@ -66,14 +55,14 @@ if_said true x y c e f = e
 if_said false x y c e f = f
 
 effected_said : (e : Effect) (is_quiet : Bool) (p : Pending) (c : Conditions) → (effected_by e is_quiet p c).now.said ≡ c.said
-effected_said (effect.Opens is_kept) is_quiet p c = refl
-effected_said effect.Turns is_quiet p c =
+effected_said (Effect.Opens is_kept) is_quiet p c = refl
+effected_said Effect.Turns is_quiet p c =
     if_said (is_second (latest c)) (unmatched is_quiet p.place c)
     (passed (record (turned c) { left_out = Some (record { is_inner = not (is_none_open c.inner); levels = 0 }) })) c refl
     (turned_said c.inner c)
-effected_said effect.Closes is_quiet p c =
+effected_said Effect.Closes is_quiet p c =
     if_said (is_none_open (latest c)) (unmatched is_quiet p.place c) (passed (closed c)) c refl (closed_said c.inner c)
-effected_said effect.Nothing is_quiet p c = refl
+effected_said Effect.Nothing is_quiet p c = refl
 
 effected_ends : (e : Effect) (is_quiet : Bool) (p : Pending) (c : Conditions) → NoneRight c → RightEnds (effected e is_quiet p c)
 effected_ends e is_quiet p c none = same (effected e is_quiet p c) c (effected_said e is_quiet p c) none
@@ -82,14 +71,14 @@ effected_ends e is_quiet p c none = same (effected e is_quiet p c) c (effected_s
 decided_ends : (v : Verdict) (wanted is_quiet : Bool) (k : Condition) (p : Pending) (c : Conditions) →
     RightEnds (decided v wanted is_quiet k p c)
 decided_ends v wanted true k p c right =
-    effected_ends (effect.Opens (if wanted then v.is_true else not v.is_true)) true p
+    effected_ends (Effect.Opens (if wanted then v.is_true else not v.is_true)) true p
     (saying true (told_by p.place k v.finding) c) refl right
 decided_ends v wanted false k p c right = refl
 
 -- Tokens of a condition
 
 deep_none : (t : SourceToken) (depth : ℕ) → is_right (too_deep t depth) ≡ false
-deep_none t depth = go (is_mark mark.OpenParenthesis t.kind && nat_lt 64 depth)
+deep_none t depth = go (is_mark Mark.OpenParenthesis t.kind && nat_lt 64 depth)
   where
     go : (b : Bool) → is_right (if b then Some (Deep t.place) else None) ≡ false
     go true = refl
@@ -143,10 +132,10 @@ first_none wanted t is_inner c none =
     if_none (fits grammar known (atom_of t) condition_begun.stack) (passed _) (unfit c) none none
 
 by_none : (a : Awaits) (t : SourceToken) (is_inner : Bool) (c : Conditions) → NoneRight c → NoneRight (begun_by a t is_inner c).now
-by_none (awaits.Condition wanted) t is_inner c none = first_none wanted t is_inner c none
-by_none awaits.Word t is_inner c none = none
-by_none (awaits.Name if_declared) t is_inner c none = none
-by_none (awaits.End e) t is_inner c none = none
+by_none (Awaits.Condition wanted) t is_inner c none = first_none wanted t is_inner c none
+by_none Awaits.Word t is_inner c none = none
+by_none (Awaits.Name if_declared) t is_inner c none = none
+by_none (Awaits.End e) t is_inner c none = none
 
 begun_none : (w : ConditionalWord) (t : SourceToken) (place : Place) (is_inner : Bool) (c : Conditions) → NoneRight c
     → NoneRight (begun w t place is_inner c).now
@@ -159,18 +148,18 @@ front_none (Some w) t p c none = begun_none w t p.place p.is_inner c none
 
 named_none : (k : TokenKind) (bytes : List ℕ) (if_declared : Bool) (o : Out) (p : Pending) (c : Conditions) → NoneRight c
     → NoneRight (named k bytes if_declared o p c).now
-named_none kind.Name bytes if_declared o p c none = none
+named_none TokenKind.Name bytes if_declared o p c none = none
 named_none _ bytes if_declared o p c none = none
 
 awaited_ends : (a : Awaits) (site : Site) (o : Out) (t : SourceToken) (p : Pending) (c : Conditions) → NoneRight c
     → RightEnds (awaited a site o t p c)
-awaited_ends awaits.Word site o t p c none =
+awaited_ends Awaits.Word site o t p c none =
     none_ends (behind_front (word_of (keyword t)) t p c) (front_none (word_of (keyword t)) t p c none)
-awaited_ends (awaits.Name if_declared) site o t p c none =
+awaited_ends (Awaits.Name if_declared) site o t p c none =
     none_ends (named t.kind t.bytes if_declared o p c) (named_none t.kind t.bytes if_declared o p c none)
-awaited_ends (awaits.Condition wanted) site o t p c none = asked_ends c.conditions wanted site o t p c none
-awaited_ends (awaits.End e) site o t p c none =
-    if_ends (is_mark mark.Semicolon t.kind) (effected e site.is_quiet p c) (unfit c) (effected_ends e site.is_quiet p c none)
+awaited_ends (Awaits.Condition wanted) site o t p c none = asked_ends c.conditions wanted site o t p c none
+awaited_ends (Awaits.End e) site o t p c none =
+    if_ends (is_mark Mark.Semicolon t.kind) (effected e site.is_quiet p c) (unfit c) (effected_ends e site.is_quiet p c none)
     (none_ends (unfit c) none)
 
 -- Tokens of a kept side
@@ -193,7 +182,7 @@ to_ends (p ∷ pending) is_front site o t c none = awaited_ends p.awaits site o 
 offered_ends : (is_front : Bool) (site : Site) (o : Out) (t : SourceToken) (c : Conditions) → NoneRight c
     → RightEnds (offered is_front site o t c)
 offered_ends is_front site o t c none =
-    if_ends (is_mark mark.Hash t.kind) (passed (held is_front t.place c)) (offered_to c.pending is_front site o t c)
+    if_ends (is_mark Mark.Hash t.kind) (passed (held is_front t.place c)) (offered_to c.pending is_front site o t c)
     (none_ends (passed (held is_front t.place c)) (held_none is_front t.place c none)) (to_ends c.pending is_front site o t c none)
 
 -- A `#` that was held back
@@ -208,10 +197,10 @@ sign_asked_none (k ∷ conditions) wanted place site p c none =
 
 sign_awaited_none : (a : Awaits) (place : Place) (site : Site) (p : Pending) (c : Conditions) → NoneRight c
     → NoneRight (sign_awaited a place site p c).now
-sign_awaited_none (awaits.Condition wanted) place site p c none = sign_asked_none c.conditions wanted place site p c none
-sign_awaited_none awaits.Word place site p c none = none
-sign_awaited_none (awaits.Name if_declared) place site p c none = none
-sign_awaited_none (awaits.End e) place site p c none = none
+sign_awaited_none (Awaits.Condition wanted) place site p c none = sign_asked_none c.conditions wanted place site p c none
+sign_awaited_none Awaits.Word place site p c none = none
+sign_awaited_none (Awaits.Name if_declared) place site p c none = none
+sign_awaited_none (Awaits.End e) place site p c none = none
 
 sign_none : (pending : List Pending) (place : Place) (site : Site) (c : Conditions) → NoneRight c
     → NoneRight (sign_offered pending place site c).now
@@ -229,12 +218,12 @@ behind_ends None place site o t c none =
 -- A side that is left out
 
 ended_by_none : (w : ConditionalWord) (c : Conditions) → NoneRight c → NoneRight (ended_by w c)
-ended_by_none word.Endif c none = ap is_right (closed_said c.inner c) ∙ none
-ended_by_none word.Ifdef c none = ap is_right (turned_said c.inner c) ∙ none
-ended_by_none word.Ifndef c none = ap is_right (turned_said c.inner c) ∙ none
-ended_by_none word.Iftrue c none = ap is_right (turned_said c.inner c) ∙ none
-ended_by_none word.Iffalse c none = ap is_right (turned_said c.inner c) ∙ none
-ended_by_none word.Ifnot c none = ap is_right (turned_said c.inner c) ∙ none
+ended_by_none ConditionalWord.Endif c none = ap is_right (closed_said c.inner c) ∙ none
+ended_by_none ConditionalWord.Ifdef c none = ap is_right (turned_said c.inner c) ∙ none
+ended_by_none ConditionalWord.Ifndef c none = ap is_right (turned_said c.inner c) ∙ none
+ended_by_none ConditionalWord.Iftrue c none = ap is_right (turned_said c.inner c) ∙ none
+ended_by_none ConditionalWord.Iffalse c none = ap is_right (turned_said c.inner c) ∙ none
+ended_by_none ConditionalWord.Ifnot c none = ap is_right (turned_said c.inner c) ∙ none
 
 if_side : (b : Bool) (x y : Conditions) → NoneRight x → NoneRight y → NoneRight (if b then x else y)
 if_side true x y h k = h
@@ -243,7 +232,7 @@ if_side false x y h k = k
 word_none : (w : ConditionalWord) (place : Place) (side : LeftOut) (c : Conditions) → NoneRight c → NoneRight (word_passed w place side c)
 word_none w place side c none =
     if_side ((side.levels == 0) && ends_at w (is_second (latest c)))
-    (awaiting (unwrap_or c.sign place) false (awaits.End effect.Nothing) (record (ended_by w c) { left_out = None; sign = None }))
+    (awaiting (unwrap_or c.sign place) false (Awaits.End Effect.Nothing) (record (ended_by w c) { left_out = None; sign = None }))
     (record c { left_out = Some (record side { levels = levels_behind w side.levels }); sign = None }) (ended_by_none w c none) none
 
 passed_none : (w : Option ConditionalWord) (t : SourceToken) (side : LeftOut) (c : Conditions) → NoneRight c

@@ -1,57 +1,31 @@
 -- The code of statements that hold others, and the names, texts and words that a unit uses, keep an output counted.
-use Rattle.std.proofs.Common.{ℕ, zero, suc, List, [], ◌∷◌, Bool, true, false, Option, Some, None}
-use Rattle.std.specs.Prelude.{if◌then◌else◌, unwrap_or}
-use Rattle.inf_settings.specs.Bounds.{Limits}
-use Rattle.inf_characters.specs.declared.characters.CharSet.{CharSet}
-use Rattle.inf_characters.specs.declared.texts.TextItem.{TextItem}
+use Rattle.std.proofs.Common.{ℕ, zero, suc, List, [], ◌∷◌, Bool, true, false, Option, Some, None, if◌then◌else◌, unwrap_or}
+use Rattle.inf_settings.specs.{Bounds.Limits, Bounds.unbounded, declared.setting.Setting.Setting}
+use Rattle.inf_characters.specs.{declared.characters.CharSet.CharSet, declared.texts.TextItem.TextItem}
 use Rattle.inf_text.specs.Packing.{packed}
-use Rattle.inf_dictionary.specs.declared.uses.WordUse.TheVariants as word_use
+use Rattle.inf_dictionary.specs.declared.uses.WordUse.{WordUse}
 use Rattle.inf_scanner.specs.declared.tokens.Place.{Place}
 use Rattle.inf_gathering.specs.declared.gathering.Leaf.{Leaf}
-use Rattle.inf_gathering.specs.declared.gathering.Leaf.TheVariants as leaf
-use Rattle.inf_opcode.specs.declared.instructions.Label.{Label}
-use Rattle.inf_opcode.specs.declared.opcodes.Opcode.TheVariants as opcode
-use Rattle.inf_expressions.specs.Questions.{children_of, range_of}
-use Rattle.inf_expressions.specs.Rooted.{Rooted}
-use Rattle.inf_expressions.specs.Trees.{Tree}
-use Rattle.inf_expressions.specs.declared.operators.Operand.TheVariants as operand
-use Rattle.inf_names.specs.Locals.{Local, number_of}
-use Rattle.inf_names.specs.Spellings.{Name}
-use Rattle.inf_names.specs.Symbols.{declare_fault}
-use Rattle.inf_names.specs.declared.symbols.DeclareFault.{DeclareFault}
+use Rattle.inf_opcode.specs.{declared.instructions.Label.Label, declared.opcodes.Opcode.Opcode}
+use Rattle.inf_expressions.specs.{Questions.children_of, Questions.range_of, Rooted.Rooted, Trees.Tree, declared.operators.Operand.Operand}
+use Rattle.inf_names.specs.{Spellings.Name, Symbols.declare_fault, declared.symbols.DeclareFault.DeclareFault}
+use Rattle.inf_names.specs.Locals.{Local, local_number}
+use Rattle.inf_output.specs.{Texts.used_in, declared.items.Item.Item, declared.operands.Simple.Simple}
 use Rattle.inf_output.specs.Actions.{action_by, action_of, appeared, fake_number, faked, faked_by, first_seen, key_of, numbered_as}
 use Rattle.inf_output.specs.Actions.{numbered_by, one_fake, routine_name, routine_referred, seen_by}
-use Rattle.inf_output.specs.Output.{Out, behind, items_of, laid_all, marked}
-use Rattle.inf_output.specs.Output.{to, ◌▸◌}
-use Rattle.inf_output.specs.Texts.{used_in}
-use Rattle.inf_output.specs.declared.items.Item.{Item}
-use Rattle.inf_output.specs.declared.operands.Simple.{Simple}
-use Rattle.inf_output.specs.declared.operands.Simple.TheVariants.{Known, Variable}
-use Rattle.inf_settings.specs.Bounds.{unbounded}
-use Rattle.inf_settings.specs.declared.setting.Setting.TheVariants as setting
+use Rattle.inf_output.specs.Output.{Out, behind, items_of, laid_all, marked, to, ◌▸◌}
 use Rattle.inf_templates.specs.Meaning.{Meaning, meaning, part}
-use Rattle.inf_unit.specs.Tokens.{SourceToken}
-use Rattle.inf_unit.specs.Units.{bytes_at, name_at}
-use Rattle.inf_verbs.specs.Routines.{action_fault}
-use Rattle.inf_verbs.specs.declared.routines.ActionFault.{ActionFault}
+use Rattle.inf_unit.specs.{Tokens.SourceToken, Units.bytes_at, Units.name_at}
+use Rattle.inf_verbs.specs.{Routines.action_fault, declared.routines.ActionFault.ActionFault}
+use Rattle.inf_constructs.specs.declared.{constructs.Case.Case, constructs.Construct.Construct, constructs.Kind.Kind, constructs.Over.Over}
 use Rattle.inf_constructs.specs.Cases.{case_code, case_tested, group_tested, grouped, is_empty, is_open, laid_before, operand_in}
-use Rattle.inf_constructs.specs.Cases.{range_tested}
-use Rattle.inf_constructs.specs.Cases.{SWITCHED, beside, value_grouped, value_laid, within}
+use Rattle.inf_constructs.specs.Cases.{range_tested, SWITCHED, beside, value_grouped, value_laid, within}
 use Rattle.inf_constructs.specs.Constructs.{Laying, all_ended, begun, between, case_closed, case_entered, cases_begun, changed, closed}
-use Rattle.inf_constructs.specs.Constructs.{ended}
-use Rattle.inf_constructs.specs.Constructs.{ending, entered, entered_by, front, joint, looped, looped_by, looped_on, looped_over, opened}
-use Rattle.inf_constructs.specs.Constructs.{over_all, over_children, tested_over, with_labels}
-use Rattle.inf_constructs.specs.declared.constructs.Case.{Case}
-use Rattle.inf_constructs.specs.declared.constructs.Case.TheVariants as case
-use Rattle.inf_constructs.specs.declared.constructs.Construct.{Construct}
-use Rattle.inf_constructs.specs.declared.constructs.Kind.{Kind}
-use Rattle.inf_constructs.specs.declared.constructs.Kind.TheVariants as kind
-use Rattle.inf_constructs.specs.declared.constructs.Over.{Over}
-use Rattle.inf_constructs.specs.declared.constructs.Over.TheVariants as over
+use Rattle.inf_constructs.specs.Constructs.{ended, ending, entered, entered_by, front, joint, looped, looped_by, looped_on, looped_over}
+use Rattle.inf_constructs.specs.Constructs.{opened, over_all, over_children, tested_over, with_labels}
 use Rattle.inf_operands.specs.Operands.{Settled, is_stack, leaf_added, one_added, settled, settled_action, settled_alone, settled_by}
 use Rattle.inf_operands.specs.Operands.{settled_leaf, settled_name, settled_text, with_settled}
-use Rattle.inf_operands.specs.Texts.{text_at}
-use Rattle.inf_operands.specs.Texts.{text_packed}
+use Rattle.inf_operands.specs.Texts.{text_at, text_packed}
 use Rattle.inf_limit_laws.specs.Rooms.{Before, Counted, Keeps, Sound}
 use Rattle.inf_limit_laws.proofs.Outputs.{declare_keeps, items_keep, refer_keeps, table_keeps, text_keeps, word_keeps}
 use Rattle.inf_limit_laws.proofs.Statements.{Gives, gives_code}
@@ -64,17 +38,17 @@ group_sound : {was : Before} (limits : Limits) (group : List Simple) (sense : Bo
     Sound limits was (group_tested limits group sense label)
 unfolding group_tested
 group_sound {was} limits [] sense label = sound_nothing
-group_sound {was} limits (a ∷ others) sense label = sound_instruction opcode.Je _ None _
+group_sound {was} limits (a ∷ others) sense label = sound_instruction Opcode.Je _ None _
 
 beside_sound : {was : Before} (limits : Limits) (a b : Simple) (next : Label) → Sound limits was (beside limits a b next)
 beside_sound {was} limits a b next =
-    sound_then (sound_instruction opcode.Jl (Variable SWITCHED ∷ a ∷ []) None (to true next))
-    (sound_instruction opcode.Jg (Variable SWITCHED ∷ b ∷ []) None (to true next))
+    sound_then (sound_instruction Opcode.Jl (Simple.Variable SWITCHED ∷ a ∷ []) None (to true next))
+    (sound_instruction Opcode.Jg (Simple.Variable SWITCHED ∷ b ∷ []) None (to true next))
 
 within_sound : {was : Before} (limits : Limits) (a b : Simple) (here : Label) → Sound limits was (within limits a b here)
 within_sound {was} limits a b here =
-    sound_label _ (λ beyond. sound_then (sound_instruction opcode.Jl (Variable SWITCHED ∷ a ∷ []) None (to true beyond))
-    (sound_then (sound_instruction opcode.Jg (Variable SWITCHED ∷ b ∷ []) None (to false here)) (sound_mark beyond)))
+    sound_label _ (λ beyond. sound_then (sound_instruction Opcode.Jl (Simple.Variable SWITCHED ∷ a ∷ []) None (to true beyond))
+    (sound_then (sound_instruction Opcode.Jg (Simple.Variable SWITCHED ∷ b ∷ []) None (to false here)) (sound_mark beyond)))
 
 range_sound : {was : Before} (limits : Limits) (is_last : Bool) (a b : Simple) (here next : Label) →
     Sound limits was (range_tested limits is_last a b here next)
@@ -114,30 +88,30 @@ case_sound {was} limits (Some next) values = tests_sound limits values next
 -- Statements that hold others
 
 front_sound : {was : Before} (limits : Limits) (k : Kind) (c : Construct) → Sound limits was (front limits k c)
-front_sound {was} limits kind.While c = sound_mark c.next
-front_sound {was} limits kind.Do c = sound_mark c.top
-front_sound {was} limits kind.If c = sound_nothing
-front_sound {was} limits kind.Else c = sound_nothing
-front_sound {was} limits kind.For c = sound_nothing
-front_sound {was} limits (kind.Objects how v) c = sound_nothing
-front_sound {was} limits (kind.Switch old had_default) c = sound_nothing
-front_sound {was} limits (kind.Cases old had_default) c = sound_nothing
+front_sound {was} limits Kind.While c = sound_mark c.next
+front_sound {was} limits Kind.Do c = sound_mark c.top
+front_sound {was} limits Kind.If c = sound_nothing
+front_sound {was} limits Kind.Else c = sound_nothing
+front_sound {was} limits Kind.For c = sound_nothing
+front_sound {was} limits (Kind.Objects how v) c = sound_nothing
+front_sound {was} limits (Kind.Switch old had_default) c = sound_nothing
+front_sound {was} limits (Kind.Cases old had_default) c = sound_nothing
 
 opened_gives : {was : Before} (limits : Limits) (k : Kind) → Gives limits was (opened limits k)
 unfolding opened
 opened_gives {was} limits k = record { keeps = λ o h. let c = with_labels k o in (front_sound limits k c.0).keeps c.1 h }
 
 joint_sound : {was : Before} (limits : Limits) (c : Construct) (k : Kind) → Sound limits was (joint limits c k)
-joint_sound {was} limits c kind.If = sound_then (sound_jump c.end) (sound_mark c.next)
-joint_sound {was} limits c kind.Do = sound_mark c.next
-joint_sound {was} limits c kind.For = sound_mark c.top
-joint_sound {was} limits c (kind.Objects over.Nothing v) = sound_mark c.top
-joint_sound {was} limits c (kind.Objects over.Children v) = sound_nothing
-joint_sound {was} limits c (kind.Objects over.All v) = sound_nothing
-joint_sound {was} limits c kind.Else = sound_nothing
-joint_sound {was} limits c kind.While = sound_nothing
-joint_sound {was} limits c (kind.Switch old had_default) = sound_nothing
-joint_sound {was} limits c (kind.Cases old had_default) = sound_nothing
+joint_sound {was} limits c Kind.If = sound_then (sound_jump c.end) (sound_mark c.next)
+joint_sound {was} limits c Kind.Do = sound_mark c.next
+joint_sound {was} limits c Kind.For = sound_mark c.top
+joint_sound {was} limits c (Kind.Objects Over.Nothing v) = sound_mark c.top
+joint_sound {was} limits c (Kind.Objects Over.Children v) = sound_nothing
+joint_sound {was} limits c (Kind.Objects Over.All v) = sound_nothing
+joint_sound {was} limits c Kind.Else = sound_nothing
+joint_sound {was} limits c Kind.While = sound_nothing
+joint_sound {was} limits c (Kind.Switch old had_default) = sound_nothing
+joint_sound {was} limits c (Kind.Cases old had_default) = sound_nothing
 
 pub between_gives : {was : Before} (limits : Limits) (c : Construct) → Gives limits was (between limits c)
 unfolding between
@@ -145,7 +119,7 @@ between_gives {was} limits c = record { keeps = λ o h. (joint_sound limits c c.
 
 children_sound : {was : Before} (limits : Limits) (e : Tree) (v : ℕ) (c : Construct) → Sound limits was (over_children limits e v c)
 children_sound {was} limits e v c =
-    sound_then (worked_sound limits opcode.GetChild (part (meaning limits e) ∷ []) (Some v) (to false c.end)
+    sound_then (worked_sound limits Opcode.GetChild (part (meaning limits e) ∷ []) (Some v) (to false c.end)
     ((meaning_sound limits e).value, tt))
     (sound_mark c.top)
 
@@ -156,7 +130,7 @@ over_sound {was} limits None e next h = h.branch false next
 
 all_sound : {was : Before} (limits : Limits) (e : Tree) (v : ℕ) (c : Construct) → Sound limits was (over_all limits (meaning limits e) v c)
 all_sound {was} limits e v c =
-    sound_then (sound_naming opcode.Store v (Known 5 ∷ []) None None) (sound_then (sound_mark c.top)
+    sound_then (sound_naming Opcode.Store v (Simple.Known 5 ∷ []) None None) (sound_then (sound_mark c.top)
     (over_sound limits (meaning limits e).operand (meaning limits e) c.next (meaning_sound limits e)))
 
 looped_by_gives : {was : Before} (limits : Limits) (parent : Option Tree) (e : Tree) (v : ℕ) (c : Construct) →
@@ -169,30 +143,30 @@ unfolding looped
 looped_gives {was} limits r c = looped_by_gives limits (children_of r.tree) r.tree (unwrap_or r.origin.lead.variable 0) c
 
 on_sound : {was : Before} (limits : Limits) (how : Over) (v : ℕ) (top : Label) → Sound limits was (looped_on limits how v top)
-on_sound {was} limits over.Nothing v top = sound_nothing
-on_sound {was} limits over.Children v top = sound_instruction opcode.GetSibling (Variable v ∷ []) (Some v) _
-on_sound {was} limits over.All v top = sound_naming opcode.IncChk v _ None _
+on_sound {was} limits Over.Nothing v top = sound_nothing
+on_sound {was} limits Over.Children v top = sound_instruction Opcode.GetSibling (Simple.Variable v ∷ []) (Some v) _
+on_sound {was} limits Over.All v top = sound_naming Opcode.IncChk v _ None _
 
 case_closed_sound : {was : Before} (limits : Limits) (c : Case) (end : Label) → Sound limits was (case_closed limits c end)
-case_closed_sound {was} limits case.Nothing end = sound_nothing
-case_closed_sound {was} limits (case.Values next) end = sound_then (sound_jump end) (sound_mark next)
-case_closed_sound {was} limits case.Default end = sound_jump end
+case_closed_sound {was} limits Case.Nothing end = sound_nothing
+case_closed_sound {was} limits (Case.Values next) end = sound_then (sound_jump end) (sound_mark next)
+case_closed_sound {was} limits Case.Default end = sound_jump end
 
 step_sound : {was : Before} (limits : Limits) (items : List Item) → Sound limits was (laid_all limits items)
 step_sound limits items = record { keeps = items_keep limits items }
 
 ending_sound : {was : Before} (limits : Limits) (c : Construct) (k : Kind) → Sound limits was (ending limits c k)
-ending_sound {was} limits c kind.If = sound_mark c.next
-ending_sound {was} limits c kind.Else = sound_mark c.end
-ending_sound {was} limits c kind.While = sound_then (sound_jump c.next) (sound_mark c.end)
-ending_sound {was} limits c kind.Do = sound_mark c.end
-ending_sound {was} limits c kind.For =
+ending_sound {was} limits c Kind.If = sound_mark c.next
+ending_sound {was} limits c Kind.Else = sound_mark c.end
+ending_sound {was} limits c Kind.While = sound_then (sound_jump c.next) (sound_mark c.end)
+ending_sound {was} limits c Kind.Do = sound_mark c.end
+ending_sound {was} limits c Kind.For =
     sound_then (sound_mark c.next) (sound_then (step_sound limits (items_of c.step))
     (sound_then (sound_jump c.top) (sound_mark c.end)))
-ending_sound {was} limits c (kind.Objects how v) =
+ending_sound {was} limits c (Kind.Objects how v) =
     sound_then (sound_mark c.next) (sound_then (on_sound limits how v c.top) (sound_mark c.end))
-ending_sound {was} limits c (kind.Switch old had_default) = sound_then (case_closed_sound limits old c.end) (sound_mark c.end)
-ending_sound {was} limits c (kind.Cases old had_default) = sound_then (case_closed_sound limits old c.end) (sound_mark c.end)
+ending_sound {was} limits c (Kind.Switch old had_default) = sound_then (case_closed_sound limits old c.end) (sound_mark c.end)
+ending_sound {was} limits c (Kind.Cases old had_default) = sound_then (case_closed_sound limits old c.end) (sound_mark c.end)
 
 closed_sound : {was : Before} (limits : Limits) (c : Construct) → Sound limits was (closed limits c)
 unfolding closed
@@ -207,16 +181,16 @@ case_entered_gives {was} limits are_own false old had_default c = record {
 
 entered_by_gives : {was : Before} (limits : Limits) (k : Kind) (is_default : Bool) (c : Construct) →
     Gives limits was (entered_by limits k is_default c)
-entered_by_gives {was} limits (kind.Switch old had_default) is_default c =
+entered_by_gives {was} limits (Kind.Switch old had_default) is_default c =
     record { keeps = λ o h. (case_entered_gives limits false is_default old had_default c).keeps o h }
-entered_by_gives {was} limits (kind.Cases old had_default) is_default c =
+entered_by_gives {was} limits (Kind.Cases old had_default) is_default c =
     record { keeps = λ o h. (case_entered_gives limits true is_default old had_default c).keeps o h }
-entered_by_gives {was} limits kind.If is_default c = record { keeps = λ o h. h }
-entered_by_gives {was} limits kind.Else is_default c = record { keeps = λ o h. h }
-entered_by_gives {was} limits kind.While is_default c = record { keeps = λ o h. h }
-entered_by_gives {was} limits kind.Do is_default c = record { keeps = λ o h. h }
-entered_by_gives {was} limits kind.For is_default c = record { keeps = λ o h. h }
-entered_by_gives {was} limits (kind.Objects how v) is_default c = record { keeps = λ o h. h }
+entered_by_gives {was} limits Kind.If is_default c = record { keeps = λ o h. h }
+entered_by_gives {was} limits Kind.Else is_default c = record { keeps = λ o h. h }
+entered_by_gives {was} limits Kind.While is_default c = record { keeps = λ o h. h }
+entered_by_gives {was} limits Kind.Do is_default c = record { keeps = λ o h. h }
+entered_by_gives {was} limits Kind.For is_default c = record { keeps = λ o h. h }
+entered_by_gives {was} limits (Kind.Objects how v) is_default c = record { keeps = λ o h. h }
 
 pub entered_gives : {was : Before} (limits : Limits) (is_default : Bool) (c : Construct) → Gives limits was (entered limits is_default c)
 unfolding entered
@@ -234,7 +208,7 @@ changed_gives {was} limits change each [] = record { keeps = λ o h. h }
 changed_gives {was} limits change each (c ∷ constructs) = record { keeps = λ o h. (each c).keeps o h }
 
 pub cases_gives : {was : Before} (limits : Limits) (constructs : List Construct) → Gives limits was (cases_begun limits constructs)
-cases_gives {was} limits [] = record { keeps = λ o h. (begun_gives limits (kind.Cases case.Nothing false) []).keeps o h }
+cases_gives {was} limits [] = record { keeps = λ o h. (begun_gives limits (Kind.Cases Case.Nothing false) []).keeps o h }
 cases_gives {was} limits (c ∷ constructs) = record { keeps = λ o h. h }
 
 pub ended_gives : {was : Before} (limits : Limits) (constructs : List Construct) → Gives limits was (ended limits constructs)
@@ -269,7 +243,7 @@ numbered_keeps {was} limits (Some routine) o h = go (action_fault limits routine
   where
     go : (fault : Option ActionFault) → Counted limits was (numbered_by limits fault routine o).0
     go None = h
-    go (Some fault) = table_keeps limits setting.Actions o h
+    go (Some fault) = table_keeps limits Setting.Actions o h
 
 pub action_keeps : {was : Before} (limits : Limits) (name : List ℕ) (place : Place) (o : Out) → Counted limits was o →
     Counted limits was (action_of limits name place o).0
@@ -301,7 +275,7 @@ by_keeps {was} limits None name place o h = refer_keeps limits name place o h
 name_keeps : {was : Before} (limits : Limits) (locals : List Local) (n : Option Name) (o : Out) → Counted limits was o
     → Counted limits was (settled_name limits locals n o).0
 name_keeps {was} limits locals None o h = h
-name_keeps {was} limits locals (Some n) o h = by_keeps limits (number_of n.bytes locals) n.bytes n.place o h
+name_keeps {was} limits locals (Some n) o h = by_keeps limits (local_number n.bytes locals) n.bytes n.place o h
 
 pick : {A : Type 0} {was : Before} (limits : Limits) (b : Bool) (p q : Out × A) → Counted limits was p.0 → Counted limits was q.0
     → Counted limits was (if◌then◌else◌ {A = Out × A} b p q).0
@@ -311,7 +285,7 @@ pick limits false p q h k = k
 alone_keeps : {was : Before} (limits : Limits) (locals : List Local) (tokens : List SourceToken) (at : ℕ) (o : Out) → Counted limits was o
     → Counted limits was (settled_alone limits locals tokens at o).0
 alone_keeps limits locals tokens at o h =
-    pick limits (is_stack (bytes_at tokens at) (number_of (bytes_at tokens at) locals)) (o, operand.Variable 0)
+    pick limits (is_stack (bytes_at tokens at) (local_number (bytes_at tokens at) locals)) (o, Operand.Variable 0)
     (settled_name limits locals (name_at tokens at) o) h (name_keeps limits locals (name_at tokens at) o h)
 
 some_text_keeps : {was : Before} (limits : Limits) (items : Option (List TextItem)) (o : Out) → Counted limits was o
@@ -327,14 +301,14 @@ some_action_keeps {was} limits (Some n) o h = action_keeps limits n.bytes n.plac
 leaf_keeps : {was : Before} (limits : Limits) (set : CharSet) (locals : List Local) (tokens : List SourceToken) (l : Leaf) (o : Out) →
     Counted limits was o
     → Counted limits was (settled_leaf limits set locals tokens l o).0
-leaf_keeps {was} limits set locals tokens (leaf.Name at) o h = name_keeps limits locals (name_at tokens at) o h
-leaf_keeps {was} limits set locals tokens (leaf.Alone at) o h = alone_keeps limits locals tokens at o h
-leaf_keeps {was} limits set locals tokens (leaf.Number number) o h = h
-leaf_keeps {was} limits set locals tokens (leaf.Char zscii) o h = h
-leaf_keeps {was} limits set locals tokens (leaf.Word word) o h = word_keeps limits word.text word_use.Other word.is_plural o h
-leaf_keeps {was} limits set locals tokens (leaf.Text at) o h = some_text_keeps limits (text_at set tokens at) o h
-leaf_keeps {was} limits set locals tokens (leaf.Action at) o h = some_action_keeps limits (name_at tokens at) o h
-leaf_keeps {was} limits set locals tokens (leaf.System at) o h = h
+leaf_keeps {was} limits set locals tokens (Leaf.Name at) o h = name_keeps limits locals (name_at tokens at) o h
+leaf_keeps {was} limits set locals tokens (Leaf.Alone at) o h = alone_keeps limits locals tokens at o h
+leaf_keeps {was} limits set locals tokens (Leaf.Number number) o h = h
+leaf_keeps {was} limits set locals tokens (Leaf.Char zscii) o h = h
+leaf_keeps {was} limits set locals tokens (Leaf.Word word) o h = word_keeps limits word.text WordUse.Other word.is_plural o h
+leaf_keeps {was} limits set locals tokens (Leaf.Text at) o h = some_text_keeps limits (text_at set tokens at) o h
+leaf_keeps {was} limits set locals tokens (Leaf.Action at) o h = some_action_keeps limits (name_at tokens at) o h
+leaf_keeps {was} limits set locals tokens (Leaf.System at) o h = h
 
 pub settled_keeps : {was : Before} (limits : Limits) (set : CharSet) (locals : List Local) (tokens : List SourceToken) (leaves : List Leaf)
     (s : Settled)
@@ -346,14 +320,14 @@ settled_keeps {was} limits set locals tokens (l ∷ leaves) s h =
 
 one_added_keeps : {was : Before} (limits : Limits) (set : CharSet) (tokens : List SourceToken) (l : Leaf) →
     Keeps limits was (one_added limits set tokens l)
-one_added_keeps {was} limits set tokens (leaf.Text at) o h = some_text_keeps limits (text_at set tokens at) o h
-one_added_keeps {was} limits set tokens (leaf.Word word) o h = word_keeps limits word.text word_use.Other word.is_plural o h
-one_added_keeps {was} limits set tokens (leaf.Action at) o h = some_action_keeps limits (name_at tokens at) o h
-one_added_keeps {was} limits set tokens (leaf.Name at) o h = h
-one_added_keeps {was} limits set tokens (leaf.Alone at) o h = h
-one_added_keeps {was} limits set tokens (leaf.Number number) o h = h
-one_added_keeps {was} limits set tokens (leaf.Char zscii) o h = h
-one_added_keeps {was} limits set tokens (leaf.System at) o h = h
+one_added_keeps {was} limits set tokens (Leaf.Text at) o h = some_text_keeps limits (text_at set tokens at) o h
+one_added_keeps {was} limits set tokens (Leaf.Word word) o h = word_keeps limits word.text WordUse.Other word.is_plural o h
+one_added_keeps {was} limits set tokens (Leaf.Action at) o h = some_action_keeps limits (name_at tokens at) o h
+one_added_keeps {was} limits set tokens (Leaf.Name at) o h = h
+one_added_keeps {was} limits set tokens (Leaf.Alone at) o h = h
+one_added_keeps {was} limits set tokens (Leaf.Number number) o h = h
+one_added_keeps {was} limits set tokens (Leaf.Char zscii) o h = h
+one_added_keeps {was} limits set tokens (Leaf.System at) o h = h
 
 pub added_keeps : {was : Before} (limits : Limits) (set : CharSet) (tokens : List SourceToken) (leaves : List Leaf)
     → Keeps limits was (leaf_added limits set tokens leaves)

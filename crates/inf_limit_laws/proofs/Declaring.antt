@@ -1,71 +1,44 @@
 -- The directives that declare: attributes, properties, variables, abbreviations, low strings and arrays; and those that choose how a story
 -- is made.
-use Rattle.std.proofs.Common.{ℕ, List, [], ◌∷◌, map, Bool, true, false, Option, Some, None, Result, Ok, Err}
-use Rattle.std.specs.Prelude.{length, nat_le, if◌then◌else◌}
-use Rattle.inf_settings.specs.Bounds.{Limits}
-use Rattle.inf_settings.specs.declared.setting.Setting.TheVariants as setting
+use Rattle.std.proofs.Common.{ℕ, List, [], ◌∷◌, map, Bool, true, false, Option, Some, None, Result, Ok, Err, length, nat_le, if◌then◌else◌}
+use Rattle.inf_settings.specs.{Bounds.Limits, declared.setting.Setting.Setting}
 use Rattle.inf_scanner.specs.declared.tokens.Place.{Place}
-use Rattle.inf_characters.specs.Reading.{text_of}
-use Rattle.inf_characters.specs.declared.reading.Mode.TheVariants as mode
-use Rattle.inf_characters.specs.declared.texts.TextItem.{TextItem}
+use Rattle.inf_characters.specs.{Reading.text_of, declared.reading.Mode.Mode, declared.texts.TextItem.TextItem}
 use Rattle.inf_text.specs.Packing.{packed}
 use Rattle.inf_area.specs.declared.targets.Value.{Value}
+use Rattle.inf_arrays.specs.{declared.arrays.ArrayFault.ArrayFault, declared.kinds.ArrayKind.ArrayKind}
 use Rattle.inf_arrays.specs.Arrays.{Adding, Characters, added_fault, open_fault}
-use Rattle.inf_arrays.specs.declared.arrays.ArrayFault.{ArrayFault}
-use Rattle.inf_arrays.specs.declared.kinds.ArrayKind.{ArrayKind}
-use Rattle.inf_expressions.specs.Findings.{out_of_range}
-use Rattle.inf_expressions.specs.declared.findings.Finding.{Finding}
-use Rattle.inf_expressions.specs.declared.findings.UnitError.{UnitError}
-use Rattle.inf_expressions.specs.declared.units.Wanted.TheVariants as wanted
-use Rattle.inf_letters.specs.Letters.{ignores, scale_of}
-use Rattle.inf_letters.specs.declared.letters.Letters.{Letters}
-use Rattle.inf_names.specs.Spellings.{Name}
-use Rattle.inf_names.specs.declared.meanings.Meaning.TheVariants as meaning
+use Rattle.inf_expressions.specs.{Findings.out_of_range, declared.findings.Finding.Finding, declared.findings.UnitError.UnitError}
+use Rattle.inf_expressions.specs.{declared.units.Wanted.Wanted}
+use Rattle.inf_letters.specs.{Letters.ignores, Letters.scale_of, declared.letters.Letters.Letters}
+use Rattle.inf_names.specs.{Spellings.Name, declared.meanings.Meaning.Meaning}
 use Rattle.inf_output.specs.Output.{Out, passed_table}
 use Rattle.inf_report.specs.declared.messages.FixedLimit.{FixedLimit}
-use Rattle.inf_report.specs.declared.messages.FixedLimit.TheVariants as countable
-use Rattle.inf_tables.specs.LowStrings.{low_fits}
-use Rattle.inf_tables.specs.World.{attribute_fault, property_fault}
-use Rattle.inf_tables.specs.declared.faults.WorldFault.{WorldFault}
+use Rattle.inf_tables.specs.{LowStrings.low_fits, World.attribute_fault, World.property_fault, declared.faults.WorldFault.WorldFault}
 use Rattle.inf_unit.specs.Units.{first_place, name_order, quoted_in}
 use Rattle.inf_constructs.specs.Roots.{tree_in}
-use Rattle.inf_operands.specs.Texts.{text_at}
-use Rattle.inf_operands.specs.Texts.{text_packed}
+use Rattle.inf_operands.specs.Texts.{text_at, text_packed}
+use Rattle.inf_compilation.specs.{Context.Context, Findings.found_alone, Findings.nothing_found}
 use Rattle.inf_compilation.specs.Actions.{Compilation, finding_at, operands_of, settled_of, trees_at}
-use Rattle.inf_compilation.specs.Context.{Context}
-use Rattle.inf_compilation.specs.Findings.{found_alone, nothing_found}
 use Rattle.inf_declarations.specs.Abbreviations.{abbreviate_header, abbreviation, abbreviation_added, abbreviation_error}
 use Rattle.inf_declarations.specs.Abbreviations.{abbreviation_findings, abbreviation_with, low_added, low_added_by, low_named_by}
 use Rattle.inf_declarations.specs.Abbreviations.{low_string, low_string_added, low_unless, or_error, text_declared}
 use Rattle.inf_declarations.specs.Arrays.{added, adding, array_named, array_opened, array_opened_by, bare_text, codes_of, entry_added}
 use Rattle.inf_declarations.specs.Arrays.{entry_added_by, entry_ended, entry_finding, entry_with, is_alone, kind_in, listed, one_more}
 use Rattle.inf_declarations.specs.Arrays.{story_added, text_added, value_added}
-use Rattle.inf_named_values.specs.Declarations.{alias_told, declared_ended}
-use Rattle.inf_declarations.specs.Attributes.{attribute, attribute_added, attribute_number, attribute_with}
-use Rattle.inf_named_values.specs.Declarations.{declared_findings}
-use Rattle.inf_declarations.specs.Globals.{global_added, global_variable, global_with}
-use Rattle.inf_declarations.specs.Attributes.{has_most_attributes}
-use Rattle.inf_named_values.specs.Declarations.{is_additive, is_alias, name_declared, name_known}
-use Rattle.inf_declarations.specs.Globals.{has_most_globals}
-use Rattle.inf_declarations.specs.Properties.{has_most_properties}
-use Rattle.inf_declarations.specs.Attributes.{new_attribute}
-use Rattle.inf_named_values.specs.Declarations.{nothing_of, plainly_known}
-use Rattle.inf_declarations.specs.Globals.{new_global}
-use Rattle.inf_declarations.specs.Properties.{new_property, new_property_by, property}
-use Rattle.inf_declarations.specs.Attributes.{new_attribute_by}
-use Rattle.inf_declarations.specs.Properties.{property_added, property_named, property_names, property_number, property_order}
-use Rattle.inf_declarations.specs.Properties.{property_with}
-use Rattle.inf_named_values.specs.Declarations.{valued}
-use Rattle.inf_named_values.specs.Values.{value_of}
-use Rattle.inf_declarations.specs.Globals.{with_variable}
+use Rattle.inf_declarations.specs.Attributes.{attribute, attribute_added, attribute_number, attribute_with, has_most_attributes}
+use Rattle.inf_declarations.specs.Attributes.{new_attribute, new_attribute_by}
+use Rattle.inf_declarations.specs.Globals.{global_added, global_variable, global_with, has_most_globals, new_global, with_variable}
+use Rattle.inf_declarations.specs.Properties.{has_most_properties, new_property, new_property_by, property, property_added, property_named}
+use Rattle.inf_declarations.specs.Properties.{property_names, property_number, property_order, property_with}
 use Rattle.inf_declarations.specs.Headers.{known_number, release, release_finding, release_told, serial, serial_by, serial_in}
 use Rattle.inf_declarations.specs.Switches.{has_code, letters_behind, misplaced, switched, switches, switches_by}
-use Rattle.inf_named_values.specs.declared.declarations.Declared.{Declared}
-use Rattle.inf_limit_laws.specs.Rooms.{Before, Counted, Keeps}
-use Rattle.inf_limit_laws.specs.Within.{Lays, Steps}
-use Rattle.inf_limit_laws.proofs.Constructs.{added_keeps}
+use Rattle.inf_named_values.specs.{Values.value_of, declared.declarations.Declared.Declared}
+use Rattle.inf_named_values.specs.Declarations.{alias_told, declared_ended, declared_findings, is_additive, is_alias, name_declared}
+use Rattle.inf_named_values.specs.Declarations.{name_known, nothing_of, plainly_known, valued}
+use Rattle.inf_limit_laws.specs.{Rooms.Before, Rooms.Counted, Rooms.Keeps, Within.Lays, Within.Steps}
+use Rattle.inf_limit_laws.proofs.{Constructs.added_keeps, Units.used_keeps}
 use Rattle.inf_limit_laws.proofs.Outputs.{declare_keeps, low_text_keeps, scale_keeps, table_keeps}
-use Rattle.inf_limit_laws.proofs.Units.{used_keeps}
 use Rattle.inf_limit_laws.proofs.Ways.{lay_of, lays_if, lays_step, lays_then, output_lays, passed_steps, stays, step_of, steps_if}
 use Rattle.inf_limit_laws.proofs.Ways.{steps_then, unit_ends}
 
@@ -94,23 +67,23 @@ new_attribute_keeps {was} limits o h = go (attribute_fault o.tables.world)
 
 attribute_keeps : {was : Before} (limits : Limits) (found : Option Finding) (name : Name) →
     Keeps limits was (attribute_added limits found name)
-attribute_keeps {was} limits (Some f) name o h = declare_keeps limits name.bytes name.place (meaning.Attribute 0) o h
+attribute_keeps {was} limits (Some f) name o h = declare_keeps limits name.bytes name.place (Meaning.Attribute 0) o h
 attribute_keeps {was} limits None name o h =
-    new_attribute_keeps limits (name_declared limits name (meaning.Attribute (attribute_number o)) o)
-    (declare_keeps limits name.bytes name.place (meaning.Attribute (attribute_number o)) o h)
+    new_attribute_keeps limits (name_declared limits name (Meaning.Attribute (attribute_number o)) o)
+    (declare_keeps limits name.bytes name.place (Meaning.Attribute (attribute_number o)) o h)
 
 attribute_with_steps : {limits : Limits} {context : Context} {was : Before} (first : Place) (name : Name) (w : Compilation)
     → Steps limits context was w (attribute_with limits context first name w)
 attribute_with_steps {limits} {context} {was} first name w =
     let d = name_known name (name_order w.unit.tokens) (has_most_attributes w.output) w in
-    declaration_steps first true name countable.Attributes d w (attribute_added limits d.finding name w.output)
+    declaration_steps first true name FixedLimit.Attributes d w (attribute_added limits d.finding name w.output)
     (attribute_keeps limits d.finding name w.output)
 
 pub attribute_steps : {limits : Limits} {context : Context} {was : Before} (first : Place) (names : List Name) (w : Compilation)
     → Steps limits context was w (attribute limits context first names w)
 attribute_steps first [] w = passed_steps true w
 attribute_steps {limits} {context} {was} first (name ∷ names) w =
-    steps_if (is_alias names w.unit.gathering.leaves) (alias_steps first name (name_order w.unit.tokens) countable.Attributes w)
+    steps_if (is_alias names w.unit.gathering.leaves) (alias_steps first name (name_order w.unit.tokens) FixedLimit.Attributes w)
     (attribute_with_steps first name w)
 
 -- Properties
@@ -126,19 +99,19 @@ property_keeps : {was : Before} (limits : Limits) (context : Context) (found : O
     (w : Compilation)
     → Counted limits was w.output → Counted limits was (property_added limits context found name is_additive w)
 property_keeps {was} limits context (Some f) name is_additive w h =
-    declare_keeps limits name.bytes name.place (nothing_of countable.Properties) w.output h
+    declare_keeps limits name.bytes name.place (nothing_of FixedLimit.Properties) w.output h
 property_keeps {was} limits context None name is_additive w h =
     let o = (settled_of limits context w).out in
     new_property_keeps limits is_additive (value_of limits context w)
-    (name_declared limits name (meaning.Property (property_number o) is_additive) o)
-    (declare_keeps limits name.bytes name.place (meaning.Property (property_number o) is_additive) o (used_keeps limits context w h))
+    (name_declared limits name (Meaning.Property (property_number o) is_additive) o)
+    (declare_keeps limits name.bytes name.place (Meaning.Property (property_number o) is_additive) o (used_keeps limits context w h))
 
 property_with_steps : {limits : Limits} {context : Context} {was : Before} (first : Place) (is_additive : Bool) (name : Name)
     (w : Compilation)
     → Steps limits context was w (property_with limits context first is_additive name w)
 property_with_steps {limits} {context} {was} first is_additive name w =
     let d = valued name (property_order w.unit.tokens is_additive) (has_most_properties w.output) w in
-    declaration_steps first true name countable.Properties d w (property_added limits context d.finding name is_additive w)
+    declaration_steps first true name FixedLimit.Properties d w (property_added limits context d.finding name is_additive w)
     (property_keeps limits context d.finding name is_additive w)
 
 property_named_steps : {limits : Limits} {context : Context} {was : Before} (first : Place) (is_additive : Bool) (names : List Name)
@@ -147,7 +120,7 @@ property_named_steps : {limits : Limits} {context : Context} {was : Before} (fir
 property_named_steps first is_additive [] w = passed_steps true w
 property_named_steps {limits} {context} {was} first is_additive (name ∷ names) w =
     steps_if (is_alias names w.unit.gathering.leaves)
-    (alias_steps first name (property_order w.unit.tokens is_additive) countable.Properties w)
+    (alias_steps first name (property_order w.unit.tokens is_additive) FixedLimit.Properties w)
     (property_with_steps first is_additive name w)
 
 pub property_steps : {limits : Limits} {context : Context} {was : Before} (first : Place) (names : List Name) (w : Compilation)
@@ -166,7 +139,7 @@ new_global_keeps {was} limits v o h = go (nat_le 235 (length o.tables.globals))
 global_keeps : {was : Before} (limits : Limits) (context : Context) (found : Option Finding) (name : Name) (w : Compilation) →
     Counted limits was w.output
     → Counted limits was (global_added limits context found name w)
-global_keeps {was} limits context (Some f) name w h = declare_keeps limits name.bytes name.place (nothing_of countable.Globals) w.output h
+global_keeps {was} limits context (Some f) name w h = declare_keeps limits name.bytes name.place (nothing_of FixedLimit.Globals) w.output h
 global_keeps {was} limits context None name w h =
     let o = (settled_of limits context w).out in
     new_global_keeps limits (value_of limits context w) _
@@ -176,7 +149,7 @@ global_with_steps : {limits : Limits} {context : Context} {was : Before} (first 
     → Steps limits context was w (global_with limits context first name w)
 global_with_steps {limits} {context} {was} first name w =
     let d = valued name (name_order w.unit.tokens) (has_most_globals w.output) w in
-    declaration_steps first true name countable.Globals d w (global_added limits context d.finding name w)
+    declaration_steps first true name FixedLimit.Globals d w (global_added limits context d.finding name w)
     (global_keeps limits context d.finding name w)
 
 pub global_steps : {limits : Limits} {context : Context} {was : Before} (first : Place) (names : List Name) (w : Compilation)
@@ -191,7 +164,7 @@ low_added_keeps {was} limits bytes o h = go (low_fits limits bytes o.tables.low_
   where
     go : (b : Bool) → Counted limits was (low_added_by limits b bytes o)
     go true = h
-    go false = table_keeps limits setting.LowStrings o h
+    go false = table_keeps limits Setting.LowStrings o h
 
 text_declared_keeps : {was : Before} (limits : Limits) (error : Option UnitError) (items : List TextItem) →
     Keeps limits was (text_declared error items)
@@ -221,7 +194,7 @@ pub abbreviation_steps : {limits : Limits} {context : Context} {was : Before} (p
     → Steps limits context was w (abbreviation limits context place w)
 abbreviation_steps {limits} {context} {was} place w =
     abbreviation_with_steps (first_place w.unit.tokens place)
-    (or_error (text_of context.set mode.Abbreviation (quoted_in w.unit.tokens))) w
+    (or_error (text_of context.set Mode.Abbreviation (quoted_in w.unit.tokens))) w
 
 pub abbreviate_steps : {limits : Limits} {context : Context} {was : Before} (first : Place) (w : Compilation)
     → Steps limits context was w (abbreviate_header limits context first w)
@@ -231,23 +204,23 @@ abbreviate_steps first w = step_of (unit_ends first false (found_alone None) w)
 
 low_by_keeps : {was : Before} (limits : Limits) (name : Name) (items : Result (List TextItem) UnitError) →
     Keeps limits was (low_named_by limits name items)
-low_by_keeps {was} limits name (Err error) o h = declare_keeps limits name.bytes name.place (meaning.Number 0) o h
+low_by_keeps {was} limits name (Err error) o h = declare_keeps limits name.bytes name.place (Meaning.Number 0) o h
 low_by_keeps {was} limits name (Ok items) o h =
     declare_keeps limits name.bytes name.place _ _ (low_text_keeps limits (packed items []) (text_packed o) h)
 
 low_string_keeps : {was : Before} (limits : Limits) (context : Context) (found : Option Finding) (name : Name) (w : Compilation) →
     Counted limits was w.output
     → Counted limits was (low_string_added limits context.set found name w.unit.tokens w.output)
-low_string_keeps {was} limits context (Some f) name w h = declare_keeps limits name.bytes name.place (meaning.Number 0) w.output h
+low_string_keeps {was} limits context (Some f) name w h = declare_keeps limits name.bytes name.place (Meaning.Number 0) w.output h
 low_string_keeps {was} limits context None name w h =
-    low_by_keeps limits name (or_error (text_of context.set mode.Text (quoted_in w.unit.tokens))) w.output h
+    low_by_keeps limits name (or_error (text_of context.set Mode.Text (quoted_in w.unit.tokens))) w.output h
 
 pub low_string_steps : {limits : Limits} {context : Context} {was : Before} (first : Place) (names : List Name) (w : Compilation)
     → Steps limits context was w (low_string limits context first names w)
 low_string_steps first [] w = passed_steps true w
 low_string_steps {limits} {context} {was} first (name ∷ names) w =
     let d = plainly_known name (name_order w.unit.tokens) w in
-    declaration_steps first true name countable.Values d w (low_string_added limits context.set d.finding name w.unit.tokens w.output)
+    declaration_steps first true name FixedLimit.Values d w (low_string_added limits context.set d.finding name w.unit.tokens w.output)
     (low_string_keeps limits context d.finding name w)
 
 -- Releases, serial numbers and letters
@@ -263,8 +236,8 @@ release_lays {limits} {context} {was} number None w = record {
 pub release_steps : {limits : Limits} {context : Context} {was : Before} (first : Place) (w : Compilation)
     → Steps limits context was w (release limits context first w)
 release_steps {limits} {context} {was} first w =
-    let number = known_number (map tree_in (trees_at 0 wanted.Constant (operands_of w) w)) in
-    let finding = release_finding number (finding_at 0 wanted.Constant w) in
+    let number = known_number (map tree_in (trees_at 0 Wanted.Constant (operands_of w) w)) in
+    let finding = release_finding number (finding_at 0 Wanted.Constant w) in
     lays_step (release_lays number finding w) (unit_ends first true (found_alone finding) (release_told limits context number finding w))
 
 serial_by_steps : {limits : Limits} {context : Context} {was : Before} (first : Place) (digits : Option (List ℕ)) (w : Compilation)
@@ -301,8 +274,8 @@ opened_keeps {was} limits k name o h = go (open_fault limits k o.tables.arrays)
   where
     go : (fault : Option ArrayFault) → Counted limits was (array_opened_by limits fault k name o)
     go None = declare_keeps limits name.bytes name.place _ _ h
-    go (Some f) = declare_keeps limits name.bytes name.place (meaning.Array 0) (passed_table limits setting.Arrays o)
-        (table_keeps limits setting.Arrays o h)
+    go (Some f) = declare_keeps limits name.bytes name.place (Meaning.Array 0) (passed_table limits Setting.Arrays o)
+        (table_keeps limits Setting.Arrays o h)
 
 listed_lays : {limits : Limits} {context : Context} {was : Before} (found : Option Finding) (k : ArrayKind) (name : Name) (w : Compilation)
     → Lays limits context was w (listed limits found k name w)
@@ -316,11 +289,11 @@ array_steps first [] w = passed_steps false w
 array_steps {limits} {context} {was} first (name ∷ names) w =
     let d = plainly_known name (name_order w.unit.tokens) w in
     lays_step (listed_lays d.finding (kind_in w.unit.tokens) name w)
-    (unit_ends first false (declared_findings name countable.Globals d) (listed limits d.finding (kind_in w.unit.tokens) name w))
+    (unit_ends first false (declared_findings name FixedLimit.Globals d) (listed limits d.finding (kind_in w.unit.tokens) name w))
 
 story_keeps : {was : Before} (limits : Limits) (fault : Option ArrayFault) (a : Adding) → Keeps limits was (story_added limits fault a)
 story_keeps {was} limits None a o h = h
-story_keeps {was} limits (Some f) a o h = table_keeps limits setting.Arrays o h
+story_keeps {was} limits (Some f) a o h = table_keeps limits Setting.Arrays o h
 
 more_lays : {limits : Limits} {context : Context} {was : Before} (a : Adding) (w : Compilation) →
     Lays limits context was w (added limits a w)

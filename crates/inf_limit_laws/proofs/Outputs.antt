@@ -1,53 +1,30 @@
 -- The steps by which an output grows keep it counted.
-use Rattle.std.proofs.Common.{◌≡◌, ◌∙◌, ◌+◌, ◌-◌, ◌≤◌, ℕ, List, [], ◌∷◌, ◌++◌, length, take, drop, cond, Bool, true, false, Option, Some, None}
-use Rattle.std.proofs.Common.{refl, sym, ap, subst, arith}
-use Rattle.std.specs.Prelude.{is_some}
-use Rattle.inf_settings.specs.Bounds.{Limits}
-use Rattle.inf_settings.specs.declared.setting.Setting.{Setting}
-use Rattle.inf_settings.specs.declared.setting.Setting.TheVariants as setting
+use Rattle.std.proofs.Common.{◌≡◌, ◌∙◌, ◌+◌, ◌-◌, ◌≤◌, ℕ, List, [], ◌∷◌, ◌++◌, length, take, drop, cond, Bool, true, false, Option, Some}
+use Rattle.std.proofs.Common.{None, refl, sym, ap, subst, arith, is_some}
+use Rattle.inf_settings.specs.{Bounds.Limits, declared.setting.Setting.Setting}
 use Rattle.inf_scanner.specs.declared.tokens.Place.{Place}
-use Rattle.inf_area.specs.declared.cells.Cell.{Cell as CodeCell}
-use Rattle.inf_area.specs.declared.cells.Cell.TheVariants as cell
-use Rattle.inf_area.specs.declared.fixups.Fixup.{Fixup}
-use Rattle.inf_area.specs.declared.scale.Scale.{Scale}
+use Rattle.inf_area.specs.{declared.cells.Cell.Cell as CodeCell, declared.fixups.Fixup.Fixup, declared.scale.Scale.Scale}
 use Rattle.inf_area.specs.Cells.{later_count, size_of}
 use Rattle.inf_assembler.proofs.Finishing.{length-fixups}
+use Rattle.inf_assembler.specs.{declared.routines.CloseFault.CloseFault, declared.routines.Limit.Limit as CodeLimit}
+use Rattle.inf_assembler.specs.{declared.routines.RoutineKind.RoutineKind}
 use Rattle.inf_assembler.specs.Routines.{Contents, body_bytes, long_places, routine_fixups}
-use Rattle.inf_assembler.specs.declared.routines.CloseFault.{CloseFault}
-use Rattle.inf_assembler.specs.declared.routines.CloseFault.TheVariants as close_fault
-use Rattle.inf_assembler.specs.declared.routines.Limit.{Limit as CodeLimit}
-use Rattle.inf_assembler.specs.declared.routines.Limit.TheVariants as code_setting
-use Rattle.inf_assembler.specs.declared.routines.RoutineKind.{RoutineKind}
-use Rattle.inf_opcode.specs.Cells.{Cell, fixup_count}
-use Rattle.inf_opcode.specs.Instructions.{Parts, instruction_cells}
-use Rattle.inf_opcode.specs.declared.instructions.Branch.{Branch}
-use Rattle.inf_opcode.specs.declared.instructions.Label.{Label}
-use Rattle.inf_opcode.specs.declared.opcodes.Opcode.{Opcode}
+use Rattle.inf_opcode.specs.{Cells.Cell, Cells.fixup_count, Instructions.Parts, Instructions.instruction_cells}
+use Rattle.inf_opcode.specs.{declared.instructions.Branch.Branch, declared.instructions.Label.Label, declared.opcodes.Opcode.Opcode}
 use Rattle.inf_code.specs.Code.{Opened, Routines, begun_unless, cells_from, cells_with, closed_cells, fault_closed, full_begun, full_behind}
 use Rattle.inf_code.specs.Code.{full_marked, full_opened, known, padding, place_behind, references_open, routine_cells}
 use Rattle.inf_code.specs.Code.{whole_bytes, with_item as code_with_item, with_label as with_mark, with_none_open, with_opened, zeros_behind}
-use Rattle.inf_dictionary.specs.Texts.{Text}
+use Rattle.inf_dictionary.specs.{Texts.Text, declared.dictionary.AddFault.AddFault as WordFault, declared.uses.WordUse.WordUse}
 use Rattle.inf_dictionary.specs.Words.{add_fault, word_of}
-use Rattle.inf_dictionary.specs.declared.dictionary.AddFault.{AddFault as WordFault}
-use Rattle.inf_dictionary.specs.declared.dictionary.AddFault.TheVariants as word_fault
-use Rattle.inf_dictionary.specs.declared.uses.WordUse.{WordUse}
+use Rattle.inf_names.specs.declared.{meanings.Meaning.Meaning, symbols.DeclareFault.DeclareFault, symbols.ReferFault.ReferFault}
 use Rattle.inf_names.specs.Symbols.{declare_fault, refer_fault}
-use Rattle.inf_names.specs.declared.meanings.Meaning.{Meaning}
-use Rattle.inf_names.specs.declared.symbols.DeclareFault.{DeclareFault}
-use Rattle.inf_names.specs.declared.symbols.DeclareFault.TheVariants as declaring
-use Rattle.inf_names.specs.declared.symbols.ReferFault.{ReferFault}
+use Rattle.inf_output.specs.{Strings.fits, Veneer.name_of, declared.items.Item.Item, declared.operands.Simple.Simple}
+use Rattle.inf_output.specs.{declared.past.Past.Past, declared.veneer.Veneer.Veneer}
 use Rattle.inf_output.specs.Output.{Code, Out, begun, begun_by, closed, closed_by, code_closed, declared, declared_by, fitted, full_item}
 use Rattle.inf_output.specs.Output.{full_past, in_routine, instruction, jumped, laid, laid_all, laid_by, marked, naming, opened, opened_by}
 use Rattle.inf_output.specs.Output.{passed, passed_limit, passed_table, past_by, past_of, referred, referred_by, routine, symbols_passed}
-use Rattle.inf_output.specs.Output.{table_passed, used, used_by, with_labels_left, with_low_text, with_low_text_by, with_routine, with_scale, with_text}
-use Rattle.inf_output.specs.Output.{with_text_by, with_word, with_word_by, without_item}
-use Rattle.inf_output.specs.Strings.{fits}
-use Rattle.inf_output.specs.Veneer.{name_of}
-use Rattle.inf_output.specs.declared.items.Item.{Item}
-use Rattle.inf_output.specs.declared.items.Item.TheVariants.{Instruction, Mark}
-use Rattle.inf_output.specs.declared.operands.Simple.{Simple}
-use Rattle.inf_output.specs.declared.past.Past.{Past}
-use Rattle.inf_output.specs.declared.veneer.Veneer.{Veneer}
+use Rattle.inf_output.specs.Output.{table_passed, used, used_by, with_labels_left, with_low_text, with_low_text_by, with_routine}
+use Rattle.inf_output.specs.Output.{with_scale, with_text, with_text_by, with_word, with_word_by, without_item}
 use Rattle.inf_tables.specs.LowStrings.{low_fits}
 use Rattle.inf_limit_laws.specs.Rooms.{Before, Counted, IsCounted, LeavesRoom, Keeps}
 use Rattle.inf_limit_laws.proofs.Rooms.{item_tightens, limit_full, past_room, strings_full, symbols_full, table_full, tight_room}
@@ -78,17 +55,17 @@ marked_opened None limit e = cc
 marked_opened (Some o) limit e = refl
 
 item_opened : (item : Item) (code : Routines) (limit : CodeLimit) → full_item item code ≡ Some limit → is_some code.opened ≡ true
-item_opened (Instruction parts) code limit e = behind_opened code.finished (instruction_cells parts) code.opened limit e
-item_opened (Mark label) code limit e = marked_opened code.opened limit e
+item_opened (Item.Instruction parts) code limit e = behind_opened code.finished (instruction_cells parts) code.opened limit e
+item_opened (Item.Mark label) code limit e = marked_opened code.opened limit e
 
 grown_counted : {was : Before} (limits : Limits) (item : Item) (o : Out) → Counted limits was o → o.past ≡ None →
     Counted limits was (fitted limits None item o)
-grown_counted {was} limits (Instruction parts) o h none = record {
+grown_counted {was} limits (Item.Instruction parts) o h none = record {
   stays = h.stays;
   begun = λ e. h.begun (sym (some_item parts o.code.opened) ∙ e);
   room = λ p is free. let never : None ≡ Some p = sym none ∙ is in cc;
 }
-grown_counted {was} limits (Mark label) o h none = record {
+grown_counted {was} limits (Item.Mark label) o h none = record {
   stays = h.stays;
   begun = λ e. h.begun (sym (some_mark label o.code.opened) ∙ e);
   room = λ p is free. let never : None ≡ Some p = sym none ∙ is in cc;
@@ -150,7 +127,7 @@ naming_keeps {was} limits opcode variable operands store branch = item_keeps lim
 
 pub mark_keeps : {was : Before} (limits : Limits) (label : Label) → Keeps limits was (marked limits label)
 unfolding marked
-mark_keeps {was} limits label = item_keeps limits (Mark label)
+mark_keeps {was} limits label = item_keeps limits (Item.Mark label)
 
 pub jump_keeps : {was : Before} (limits : Limits) (label : Label) → Keeps limits was (jumped limits label)
 unfolding jumped
@@ -209,8 +186,8 @@ none_open_keeps {was} limits o h = record {
 
 later_append : (a b : List CodeCell) → later_count (a ++ b) ≡ later_count a + later_count b
 later_append [] b = omega arith
-later_append ((cell.Byte byte) ∷ a) b = later_append a b
-later_append ((cell.Later target) ∷ a) b = omega (arith, later_append a b)
+later_append ((CodeCell.Byte byte) ∷ a) b = later_append a b
+later_append ((CodeCell.Later target) ∷ a) b = omega (arith, later_append a b)
 
 later_known : (bytes : List ℕ) → later_count (known bytes) ≡ 0
 later_known [] = refl
@@ -223,7 +200,7 @@ later_from (fixup ∷ fixups) place bytes =
     let others = cells_from (fixup.place + 2) fixups (drop (fixup.place + 2 - place) bytes) in
     omega (
       arith,
-      later_append (known front) (cell.Later fixup.target ∷ others),
+      later_append (known front) (CodeCell.Later fixup.target ∷ others),
       later_known front,
       later_from fixups (fixup.place + 2) (drop (fixup.place + 2 - place) bytes),
     )
@@ -279,17 +256,17 @@ by_closed {was} limits kind o h None = record {
   begun = λ e. cc;
   room = λ p is free. closed_room limits kind o p (h.room p is free);
 }
-by_closed {was} limits kind o h (Some (close_fault.Full limit)) = record {
+by_closed {was} limits kind o h (Some (CloseFault.Full limit)) = record {
   stays = h.stays;
   begun = λ e. cc;
   room = λ p is free.
       full_room (passed_limit limit (past_by limits o.past (with_none_open o.code))) is
       (limit_full limit (past_by limits o.past (with_none_open o.code))) free;
 }
-by_closed {was} limits kind o h (Some (close_fault.LabelMissing label)) = none_open_keeps limits o h
-by_closed {was} limits kind o h (Some (close_fault.LabelTwice label)) = none_open_keeps limits o h
-by_closed {was} limits kind o h (Some close_fault.TooFar) = none_open_keeps limits o h
-by_closed {was} limits kind o h (Some close_fault.Memory) = none_open_keeps limits o h
+by_closed {was} limits kind o h (Some (CloseFault.LabelMissing label)) = none_open_keeps limits o h
+by_closed {was} limits kind o h (Some (CloseFault.LabelTwice label)) = none_open_keeps limits o h
+by_closed {was} limits kind o h (Some CloseFault.TooFar) = none_open_keeps limits o h
+by_closed {was} limits kind o h (Some CloseFault.Memory) = none_open_keeps limits o h
 
 labels_counted : {was : Before} (limits : Limits) (left : Option ℕ) (o : Out) → Counted limits was o →
     Counted limits was (with_labels_left limits left o)
@@ -297,7 +274,7 @@ labels_counted {was} limits None o h = record {
   stays = h.stays;
   begun = h.begun;
   room = λ p is free.
-      full_room (passed_limit code_setting.Labels (past_of limits o)) is (limit_full code_setting.Labels (past_of limits o)) free;
+      full_room (passed_limit CodeLimit.Labels (past_of limits o)) is (limit_full CodeLimit.Labels (past_of limits o)) free;
 }
 labels_counted {was} limits (Some left) o h = h
 
@@ -379,7 +356,7 @@ low_text_keeps {was} limits text o h = go (low_fits limits text o.tables.low_str
   where
     go : (b : Bool) → Counted limits was (with_low_text_by limits b text o)
     go true = h
-    go false = table_keeps limits setting.LowStrings o h
+    go false = table_keeps limits Setting.LowStrings o h
 
 pub word_keeps : {was : Before} (limits : Limits) (text : Text) (how : WordUse) (is_plural : Bool) →
     Keeps limits was (with_word limits text how is_plural)
@@ -388,9 +365,9 @@ word_keeps {was} limits text how is_plural o h =
   where
     go : (fault : Option WordFault) → Counted limits was (with_word_by limits fault text how is_plural o)
     go None = h
-    go (Some word_fault.Full) = table_keeps limits setting.DictionaryEntries o h
-    go (Some word_fault.OtherVerb) = h
-    go (Some word_fault.Memory) = h
+    go (Some WordFault.Full) = table_keeps limits Setting.DictionaryEntries o h
+    go (Some WordFault.OtherVerb) = h
+    go (Some WordFault.Memory) = h
 
 pub declare_keeps : {was : Before} (limits : Limits) (name : List ℕ) (place : Place) (m : Meaning) →
     Keeps limits was (declared limits name place m)
@@ -398,9 +375,9 @@ declare_keeps {was} limits name place m o h = go (declare_fault limits name o.na
   where
     go : (fault : Option (DeclareFault Place)) → Counted limits was (declared_by limits fault name place m o)
     go None = h
-    go (Some declaring.Full) = symbols_keeps limits o h
-    go (Some (declaring.Present first)) = h
-    go (Some declaring.Memory) = h
+    go (Some DeclareFault.Full) = symbols_keeps limits o h
+    go (Some (DeclareFault.Present first)) = h
+    go (Some DeclareFault.Memory) = h
 
 pub refer_keeps : {was : Before} (limits : Limits) (name : List ℕ) (place : Place) → Keeps limits was (referred limits name place)
 refer_keeps {was} limits name place o h = go (refer_fault limits name o.names)

@@ -1,6 +1,5 @@
 -- The states to which turns, parts and supplied routines lead come behind the one before.
-use Rattle.std.proofs.Common.{◌-◌, ℕ, zero, suc, Bool, true, false, Option, Some, None}
-use Rattle.std.specs.Prelude.{if◌then◌else◌}
+use Rattle.std.proofs.Common.{◌-◌, ℕ, zero, suc, Bool, true, false, Option, Some, None, if◌then◌else◌}
 use Rattle.inf_settings.specs.Bounds.{limits_of}
 use Rattle.inf_devices.specs.Files.{Sources}
 use Rattle.inf_session.specs.Choices.{Choices}

@@ -1,23 +1,15 @@
 -- Rooms of limits: as code is counted they get less, and where a unit ends without a limit that was passed its counts fit.
 use Rattle.std.proofs.Common.{◌≡◌, ◌+◌, ◌-◌, ◌≤◌, ℕ, cond, ltb, Bool, true, false, Option, Some, None, refl, arith}
 use Rattle.std.proofs.lemmas.Bool.{ltb-false}
-use Rattle.inf_settings.specs.Bounds.{Limits}
-use Rattle.inf_settings.specs.declared.setting.Setting.{Setting}
-use Rattle.inf_settings.specs.declared.setting.Setting.TheVariants as setting
+use Rattle.inf_settings.specs.{Bounds.Limits, declared.setting.Setting.Setting}
 use Rattle.inf_assembler.specs.declared.routines.Limit.{Limit as CodeLimit}
-use Rattle.inf_assembler.specs.declared.routines.Limit.TheVariants as code_setting
-use Rattle.inf_opcode.specs.declared.writing.Counts.{Counts}
-use Rattle.inf_opcode.specs.Cells.{Of}
-use Rattle.inf_opcode.specs.declared.cells.Special.TheVariants.{Marks}
-use Rattle.inf_opcode.specs.Counts.{counts_of}
-use Rattle.inf_opcode.specs.Instructions.{front_cells}
+use Rattle.inf_opcode.specs.{Cells.Of, Counts.counts_of, Instructions.front_cells, declared.cells.Special.Special}
+use Rattle.inf_opcode.specs.{declared.writing.Counts.Counts}
 use Rattle.std.specs.Prelude.{[], ◌∷◌, length, if◌then◌else◌}
 use Rattle.inf_code.specs.Code.{Routines, bytes_of_code, is_lost_in, labels, reference_count, references_open, rest, rest_behind}
+use Rattle.inf_output.specs.{declared.items.Item.Item, declared.past.Past.Past}
 use Rattle.inf_output.specs.Output.{Out, counted, first_table, full, full_of, full_past, less, or_full, passed_limit, past_by, past_of}
 use Rattle.inf_output.specs.Output.{table_passed, taken, whole, without, without_bytes, without_item, without_labels, without_lost}
-use Rattle.inf_output.specs.declared.items.Item.{Item}
-use Rattle.inf_output.specs.declared.items.Item.TheVariants.{Instruction, Mark}
-use Rattle.inf_output.specs.declared.past.Past.{Past}
 use Rattle.inf_tables.specs.Tables.{references}
 use Rattle.inf_limit_laws.specs.Rooms.{Before, Counted, LeavesRoom}
 
@@ -74,18 +66,18 @@ lessened labels code refs past = record past { labels = labels; code = code; ref
 lessened_free : (past : Past) (labels code refs : Option ℕ) → (past.labels ≡ None → labels ≡ None) → (past.code ≡ None → code ≡ None)
     → (past.refs ≡ None → refs ≡ None) → full_past (lessened labels code refs past) ≡ None → full_past past ≡ None
 lessened_free past labels code refs of_labels of_code of_refs =
-    let last = full_of past.refs setting.References None in
-    let now_last = full_of refs setting.References None in
-    let strings = if past.strings then Some setting.Strings else last in
-    let now_strings = if past.strings then Some setting.Strings else now_last in
-    let tables = or_full past.tables (full_of past.code setting.Code strings) in
-    let now_tables = or_full past.tables (full_of code setting.Code now_strings) in
-    if_stays past.symbols setting.Symbols (full_of past.labels setting.Labels tables) (full_of labels setting.Labels now_tables)
-    (full_stays past.labels labels setting.Labels tables now_tables of_labels
-    (or_stays past.tables (full_of past.code setting.Code strings) (full_of code setting.Code now_strings)
-    (full_stays past.code code setting.Code strings now_strings of_code
-    (if_stays past.strings setting.Strings last now_last
-    (full_stays past.refs refs setting.References None None of_refs (λ e. e))))))
+    let last = full_of past.refs Setting.References None in
+    let now_last = full_of refs Setting.References None in
+    let strings = if past.strings then Some Setting.Strings else last in
+    let now_strings = if past.strings then Some Setting.Strings else now_last in
+    let tables = or_full past.tables (full_of past.code Setting.Code strings) in
+    let now_tables = or_full past.tables (full_of code Setting.Code now_strings) in
+    if_stays past.symbols Setting.Symbols (full_of past.labels Setting.Labels tables) (full_of labels Setting.Labels now_tables)
+    (full_stays past.labels labels Setting.Labels tables now_tables of_labels
+    (or_stays past.tables (full_of past.code Setting.Code strings) (full_of code Setting.Code now_strings)
+    (full_stays past.code code Setting.Code strings now_strings of_code
+    (if_stays past.strings Setting.Strings last now_last
+    (full_stays past.refs refs Setting.References None None of_refs (λ e. e))))))
 
 -- The rooms get less, or stay.
 pub record Tightens (new old : Past) : Type 0 where
@@ -118,14 +110,14 @@ labels_tighten n past = record {
 }
 
 whole_item_tightens : (item : Item) (past : Past) → Tightens (without item past) past
-whole_item_tightens (Instruction parts) past =
+whole_item_tightens (Item.Instruction parts) past =
     tightens_then (taken_tightens (counts_of (front_cells parts)) past)
     (bytes_tighten (length parts.text) (taken (counts_of (front_cells parts)) past))
-whole_item_tightens (Mark label) past = taken_tightens (counts_of (Of (Marks label) ∷ [])) past
+whole_item_tightens (Item.Mark label) past = taken_tightens (counts_of (Of (Special.Marks label) ∷ [])) past
 
 lost_item_tightens : (item : Item) (past : Past) → Tightens (without_lost item past) past
-lost_item_tightens (Instruction parts) past = labels_tighten (counts_of (front_cells parts)).labels past
-lost_item_tightens (Mark label) past = whole_item_tightens (Mark label) past
+lost_item_tightens (Item.Instruction parts) past = labels_tighten (counts_of (front_cells parts)).labels past
+lost_item_tightens (Item.Mark label) past = whole_item_tightens (Item.Mark label) past
 
 pub item_tightens : (code : Routines) (item : Item) (past : Past) → Tightens (without_item code item past) past
 item_tightens code item past = go (is_lost_in code.opened)
@@ -148,12 +140,12 @@ pub symbols_full : (past : Past) → full_past (record past { symbols = true }) 
 symbols_full past free = cc
 
 behind_full : (b : Bool) (s : Setting) (x : Option ℕ) (t others : Option Setting) → (or_full t others ≡ None → ⊥)
-    → cond b (Some s) (full_of x setting.Labels (or_full t others)) ≡ None → ⊥
+    → cond b (Some s) (full_of x Setting.Labels (or_full t others)) ≡ None → ⊥
 behind_full true s x t others never free = cc
 behind_full false s None t others never free = cc
 behind_full false s (Some n) t others never free = never free
 
-of_code : (x : Option ℕ) (others : Option Setting) → (others ≡ None → ⊥) → full_of x setting.Code others ≡ None → ⊥
+of_code : (x : Option ℕ) (others : Option Setting) → (others ≡ None → ⊥) → full_of x Setting.Code others ≡ None → ⊥
 of_code None others never free = cc
 of_code (Some n) others never free = never free
 
@@ -161,58 +153,58 @@ of_table : (t others : Option Setting) → (others ≡ None → ⊥) → or_full
 of_table None others never free = never free
 of_table (Some s) others never free = cc
 
-of_strings : (b : Bool) → cond b (Some setting.Strings) (full_of None setting.References None) ≡ None → ⊥
+of_strings : (b : Bool) → cond b (Some Setting.Strings) (full_of None Setting.References None) ≡ None → ⊥
 of_strings true free = cc
 of_strings false free = cc
 
 pub table_full : (limit : Setting) (past : Past) → full_past (table_passed limit past) ≡ None → ⊥
 table_full limit past =
-    behind_full past.symbols setting.Symbols past.labels (Some (first_table past.tables limit))
-    (full_of past.code setting.Code (if past.strings then Some setting.Strings else full_of past.refs setting.References None)) (λ e. cc)
+    behind_full past.symbols Setting.Symbols past.labels (Some (first_table past.tables limit))
+    (full_of past.code Setting.Code (if past.strings then Some Setting.Strings else full_of past.refs Setting.References None)) (λ e. cc)
 
 pub strings_full : (past : Past) → full_past (record past { strings = true }) ≡ None → ⊥
 strings_full past =
-    behind_full past.symbols setting.Symbols past.labels past.tables (full_of past.code setting.Code (Some setting.Strings))
-    (of_table past.tables (full_of past.code setting.Code (Some setting.Strings)) (of_code past.code (Some setting.Strings) (λ e. cc)))
+    behind_full past.symbols Setting.Symbols past.labels past.tables (full_of past.code Setting.Code (Some Setting.Strings))
+    (of_table past.tables (full_of past.code Setting.Code (Some Setting.Strings)) (of_code past.code (Some Setting.Strings) (λ e. cc)))
 
-labels_full : (b : Bool) (s : Setting) (others : Option Setting) → cond b (Some s) (full_of None setting.Labels others) ≡ None → ⊥
+labels_full : (b : Bool) (s : Setting) (others : Option Setting) → cond b (Some s) (full_of None Setting.Labels others) ≡ None → ⊥
 labels_full true s others free = cc
 labels_full false s others free = cc
 
 pub limit_full : (limit : CodeLimit) (past : Past) → full_past (passed_limit limit past) ≡ None → ⊥
-limit_full code_setting.Labels past =
-    labels_full past.symbols setting.Symbols
-    (or_full past.tables (full_of past.code setting.Code
-    (if past.strings then Some setting.Strings else full_of past.refs setting.References None)))
-limit_full code_setting.Code past =
-    let strings = if past.strings then Some setting.Strings else full_of past.refs setting.References None in
-    behind_full past.symbols setting.Symbols past.labels past.tables (full_of None setting.Code strings)
-    (of_table past.tables (full_of None setting.Code strings) (λ e. cc))
-limit_full code_setting.Refs past =
-    let strings = if past.strings then Some setting.Strings else full_of None setting.References None in
-    behind_full past.symbols setting.Symbols past.labels past.tables (full_of past.code setting.Code strings)
-    (of_table past.tables (full_of past.code setting.Code strings) (of_code past.code strings (of_strings past.strings)))
+limit_full CodeLimit.Labels past =
+    labels_full past.symbols Setting.Symbols
+    (or_full past.tables (full_of past.code Setting.Code
+    (if past.strings then Some Setting.Strings else full_of past.refs Setting.References None)))
+limit_full CodeLimit.Code past =
+    let strings = if past.strings then Some Setting.Strings else full_of past.refs Setting.References None in
+    behind_full past.symbols Setting.Symbols past.labels past.tables (full_of None Setting.Code strings)
+    (of_table past.tables (full_of None Setting.Code strings) (λ e. cc))
+limit_full CodeLimit.Refs past =
+    let strings = if past.strings then Some Setting.Strings else full_of None Setting.References None in
+    behind_full past.symbols Setting.Symbols past.labels past.tables (full_of past.code Setting.Code strings)
+    (of_table past.tables (full_of past.code Setting.Code strings) (of_code past.code strings (of_strings past.strings)))
 
 -- All rooms beside code
 
-whole_labels : (limits : Limits) (code : Routines) → full_past (whole limits code) ≡ None → labels code ≤ limits setting.Labels
+whole_labels : (limits : Limits) (code : Routines) → full_past (whole limits code) ≡ None → labels code ≤ limits Setting.Labels
 whole_labels limits code =
-    go (ltb (limits setting.Labels) (labels code)) refl
-    (full_of (rest (limits setting.Code) (bytes_of_code code)) setting.Code
-    (full_of (rest_behind (rest (limits setting.References) (reference_count code)) (references_open code.opened)) setting.References None))
+    go (ltb (limits Setting.Labels) (labels code)) refl
+    (full_of (rest (limits Setting.Code) (bytes_of_code code)) Setting.Code
+    (full_of (rest_behind (rest (limits Setting.References) (reference_count code)) (references_open code.opened)) Setting.References None))
   where
-    go : (b : Bool) → ltb (limits setting.Labels) (labels code) ≡ b → (others : Option Setting)
-        → full_of (cond b None (Some (limits setting.Labels - labels code))) setting.Labels others ≡ None
-        → labels code ≤ limits setting.Labels
+    go : (b : Bool) → ltb (limits Setting.Labels) (labels code) ≡ b → (others : Option Setting)
+        → full_of (cond b None (Some (limits Setting.Labels - labels code))) Setting.Labels others ≡ None
+        → labels code ≤ limits Setting.Labels
     go true e others free = cc
-    go false e others free = ltb-false (limits setting.Labels) (labels code) e
+    go false e others free = ltb-false (limits Setting.Labels) (labels code) e
 
 whole_room : (limits : Limits) (code : Routines) → code.has_begun ≡ true → full_past (whole limits code) ≡ None
     → LeavesRoom limits code (whole limits code)
 whole_room limits code begun free = record {
   begun = begun;
   few_labels = whole_labels limits code free;
-  few_references = λ left is. behind_some (limits setting.References) (reference_count code) (references_open code.opened) left is;
+  few_references = λ left is. behind_some (limits Setting.References) (reference_count code) (references_open code.opened) left is;
 }
 
 -- The rooms of an output, whether code is laid in it or counted alone
@@ -232,15 +224,15 @@ pub counted_free : (n : ℕ) (past : Past) → full_past (counted n past) ≡ No
 counted_free n past =
     lessened_free past past.labels past.code (less past.refs n) (λ e. e) (λ e. e) (less_none past.refs n)
 
-last_some : (x : Option ℕ) → full_of x setting.References None ≡ None → (m : ℕ) × (x ≡ Some m)
+last_some : (x : Option ℕ) → full_of x Setting.References None ≡ None → (m : ℕ) × (x ≡ Some m)
 last_some None free = cc
 last_some (Some m) free = (m, refl)
 
-strings_free : (b : Bool) (others : Option Setting) → cond b (Some setting.Strings) others ≡ None → others ≡ None
+strings_free : (b : Bool) (others : Option Setting) → cond b (Some Setting.Strings) others ≡ None → others ≡ None
 strings_free true others free = cc
 strings_free false others free = free
 
-symbols_free : (b : Bool) (others : Option Setting) → cond b (Some setting.Symbols) others ≡ None → others ≡ None
+symbols_free : (b : Bool) (others : Option Setting) → cond b (Some Setting.Symbols) others ≡ None → others ≡ None
 symbols_free true others free = cc
 symbols_free false others free = free
 
@@ -254,23 +246,23 @@ or_free (Some s) others free = cc
 
 refs_some : (past : Past) → full_past past ≡ None → (m : ℕ) × (past.refs ≡ Some m)
 refs_some past free =
-    let last = full_of past.refs setting.References None in
-    let strings = if past.strings then Some setting.Strings else last in
-    let code = full_of past.code setting.Code strings in
+    let last = full_of past.refs Setting.References None in
+    let strings = if past.strings then Some Setting.Strings else last in
+    let code = full_of past.code Setting.Code strings in
     let tables = or_full past.tables code in
-    last_some past.refs (strings_free past.strings last (of_free past.code setting.Code strings
-    (or_free past.tables code (of_free past.labels setting.Labels tables
-    (symbols_free past.symbols (full_of past.labels setting.Labels tables) free)))))
+    last_some past.refs (strings_free past.strings last (of_free past.code Setting.Code strings
+    (or_free past.tables code (of_free past.labels Setting.Labels tables
+    (symbols_free past.symbols (full_of past.labels Setting.Labels tables) free)))))
 
 -- A unit that passed no limit: its labels fit, and so do all references.
 pub record Fits (limits : Limits) (o : Out) : Type 0 where
-  pub few_labels : labels o.code ≤ limits setting.Labels
-  pub few_references : reference_count o.code + references o.tables ≤ limits setting.References
+  pub few_labels : labels o.code ≤ limits Setting.Labels
+  pub few_references : reference_count o.code + references o.tables ≤ limits Setting.References
 
 room_fits : (limits : Limits) (o : Out) (past : Past) → full_past (counted (references o.tables) past) ≡ None
-    → labels o.code ≤ limits setting.Labels
+    → labels o.code ≤ limits Setting.Labels
     → ((left : ℕ) → past.refs ≡ Some left
-    → reference_count o.code + references_open o.code.opened + left ≤ limits setting.References)
+    → reference_count o.code + references_open o.code.opened + left ≤ limits Setting.References)
     → Fits limits o
 room_fits limits o past free few room =
     let some = refs_some (counted (references o.tables) past) free in
@@ -285,7 +277,7 @@ unit_fits limits o h = go o.past refl
     go None e free =
         room_fits limits o (whole limits o.code) free
         (whole_labels limits o.code (counted_free (references o.tables) (whole limits o.code) free))
-        (behind_some (limits setting.References) (reference_count o.code) (references_open o.code.opened))
+        (behind_some (limits Setting.References) (reference_count o.code) (references_open o.code.opened))
     go (Some p) e free =
         let room = h.room p e (counted_free (references o.tables) p free) in
         room_fits limits o p free room.few_labels room.few_references

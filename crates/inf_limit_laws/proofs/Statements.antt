@@ -1,53 +1,32 @@
 -- The code of statements keeps an output counted.
-use Rattle.std.proofs.Common.{ℕ, List, [], ◌∷◌, Bool, true, false, Option, Some, None}
-use Rattle.std.specs.Prelude.{◌==◌, codes, if◌then◌else◌}
+use Rattle.std.proofs.Common.{ℕ, List, [], ◌∷◌, Bool, true, false, Option, Some, None, ◌==◌, codes, if◌then◌else◌}
 use Rattle.std.specs.Str.{str_eq_ignore_ascii_case}
 use Rattle.inf_settings.specs.Bounds.{Limits}
 use Rattle.inf_area.specs.declared.targets.Target.{Target}
-use Rattle.inf_characters.specs.declared.characters.CharSet.{CharSet}
-use Rattle.inf_characters.specs.declared.texts.TextItem.{TextItem}
+use Rattle.inf_characters.specs.{declared.characters.CharSet.CharSet, declared.texts.TextItem.TextItem}
 use Rattle.inf_text.specs.Packing.{packed}
-use Rattle.inf_opcode.specs.Opcodes.{row_of}
-use Rattle.inf_opcode.specs.declared.instructions.Branch.{Branch}
-use Rattle.inf_opcode.specs.declared.instructions.Destination.TheVariants as destination
-use Rattle.inf_opcode.specs.declared.instructions.Label.{Label}
-use Rattle.inf_opcode.specs.declared.opcodes.Opcode.{Opcode}
-use Rattle.inf_opcode.specs.declared.opcodes.Opcode.TheVariants as opcode
+use Rattle.inf_opcode.specs.{Opcodes.row_of, declared.instructions.Branch.Branch, declared.instructions.Destination.Destination}
+use Rattle.inf_opcode.specs.{declared.instructions.Label.Label, declared.opcodes.Opcode.Opcode}
 use Rattle.inf_expressions.specs.Trees.{Tree}
 use Rattle.inf_names.specs.Locals.{Local}
+use Rattle.inf_output.specs.{declared.operands.Simple.Simple, declared.veneer.Veneer.Veneer}
 use Rattle.inf_output.specs.Output.{Code, Out, behind, low_string_at, with_low_text}
-use Rattle.inf_output.specs.declared.operands.Simple.{Simple}
-use Rattle.inf_output.specs.declared.operands.Simple.TheVariants.{Known, Later, Variable}
-use Rattle.inf_output.specs.declared.veneer.Veneer.{Veneer}
-use Rattle.inf_output.specs.declared.veneer.Veneer.TheVariants as veneer
-use Rattle.inf_templates.specs.Meaning.{Meaning, meaning, part}
-use Rattle.inf_templates.specs.Parts.{Part, SP, TEMP, is}
-use Rattle.inf_unit.specs.Opcodes.{opcode_of}
-use Rattle.inf_unit.specs.Tokens.{SourceToken}
-use Rattle.inf_unit.specs.Units.{bytes_at}
-use Rattle.inf_unit.specs.declared.items.Item.{Item}
-use Rattle.inf_unit.specs.declared.items.Item.TheVariants as item
-use Rattle.inf_unit.specs.declared.items.PrintRule.{PrintRule}
-use Rattle.inf_unit.specs.declared.items.PrintRule.TheVariants as rule
-use Rattle.inf_constructs.specs.Constructs.{Laying, left_to}
-use Rattle.inf_constructs.specs.Labels.{NamedLabel}
+use Rattle.inf_templates.specs.{Meaning.Meaning, Meaning.meaning, Meaning.part, Parts.Part, Parts.SP, Parts.TEMP, Parts.is}
+use Rattle.inf_unit.specs.{Opcodes.opcode_of, Tokens.SourceToken, Units.bytes_at, declared.items.Item.Item}
+use Rattle.inf_unit.specs.{declared.items.PrintRule.PrintRule}
+use Rattle.inf_constructs.specs.{Constructs.Laying, Constructs.left_to, Labels.NamedLabel}
+use Rattle.inf_statements.specs.{declared.assembly.Ends.Ends, declared.statements.Statement.Statement}
 use Rattle.inf_statements.specs.Assembly.{branch_to, branched, branched_to, ends_of, fits, instructed, jumped_on, labelled, line_instructed}
-use Rattle.inf_statements.specs.Assembly.{line_laid}
-use Rattle.inf_statements.specs.Assembly.{line_laid_as, line_laid_by, named_first, placed, printing_of, some_printed, store_of}
+use Rattle.inf_statements.specs.Assembly.{line_laid, line_laid_as, line_laid_by, named_first, placed, printing_of, some_printed, store_of}
 use Rattle.inf_statements.specs.Assembly.{text_printed}
 use Rattle.inf_statements.specs.Effects.{Site, jump_laid, last_text, name_behind, place_laid, statement_code, statement_laid}
-use Rattle.inf_statements.specs.Printing.{called_with, ended, ends_behind, item_code, items_printed, rule_code, text_opcode}
-use Rattle.inf_operands.specs.Texts.{text_at}
-use Rattle.inf_statements.specs.Printing.{trees_behind, veneer_called}
+use Rattle.inf_statements.specs.Printing.{called_with, ended, ends_behind, item_code, items_printed, rule_code, text_opcode, trees_behind}
+use Rattle.inf_statements.specs.Printing.{veneer_called}
 use Rattle.inf_statements.specs.Statements.{abbreviations, action_laid, action_on, alone, are_several, attribute_code, attribute_opcode}
 use Rattle.inf_statements.specs.Statements.{attributes_changed, attributes_given, given_by, jumped_to, moved, one_worked, plain, printed}
-use Rattle.inf_statements.specs.Statements.{rest}
-use Rattle.inf_statements.specs.Statements.{returned, returned_by, returned_number, spaced, string_changed, string_set, style_of, styled_by}
-use Rattle.inf_statements.specs.Statements.{switched, tested, unless}
-use Rattle.inf_operands.specs.Texts.{text_packed}
-use Rattle.inf_statements.specs.declared.assembly.Ends.{Ends}
-use Rattle.inf_statements.specs.declared.statements.Statement.{Statement}
-use Rattle.inf_statements.specs.declared.statements.Statement.TheVariants as statement
+use Rattle.inf_statements.specs.Statements.{rest, returned, returned_by, returned_number, spaced, string_changed, string_set, style_of}
+use Rattle.inf_statements.specs.Statements.{styled_by, switched, tested, unless}
+use Rattle.inf_operands.specs.Texts.{text_at, text_packed}
 use Rattle.inf_limit_laws.specs.Rooms.{Before, Counted, Sound}
 use Rattle.inf_limit_laws.proofs.Outputs.{item_keeps, low_text_keeps}
 use Rattle.inf_limit_laws.proofs.Templates.{MeaningSound, PartSound, ask_sound, call_sound, is_sound, meaning_sound, sound_if}
@@ -73,7 +52,7 @@ one_sound {was} limits op (e ∷ trees) = worked_sound limits op (part (meaning 
 -- Printing
 
 ended_sound : {was : Before} (limits : Limits) (ends : Bool) → Sound limits was (ended limits ends)
-ended_sound {was} limits true = sound_then (plain_sound limits opcode.NewLine) (plain_sound limits opcode.Rtrue)
+ended_sound {was} limits true = sound_then (plain_sound limits Opcode.NewLine) (plain_sound limits Opcode.Rtrue)
 ended_sound {was} limits false = sound_nothing
 
 called_sound : {was : Before} (limits : Limits) (trees : List Tree) → Sound limits was (called_with limits trees)
@@ -88,29 +67,29 @@ veneer_sound {was} limits v (e ∷ trees) = ask_sound limits v (part (meaning li
 
 rule_sound : {was : Before} (limits : Limits) (r : PrintRule) (trees : List Tree) → Sound limits was (rule_code limits r trees)
 unfolding rule_code
-rule_sound {was} limits rule.Character trees = one_sound limits opcode.PrintChar trees
-rule_sound {was} limits rule.String trees = one_sound limits opcode.PrintPaddr trees
-rule_sound {was} limits rule.Address trees = one_sound limits opcode.PrintAddr trees
-rule_sound {was} limits rule.Object trees = one_sound limits opcode.PrintObj trees
-rule_sound {was} limits rule.ShortName trees = veneer_sound limits veneer.ShortName trees
-rule_sound {was} limits rule.DefiniteArticle trees = veneer_sound limits veneer.DefiniteArticle trees
-rule_sound {was} limits rule.CapitalArticle trees = veneer_sound limits veneer.CapitalArticle trees
-rule_sound {was} limits rule.IndefiniteArticle trees = veneer_sound limits veneer.IndefiniteArticle trees
-rule_sound {was} limits rule.EnglishNumber trees = veneer_sound limits veneer.EnglishNumber trees
-rule_sound {was} limits rule.Routine trees = called_sound limits trees
+rule_sound {was} limits PrintRule.Character trees = one_sound limits Opcode.PrintChar trees
+rule_sound {was} limits PrintRule.String trees = one_sound limits Opcode.PrintPaddr trees
+rule_sound {was} limits PrintRule.Address trees = one_sound limits Opcode.PrintAddr trees
+rule_sound {was} limits PrintRule.Object trees = one_sound limits Opcode.PrintObj trees
+rule_sound {was} limits PrintRule.ShortName trees = veneer_sound limits Veneer.ShortName trees
+rule_sound {was} limits PrintRule.DefiniteArticle trees = veneer_sound limits Veneer.DefiniteArticle trees
+rule_sound {was} limits PrintRule.CapitalArticle trees = veneer_sound limits Veneer.CapitalArticle trees
+rule_sound {was} limits PrintRule.IndefiniteArticle trees = veneer_sound limits Veneer.IndefiniteArticle trees
+rule_sound {was} limits PrintRule.EnglishNumber trees = veneer_sound limits Veneer.EnglishNumber trees
+rule_sound {was} limits PrintRule.Routine trees = called_sound limits trees
 
 item_sound : {was : Before} (limits : Limits) (set : CharSet) (tokens : List SourceToken) (returns : Bool) (others : List Item) (i : Item)
     (trees : List Tree) → Sound limits was (item_code limits set tokens returns others i trees)
-item_sound {was} limits set tokens returns others (item.Text at) trees =
+item_sound {was} limits set tokens returns others (Item.Text at) trees =
     printed_sound limits (text_opcode returns others) (text_at set tokens at)
-item_sound {was} limits set tokens returns others item.Value trees = one_sound limits opcode.PrintNum trees
-item_sound {was} limits set tokens returns others (item.Ruled r) trees = rule_sound limits r trees
-item_sound {was} limits set tokens returns others item.Set trees = sound_nothing
-item_sound {was} limits set tokens returns others item.Clear trees = sound_nothing
-item_sound {was} limits set tokens returns others item.Default trees = sound_nothing
-item_sound {was} limits set tokens returns others (item.Store at) trees = sound_nothing
-item_sound {was} limits set tokens returns others (item.Branch at sense) trees = sound_nothing
-item_sound {was} limits set tokens returns others (item.Jump at) trees = sound_nothing
+item_sound {was} limits set tokens returns others Item.Value trees = one_sound limits Opcode.PrintNum trees
+item_sound {was} limits set tokens returns others (Item.Ruled r) trees = rule_sound limits r trees
+item_sound {was} limits set tokens returns others Item.Set trees = sound_nothing
+item_sound {was} limits set tokens returns others Item.Clear trees = sound_nothing
+item_sound {was} limits set tokens returns others Item.Default trees = sound_nothing
+item_sound {was} limits set tokens returns others (Item.Store at) trees = sound_nothing
+item_sound {was} limits set tokens returns others (Item.Branch at sense) trees = sound_nothing
+item_sound {was} limits set tokens returns others (Item.Jump at) trees = sound_nothing
 
 items_sound : {was : Before} (limits : Limits) (set : CharSet) (tokens : List SourceToken) (returns ends : Bool) (items : List Item)
     (trees : List Tree)
@@ -124,18 +103,18 @@ items_sound {was} limits set tokens returns ends (i ∷ items) trees =
 
 number_sound : {was : Before} (limits : Limits) (n : ℕ) → Sound limits was (returned_number limits n)
 number_sound {was} limits n =
-    sound_if (n == 1) (plain_sound limits opcode.Rtrue)
-    (sound_if (n == 0) (plain_sound limits opcode.Rfalse) (sound_instruction opcode.Ret (Known n ∷ []) None None))
+    sound_if (n == 1) (plain_sound limits Opcode.Rtrue)
+    (sound_if (n == 0) (plain_sound limits Opcode.Rfalse) (sound_instruction Opcode.Ret (Simple.Known n ∷ []) None None))
 
 returned_by_sound : {was : Before} (limits : Limits) (x : Option Simple) (m : Meaning) → MeaningSound limits was m →
     Sound limits was (returned_by limits x m)
-returned_by_sound {was} limits (Some (Known n)) m h = number_sound limits n
-returned_by_sound {was} limits (Some (Variable v)) m h = sound_instruction opcode.Ret (Variable v ∷ []) None None
-returned_by_sound {was} limits (Some (Later t)) m h = sound_instruction opcode.Ret (Later t ∷ []) None None
-returned_by_sound {was} limits None m h = sound_then (h.value SP) (plain_sound limits opcode.RetPopped)
+returned_by_sound {was} limits (Some (Simple.Known n)) m h = number_sound limits n
+returned_by_sound {was} limits (Some (Simple.Variable v)) m h = sound_instruction Opcode.Ret (Simple.Variable v ∷ []) None None
+returned_by_sound {was} limits (Some (Simple.Later t)) m h = sound_instruction Opcode.Ret (Simple.Later t ∷ []) None None
+returned_by_sound {was} limits None m h = sound_then (h.value SP) (plain_sound limits Opcode.RetPopped)
 
 returned_sound : {was : Before} (limits : Limits) (trees : List Tree) → Sound limits was (returned limits trees)
-returned_sound {was} limits [] = plain_sound limits opcode.Rtrue
+returned_sound {was} limits [] = plain_sound limits Opcode.Rtrue
 returned_sound {was} limits (e ∷ trees) = returned_by_sound limits (meaning limits e).operand (meaning limits e) (meaning_sound limits e)
 
 pub alone_sound : {was : Before} (limits : Limits) (trees : List Tree) → Sound limits was (alone limits trees)
@@ -146,18 +125,18 @@ moved_sound : {was : Before} (limits : Limits) (trees : List Tree) → Sound lim
 moved_sound {was} limits [] = sound_nothing
 moved_sound {was} limits (a ∷ []) = sound_nothing
 moved_sound {was} limits (a ∷ b ∷ trees) =
-    worked_sound limits opcode.InsertObj (part (meaning limits a) ∷ part (meaning limits b) ∷ []) None None
+    worked_sound limits Opcode.InsertObj (part (meaning limits a) ∷ part (meaning limits b) ∷ []) None None
     (tree_sound limits a, (tree_sound limits b, tt))
 
 spaced_sound : {was : Before} (limits : Limits) (trees : List Tree) → Sound limits was (spaced limits trees)
 spaced_sound {was} limits [] = sound_nothing
-spaced_sound {was} limits (e ∷ trees) = ask_sound limits veneer.Spaces (part (meaning limits e) ∷ []) None (tree_sound limits e, tt)
+spaced_sound {was} limits (e ∷ trees) = ask_sound limits Veneer.Spaces (part (meaning limits e) ∷ []) None (tree_sound limits e, tt)
 
 set_sound : {was : Before} (limits : Limits) (low : Target) (trees : List Tree) → Sound limits was (string_set limits low trees)
 set_sound {was} limits low [] = sound_nothing
 set_sound {was} limits low (e ∷ trees) =
-    worked_sound limits opcode.Storew (is (Later abbreviations) ∷ part (meaning limits e) ∷ is (Later low) ∷ []) None None
-    (is_sound limits (Later abbreviations), (tree_sound limits e, (is_sound limits (Later low), tt)))
+    worked_sound limits Opcode.Storew (is (Simple.Later abbreviations) ∷ part (meaning limits e) ∷ is (Simple.Later low) ∷ []) None None
+    (is_sound limits (Simple.Later abbreviations), (tree_sound limits e, (is_sound limits (Simple.Later low), tt)))
 
 changed_sound : {was : Before} (limits : Limits) (text : Option (List TextItem)) (trees : List Tree) →
     Sound limits was (string_changed limits text trees)
@@ -171,11 +150,11 @@ changed_sound {was} limits (Some text) trees = record {
 
 on_sound : {was : Before} (limits : Limits) (action : Part) → PartSound limits was action → (trees : List Tree) →
     Sound limits was (action_on limits action trees)
-on_sound {was} limits action h [] = ask_sound limits veneer.Process (action ∷ []) None (h, tt)
+on_sound {was} limits action h [] = ask_sound limits Veneer.Process (action ∷ []) None (h, tt)
 on_sound {was} limits action h (a ∷ []) =
-    ask_sound limits veneer.Process (action ∷ part (meaning limits a) ∷ []) None (h, (tree_sound limits a, tt))
+    ask_sound limits Veneer.Process (action ∷ part (meaning limits a) ∷ []) None (h, (tree_sound limits a, tt))
 on_sound {was} limits action h (a ∷ b ∷ trees) =
-    ask_sound limits veneer.Process (action ∷ part (meaning limits a) ∷ part (meaning limits b) ∷ []) None
+    ask_sound limits Veneer.Process (action ∷ part (meaning limits a) ∷ part (meaning limits b) ∷ []) None
     (h, (tree_sound limits a, (tree_sound limits b, tt)))
 
 action_sound : {was : Before} (limits : Limits) (trees : List Tree) → Sound limits was (action_laid limits trees)
@@ -212,7 +191,8 @@ given_sound : {was : Before} (limits : Limits) (several : Bool) (x : Option Simp
     (items : List Item)
     (attributes : List Tree) → Sound limits was (given_by limits several x m items attributes)
 given_sound {was} limits true None m h items attributes =
-    sound_then (h.value TEMP) (attributes_sound limits (is (Variable TEMP)) (is_sound limits (Variable TEMP)) items attributes)
+    sound_then (h.value TEMP) (attributes_sound limits (is (Simple.Variable TEMP)) (is_sound limits (Simple.Variable TEMP))
+    items attributes)
 given_sound {was} limits true (Some x) m h items attributes = attributes_sound limits (part m) h.value items attributes
 given_sound {was} limits false None m h items attributes = attributes_sound limits (part m) h.value items attributes
 given_sound {was} limits false (Some x) m h items attributes = attributes_sound limits (part m) h.value items attributes
@@ -225,7 +205,7 @@ give_sound {was} limits items (e ∷ trees) =
 
 styled_sound : {was : Before} (limits : Limits) (style : Option ℕ) → Sound limits was (styled_by limits style)
 styled_sound {was} limits None = sound_nothing
-styled_sound {was} limits (Some style) = sound_instruction opcode.SetTextStyle (Known style ∷ []) None None
+styled_sound {was} limits (Some style) = sound_instruction Opcode.SetTextStyle (Simple.Known style ∷ []) None None
 
 to_sound : {was : Before} (limits : Limits) (label : Option Label) → Sound limits was (jumped_to limits label)
 to_sound {was} limits None = sound_nothing
@@ -233,28 +213,28 @@ to_sound {was} limits (Some label) = sound_jump label
 
 code_sound : {was : Before} (limits : Limits) (s : Site) (trees : List Tree) (st : Statement) →
     Sound limits was (statement_code limits s trees st)
-code_sound {was} limits s trees statement.Empty = sound_nothing
-code_sound {was} limits s trees statement.Expression = alone_sound limits trees
-code_sound {was} limits s trees statement.Print = items_sound limits s.set s.tokens false false s.items trees
-code_sound {was} limits s trees statement.PrintReturn = items_sound limits s.set s.tokens true false s.items trees
-code_sound {was} limits s trees statement.Return = returned_sound limits trees
-code_sound {was} limits s trees statement.NewLine = plain_sound limits opcode.NewLine
-code_sound {was} limits s trees statement.Quit = plain_sound limits opcode.Quit
-code_sound {was} limits s trees statement.ReturnTrue = plain_sound limits opcode.Rtrue
-code_sound {was} limits s trees statement.ReturnFalse = plain_sound limits opcode.Rfalse
-code_sound {was} limits s trees statement.Break = to_sound limits (left_to false s.constructs)
-code_sound {was} limits s trees statement.Continue = to_sound limits (left_to true s.constructs)
-code_sound {was} limits s trees statement.Give = give_sound limits s.items trees
-code_sound {was} limits s trees statement.String = changed_sound limits (last_text s) trees
-code_sound {was} limits s trees statement.Move = moved_sound limits trees
-code_sound {was} limits s trees statement.Action = action_sound limits trees
-code_sound {was} limits s trees statement.ActionReturn = sound_then (action_sound limits trees) (plain_sound limits opcode.Rtrue)
-code_sound {was} limits s trees statement.Remove = one_sound limits opcode.RemoveObj trees
-code_sound {was} limits s trees statement.Spaces = spaced_sound limits trees
-code_sound {was} limits s trees statement.Style = styled_sound limits (style_of (name_behind s))
-code_sound {was} limits s trees statement.Place = sound_nothing
-code_sound {was} limits s trees statement.Jump = sound_nothing
-code_sound {was} limits s trees statement.Assembly = sound_nothing
+code_sound {was} limits s trees Statement.Empty = sound_nothing
+code_sound {was} limits s trees Statement.Expression = alone_sound limits trees
+code_sound {was} limits s trees Statement.Print = items_sound limits s.set s.tokens false false s.items trees
+code_sound {was} limits s trees Statement.PrintReturn = items_sound limits s.set s.tokens true false s.items trees
+code_sound {was} limits s trees Statement.Return = returned_sound limits trees
+code_sound {was} limits s trees Statement.NewLine = plain_sound limits Opcode.NewLine
+code_sound {was} limits s trees Statement.Quit = plain_sound limits Opcode.Quit
+code_sound {was} limits s trees Statement.ReturnTrue = plain_sound limits Opcode.Rtrue
+code_sound {was} limits s trees Statement.ReturnFalse = plain_sound limits Opcode.Rfalse
+code_sound {was} limits s trees Statement.Break = to_sound limits (left_to false s.constructs)
+code_sound {was} limits s trees Statement.Continue = to_sound limits (left_to true s.constructs)
+code_sound {was} limits s trees Statement.Give = give_sound limits s.items trees
+code_sound {was} limits s trees Statement.String = changed_sound limits (last_text s) trees
+code_sound {was} limits s trees Statement.Move = moved_sound limits trees
+code_sound {was} limits s trees Statement.Action = action_sound limits trees
+code_sound {was} limits s trees Statement.ActionReturn = sound_then (action_sound limits trees) (plain_sound limits Opcode.Rtrue)
+code_sound {was} limits s trees Statement.Remove = one_sound limits Opcode.RemoveObj trees
+code_sound {was} limits s trees Statement.Spaces = spaced_sound limits trees
+code_sound {was} limits s trees Statement.Style = styled_sound limits (style_of (name_behind s))
+code_sound {was} limits s trees Statement.Place = sound_nothing
+code_sound {was} limits s trees Statement.Jump = sound_nothing
+code_sound {was} limits s trees Statement.Assembly = sound_nothing
 
 -- Assembly lines
 
@@ -278,8 +258,8 @@ branched_gives {was} limits name sense labels = record {
   keeps = λ o h.
       let l = labelled name labels o in
       one_of limits o h (str_eq_ignore_ascii_case name (codes "rtrue")) (str_eq_ignore_ascii_case name (codes "rfalse"))
-      (branch_to sense destination.ReturnTrue, labels) (branch_to sense destination.ReturnFalse, labels)
-      (branch_to sense (destination.To l.0.0), l.0.1);
+      (branch_to sense Destination.ReturnTrue, labels) (branch_to sense Destination.ReturnFalse, labels)
+      (branch_to sense (Destination.To l.0.0), l.0.1);
 }
 
 branch_gives : {was : Before} (limits : Limits) (tokens : List SourceToken) (b : Option (ℕ × Bool)) (labels : List NamedLabel)
@@ -367,26 +347,26 @@ place_gives {was} limits name labels = record {
 pub statement_gives : {was : Before} (limits : Limits) (s : Site) (st : Statement) (trees : List Tree) (labels : List NamedLabel)
     → Gives limits was (statement_laid limits s st trees labels)
 unfolding statement_laid
-statement_gives {was} limits s statement.Jump trees labels = jump_gives limits (name_behind s) labels
-statement_gives {was} limits s statement.Place trees labels = place_gives limits (name_behind s) labels
-statement_gives {was} limits s statement.Assembly trees labels =
+statement_gives {was} limits s Statement.Jump trees labels = jump_gives limits (name_behind s) labels
+statement_gives {was} limits s Statement.Place trees labels = place_gives limits (name_behind s) labels
+statement_gives {was} limits s Statement.Assembly trees labels =
     line_gives limits s.set s.locals s.tokens (opcode_of (name_behind s)) (ends_of s.items) trees labels
-statement_gives {was} limits s statement.Empty trees labels = gives_code labels (code_sound limits s trees statement.Empty)
-statement_gives {was} limits s statement.Expression trees labels = gives_code labels (code_sound limits s trees statement.Expression)
-statement_gives {was} limits s statement.Print trees labels = gives_code labels (code_sound limits s trees statement.Print)
-statement_gives {was} limits s statement.PrintReturn trees labels = gives_code labels (code_sound limits s trees statement.PrintReturn)
-statement_gives {was} limits s statement.Return trees labels = gives_code labels (code_sound limits s trees statement.Return)
-statement_gives {was} limits s statement.NewLine trees labels = gives_code labels (code_sound limits s trees statement.NewLine)
-statement_gives {was} limits s statement.Quit trees labels = gives_code labels (code_sound limits s trees statement.Quit)
-statement_gives {was} limits s statement.ReturnTrue trees labels = gives_code labels (code_sound limits s trees statement.ReturnTrue)
-statement_gives {was} limits s statement.ReturnFalse trees labels = gives_code labels (code_sound limits s trees statement.ReturnFalse)
-statement_gives {was} limits s statement.Break trees labels = gives_code labels (code_sound limits s trees statement.Break)
-statement_gives {was} limits s statement.Continue trees labels = gives_code labels (code_sound limits s trees statement.Continue)
-statement_gives {was} limits s statement.Give trees labels = gives_code labels (code_sound limits s trees statement.Give)
-statement_gives {was} limits s statement.Move trees labels = gives_code labels (code_sound limits s trees statement.Move)
-statement_gives {was} limits s statement.Remove trees labels = gives_code labels (code_sound limits s trees statement.Remove)
-statement_gives {was} limits s statement.Spaces trees labels = gives_code labels (code_sound limits s trees statement.Spaces)
-statement_gives {was} limits s statement.String trees labels = gives_code labels (code_sound limits s trees statement.String)
-statement_gives {was} limits s statement.Style trees labels = gives_code labels (code_sound limits s trees statement.Style)
-statement_gives {was} limits s statement.Action trees labels = gives_code labels (code_sound limits s trees statement.Action)
-statement_gives {was} limits s statement.ActionReturn trees labels = gives_code labels (code_sound limits s trees statement.ActionReturn)
+statement_gives {was} limits s Statement.Empty trees labels = gives_code labels (code_sound limits s trees Statement.Empty)
+statement_gives {was} limits s Statement.Expression trees labels = gives_code labels (code_sound limits s trees Statement.Expression)
+statement_gives {was} limits s Statement.Print trees labels = gives_code labels (code_sound limits s trees Statement.Print)
+statement_gives {was} limits s Statement.PrintReturn trees labels = gives_code labels (code_sound limits s trees Statement.PrintReturn)
+statement_gives {was} limits s Statement.Return trees labels = gives_code labels (code_sound limits s trees Statement.Return)
+statement_gives {was} limits s Statement.NewLine trees labels = gives_code labels (code_sound limits s trees Statement.NewLine)
+statement_gives {was} limits s Statement.Quit trees labels = gives_code labels (code_sound limits s trees Statement.Quit)
+statement_gives {was} limits s Statement.ReturnTrue trees labels = gives_code labels (code_sound limits s trees Statement.ReturnTrue)
+statement_gives {was} limits s Statement.ReturnFalse trees labels = gives_code labels (code_sound limits s trees Statement.ReturnFalse)
+statement_gives {was} limits s Statement.Break trees labels = gives_code labels (code_sound limits s trees Statement.Break)
+statement_gives {was} limits s Statement.Continue trees labels = gives_code labels (code_sound limits s trees Statement.Continue)
+statement_gives {was} limits s Statement.Give trees labels = gives_code labels (code_sound limits s trees Statement.Give)
+statement_gives {was} limits s Statement.Move trees labels = gives_code labels (code_sound limits s trees Statement.Move)
+statement_gives {was} limits s Statement.Remove trees labels = gives_code labels (code_sound limits s trees Statement.Remove)
+statement_gives {was} limits s Statement.Spaces trees labels = gives_code labels (code_sound limits s trees Statement.Spaces)
+statement_gives {was} limits s Statement.String trees labels = gives_code labels (code_sound limits s trees Statement.String)
+statement_gives {was} limits s Statement.Style trees labels = gives_code labels (code_sound limits s trees Statement.Style)
+statement_gives {was} limits s Statement.Action trees labels = gives_code labels (code_sound limits s trees Statement.Action)
+statement_gives {was} limits s Statement.ActionReturn trees labels = gives_code labels (code_sound limits s trees Statement.ActionReturn)

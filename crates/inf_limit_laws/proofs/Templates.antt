@@ -1,33 +1,13 @@
 -- The code of expressions keeps an output counted.
-use Rattle.std.proofs.Common.{ℕ, List, [], ◌∷◌, ◌++◌, Bool, true, false, Option, Some, None, take, length}
-use Rattle.std.specs.Prelude.{◌==◌, if◌then◌else◌, nat_lt, not}
+use Rattle.std.proofs.Common.{ℕ, List, [], ◌∷◌, ◌++◌, Bool, true, false, Option, Some, None, take, length, ◌==◌, if◌then◌else◌, nat_lt, not}
 use Rattle.inf_settings.specs.Bounds.{Limits}
-use Rattle.inf_opcode.specs.declared.instructions.Branch.{Branch}
-use Rattle.inf_opcode.specs.declared.instructions.Label.{Label}
-use Rattle.inf_opcode.specs.declared.opcodes.Opcode.{Opcode}
-use Rattle.inf_opcode.specs.declared.opcodes.Opcode.TheVariants as opcode
+use Rattle.inf_opcode.specs.{declared.instructions.Branch.Branch, declared.instructions.Label.Label, declared.opcodes.Opcode.Opcode}
+use Rattle.inf_expressions.specs.declared.{operators.Binary.Binary, operators.Direction.Direction, operators.Operation.Operation}
+use Rattle.inf_expressions.specs.declared.{operators.PropertyPart.PropertyPart, operators.Test.Test, operators.Unary.Unary}
 use Rattle.inf_expressions.specs.Trees.{Tree, Leaf, One, Two}
-use Rattle.inf_expressions.specs.declared.operators.Binary.{Binary}
-use Rattle.inf_expressions.specs.declared.operators.Binary.TheVariants as binary
-use Rattle.inf_expressions.specs.declared.operators.Direction.{Direction}
-use Rattle.inf_expressions.specs.declared.operators.Direction.TheVariants as step
-use Rattle.inf_expressions.specs.declared.operators.Operation.{Operation}
-use Rattle.inf_expressions.specs.declared.operators.Operation.TheVariants as operation
-use Rattle.inf_expressions.specs.declared.operators.PropertyPart.{PropertyPart}
-use Rattle.inf_expressions.specs.declared.operators.PropertyPart.TheVariants as property
-use Rattle.inf_expressions.specs.declared.operators.Test.{Test}
-use Rattle.inf_expressions.specs.declared.operators.Test.TheVariants as test
-use Rattle.inf_expressions.specs.declared.operators.Unary.{Unary}
-use Rattle.inf_expressions.specs.declared.operators.Unary.TheVariants as unary
-use Rattle.inf_output.specs.Output.{Code, behind, instruction, jumped, laid, marked, naming, next_label, nothing, to, with_label}
-use Rattle.inf_output.specs.Output.{◌▸◌}
-use Rattle.inf_output.specs.declared.items.Item.{Item}
-use Rattle.inf_output.specs.declared.operands.Simple.{Simple}
-use Rattle.inf_output.specs.declared.operands.Simple.TheVariants.{Known, Later, Variable}
-use Rattle.inf_output.specs.declared.veneer.Veneer.{Veneer}
-use Rattle.inf_output.specs.declared.veneer.Veneer.TheVariants as veneer
+use Rattle.inf_output.specs.{declared.items.Item.Item, declared.operands.Simple.Simple, declared.veneer.Veneer.Veneer}
+use Rattle.inf_output.specs.Output.{Code, behind, instruction, jumped, laid, marked, naming, next_label, nothing, to, with_label, ◌▸◌}
 use Rattle.inf_templates.specs.declared.tasks.Memory.{Memory}
-use Rattle.inf_templates.specs.declared.tasks.Memory.TheVariants as memory
 use Rattle.inf_templates.specs.Meaning.{InMemory, InVariable, Meaning, Nowhere, Target, and_branch, asking, assign_alone, assign_value}
 use Rattle.inf_templates.specs.Meaning.{assigned_alone, assigned_value, both, branching, by, call_of, called, called_by, compared, computed}
 use Rattle.inf_templates.specs.Meaning.{condition, either, group, is_true, jump_if, kept_tests, leaf, leaf_branch, leaf_target, leaves_new, made}
@@ -112,14 +92,14 @@ worked_sound {was} limits opcode ps store branch h =
 
 put_sound : {was : Before} (limits : Limits) (s : Simple) (d : ℕ) → Sound limits was (put limits s d)
 put_sound {was} limits s d =
-    sound_if (d == SP) (sound_instruction opcode.Push (s ∷ []) None None) (sound_naming opcode.Store d (s ∷ []) None None)
+    sound_if (d == SP) (sound_instruction Opcode.Push (s ∷ []) None None) (sound_naming Opcode.Store d (s ∷ []) None None)
 
 load_sound : {was : Before} (limits : Limits) (variable d : ℕ) → Sound limits was (load limits variable d)
-load_sound {was} limits variable d = sound_naming opcode.Load variable [] (Some d) None
+load_sound {was} limits variable d = sound_naming Opcode.Load variable [] (Some d) None
 
 pub zero_sound : {was : Before} (limits : Limits) (s : Simple) (sense : Bool) (label : Label) →
     Sound limits was (jump_zero limits s sense label)
-zero_sound {was} limits s sense label = sound_instruction opcode.Jz (s ∷ []) None _
+zero_sound {was} limits s sense label = sound_instruction Opcode.Jz (s ∷ []) None _
 
 calling_sound : {was : Before} (limits : Limits) (routine : Simple) (arguments : List Simple) (store : Option ℕ)
     → Sound limits was (calling limits routine arguments store)
@@ -166,15 +146,15 @@ if_jump {was} limits false label = sound_nothing
 
 leaf_branch_sound : {was : Before} (limits : Limits) (s : Simple) (sense : Bool) (label : Label) →
     Sound limits was (leaf_branch limits s sense label)
-leaf_branch_sound {was} limits (Known number) sense label =
+leaf_branch_sound {was} limits (Simple.Known number) sense label =
     if_jump limits (if sense then is_true number else not (is_true number)) label
-leaf_branch_sound {was} limits (Variable number) sense label = zero_sound limits (Variable number) sense label
-leaf_branch_sound {was} limits (Later target) sense label = zero_sound limits (Later target) sense label
+leaf_branch_sound {was} limits (Simple.Variable number) sense label = zero_sound limits (Simple.Variable number) sense label
+leaf_branch_sound {was} limits (Simple.Later target) sense label = zero_sound limits (Simple.Later target) sense label
 
 leaf_target_sound : (was : Before) (limits : Limits) (s : Simple) → TargetSound limits was (leaf_target s)
-leaf_target_sound was limits (Known number) = tt
-leaf_target_sound was limits (Variable number) = tt
-leaf_target_sound was limits (Later target) = tt
+leaf_target_sound was limits (Simple.Known number) = tt
+leaf_target_sound was limits (Simple.Variable number) = tt
+leaf_target_sound was limits (Simple.Later target) = tt
 
 leaf_sound : {was : Before} (limits : Limits) (s : Simple) → MeaningSound limits was (leaf limits s)
 leaf_sound {was} limits s = record {
@@ -196,13 +176,13 @@ valued_sound : {was : Before} (limits : Limits) (value : ℕ → Code) (alone : 
     Sound limits was alone
     → MeaningSound limits was (valued limits value alone)
 valued_sound {was} limits value alone h k =
-    made_sound limits value alone (λ sense label. value SP ▸ jump_zero limits (Variable SP) sense label) h k
-    (λ sense label. sound_then (h SP) (zero_sound limits (Variable SP) sense label))
+    made_sound limits value alone (λ sense label. value SP ▸ jump_zero limits (Simple.Variable SP) sense label) h k
+    (λ sense label. sound_then (h SP) (zero_sound limits (Simple.Variable SP) sense label))
 
 truth_behind_sound : {was : Before} (limits : Limits) (fails last : Label) (d : ℕ) → Sound limits was (truth_behind limits fails last d)
 truth_behind_sound {was} limits fails last d =
-    sound_then (put_sound limits (Known 1) d) (sound_then (sound_jump last) (sound_then (sound_mark fails)
-    (sound_then (put_sound limits (Known 0) d) (sound_mark last))))
+    sound_then (put_sound limits (Simple.Known 1) d) (sound_then (sound_jump last) (sound_then (sound_mark fails)
+    (sound_then (put_sound limits (Simple.Known 0) d) (sound_mark last))))
 
 truth_sound : {was : Before} (limits : Limits) (branch : Bool → Label → Code) →
     ((sense : Bool) (label : Label) → Sound limits was (branch sense label))
@@ -234,9 +214,9 @@ parts_sound {was} limits m h = (h.first, h.others)
 -- Assignments
 
 stored_sound : {was : Before} (limits : Limits) (m : Memory) (all : List Simple) → Sound limits was (stored limits m all)
-stored_sound {was} limits memory.Byte all = sound_instruction opcode.Storeb all None None
-stored_sound {was} limits memory.Word all = sound_instruction opcode.Storew all None None
-stored_sound {was} limits memory.Property all = asked_sound limits veneer.WriteProperty all None
+stored_sound {was} limits Memory.Byte all = sound_instruction Opcode.Storeb all None None
+stored_sound {was} limits Memory.Word all = sound_instruction Opcode.Storew all None None
+stored_sound {was} limits Memory.Property all = asked_sound limits Veneer.WriteProperty all None
 
 assigned_value_sound : {was : Before} (limits : Limits) (t : Target) (a : Meaning) (d : ℕ) → TargetSound limits was t →
     MeaningSound limits was a
@@ -267,8 +247,8 @@ assign_alone_sound {was} limits v a h k = assigned_alone_sound limits v.target a
 -- Steps
 
 stepping_sound : {was : Before} (limits : Limits) (s : Direction) (v : ℕ) → Sound limits was (stepping limits s v)
-stepping_sound {was} limits step.Up v = sound_naming opcode.Inc v [] None None
-stepping_sound {was} limits step.Down v = sound_naming opcode.Dec v [] None None
+stepping_sound {was} limits Direction.Up v = sound_naming Opcode.Inc v [] None None
+stepping_sound {was} limits Direction.Down v = sound_naming Opcode.Dec v [] None None
 
 step_memory_sound : {was : Before} (limits : Limits) (before : Bool) (s : Direction) (m : Memory) (ps : List Part) (store : Option ℕ) →
     AllSound limits was ps
@@ -318,10 +298,10 @@ called_by_sound : {was : Before} (limits : Limits) (t : Target) (f : Meaning) (p
     → MeaningSound limits was f → AllSound limits was ps → Sound limits was (called_by limits t f ps store)
 called_by_sound {was} limits Nowhere f ps store t h k = call_sound limits (part f) ps store (part_sound limits f h) k
 called_by_sound {was} limits (InVariable v) f ps store t h k = call_sound limits (part f) ps store (part_sound limits f h) k
-called_by_sound {was} limits (InMemory memory.Byte qs) f ps store t h k = call_sound limits (part f) ps store (part_sound limits f h) k
-called_by_sound {was} limits (InMemory memory.Word qs) f ps store t h k = call_sound limits (part f) ps store (part_sound limits f h) k
-called_by_sound {was} limits (InMemory memory.Property qs) f ps store t h k =
-    ask_sound limits veneer.CallProperty (qs ++ ps) store (all_joined was limits qs ps t k)
+called_by_sound {was} limits (InMemory Memory.Byte qs) f ps store t h k = call_sound limits (part f) ps store (part_sound limits f h) k
+called_by_sound {was} limits (InMemory Memory.Word qs) f ps store t h k = call_sound limits (part f) ps store (part_sound limits f h) k
+called_by_sound {was} limits (InMemory Memory.Property qs) f ps store t h k =
+    ask_sound limits Veneer.CallProperty (qs ++ ps) store (all_joined was limits qs ps t k)
 
 call_of_sound : {was : Before} (limits : Limits) (f : Meaning) (ps : List Part) → MeaningSound limits was f → AllSound limits was ps →
     (store : Option ℕ)
@@ -371,19 +351,20 @@ branching_sound {was} limits opcode all sense label = sound_instruction opcode a
 
 asking_sound : {was : Before} (limits : Limits) (v : Veneer) (all : List Simple) (sense : Bool) (label : Label) →
     Sound limits was (asking limits v all sense label)
-asking_sound {was} limits v all sense label = sound_then (asked_sound limits v all (Some SP)) (zero_sound limits (Variable SP) sense label)
+asking_sound {was} limits v all sense label =
+    sound_then (asked_sound limits v all (Some SP)) (zero_sound limits (Simple.Variable SP) sense label)
 
 compared_sound : {was : Before} (limits : Limits) (t : Test) (all : List Simple) (sense : Bool) (label : Label)
     → Sound limits was (compared limits t all sense label)
-compared_sound {was} limits test.Equal all sense label = branching_sound limits opcode.Je all sense label
-compared_sound {was} limits test.Less all sense label = branching_sound limits opcode.Jl all sense label
-compared_sound {was} limits test.Greater all sense label = branching_sound limits opcode.Jg all sense label
-compared_sound {was} limits test.AtMost all sense label = branching_sound limits opcode.Jg all (not sense) label
-compared_sound {was} limits test.AtLeast all sense label = branching_sound limits opcode.Jl all (not sense) label
-compared_sound {was} limits test.Has all sense label = branching_sound limits opcode.TestAttr all sense label
-compared_sound {was} limits test.In all sense label = branching_sound limits opcode.Jin all sense label
-compared_sound {was} limits test.OfClass all sense label = asking_sound limits veneer.OfClass all sense label
-compared_sound {was} limits test.Provides all sense label = asking_sound limits veneer.Provides all sense label
+compared_sound {was} limits Test.Equal all sense label = branching_sound limits Opcode.Je all sense label
+compared_sound {was} limits Test.Less all sense label = branching_sound limits Opcode.Jl all sense label
+compared_sound {was} limits Test.Greater all sense label = branching_sound limits Opcode.Jg all sense label
+compared_sound {was} limits Test.AtMost all sense label = branching_sound limits Opcode.Jg all (not sense) label
+compared_sound {was} limits Test.AtLeast all sense label = branching_sound limits Opcode.Jl all (not sense) label
+compared_sound {was} limits Test.Has all sense label = branching_sound limits Opcode.TestAttr all sense label
+compared_sound {was} limits Test.In all sense label = branching_sound limits Opcode.Jin all sense label
+compared_sound {was} limits Test.OfClass all sense label = asking_sound limits Veneer.OfClass all sense label
+compared_sound {was} limits Test.Provides all sense label = asking_sound limits Veneer.Provides all sense label
 
 tested_sound : {was : Before} (limits : Limits) (t : Test) (ps : List Part) (sense : Bool) (label : Label) → AllSound limits was ps
     → Sound limits was (tested limits t ps sense label)
@@ -394,13 +375,13 @@ triple_sound : {was : Before} (limits : Limits) (x : Simple) (ps : List Part) (s
 unfolding triple_tests
 triple_sound {was} limits x [] sense label there h = sound_nothing
 triple_sound {was} limits x (b ∷ []) sense label there h =
-    tested_sound limits test.Equal (is x ∷ b ∷ []) sense label (is_sound limits x, (h.0, tt))
+    tested_sound limits Test.Equal (is x ∷ b ∷ []) sense label (is_sound limits x, (h.0, tt))
 triple_sound {was} limits x (b ∷ c ∷ []) sense label there h =
-    tested_sound limits test.Equal (is x ∷ b ∷ c ∷ []) sense label (is_sound limits x, (h.0, (h.1.0, tt)))
+    tested_sound limits Test.Equal (is x ∷ b ∷ c ∷ []) sense label (is_sound limits x, (h.0, (h.1.0, tt)))
 triple_sound {was} limits x (b ∷ c ∷ d ∷ []) sense label there h =
-    tested_sound limits test.Equal (is x ∷ b ∷ c ∷ d ∷ []) sense label (is_sound limits x, (h.0, (h.1.0, (h.1.1.0, tt))))
+    tested_sound limits Test.Equal (is x ∷ b ∷ c ∷ d ∷ []) sense label (is_sound limits x, (h.0, (h.1.0, (h.1.1.0, tt))))
 triple_sound {was} limits x (b ∷ c ∷ d ∷ e ∷ others) sense label there h =
-    sound_then (tested_sound limits test.Equal (is x ∷ b ∷ c ∷ d ∷ []) true there (is_sound limits x, (h.0, (h.1.0, (h.1.1.0, tt)))))
+    sound_then (tested_sound limits Test.Equal (is x ∷ b ∷ c ∷ d ∷ []) true there (is_sound limits x, (h.0, (h.1.0, (h.1.1.0, tt)))))
     (triple_sound limits x (e ∷ others) sense label there h.1.1.1)
 
 single_sound : {was : Before} (limits : Limits) (t : Test) (x : Simple) (ps : List Part) (sense : Bool) (label there : Label) →
@@ -431,7 +412,7 @@ kept_tests_sound : {was : Before} (limits : Limits) (b : Bool) (t : Test) (a : M
     (label there : Label)
     → MeaningSound limits was a → AllSound limits was ps → Sound limits was (kept_tests limits b t a ps sense label there)
 kept_tests_sound {was} limits true t a ps sense label there h k =
-    sound_then (h.value TEMP) (tests_sound limits t (Variable TEMP) ps sense label there k)
+    sound_then (h.value TEMP) (tests_sound limits t (Simple.Variable TEMP) ps sense label there k)
 kept_tests_sound {was} limits false t a ps sense label there h k = at_once_sound limits t (part a) ps sense label (part_sound limits a h) k
 
 tests_by_sound : {was : Before} (limits : Limits) (x : Option Simple) (t : Test) (a : Meaning) (ps : List Part) (sense : Bool)
@@ -454,41 +435,41 @@ test_sound {was} limits t a b h k sense label =
 
 one_sound : {was : Before} (limits : Limits) (op : Unary) (a : Meaning) → MeaningSound limits was a →
     MeaningSound limits was (one limits op a)
-one_sound {was} limits unary.Negate a h =
-    computed_sound limits opcode.Sub (is (Known 0) ∷ part a ∷ []) (is_sound limits (Known 0), (part_sound limits a h, tt))
-one_sound {was} limits unary.Not a h =
+one_sound {was} limits Unary.Negate a h =
+    computed_sound limits Opcode.Sub (is (Simple.Known 0) ∷ part a ∷ []) (is_sound limits (Simple.Known 0), (part_sound limits a h, tt))
+one_sound {was} limits Unary.Not a h =
     condition_sound limits (λ sense label. a.branch (not sense) label) (λ sense label. h.branch (not sense) label)
-one_sound {was} limits (unary.Single s) a h = computed_sound limits (single_opcode s) (part a ∷ []) (part_sound limits a h, tt)
-one_sound {was} limits (unary.Before s) a h = stepped_sound limits true s a h
-one_sound {was} limits (unary.Behind s) a h = stepped_sound limits false s a h
-one_sound {was} limits (unary.Relative r) a h =
+one_sound {was} limits (Unary.Single s) a h = computed_sound limits (single_opcode s) (part a ∷ []) (part_sound limits a h, tt)
+one_sound {was} limits (Unary.Before s) a h = stepped_sound limits true s a h
+one_sound {was} limits (Unary.Behind s) a h = stepped_sound limits false s a h
+one_sound {was} limits (Unary.Relative r) a h =
     valued_sound limits (related limits (related_opcode r) (part a)) (related limits (related_opcode r) (part a) TEMP)
     (related_sound limits (related_opcode r) (part a) (part_sound limits a h))
     (related_sound limits (related_opcode r) (part a) (part_sound limits a h) TEMP)
-one_sound {was} limits unary.Children a h =
-    called_sound limits (call_routine limits veneer.Children (part a ∷ []))
-    (λ store. ask_sound limits veneer.Children (part a ∷ []) store (part_sound limits a h, tt))
-one_sound {was} limits unary.Call a h = called_sound limits (call_of limits a []) (call_of_sound limits a [] h tt)
-one_sound {was} limits unary.Indirect a h =
+one_sound {was} limits Unary.Children a h =
+    called_sound limits (call_routine limits Veneer.Children (part a ∷ []))
+    (λ store. ask_sound limits Veneer.Children (part a ∷ []) store (part_sound limits a h, tt))
+one_sound {was} limits Unary.Call a h = called_sound limits (call_of limits a []) (call_of_sound limits a [] h tt)
+one_sound {was} limits Unary.Indirect a h =
     called_sound limits (call limits a.first a.others) (λ store. call_sound limits a.first a.others store h.first h.others)
 
 operation_target_sound : (was : Before) (limits : Limits) (o : Operation) (ps : List Part) → AllSound limits was ps →
     TargetSound limits was (operation_target o ps)
-operation_target_sound was limits operation.Byte ps h = h
-operation_target_sound was limits operation.Word ps h = h
-operation_target_sound was limits operation.Add ps h = tt
-operation_target_sound was limits operation.Subtract ps h = tt
-operation_target_sound was limits operation.Multiply ps h = tt
-operation_target_sound was limits operation.Divide ps h = tt
-operation_target_sound was limits operation.Remainder ps h = tt
-operation_target_sound was limits operation.BitAnd ps h = tt
-operation_target_sound was limits operation.BitOr ps h = tt
+operation_target_sound was limits Operation.Byte ps h = h
+operation_target_sound was limits Operation.Word ps h = h
+operation_target_sound was limits Operation.Add ps h = tt
+operation_target_sound was limits Operation.Subtract ps h = tt
+operation_target_sound was limits Operation.Multiply ps h = tt
+operation_target_sound was limits Operation.Divide ps h = tt
+operation_target_sound was limits Operation.Remainder ps h = tt
+operation_target_sound was limits Operation.BitAnd ps h = tt
+operation_target_sound was limits Operation.BitOr ps h = tt
 
 property_target_sound : (was : Before) (limits : Limits) (p : PropertyPart) (ps : List Part) → AllSound limits was ps
     → TargetSound limits was (property_target p ps)
-property_target_sound was limits property.Value ps h = h
-property_target_sound was limits property.Address ps h = tt
-property_target_sound was limits property.Length ps h = tt
+property_target_sound was limits PropertyPart.Value ps h = h
+property_target_sound was limits PropertyPart.Address ps h = tt
+property_target_sound was limits PropertyPart.Length ps h = tt
 
 -- a meaning with another target
 with_target : {was : Before} (limits : Limits) (m : Meaning) (t : Target) → MeaningSound limits was m → TargetSound limits was t
@@ -504,31 +485,31 @@ with_target {was} limits m t h k = record {
 
 two_sound : {was : Before} (limits : Limits) (op : Binary) (a b : Meaning) → MeaningSound limits was a → MeaningSound limits was b
     → MeaningSound limits was (two limits op a b)
-two_sound {was} limits (binary.Operation o) a b h k =
+two_sound {was} limits (Binary.Operation o) a b h k =
     let ps = part a ∷ part b ∷ [] in
     let all : AllSound limits was ps = (part_sound limits a h, (part_sound limits b k, tt)) in
     with_target limits (computed limits (operation_opcode o) ps) (operation_target o ps) (computed_sound limits (operation_opcode o) ps all)
     (operation_target_sound was limits o ps all)
-two_sound {was} limits (binary.Property p) a b h k =
+two_sound {was} limits (Binary.Property p) a b h k =
     let ps = part a ∷ part b ∷ [] in
     let all : AllSound limits was ps = (part_sound limits a h, (part_sound limits b k, tt)) in
     with_target limits (called limits (call_routine limits (reader p) ps)) (property_target p ps)
     (called_sound limits (call_routine limits (reader p) ps) (λ store. ask_sound limits (reader p) ps store all))
     (property_target_sound was limits p ps all)
-two_sound {was} limits (binary.Test t) a b h k = condition_sound limits (test_branch limits t a b) (test_sound limits t a b h k)
-two_sound {was} limits (binary.Fails t) a b h k =
+two_sound {was} limits (Binary.Test t) a b h k = condition_sound limits (test_branch limits t a b) (test_sound limits t a b h k)
+two_sound {was} limits (Binary.Fails t) a b h k =
     condition_sound limits (λ sense. test_branch limits t a b (not sense)) (λ sense. test_sound limits t a b h k (not sense))
-two_sound {was} limits binary.Assign a b h k =
+two_sound {was} limits Binary.Assign a b h k =
     valued_sound limits (assign_value limits a b) (assign_alone limits a b) (assign_value_sound limits a b h k)
     (assign_alone_sound limits a b h k)
-two_sound {was} limits binary.Comma a b h k =
+two_sound {was} limits Binary.Comma a b h k =
     valued_sound limits (λ d. a.alone ▸ b.value d) (a.alone ▸ b.value TEMP) (λ d. sound_then h.alone (k.value d))
     (sound_then h.alone (k.value TEMP))
-two_sound {was} limits binary.And a b h k = condition_sound limits (and_branch limits a b) (and_sound limits a b h k)
-two_sound {was} limits binary.Or a b h k = condition_sound limits (or_branch limits a b) (or_sound limits a b h k)
-two_sound {was} limits binary.Call a b h k =
+two_sound {was} limits Binary.And a b h k = condition_sound limits (and_branch limits a b) (and_sound limits a b h k)
+two_sound {was} limits Binary.Or a b h k = condition_sound limits (or_branch limits a b) (or_sound limits a b h k)
+two_sound {was} limits Binary.Call a b h k =
     called_sound limits (call_of limits a (parts b)) (call_of_sound limits a (parts b) h (parts_sound limits b k))
-two_sound {was} limits binary.Then a b h k =
+two_sound {was} limits Binary.Then a b h k =
     let v = valued_sound limits a.value a.alone h.value h.alone in
     record {
       value = v.value;
@@ -538,7 +519,7 @@ two_sound {was} limits binary.Then a b h k =
       first = part_sound limits a h;
       others = parts_sound limits b k;
     }
-two_sound {was} limits binary.To a b h k = valued_sound limits a.value a.alone h.value h.alone
+two_sound {was} limits Binary.To a b h k = valued_sound limits a.value a.alone h.value h.alone
 
 pub meaning_sound : {was : Before} (limits : Limits) (t : Tree) → MeaningSound limits was (meaning limits t)
 meaning_sound {was} limits (Leaf operand) = leaf_sound limits (simple operand)

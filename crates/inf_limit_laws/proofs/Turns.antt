@@ -1,66 +1,42 @@
 -- Turns of a reading, token by token, and the supplied routines behind it.
 use Rattle.std.proofs.Common.{◌≡◌, ◌∙◌, ◌≤◌, ℕ, List, [], ◌∷◌, Bool, true, false, Option, Some, None, refl, ap, sym, subst}
 use Rattle.std.specs.Prelude.{if◌then◌else◌, is_some, reverse}
-use Rattle.inf_settings.specs.Bounds.{Limits}
-use Rattle.inf_settings.specs.Settings.{number_of}
-use Rattle.inf_settings.specs.declared.setting.Setting.TheVariants as setting
+use Rattle.inf_settings.specs.{Bounds.Limits, Settings.number_of, declared.setting.Setting.Setting}
 use Rattle.inf_scanner.specs.declared.tokens.Place.{Place}
 use Rattle.inf_gathering.specs.declared.gathering.Leaf.{Leaf}
-use Rattle.inf_gathering.specs.declared.gathering.Leaf.TheVariants as leaf
 use Rattle.inf_devices.specs.Files.{Sources}
-use Rattle.inf_machine.specs.Machine.{fits, taken}
-use Rattle.inf_machine.specs.declared.symbols.Symbol.{Symbol}
+use Rattle.inf_machine.specs.{Machine.fits, Machine.taken, declared.symbols.Symbol.Symbol}
 use Rattle.inf_syntax.specs.declared.actions.Action.{Action}
-use Rattle.inf_grammar.specs.Language.{grammar, known}
-use Rattle.inf_grammar.specs.Routines.{closings}
+use Rattle.inf_grammar.specs.{Language.grammar, Language.known, Routines.closings}
 use Rattle.inf_names.specs.Spellings.{Name}
 use Rattle.inf_report.specs.Messages.{DeepNesting, Exceeded, LoneConditional, Location, Message, NoInclude, TooManyFiles, kind_of}
 use Rattle.inf_report.specs.declared.messages.Kind.{Kind}
-use Rattle.inf_report.specs.declared.messages.Kind.TheVariants as weight
+use Rattle.inf_sources.specs.{declared.open_file.Conditional.Conditional, declared.open_files.Included.Included}
 use Rattle.inf_sources.specs.Inclusions.{Inclusion, Opens, OpensNone, Waiting, inclusion}
-use Rattle.inf_sources.specs.declared.open_file.Conditional.{Conditional}
-use Rattle.inf_sources.specs.declared.open_files.Included.{Included}
-use Rattle.inf_sources.specs.declared.open_files.Included.TheVariants as answer
+use Rattle.inf_unit.specs.{Messages.FileNames, Messages.location, Messages.with_fatal, Tokens.SourceToken, Tokens.atom_of, Tokens.is_end}
+use Rattle.inf_unit.specs.{Units.name_at}
 use Rattle.inf_unit.specs.Directives.{Characters, End, Include, Nothing, Request}
-use Rattle.inf_unit.specs.Messages.{FileNames, location, with_fatal}
-use Rattle.inf_unit.specs.Tokens.{SourceToken, atom_of, is_end}
-use Rattle.inf_unit.specs.Units.{name_at}
-use Rattle.inf_compilation.specs.Actions.{Compilation, piece_begun as work_begun}
-use Rattle.inf_compilation.specs.Context.{Context}
-use Rattle.inf_compilation.specs.Nesting.{closed_ahead}
-use Rattle.inf_conditionals.specs.Ends.{file_told, piece_told, with_all_lone, with_lone}
-use Rattle.inf_conditionals.specs.Judging.{Behind, judged}
-use Rattle.inf_conditionals.specs.Open.{Conditions}
-use Rattle.inf_conditionals.specs.Operands.{action_added, actions_added, appeared_by}
-use Rattle.inf_conditionals.specs.Said.{Deep, Long, Right, Said, Wrong, with_said}
-use Rattle.inf_conditionals.specs.declared.filtered.Filtered.{Filtered}
-use Rattle.inf_conditionals.specs.declared.filtered.Forwarded.{Forwarded}
-use Rattle.inf_conditionals.specs.declared.filtered.Forwarded.TheVariants as handed
-use Rattle.inf_conditionals.specs.declared.filtered.Sign.{Sign}
-use Rattle.inf_conditionals.specs.declared.filtered.Site.{Site}
-use Rattle.inf_reader.specs.Acting.{all_acted, cut_at}
+use Rattle.inf_compilation.specs.{Actions.Compilation, Actions.piece_begun as work_begun, Context.Context, Nesting.closed_ahead}
+use Rattle.inf_conditionals.specs.{Ends.file_told, Ends.piece_told, Ends.with_all_lone, Ends.with_lone, Judging.Behind, Judging.judged}
+use Rattle.inf_conditionals.specs.{Open.Conditions, Operands.action_added, Operands.actions_added, Operands.appeared_by, Said.Deep}
+use Rattle.inf_conditionals.specs.{Said.Long, Said.Right, Said.Said, Said.Wrong, Said.with_said, declared.filtered.Filtered.Filtered}
+use Rattle.inf_conditionals.specs.{declared.filtered.Forwarded.Forwarded, declared.filtered.Sign.Sign, declared.filtered.Site.Site}
+use Rattle.inf_reader.specs.{Acting.all_acted, Acting.cut_at, Tests.complaint_of, declared.recovery.Recovery.Recovery}
 use Rattle.inf_reader.specs.Handing.{handed_as, hash, judged_taken, lone_told, said_told, sign_taken, site_of, token_taken, unfit_in}
 use Rattle.inf_reader.specs.Handing.{unit_ended}
 use Rattle.inf_reader.specs.Reading.{Reading, ReaderState, bad, is_mode_ended, judged as token_judged, piece_begun, read_at, step, step_in}
-use Rattle.inf_reader.specs.Reading.{took}
-use Rattle.inf_reader.specs.Reading.{with_complaint, with_complaint_of}
-use Rattle.inf_reader.specs.Tests.{complaint_of}
-use Rattle.inf_reader.specs.declared.recovery.Recovery.{Recovery}
-use Rattle.inf_reader.specs.declared.recovery.Recovery.TheVariants as mode
+use Rattle.inf_reader.specs.Reading.{took, with_complaint, with_complaint_of}
 use Rattle.inf_session.specs.Choices.{Choices}
 use Rattle.inf_session.specs.Session.{State, answered, asked_nothing, carried_out, context_of, file_closed, followed, has_ended}
 use Rattle.inf_session.specs.Session.{included_by}
 use Rattle.inf_session.specs.Session.{is_resting, left, left_by, none_included, piece_closed, rested, stand_of, stepped, token_of, turn}
-use Rattle.inf_limit_laws.specs.Rooms.{Before, Keeps}
-use Rattle.inf_limit_laws.specs.Signs.{SignFits, is_loud}
+use Rattle.inf_limit_laws.specs.{Rooms.Before, Rooms.Keeps, Signs.SignFits, Signs.is_loud}
 use Rattle.inf_limit_laws.specs.Within.{Ends, Lays, Steps, is_over}
+use Rattle.inf_limit_laws.proofs.{ConditionTokens.loud_is_over, ConditionTokens.tokens_are_few, Constructs.action_keeps, Units.ahead_lays}
 use Rattle.inf_limit_laws.proofs.Actions.{all_acted_steps, cut_at_steps, took_steps}
-use Rattle.inf_limit_laws.proofs.ConditionTokens.{loud_is_over, tokens_are_few}
 use Rattle.inf_limit_laws.proofs.Conditions.{NoneRight, is_right, right_ends}
-use Rattle.inf_limit_laws.proofs.Constructs.{action_keeps}
-use Rattle.inf_limit_laws.proofs.Units.{ahead_lays}
-use Rattle.inf_limit_laws.proofs.Ways.{Remains, begun_ends, lay_of, lays_end, report_steps, stays, step_of, steps_then}
-use Rattle.inf_limit_laws.proofs.Ways.{with_error_stays, with_fatal_stays}
+use Rattle.inf_limit_laws.proofs.Ways.{Remains, begun_ends, lay_of, lays_end, report_steps, stays, step_of, steps_then, with_error_stays}
+use Rattle.inf_limit_laws.proofs.Ways.{with_fatal_stays}
 
 -- Actions of a condition
 
@@ -69,14 +45,14 @@ appeared_by_keeps {was} limits None o h = h
 appeared_by_keeps {was} limits (Some n) o h = action_keeps limits n.bytes n.place o h
 
 one_action_keeps : {was : Before} (limits : Limits) (tokens : List SourceToken) (l : Leaf) → Keeps limits was (action_added limits tokens l)
-one_action_keeps {was} limits tokens (leaf.Action at) o h = appeared_by_keeps limits (name_at tokens at) o h
-one_action_keeps {was} limits tokens (leaf.Name at) o h = h
-one_action_keeps {was} limits tokens (leaf.Alone at) o h = h
-one_action_keeps {was} limits tokens (leaf.Number number) o h = h
-one_action_keeps {was} limits tokens (leaf.Char zscii) o h = h
-one_action_keeps {was} limits tokens (leaf.Word word) o h = h
-one_action_keeps {was} limits tokens (leaf.Text at) o h = h
-one_action_keeps {was} limits tokens (leaf.System at) o h = h
+one_action_keeps {was} limits tokens (Leaf.Action at) o h = appeared_by_keeps limits (name_at tokens at) o h
+one_action_keeps {was} limits tokens (Leaf.Name at) o h = h
+one_action_keeps {was} limits tokens (Leaf.Alone at) o h = h
+one_action_keeps {was} limits tokens (Leaf.Number number) o h = h
+one_action_keeps {was} limits tokens (Leaf.Char zscii) o h = h
+one_action_keeps {was} limits tokens (Leaf.Word word) o h = h
+one_action_keeps {was} limits tokens (Leaf.Text at) o h = h
+one_action_keeps {was} limits tokens (Leaf.System at) o h = h
 
 pub actions_keep : {was : Before} (limits : Limits) (tokens : List SourceToken) (leaves : List Leaf) →
     Keeps limits was (actions_added limits tokens leaves)
@@ -87,9 +63,9 @@ actions_keep {was} limits tokens (l ∷ leaves) o h =
 -- Messages about tokens and conditionals
 
 complaint_stays : (k : Kind) (at : Location) (m : Message) → Remains (with_complaint_of k at m)
-complaint_stays weight.Fatal at m = with_fatal_stays at m
-complaint_stays weight.Error at m = with_error_stays at at m
-complaint_stays weight.Warning at m = with_error_stays at at m
+complaint_stays Kind.Fatal at m = with_fatal_stays at m
+complaint_stays Kind.Error at m = with_error_stays at at m
+complaint_stays Kind.Warning at m = with_error_stays at at m
 
 with_complaint_stays : (at : Location) (m : Message) → Remains (with_complaint at m)
 with_complaint_stays at m = complaint_stays (kind_of m) at m
@@ -113,7 +89,7 @@ said_stays files None r free = free
 said_stays files (Some (Right tokens leaves)) r free = free
 said_stays files (Some (Wrong directive b)) r free =
     with_error_stays (location files b.place) (location files directive) b.message r free
-said_stays files (Some (Long place)) r free = with_fatal_stays (location files place) (Exceeded setting.ExpressionNodes) r free
+said_stays files (Some (Long place)) r free = with_fatal_stays (location files place) (Exceeded Setting.ExpressionNodes) r free
 said_stays files (Some (Deep place)) r free = with_fatal_stays (location files place) DeepNesting r free
 
 -- Tokens that the grammar gets
@@ -151,17 +127,17 @@ piece_steps w = record { on = λ e. e; kept = λ e h. h; few = λ e b h k. k; ne
 at_steps : {limits : Limits} {context : Context} {was : Before} (t : SourceToken) (stack : List (Symbol Action)) (r : Reading)
     (w : Compilation) → Steps limits context was w (read_at limits context t stack r w).work
 at_steps {limits} {context} {was} t [] r w =
-    either_steps (is_end t.kind) w (record { reading = record r { mode = mode.Ended }; work = w })
+    either_steps (is_end t.kind) w (record { reading = record r { mode = Recovery.Ended }; work = w })
     (token_judged limits context t (piece_begun r) (work_begun w)) (stays w)
     (steps_then (piece_steps w) (judged_steps t (piece_begun r) (work_begun w)))
 at_steps t (symbol ∷ symbols) r w = judged_steps t r w
 
 in_steps : {limits : Limits} {context : Context} {was : Before} (m : Recovery) (t : SourceToken) (r : Reading) (w : Compilation)
     → Steps limits context was w (step_in limits m context t r w).work
-in_steps mode.Reads t r w = at_steps t r.stack r w
-in_steps mode.SkipsRoutine t r w = stays w
-in_steps mode.SkipsDirective t r w = stays w
-in_steps mode.Ended t r w = stays w
+in_steps Recovery.Reads t r w = at_steps t r.stack r w
+in_steps Recovery.SkipsRoutine t r w = stays w
+in_steps Recovery.SkipsDirective t r w = stays w
+in_steps Recovery.Ended t r w = stays w
 
 token_steps : {limits : Limits} {context : Context} {was : Before} (t : SourceToken) (r : Reading) (w : Compilation)
     → Steps limits context was w (step limits context t r w).work
@@ -169,16 +145,16 @@ token_steps t r w = in_steps r.mode t r w
 
 unfit_steps : {limits : Limits} {context : Context} {was : Before} (m : Recovery) (t : SourceToken) (s : ReaderState)
     → Steps limits context was s.work (unfit_in limits m context t s).work
-unfit_steps mode.Reads t s = bad_steps t s.reading s.work
-unfit_steps mode.SkipsRoutine t s = token_steps t s.reading s.work
-unfit_steps mode.SkipsDirective t s = token_steps t s.reading s.work
-unfit_steps mode.Ended t s = token_steps t s.reading s.work
+unfit_steps Recovery.Reads t s = bad_steps t s.reading s.work
+unfit_steps Recovery.SkipsRoutine t s = token_steps t s.reading s.work
+unfit_steps Recovery.SkipsDirective t s = token_steps t s.reading s.work
+unfit_steps Recovery.Ended t s = token_steps t s.reading s.work
 
 handed_steps : {limits : Limits} {context : Context} {was : Before} (h : Forwarded) (t : SourceToken) (s : ReaderState)
     → Steps limits context was s.work (handed_as limits h context t s).work
-handed_steps handed.Kept t s = token_steps t s.reading s.work
-handed_steps handed.Unfit t s = unfit_steps s.reading.mode t s
-handed_steps handed.Condition t s = stays s.work
+handed_steps Forwarded.Kept t s = token_steps t s.reading s.work
+handed_steps Forwarded.Unfit t s = unfit_steps s.reading.mode t s
+handed_steps Forwarded.Condition t s = stays s.work
 
 sign_steps : {limits : Limits} {context : Context} {was : Before} (sign : Option Sign) (s : ReaderState)
     → Steps limits context was s.work (sign_taken limits sign context s).work
@@ -300,11 +276,11 @@ closed_steps s = report_steps s.work (file_told s.nesting.names s.conditions) (f
 
 none_steps : {limits : Limits} {context : Context} {was : Before} (unit : Place) (text : List ℕ) (why : Included) (s : State)
     → Steps limits context was s.work (none_included unit text why s).work
-none_steps unit text answer.Entered s = stays s.work
-none_steps unit text answer.NotThere s =
+none_steps unit text Included.Entered s = stays s.work
+none_steps unit text Included.NotThere s =
     report_steps s.work (with_fatal (location s.nesting.names unit) (NoInclude text))
     (with_fatal_stays (location s.nesting.names unit) (NoInclude text))
-none_steps unit text answer.TooDeep s =
+none_steps unit text Included.TooDeep s =
     report_steps s.work (with_fatal (location s.nesting.names unit) TooManyFiles)
     (with_fatal_stays (location s.nesting.names unit) TooManyFiles)
 
@@ -365,9 +341,9 @@ left_alike [] s = (refl, refl)
 left_alike (w ∷ waiting) s = (refl, refl)
 
 why_alike : (unit : Place) (text : List ℕ) (why : Included) (s : State) → Alike s.conditions (none_included unit text why s).conditions
-why_alike unit text answer.Entered s = (refl, refl)
-why_alike unit text answer.NotThere s = (refl, refl)
-why_alike unit text answer.TooDeep s = (refl, refl)
+why_alike unit text Included.Entered s = (refl, refl)
+why_alike unit text Included.NotThere s = (refl, refl)
+why_alike unit text Included.TooDeep s = (refl, refl)
 
 included_alike : (sources : Sources) (o : Choices) (unit : Place) (text : List ℕ) (i : Inclusion) (s : State)
     → Alike s.conditions (included_by sources o unit text i s).conditions
@@ -417,8 +393,8 @@ before_token limits context was t j s e =
     f.on e
 
 stepped_few : (limits : Limits) (o : Choices) (s : State) → SignFits (site_of o.settings s.reading) s.conditions
-    → s.conditions.most_tokens ≤ number_of setting.ExpressionNodes o.settings → is_over (stepped limits o s).work ≡ false
-    → (stepped limits o s).conditions.most_tokens ≤ number_of setting.ExpressionNodes o.settings
+    → s.conditions.most_tokens ≤ number_of Setting.ExpressionNodes o.settings → is_over (stepped limits o s).work ≡ false
+    → (stepped limits o s).conditions.most_tokens ≤ number_of Setting.ExpressionNodes o.settings
 stepped_few limits o s none few e = go (is_loud b.now.said) refl
   where
     site : Site
@@ -430,7 +406,7 @@ stepped_few limits o s none few e = go (is_loud b.now.said) refl
     told : ReaderState
     told = said_told limits b.now.said (context_of o s) (stand_of s)
 
-    go : (loud : Bool) → is_loud b.now.said ≡ loud → b.now.most_tokens ≤ number_of setting.ExpressionNodes o.settings
+    go : (loud : Bool) → is_loud b.now.said ≡ loud → b.now.most_tokens ≤ number_of Setting.ExpressionNodes o.settings
     go true said =
         let stands : is_over told.work ≡ true = loud_is_over s.nesting.names b.now.said s.work.report said in
         let free : is_over told.work ≡ false =
@@ -441,11 +417,11 @@ stepped_few limits o s none few e = go (is_loud b.now.said) refl
 
 pub conditions_few : (limits : Limits) (sources : Sources) (o : Choices) (s : State)
     → SignFits (site_of o.settings s.reading) s.conditions
-    → s.conditions.most_tokens ≤ number_of setting.ExpressionNodes o.settings → is_over (turn limits sources o s).work ≡ false
-    → (turn limits sources o s).conditions.most_tokens ≤ number_of setting.ExpressionNodes o.settings
+    → s.conditions.most_tokens ≤ number_of Setting.ExpressionNodes o.settings → is_over (turn limits sources o s).work ≡ false
+    → (turn limits sources o s).conditions.most_tokens ≤ number_of Setting.ExpressionNodes o.settings
 conditions_few limits sources o s none few e =
     let t = stepped limits o s in
     let f =
     followed_steps {limits = limits} {context = context_of o s} {was = record { has_begun = false; is_exact = false }} sources o t in
-    subst (λ (n : ℕ). n ≤ number_of setting.ExpressionNodes o.settings) (sym (followed_alike sources o t).1)
+    subst (λ (n : ℕ). n ≤ number_of Setting.ExpressionNodes o.settings) (sym (followed_alike sources o t).1)
     (stepped_few limits o s none few (f.on e))

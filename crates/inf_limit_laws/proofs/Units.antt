@@ -2,65 +2,43 @@
 use Rattle.std.proofs.Common.{◌≡◌, ◌≤◌, ℕ, List, [], ◌∷◌, Bool, true, false, Option, Some, None, refl, arith}
 use Rattle.std.proofs.Math.Nat.{max-le}
 use Rattle.std.specs.Prelude.{length, is_some, map, max, nat_lt, ◌-◌}
-use Rattle.inf_settings.specs.Bounds.{Limits}
-use Rattle.inf_settings.specs.declared.setting.Setting.TheVariants as setting
+use Rattle.inf_settings.specs.{Bounds.Limits, declared.setting.Setting.Setting}
 use Rattle.inf_scanner.specs.declared.tokens.Place.{Place}
-use Rattle.inf_assembler.specs.declared.routines.CloseFault.{CloseFault}
-use Rattle.inf_assembler.specs.declared.routines.CloseFault.TheVariants as close_fault
-use Rattle.inf_assembler.specs.declared.routines.Limit.TheVariants as code_setting
-use Rattle.inf_assembler.specs.declared.routines.RoutineKind.{RoutineKind}
-use Rattle.inf_assembler.specs.declared.routines.RoutineKind.TheVariants as routine_kind
+use Rattle.inf_assembler.specs.declared.{routines.CloseFault.CloseFault, routines.Limit.Limit, routines.RoutineKind.RoutineKind}
 use Rattle.inf_code.specs.Code.{Routines, fault_closed, labels, place_behind}
-use Rattle.inf_expressions.specs.Findings.{out_of_range}
-use Rattle.inf_expressions.specs.Rooted.{Rooted}
-use Rattle.inf_expressions.specs.declared.findings.Finding.{Finding}
-use Rattle.inf_expressions.specs.declared.units.Wanted.TheVariants as wanted
-use Rattle.inf_names.specs.Locals.{Headed}
-use Rattle.inf_names.specs.Spellings.{Name}
-use Rattle.inf_names.specs.Symbols.{declare_fault}
-use Rattle.inf_names.specs.declared.meanings.Meaning.{Meaning}
-use Rattle.inf_names.specs.declared.meanings.Meaning.TheVariants as meaning
-use Rattle.inf_names.specs.declared.symbols.DeclareFault.{DeclareFault}
+use Rattle.inf_expressions.specs.{Findings.out_of_range, Rooted.Rooted, declared.findings.Finding.Finding, declared.units.Wanted.Wanted}
+use Rattle.inf_names.specs.{Locals.Headed, Spellings.Name, Symbols.declare_fault, declared.meanings.Meaning.Meaning}
+use Rattle.inf_names.specs.{declared.symbols.DeclareFault.DeclareFault}
 use Rattle.inf_output.specs.Output.{Out, apart, closed, closed_by, code_closed, counted, full, full_past, opened, past_by, past_of}
 use Rattle.inf_output.specs.Output.{passed_limit, referred, with_labels_left}
 use Rattle.inf_output.specs.declared.past.Past.{Past}
 use Rattle.inf_tables.specs.Tables.{references}
 use Rattle.inf_unit.specs.Units.{first_place, last_place, name_order, names_in}
+use Rattle.inf_constructs.specs.{Roots.tree_in, declared.constructs.Construct.Construct, declared.constructs.Kind.Kind}
 use Rattle.inf_constructs.specs.Constructs.{Laying, are_own, begun, between, cases_begun, changed, condition_label, ended, entered}
 use Rattle.inf_constructs.specs.Constructs.{looped_over, next_case}
-use Rattle.inf_constructs.specs.Roots.{tree_in}
-use Rattle.inf_constructs.specs.declared.constructs.Construct.{Construct}
-use Rattle.inf_constructs.specs.declared.constructs.Kind.{Kind}
-use Rattle.inf_compilation.specs.Actions.{Compilation, cases_ended, close, close_as, constant}
-use Rattle.inf_compilation.specs.Actions.{constant_added, constant_declared, constant_ended, constant_finding, constant_findings}
-use Rattle.inf_compilation.specs.Actions.{constant_of, finding_at, header_end, header_named, header_of, header_with, is_deep}
-use Rattle.inf_compilation.specs.Actions.{is_first_declared, is_to_be_replaced, kind_ended, named, nested, new_stub, opened_with}
-use Rattle.inf_compilation.specs.Actions.{operands_of}
-use Rattle.inf_compilation.specs.Actions.{replace, routine_declared, settled_of, stub, stub_code, stub_locals, stubbed, trees_at}
-use Rattle.inf_compilation.specs.Actions.{with_all_unused, with_routine_fault}
-use Rattle.inf_compilation.specs.Context.{Context}
-use Rattle.inf_compilation.specs.Findings.{Findings, again_by, found_alone, header_findings, nothing_found}
-use Rattle.inf_parts.specs.Parts.{actions_named, case_prepared}
-use Rattle.inf_compilation.specs.Nesting.{closed_ahead, construct_closed, construct_ended, construct_joined}
-use Rattle.inf_parts.specs.Parts.{found_in, has_last, is_default, order_of}
-use Rattle.inf_compilation.specs.Nesting.{construct_opened, constructs_laid}
-use Rattle.inf_parts.specs.Parts.{part_begun, part_carried, part_effect, part_ended, part_finished, part_prepared, place_of, site_of}
-use Rattle.inf_parts.specs.Parts.{wanted_of}
+use Rattle.inf_compilation.specs.{Context.Context, Findings.Findings, Findings.again_by, Findings.found_alone, Findings.header_findings}
+use Rattle.inf_compilation.specs.{Findings.nothing_found, Nesting.closed_ahead, Nesting.construct_closed, Nesting.construct_ended}
+use Rattle.inf_compilation.specs.{Nesting.construct_joined, Nesting.construct_opened, Nesting.constructs_laid}
+use Rattle.inf_compilation.specs.Actions.{Compilation, cases_ended, close, close_as, constant, constant_added, constant_declared}
+use Rattle.inf_compilation.specs.Actions.{constant_ended, constant_finding, constant_findings, constant_of, finding_at, header_end}
+use Rattle.inf_compilation.specs.Actions.{header_named, header_of, header_with, is_deep, is_first_declared, is_to_be_replaced, kind_ended}
+use Rattle.inf_compilation.specs.Actions.{named, nested, new_stub, opened_with, operands_of, replace, routine_declared, settled_of, stub}
+use Rattle.inf_compilation.specs.Actions.{stub_code, stub_locals, stubbed, trees_at, with_all_unused, with_routine_fault}
+use Rattle.inf_parts.specs.Parts.{actions_named, case_prepared, found_in, has_last, is_default, order_of, part_begun, part_carried}
+use Rattle.inf_parts.specs.Parts.{part_effect, part_ended, part_finished, part_prepared, place_of, site_of, wanted_of}
 use Rattle.inf_parts.specs.declared.parts.Part.{Part}
-use Rattle.inf_parts.specs.declared.parts.Part.TheVariants as part
 use Rattle.inf_declarations.specs.Defaults.{default}
-use Rattle.inf_limit_laws.specs.Rooms.{Before, Counted}
-use Rattle.inf_limit_laws.specs.Within.{Ends, IsKept, Lays, Steps, is_over}
+use Rattle.inf_limit_laws.specs.{Rooms.Before, Rooms.Counted, Within.Ends, Within.IsKept, Within.Lays, Within.Steps, Within.is_over}
 use Rattle.inf_limit_laws.proofs.Constructs.{added_keeps, all_ended_keep, begun_gives, between_gives, case_sound, cases_gives}
-use Rattle.inf_limit_laws.proofs.Constructs.{changed_gives}
-use Rattle.inf_limit_laws.proofs.Constructs.{ended_gives, entered_gives, looped_over_gives, settled_keeps}
+use Rattle.inf_limit_laws.proofs.Constructs.{changed_gives, ended_gives, entered_gives, looped_over_gives, settled_keeps}
 use Rattle.inf_limit_laws.proofs.Leaving.{Few, begun_few, ended_few, joined_few}
 use Rattle.inf_limit_laws.proofs.Outputs.{close_keeps, declare_keeps, open_keeps, refer_keeps}
 use Rattle.inf_limit_laws.proofs.Rooms.{counted_free, limit_full, rest_some}
 use Rattle.inf_limit_laws.proofs.Statements.{Gives, alone_sound, statement_gives, switched_sound, tested_sound}
 use Rattle.inf_limit_laws.proofs.Ways.{all_unused_stay, ends_if, lay_of, lays_end, lays_step, lays_then, nested_steps, none_full}
-use Rattle.inf_limit_laws.proofs.Ways.{output_lays}
-use Rattle.inf_limit_laws.proofs.Ways.{passed_steps, routine_fault_stays, stays, step_of, steps_if, steps_then, unit_ends, unit_steps}
+use Rattle.inf_limit_laws.proofs.Ways.{output_lays, passed_steps, routine_fault_stays, stays, step_of, steps_if, steps_then, unit_ends}
+use Rattle.inf_limit_laws.proofs.Ways.{unit_steps}
 
 -- Open statements
 
@@ -119,21 +97,21 @@ ahead_lays {limits} {context} {was} count w = record {
 effect_lays : {limits : Limits} {context : Context} {was : Before} (p : Part) (trees : List Rooted) (w : Compilation)
     → Lays limits context was w (part_effect limits context p trees w)
 unfolding part_effect
-effect_lays {limits} {context} {was} (part.Statement s) trees w = record {
+effect_lays {limits} {context} {was} (Part.Statement s) trees w = record {
   on = λ e. e;
   kept = λ e h. (h.0, (h.1.0, (statement_gives limits (site_of context w) s (map tree_in trees) w.labels).keeps w.output h.1.1));
 }
-effect_lays {limits} {context} {was} part.Condition trees w =
+effect_lays {limits} {context} {was} Part.Condition trees w =
     output_lays w _ ((tested_sound limits (condition_label w.constructs) (map tree_in trees)).keeps w.output)
-effect_lays {limits} {context} {was} part.Start trees w = output_lays w _ ((alone_sound limits (map tree_in trees)).keeps w.output)
-effect_lays {limits} {context} {was} part.Step trees w = record {
+effect_lays {limits} {context} {was} Part.Start trees w = output_lays w _ ((alone_sound limits (map tree_in trees)).keeps w.output)
+effect_lays {limits} {context} {was} Part.Step trees w = record {
   on = λ e. e;
   kept = λ e h. (h.0, (h.1.0, (alone_sound limits (map tree_in trees)).keeps (apart w.output) h.1.1));
 }
-effect_lays {limits} {context} {was} part.Loop trees w =
+effect_lays {limits} {context} {was} Part.Loop trees w =
     constructs_lay w (looped_over limits trees w.constructs) (looped_over_gives limits trees w.constructs)
-effect_lays {limits} {context} {was} part.Switched trees w = output_lays w _ ((switched_sound limits (map tree_in trees)).keeps w.output)
-effect_lays {limits} {context} {was} part.Case trees w =
+effect_lays {limits} {context} {was} Part.Switched trees w = output_lays w _ ((switched_sound limits (map tree_in trees)).keeps w.output)
+effect_lays {limits} {context} {was} Part.Case trees w =
     output_lays w _ ((case_sound limits (next_case w.constructs) (map tree_in trees)).keeps w.output)
 
 -- the output where the names of a unit are used is counted
@@ -154,15 +132,15 @@ carried_ends {limits} {context} {was} first p None w =
 
 begun_lays : {limits : Limits} {context : Context} {was : Before} (p : Part) (w : Compilation) →
     Lays limits context was w (part_begun limits p w)
-begun_lays {limits} {context} {was} part.Case w =
+begun_lays {limits} {context} {was} Part.Case w =
     constructs_lay w (changed (entered limits (is_default w.unit.items)) w.constructs)
     (changed_gives limits (entered limits (is_default w.unit.items)) (entered_gives limits (is_default w.unit.items)) w.constructs)
-begun_lays {limits} {context} {was} (part.Statement s) w = lay_of (stays w)
-begun_lays {limits} {context} {was} part.Condition w = lay_of (stays w)
-begun_lays {limits} {context} {was} part.Start w = lay_of (stays w)
-begun_lays {limits} {context} {was} part.Step w = lay_of (stays w)
-begun_lays {limits} {context} {was} part.Loop w = lay_of (stays w)
-begun_lays {limits} {context} {was} part.Switched w = lay_of (stays w)
+begun_lays {limits} {context} {was} (Part.Statement s) w = lay_of (stays w)
+begun_lays {limits} {context} {was} Part.Condition w = lay_of (stays w)
+begun_lays {limits} {context} {was} Part.Start w = lay_of (stays w)
+begun_lays {limits} {context} {was} Part.Step w = lay_of (stays w)
+begun_lays {limits} {context} {was} Part.Loop w = lay_of (stays w)
+begun_lays {limits} {context} {was} Part.Switched w = lay_of (stays w)
 
 named_lays : {limits : Limits} {context : Context} {was : Before} (w : Compilation) → Lays limits context was w (named w)
 named_lays {limits} {context} {was} w = record { on = λ e. e; kept = λ e h. h }
@@ -180,16 +158,16 @@ actions_lay false w = lay_of (stays w)
 
 prepared_lays : {limits : Limits} {context : Context} {was : Before} (p : Part) (w : Compilation) →
     Lays limits context was w (case_prepared limits p w)
-prepared_lays {limits} {context} {was} part.Case w =
+prepared_lays {limits} {context} {was} Part.Case w =
     let begun = constructs_laid (cases_begun limits w.constructs) w in
     lays_then (constructs_lay w (cases_begun limits w.constructs) (cases_gives limits w.constructs))
     (actions_lay (are_own begun.constructs) begun)
-prepared_lays {limits} {context} {was} (part.Statement s) w = lay_of (stays w)
-prepared_lays {limits} {context} {was} part.Condition w = lay_of (stays w)
-prepared_lays {limits} {context} {was} part.Start w = lay_of (stays w)
-prepared_lays {limits} {context} {was} part.Step w = lay_of (stays w)
-prepared_lays {limits} {context} {was} part.Loop w = lay_of (stays w)
-prepared_lays {limits} {context} {was} part.Switched w = lay_of (stays w)
+prepared_lays {limits} {context} {was} (Part.Statement s) w = lay_of (stays w)
+prepared_lays {limits} {context} {was} Part.Condition w = lay_of (stays w)
+prepared_lays {limits} {context} {was} Part.Start w = lay_of (stays w)
+prepared_lays {limits} {context} {was} Part.Step w = lay_of (stays w)
+prepared_lays {limits} {context} {was} Part.Loop w = lay_of (stays w)
+prepared_lays {limits} {context} {was} Part.Switched w = lay_of (stays w)
 
 pub part_steps : {limits : Limits} {context : Context} {was : Before} (place : Place) (p : Part) (w : Compilation)
     → Steps limits context was w (part_ended limits context place p w)
@@ -214,7 +192,7 @@ opened_ends {limits} {context} {was} first h found w =
 routine_lays : {limits : Limits} {context : Context} {was : Before} (name : Name) (w : Compilation)
     → Lays limits context was w (routine_declared limits name w)
 routine_lays {limits} {context} {was} name w =
-    output_lays w _ (declare_keeps limits name.bytes name.place (meaning.Routine (place_behind w.output.code.finished)) w.output)
+    output_lays w _ (declare_keeps limits name.bytes name.place (Meaning.Routine (place_behind w.output.code.finished)) w.output)
 
 header_ends : {limits : Limits} {context : Context} {was : Before} (first : Place) (name : Name) (h : Headed) (w : Compilation)
     → Ends limits context was w (header_with limits context first name h w)
@@ -243,36 +221,36 @@ header_steps place w = header_of_steps (first_place w.unit.tokens place) (names_
 
 left_labels : {was : Before} (limits : Limits) (o : Out) → Counted limits was o → (code : Routines) (left : ℕ) →
     (past_of limits o).labels ≡ Some left
-    → full_past (counted (references o.tables) (past_by limits o.past code)) ≡ None → labels o.code ≤ limits setting.Labels
+    → full_past (counted (references o.tables) (past_by limits o.past code)) ≡ None → labels o.code ≤ limits Setting.Labels
 left_labels {was} limits o h code left e free = go o.past refl e free
   where
     go : (past : Option Past) → o.past ≡ past → (past_by limits past o.code).labels ≡ Some left
-        → full_past (counted (references o.tables) (past_by limits past code)) ≡ None → labels o.code ≤ limits setting.Labels
-    go None is some none = omega (arith, rest_some (limits setting.Labels) (labels o.code) left some)
+        → full_past (counted (references o.tables) (past_by limits past code)) ≡ None → labels o.code ≤ limits Setting.Labels
+    go None is some none = omega (arith, rest_some (limits Setting.Labels) (labels o.code) left some)
     go (Some p) is some none = (h.room p is (counted_free (references o.tables) p none)).few_labels
 
 by_labels : {was : Before} (limits : Limits) (how : RoutineKind) (o : Out) → Counted limits was o → (left : ℕ) →
     (past_of limits o).labels ≡ Some left
-    → (fault : Option CloseFault) → full limits (closed_by limits fault how o) ≡ None → labels o.code ≤ limits setting.Labels
+    → (fault : Option CloseFault) → full limits (closed_by limits fault how o) ≡ None → labels o.code ≤ limits Setting.Labels
 by_labels {was} limits how o h left e None free = left_labels limits o h _ left e free
-by_labels {was} limits how o h left e (Some (close_fault.Full limit)) free =
+by_labels {was} limits how o h left e (Some (CloseFault.Full limit)) free =
     absurd (limit_full limit _ (counted_free (references o.tables) _ free))
-by_labels {was} limits how o h left e (Some (close_fault.LabelMissing label)) free = left_labels limits o h _ left e free
-by_labels {was} limits how o h left e (Some (close_fault.LabelTwice label)) free = left_labels limits o h _ left e free
-by_labels {was} limits how o h left e (Some close_fault.TooFar) free = left_labels limits o h _ left e free
-by_labels {was} limits how o h left e (Some close_fault.Memory) free = left_labels limits o h _ left e free
+by_labels {was} limits how o h left e (Some (CloseFault.LabelMissing label)) free = left_labels limits o h _ left e free
+by_labels {was} limits how o h left e (Some (CloseFault.LabelTwice label)) free = left_labels limits o h _ left e free
+by_labels {was} limits how o h left e (Some CloseFault.TooFar) free = left_labels limits o h _ left e free
+by_labels {was} limits how o h left e (Some CloseFault.Memory) free = left_labels limits o h _ left e free
 
 closing_labels : {was : Before} (limits : Limits) (how : RoutineKind) (o : Out) → Counted limits was o →
     full limits (closed limits how o) ≡ None
-    → labels o.code ≤ limits setting.Labels
+    → labels o.code ≤ limits Setting.Labels
 closing_labels {was} limits how o h free = go (past_of limits o).labels refl free
   where
     go : (left : Option ℕ) → (past_of limits o).labels ≡ left
-        → full limits (with_labels_left limits left (code_closed limits how o)) ≡ None → labels o.code ≤ limits setting.Labels
+        → full limits (with_labels_left limits left (code_closed limits how o)) ≡ None → labels o.code ≤ limits Setting.Labels
     go None e none =
-        absurd (limit_full code_setting.Labels (past_of limits (code_closed limits how o))
+        absurd (limit_full Limit.Labels (past_of limits (code_closed limits how o))
         (counted_free (references (code_closed limits how o).tables)
-        (passed_limit code_setting.Labels (past_of limits (code_closed limits how o))) none))
+        (passed_limit Limit.Labels (past_of limits (code_closed limits how o))) none))
     go (Some left) e none = by_labels limits how o h left e (fault_closed limits how o.code) none
 
 -- the compilation behind a routine, before the end of its unit
@@ -346,8 +324,8 @@ pub constant_steps : {limits : Limits} {context : Context} {was : Before} (first
     → Steps limits context was w (constant limits context first names w)
 constant_steps first [] w = passed_steps true w
 constant_steps {limits} {context} {was} first (name ∷ names) w =
-    let m = constant_of (map tree_in (trees_at 0 wanted.Constant (operands_of w) w)) w in
-    step_of (constant_declared_ends first name m (constant_finding m (finding_at 0 wanted.Constant w)) w)
+    let m = constant_of (map tree_in (trees_at 0 Wanted.Constant (operands_of w) w)) w in
+    step_of (constant_declared_ends first name m (constant_finding m (finding_at 0 Wanted.Constant w)) w)
 
 pub replace_steps : {limits : Limits} {context : Context} {was : Before} (first : Place) (names : List Name) (w : Compilation)
     → Steps limits context was w (replace limits context first names w)
@@ -360,7 +338,7 @@ replace_steps {limits} {context} {was} first (name ∷ names) w =
 
 stub_keeps : {was : Before} (limits : Limits) (locals : ℕ) (o : Out) → Counted limits was o → Counted limits was (stub_code limits locals o)
 stub_keeps {was} limits locals o h =
-    close_keeps limits routine_kind.Embedded (opened limits locals false o) (open_keeps limits locals false o h)
+    close_keeps limits RoutineKind.Embedded (opened limits locals false o) (open_keeps limits locals false o h)
 
 stubbed_ends : {limits : Limits} {context : Context} {was : Before} (first : Place) (w : Compilation)
     → Ends limits context was w (stubbed limits context first w)

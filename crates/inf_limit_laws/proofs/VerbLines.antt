@@ -1,44 +1,24 @@
 -- The directives `Verb`, `Extend` and `Fake_action`, and the lines of the first two.
-use Rattle.std.proofs.Common.{ℕ, zero, suc, List, [], ◌∷◌, Bool, true, false, Option, Some, None}
-use Rattle.std.specs.Prelude.{◌+◌, if◌then◌else◌, length}
-use Rattle.inf_settings.specs.Bounds.{Limits}
-use Rattle.inf_settings.specs.declared.setting.Setting.TheVariants as setting
-use Rattle.inf_scanner.specs.declared.tokens.DictionaryWord.{DictionaryWord}
-use Rattle.inf_scanner.specs.declared.tokens.Place.{Place}
-use Rattle.inf_scanner.specs.declared.tokens.TokenKind.{TokenKind}
-use Rattle.inf_scanner.specs.declared.tokens.TokenKind.TheVariants as kind
+use Rattle.std.proofs.Common.{ℕ, zero, suc, List, [], ◌∷◌, Bool, true, false, Option, Some, None, ◌+◌, if◌then◌else◌, length}
+use Rattle.inf_settings.specs.{Bounds.Limits, declared.setting.Setting.Setting}
+use Rattle.inf_scanner.specs.declared.{tokens.DictionaryWord.DictionaryWord, tokens.Place.Place, tokens.TokenKind.TokenKind}
 use Rattle.inf_dictionary.specs.declared.uses.WordUse.{WordUse}
-use Rattle.inf_dictionary.specs.declared.uses.WordUse.TheVariants as word_use
 use Rattle.inf_expressions.specs.declared.findings.Finding.{Finding}
-use Rattle.inf_names.specs.Spellings.{Name}
-use Rattle.inf_names.specs.Symbols.{found_in}
-use Rattle.inf_output.specs.Actions.{faked, routine_referred}
-use Rattle.inf_output.specs.Output.{Out}
+use Rattle.inf_names.specs.{Spellings.Name, Symbols.found_in}
+use Rattle.inf_output.specs.{Actions.faked, Actions.routine_referred, Output.Out}
 use Rattle.inf_unit.specs.Tokens.{SourceToken}
 use Rattle.inf_unit.specs.Units.{bytes_at, first_place, kind_at, name_at, name_order, next_place}
-use Rattle.inf_verbs.specs.Lines.{LineOf}
-use Rattle.inf_verbs.specs.Verbs.{add_fault, line_fault_of, with_extended}
-use Rattle.inf_verbs.specs.declared.verbs.LineFault.{LineFault}
-use Rattle.inf_verbs.specs.declared.verbs.LinePlace.{LinePlace}
-use Rattle.inf_verbs.specs.declared.lines.Noun.{Noun}
-use Rattle.inf_verbs.specs.declared.verbs.VerbFault.{VerbFault}
-use Rattle.inf_verbs.specs.declared.verbs.VerbFault.TheVariants as refused
-use Rattle.inf_compilation.specs.Actions.{Compilation}
-use Rattle.inf_compilation.specs.Context.{Context}
-use Rattle.inf_compilation.specs.Findings.{again_by}
-use Rattle.inf_compilation.specs.declared.compilation.Extending.{Extending}
+use Rattle.inf_verbs.specs.{Lines.LineOf, Verbs.add_fault, Verbs.line_fault_of, Verbs.with_extended, declared.lines.Noun.Noun}
+use Rattle.inf_verbs.specs.{declared.verbs.LineFault.LineFault, declared.verbs.LinePlace.LinePlace, declared.verbs.VerbFault.VerbFault}
+use Rattle.inf_compilation.specs.{Actions.Compilation, Context.Context, Findings.again_by, declared.compilation.Extending.Extending}
+use Rattle.inf_verb_lines.specs.{declared.lines.Named.Named, declared.verbs.VerbHead.VerbHead}
 use Rattle.inf_verb_lines.specs.Verbs.{action_by, arrow_in, attribute_in, extend_header, extend_with, fake_action, fake_findings, has_verb}
-use Rattle.inf_verb_lines.specs.Verbs.{head_finding, header_opened, like_used, line_added, line_ended}
-use Rattle.inf_verb_lines.specs.Verbs.{line_kept_by, line_laid, line_token_by, line_tokens, lines_extended, lines_of, lone_by}
-use Rattle.inf_verb_lines.specs.Verbs.{name_token, named_at, new_verb, new_verb_by, no_verb_finding, noun_named, one_line, one_line_by}
-use Rattle.inf_verb_lines.specs.Verbs.{parsing_as, parsing_routine, place_named, tokens_finding, verb_begun, verb_extended}
-use Rattle.inf_verb_lines.specs.Verbs.{verb_findings, verb_head, verb_header, verb_named, verb_opened, verb_use, with_verbs, word_at}
-use Rattle.inf_verb_lines.specs.Verbs.{word_used, words_given, words_used}
-use Rattle.inf_verb_lines.specs.declared.lines.Named.{Named}
-use Rattle.inf_verb_lines.specs.declared.lines.Named.TheVariants as named
-use Rattle.inf_verb_lines.specs.declared.verbs.VerbHead.{VerbHead}
-use Rattle.inf_limit_laws.specs.Rooms.{Before, Counted, Keeps}
-use Rattle.inf_limit_laws.specs.Within.{Lays, Steps}
+use Rattle.inf_verb_lines.specs.Verbs.{head_finding, header_opened, like_used, line_added, line_ended, line_kept_by, line_laid}
+use Rattle.inf_verb_lines.specs.Verbs.{line_token_by, line_tokens, lines_extended, lines_of, lone_by, name_token, named_at, new_verb}
+use Rattle.inf_verb_lines.specs.Verbs.{new_verb_by, no_verb_finding, noun_named, one_line, one_line_by, parsing_as, parsing_routine}
+use Rattle.inf_verb_lines.specs.Verbs.{place_named, tokens_finding, verb_begun, verb_extended, verb_findings, verb_head, verb_header}
+use Rattle.inf_verb_lines.specs.Verbs.{verb_named, verb_opened, verb_use, with_verbs, word_at, word_used, words_given, words_used}
+use Rattle.inf_limit_laws.specs.{Rooms.Before, Rooms.Counted, Rooms.Keeps, Within.Lays, Within.Steps}
 use Rattle.inf_limit_laws.proofs.Constructs.{action_keeps, faked_keeps}
 use Rattle.inf_limit_laws.proofs.Outputs.{refer_keeps, table_keeps, word_keeps}
 use Rattle.inf_limit_laws.proofs.Ways.{lay_of, lays_step, output_lays, passed_steps, stays, unit_ends}
@@ -50,10 +30,10 @@ new_keeps {was} limits o h = go (add_fault limits o.tables.verbs)
   where
     go : (f : Option VerbFault) → Counted limits was (new_verb_by limits f o).0
     go None = h
-    go (Some refused.TooMany) = h
-    go (Some refused.Full) = table_keeps limits setting.Verbs o h
-    go (Some refused.NoSpace) = table_keeps limits setting.GrammarLines o h
-    go (Some refused.Memory) = h
+    go (Some VerbFault.TooMany) = h
+    go (Some VerbFault.Full) = table_keeps limits Setting.Verbs o h
+    go (Some VerbFault.NoSpace) = table_keeps limits Setting.GrammarLines o h
+    go (Some VerbFault.Memory) = h
 
 begun_keeps : {was : Before} (limits : Limits) (like : Option ℕ) (tokens : List SourceToken) (o : Out) → Counted limits was o
     → Counted limits was (verb_begun limits like tokens o).0
@@ -73,7 +53,7 @@ words_keep {was} limits (suc at) tokens how o h =
 like_keeps : {was : Before} (limits : Limits) (like : Option ℕ) (tokens : List SourceToken) (number : ℕ) →
     Keeps limits was (like_used limits like tokens number)
 like_keeps {was} limits None tokens number o h = h
-like_keeps {was} limits (Some at) tokens number o h = used_keeps limits (word_at tokens at) (word_use.Verb number) o h
+like_keeps {was} limits (Some at) tokens number o h = used_keeps limits (word_at tokens at) (WordUse.Verb number) o h
 
 given_keeps : {was : Before} (limits : Limits) (number : Option ℕ) (head : VerbHead) (tokens : List SourceToken)
     → Keeps limits was (words_given limits number head tokens)
@@ -114,7 +94,7 @@ extended_keeps : {was : Before} (limits : Limits) (number : Option ℕ) (place :
     → Keeps limits was (verb_extended limits number place word)
 extended_keeps {was} limits None place word o h = h
 extended_keeps {was} limits (Some number) place word o h =
-    lines_keep limits number place (word_used limits word (word_use.Verb number) o) (used_keeps limits word (word_use.Verb number) o h)
+    lines_keep limits number place (word_used limits word (WordUse.Verb number) o) (used_keeps limits word (WordUse.Verb number) o h)
 
 extend_with_steps : {limits : Limits} {context : Context} {was : Before} (first : Place) (at : ℕ) (number : Option ℕ) (place : LinePlace)
     (w : Compilation)
@@ -154,16 +134,16 @@ lone_keeps {was} limits None None name o h = parsing_keeps limits name o h
 
 name_keeps : {was : Before} (limits : Limits) (n : Named) (tokens : List SourceToken) (at : ℕ) (o : Out) → Counted limits was o
     → Counted limits was (name_token limits n tokens at o).0
-name_keeps {was} limits named.Sign tokens at o h = h
-name_keeps {was} limits named.Filter tokens at o h = parsing_keeps limits (name_at tokens at) o h
-name_keeps {was} limits named.Scope tokens at o h = parsing_keeps limits (name_at tokens at) o h
-name_keeps {was} limits named.Alone tokens at o h =
+name_keeps {was} limits Named.Sign tokens at o h = h
+name_keeps {was} limits Named.Filter tokens at o h = parsing_keeps limits (name_at tokens at) o h
+name_keeps {was} limits Named.Scope tokens at o h = parsing_keeps limits (name_at tokens at) o h
+name_keeps {was} limits Named.Alone tokens at o h =
     lone_keeps limits (noun_named (bytes_at tokens at)) (attribute_in (found_in (bytes_at tokens at) o.names)) (name_at tokens at) o h
 
 token_keeps : {was : Before} (limits : Limits) (k : Option TokenKind) (tokens : List SourceToken) (at : ℕ) (o : Out) → Counted limits was o
     → Counted limits was (line_token_by limits k tokens at o).0
-token_keeps {was} limits (Some (kind.Word word)) tokens at o h = word_keeps limits word.text word_use.Preposition word.is_plural o h
-token_keeps {was} limits (Some kind.Name) tokens at o h = name_keeps limits (named_at tokens at) tokens at o h
+token_keeps {was} limits (Some (TokenKind.Word word)) tokens at o h = word_keeps limits word.text WordUse.Preposition word.is_plural o h
+token_keeps {was} limits (Some TokenKind.Name) tokens at o h = name_keeps limits (named_at tokens at) tokens at o h
 token_keeps {was} limits _ tokens at o h = h
 
 tokens_keep : {was : Before} (limits : Limits) (at : ℕ) (tokens : List SourceToken) (o : Out) → Counted limits was o
@@ -183,7 +163,7 @@ action_by_keeps {was} limits (Some n) o h = action_keeps limits n.bytes n.place 
 one_by_keeps : {was : Before} (limits : Limits) (f : Option LineFault) (number : ℕ) (place : LinePlace) (line : LineOf)
     → Keeps limits was (one_line_by limits f number place line)
 one_by_keeps {was} limits None number place line o h = h
-one_by_keeps {was} limits (Some f) number place line o h = table_keeps limits setting.GrammarLines o h
+one_by_keeps {was} limits (Some f) number place line o h = table_keeps limits Setting.GrammarLines o h
 
 one_keeps : {was : Before} (limits : Limits) (number : ℕ) (place : LinePlace) (line : LineOf) →
     Keeps limits was (one_line limits number place line)

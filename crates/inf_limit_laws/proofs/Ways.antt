@@ -1,38 +1,27 @@
 -- Steps of a compilation put together, and messages: a fatal one stays.
-use Rattle.std.proofs.Common.{◌≡◌, ◌∙◌, ◌+◌, ◌-◌, ◌≤◌, ℕ, zero, suc, List, [], ◌∷◌, length, cond, ltb, Bool, true, false, Option, Some, None}
-use Rattle.std.proofs.Common.{refl, sym, arith}
-use Rattle.std.proofs.Math.Nat.{max-le}
-use Rattle.std.proofs.lemmas.Bool.{ltb-false}
+use Rattle.std.proofs.Common.{◌≡◌, ◌∙◌, ◌+◌, ◌-◌, ◌≤◌, ℕ, zero, suc, List, [], ◌∷◌, length, cond, ltb, Bool, true, false, Option, Some}
+use Rattle.std.proofs.Common.{None, refl, sym, arith, not, if◌then◌else◌, option_map, ◌||◌}
+use Rattle.std.proofs.{Math.Nat.max-le, lemmas.Bool.ltb-false}
 use Rattle.std.specs.List.{slice_get}
-use Rattle.std.specs.Prelude.{not, if◌then◌else◌, option_map, ◌||◌}
-use Rattle.inf_settings.specs.Bounds.{Limits}
-use Rattle.inf_settings.specs.declared.setting.Setting.{Setting}
-use Rattle.inf_settings.specs.declared.setting.Setting.TheVariants as setting
+use Rattle.inf_settings.specs.{Bounds.Limits, declared.setting.Setting.Setting}
 use Rattle.inf_scanner.specs.declared.tokens.Place.{Place}
 use Rattle.inf_assembler.specs.declared.routines.CloseFault.{CloseFault}
-use Rattle.inf_assembler.specs.declared.routines.CloseFault.TheVariants as close_fault
 use Rattle.inf_code.specs.Code.{labels}
 use Rattle.inf_constructs.specs.Labels.{NamedLabel, missing}
 use Rattle.inf_names.specs.Locals.{Local}
 use Rattle.inf_output.specs.Output.{Out, begun, full}
-use Rattle.inf_report.specs.Messages.{DeepNesting, Exceeded, Location, Message, UnusedLocal}
-use Rattle.inf_report.specs.OwnWords.{Words}
-use Rattle.inf_report.specs.Reports.{Counts, is_last, one_warning_more, with_error as error_counted, with_fatal as fatal_counted}
-use Rattle.inf_report.specs.Reports.{with_warning as warning_counted}
-use Rattle.inf_report.specs.declared.messages.Kind.{Kind}
-use Rattle.inf_report.specs.declared.messages.Kind.TheVariants as weight
+use Rattle.inf_report.specs.{Messages.DeepNesting, Messages.Exceeded, Messages.Location, Messages.Message, Messages.UnusedLocal}
+use Rattle.inf_report.specs.{OwnWords.Words, Reports.Counts, Reports.is_last, Reports.one_warning_more, Reports.with_error as error_counted}
+use Rattle.inf_report.specs.{Reports.with_fatal as fatal_counted, Reports.with_warning as warning_counted, declared.messages.Kind.Kind}
 use Rattle.inf_unit.specs.Messages.{Diagnostic, FileNames, Reported, location, with_error, with_fatal, with_fault, with_full}
 use Rattle.inf_unit.specs.Messages.{with_warning, with_words}
 use Rattle.inf_unit.specs.Tokens.{SourceToken}
 use Rattle.inf_unit.specs.Units.{Unit, long_at, long_by, long_from, outer_count, outer_tokens, over, place_at}
-use Rattle.inf_compilation.specs.Actions.{Compilation, begun_at, nested, passed, sized, stopped, unit_ended, with_all_unused, with_branch_fault}
-use Rattle.inf_compilation.specs.Actions.{with_fault_or, with_routine_fault, with_unused}
-use Rattle.inf_compilation.specs.Context.{Context, longest}
-use Rattle.inf_compilation.specs.Findings.{Findings, told_as}
-use Rattle.inf_limit_laws.specs.Rooms.{Before, Counted}
-use Rattle.inf_limit_laws.specs.Within.{AreFew, AreNear, Ends, Lays, Steps}
-use Rattle.inf_limit_laws.proofs.Outputs.{begin_keeps}
-use Rattle.inf_limit_laws.proofs.Rooms.{Fits, unit_fits}
+use Rattle.inf_compilation.specs.{Context.Context, Context.longest, Findings.Findings, Findings.told_as}
+use Rattle.inf_compilation.specs.Actions.{Compilation, begun_at, nested, passed, sized, stopped, unit_ended, with_all_unused}
+use Rattle.inf_compilation.specs.Actions.{with_branch_fault, with_fault_or, with_routine_fault, with_unused}
+use Rattle.inf_limit_laws.specs.{Rooms.Before, Rooms.Counted, Within.AreFew, Within.AreNear, Within.Ends, Within.Lays, Within.Steps}
+use Rattle.inf_limit_laws.proofs.{Outputs.begin_keeps, Rooms.Fits, Rooms.unit_fits}
 
 -- References with that of the first routine are no fewer than those without.
 
@@ -190,9 +179,9 @@ none_full files unit (Some s) r free = no_fatal r.counts free
 
 pub with_words_stays : (at : Location) (k : Option Kind) (words : Words) → Remains (with_words at k words)
 with_words_stays at None words r free = free
-with_words_stays at (Some weight.Error) words r free = error_stays r.counts free
-with_words_stays at (Some weight.Warning) words r free = warning_stays r.counts free
-with_words_stays at (Some weight.Fatal) words r free = no_fatal r.counts free
+with_words_stays at (Some Kind.Error) words r free = error_stays r.counts free
+with_words_stays at (Some Kind.Warning) words r free = warning_stays r.counts free
+with_words_stays at (Some Kind.Fatal) words r free = no_fatal r.counts free
 
 unused_stays : (context : Context) (place : Place) (l : Local) → Remains (with_unused context place l)
 unused_stays context place l r = go l.is_named
@@ -209,11 +198,11 @@ all_unused_stay context place (l ∷ locals) r free =
 
 branch_stays : (context : Context) (place : Place) (fault : Option CloseFault) → Remains (with_branch_fault context place fault)
 branch_stays context place None r free = free
-branch_stays context place (Some (close_fault.LabelTwice label)) r free = error_stays r.counts free
-branch_stays context place (Some close_fault.TooFar) r free = error_stays r.counts free
-branch_stays context place (Some (close_fault.LabelMissing label)) r free = free
-branch_stays context place (Some (close_fault.Full limit)) r free = free
-branch_stays context place (Some close_fault.Memory) r free = free
+branch_stays context place (Some (CloseFault.LabelTwice label)) r free = error_stays r.counts free
+branch_stays context place (Some CloseFault.TooFar) r free = error_stays r.counts free
+branch_stays context place (Some (CloseFault.LabelMissing label)) r free = free
+branch_stays context place (Some (CloseFault.Full limit)) r free = free
+branch_stays context place (Some CloseFault.Memory) r free = free
 
 or_stays : (name : Option (List ℕ)) (context : Context) (place : Place) (fault : Option CloseFault)
     → Remains (with_fault_or name context place fault)
@@ -306,8 +295,8 @@ stopped_steps {limits} {context} {was} None w e = record {
   near = λ free h k. k;
 }
 stopped_steps {limits} {context} {was} (Some place) w e =
-    report_steps w (with_fatal (location context.names place) (Exceeded setting.ExpressionNodes))
-    (with_fatal_stays (location context.names place) (Exceeded setting.ExpressionNodes))
+    report_steps w (with_fatal (location context.names place) (Exceeded Setting.ExpressionNodes))
+    (with_fatal_stays (location context.names place) (Exceeded Setting.ExpressionNodes))
 
 pub sized_steps : {limits : Limits} {context : Context} {was : Before} (w : Compilation) → Steps limits context was w (sized context w)
 sized_steps {limits} {context} {was} w = stopped_steps (long_at (longest context) w.unit) w refl

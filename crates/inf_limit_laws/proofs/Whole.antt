@@ -1,32 +1,24 @@
 -- Counts keep to their settings from the start of a reading on.
+use Rattle.std.proofs.{Math.Nat.max-le, lemmas.Bool.ltb-false}
 use Rattle.std.proofs.Common.{◌≡◌, ◌+◌, ◌≤◌, ℕ, zero, suc, List, length, cond, ltb, Bool, true, false, Option, Some, None, refl, arith}
-use Rattle.std.proofs.lemmas.Bool.{ltb-false}
-use Rattle.std.proofs.Math.Nat.{max-le}
 use Rattle.std.specs.Prelude.{if◌then◌else◌}
+use Rattle.inf_settings.specs.{Settings.number_of, declared.setting.Setting.Setting, declared.settings.Settings.Settings}
 use Rattle.inf_settings.specs.Bounds.{Limits, limits_of}
-use Rattle.inf_settings.specs.Settings.{number_of}
-use Rattle.inf_settings.specs.declared.setting.Setting.{Setting}
-use Rattle.inf_settings.specs.declared.setting.Setting.TheVariants as setting
-use Rattle.inf_settings.specs.declared.settings.Settings.{Settings}
 use Rattle.inf_scanner.specs.declared.tokens.Place.{Place}
 use Rattle.inf_devices.specs.Files.{Sources}
 use Rattle.inf_area.specs.Cells.{later_count}
 use Rattle.inf_tables.specs.Tables.{more, no_tables, references}
 use Rattle.inf_text_lexer.specs.TextReaders.{TextReader}
-use Rattle.inf_compilation.specs.Actions.{letters_chosen, unit_ended}
-use Rattle.inf_compilation.specs.Context.{Context}
-use Rattle.inf_compilation.specs.Findings.{Findings}
+use Rattle.inf_compilation.specs.{Actions.letters_chosen, Actions.unit_ended, Context.Context, Findings.Findings}
 use Rattle.inf_reader.specs.Reading.{begun_stand}
 use Rattle.inf_session.specs.Choices.{Choices}
 use Rattle.inf_session.specs.Session.{State, context_of, has_ended, rested, start, stepped, tables_full, turn}
-use Rattle.inf_ending.specs.Ending.{first_place}
 use Rattle.inf_session.specs.Veneer.{in_text, text_begun, text_front, text_read, text_turns, veneer_text}
-use Rattle.inf_limit_laws.specs.Laws.{CountsKeepToSettings, StepsKeepCounts}
+use Rattle.inf_ending.specs.Ending.{first_place}
+use Rattle.inf_limit_laws.specs.{Laws.CountsKeepToSettings, Laws.StepsKeepCounts, Rooms.Before}
 use Rattle.inf_limit_laws.specs.Reached.{Begins, Goes, Here, IsBehind, IsReached, IsTurned, Supplies, Turns}
-use Rattle.inf_limit_laws.specs.Rooms.{Before}
 use Rattle.inf_limit_laws.specs.Within.{AreFew, AreNear, IsKept, Steps, is_over}
-use Rattle.inf_limit_laws.proofs.Actions.{act_steps, cut_at_steps, took_steps}
-use Rattle.inf_limit_laws.proofs.Conditions.{NoneRight}
+use Rattle.inf_limit_laws.proofs.{Actions.act_steps, Actions.cut_at_steps, Actions.took_steps, Conditions.NoneRight}
 use Rattle.inf_limit_laws.proofs.Turns.{conditions_few, rested_none, rested_steps, stepped_steps, turn_none, turn_steps}
 use Rattle.inf_limit_laws.proofs.Ways.{begun_ends, near_of, none_full, steps_then, unit_ends}
 
@@ -110,15 +102,15 @@ has_room limit least s = go (ltb limit least) refl
     go true e none = cc
     go false e none = ltb-false limit least e
 
-four_fit : (settings : Settings) → tables_full settings ≡ None → 4 ≤ number_of setting.References settings
+four_fit : (settings : Settings) → tables_full settings ≡ None → 4 ≤ number_of Setting.References settings
 four_fit settings none =
-    let last = cond (ltb (number_of setting.References settings) 4) (Some setting.References) None in
-    let low = cond (ltb (number_of setting.LowStrings settings) 2) (Some setting.LowStrings) last in
-    let properties = cond (ltb (number_of setting.PropertyTables settings) 30) (Some setting.PropertyTables) low in
-    has_room (number_of setting.References settings) 4 setting.References
-    (if_none (ltb (number_of setting.LowStrings settings) 2) setting.LowStrings last
-    (if_none (ltb (number_of setting.PropertyTables settings) 30) setting.PropertyTables low
-    (if_none (ltb (number_of setting.Objects settings) 4) setting.Objects properties none)))
+    let last = cond (ltb (number_of Setting.References settings) 4) (Some Setting.References) None in
+    let low = cond (ltb (number_of Setting.LowStrings settings) 2) (Some Setting.LowStrings) last in
+    let properties = cond (ltb (number_of Setting.PropertyTables settings) 30) (Some Setting.PropertyTables) low in
+    has_room (number_of Setting.References settings) 4 Setting.References
+    (if_none (ltb (number_of Setting.LowStrings settings) 2) Setting.LowStrings last
+    (if_none (ltb (number_of Setting.PropertyTables settings) 30) Setting.PropertyTables low
+    (if_none (ltb (number_of Setting.Objects settings) 4) Setting.Objects properties none)))
 
 start_few : (sources : Sources) (o : Choices) (name : List ℕ) → is_over (start sources o name).work ≡ false
     → AreFew (limits_of o.settings) (start sources o name).work
@@ -175,8 +167,8 @@ abbrev exact : Before
 exact = record { has_begun = false; is_exact = true }
 
 tokens_keep : (sources : Sources) (o : Choices) (s : State) → Holds o plain s
-    → s.work.most_tokens ≤ number_of setting.ExpressionNodes o.settings → is_over (turn (limits_of o.settings) sources o s).work ≡ false
-    → (turn (limits_of o.settings) sources o s).work.most_tokens ≤ number_of setting.ExpressionNodes o.settings
+    → s.work.most_tokens ≤ number_of Setting.ExpressionNodes o.settings → is_over (turn (limits_of o.settings) sources o s).work ≡ false
+    → (turn (limits_of o.settings) sources o s).work.most_tokens ≤ number_of Setting.ExpressionNodes o.settings
 tokens_keep sources o s h few e = (f.kept e kept).0 refl
   where
     f : Steps (limits_of o.settings) (context_of o s) exact s.work (turn (limits_of o.settings) sources o s).work
@@ -190,8 +182,8 @@ turned_reached Begins = Here
 turned_reached (Goes turned fits) = Turns (turned_reached turned)
 
 tokens_few : (sources : Sources) (o : Choices) (name : List ℕ) {s : State} → IsTurned sources o name s → is_over s.work ≡ false
-    → (s.work.most_tokens ≤ number_of setting.ExpressionNodes o.settings)
-    × (s.conditions.most_tokens ≤ number_of setting.ExpressionNodes o.settings)
+    → (s.work.most_tokens ≤ number_of Setting.ExpressionNodes o.settings)
+    × (s.conditions.most_tokens ≤ number_of Setting.ExpressionNodes o.settings)
 tokens_few sources o name Begins e = (omega arith, omega arith)
 tokens_few sources o name (Goes {s} turned fits) e =
     let h = reached_holds sources o name s (turned_reached turned) in
@@ -219,13 +211,13 @@ counts_keep_to_settings sources o = record {
       let k = (reached_holds sources o name s reached).kept (f.on e) in
       record {
         labels = (f.kept e k).1.0;
-        references = more_within _ _ (number_of setting.References o.settings) (f.few e k);
+        references = more_within _ _ (number_of Setting.References o.settings) (f.few e k);
       };
   near = λ name s reached e.
       near_within s.work.output.code.has_begun (later_count s.work.output.code.finished) (references s.work.output.tables)
-      (number_of setting.References o.settings) ((reached_holds sources o name s reached).near e);
+      (number_of Setting.References o.settings) ((reached_holds sources o name s reached).near e);
   references = λ name s t reached has few behind e.
-      more_within _ _ (number_of setting.References o.settings)
+      more_within _ _ (number_of Setting.References o.settings)
       (references_keep sources o s t (reached_holds sources o name s reached) has few behind e);
   expressions = λ name s reached. tokens_keep sources o s (reached_holds sources o name s reached);
   conditions = conditions_few (limits_of o.settings) sources o;

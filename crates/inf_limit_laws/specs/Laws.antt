@@ -1,25 +1,16 @@
 -- The counts of a reading that are compared with their settings later are within these, as long as no fatal message was told.
 use Rattle.std.specs.Prelude.{◌≡◌, ◌+◌, ◌≤◌, ℕ, List, Bool, true, false}
-use Rattle.inf_settings.specs.Bounds.{Limits, limits_of}
-use Rattle.inf_settings.specs.Settings.{number_of}
-use Rattle.inf_settings.specs.declared.setting.Setting.TheVariants.{ExpressionNodes, Labels, References}
+use Rattle.inf_settings.specs.{Bounds.Limits, Bounds.limits_of, Settings.number_of, declared.setting.Setting.Setting}
 use Rattle.inf_scanner.specs.declared.tokens.Place.{Place}
 use Rattle.inf_devices.specs.Files.{Sources}
 use Rattle.inf_syntax.specs.declared.actions.Action.{Action}
-use Rattle.inf_unit.specs.Messages.{FileNames}
-use Rattle.inf_unit.specs.Tokens.{SourceToken}
+use Rattle.inf_unit.specs.{Messages.FileNames, Tokens.SourceToken}
+use Rattle.inf_compilation.specs.{Context.Context, Findings.Findings}
 use Rattle.inf_compilation.specs.Actions.{Compilation, begun_at, took, unit_ended}
-use Rattle.inf_compilation.specs.Context.{Context}
-use Rattle.inf_compilation.specs.Findings.{Findings}
-use Rattle.inf_reader.specs.Acting.{act, cut_at}
-use Rattle.inf_reader.specs.Handing.{site_of}
-use Rattle.inf_session.specs.Choices.{Choices}
-use Rattle.inf_session.specs.Session.{State, start, turn}
+use Rattle.inf_reader.specs.{Acting.act, Acting.cut_at, Handing.site_of}
+use Rattle.inf_session.specs.{Choices.Choices, Session.State, Session.start, Session.turn, Uses.used}
 use Rattle.inf_ending.specs.Ending.{first_place}
-use Rattle.inf_session.specs.Uses.{used}
-use Rattle.inf_limit_laws.specs.Reached.{IsBehind, IsReached, IsTurned}
-use Rattle.inf_limit_laws.specs.Rooms.{Before}
-use Rattle.inf_limit_laws.specs.Signs.{SignFits}
+use Rattle.inf_limit_laws.specs.{Reached.IsBehind, Reached.IsReached, Reached.IsTurned, Rooms.Before, Signs.SignFits}
 use Rattle.inf_limit_laws.specs.Within.{AreFew, Ends, Steps, is_over}
 
 -- Each action of the grammar, each token that is taken, and the cut that a bad token makes keep the counts of a compilation; and where a
@@ -37,8 +28,8 @@ pub record StepsKeepCounts (limits : Limits) : Type 0 where
 
 -- Labels and references of a source keep to their settings where it has ended.
 pub record EndWithin (o : Choices) (s : State) (w : Compilation) : Type 0 where
-  pub labels : used s.quoted s.conditions w Labels ≤ number_of Labels o.settings
-  pub references : used s.quoted s.conditions w References ≤ number_of References o.settings
+  pub labels : used s.quoted s.conditions w Setting.Labels ≤ number_of Setting.Labels o.settings
+  pub references : used s.quoted s.conditions w Setting.References ≤ number_of Setting.References o.settings
 
 -- The most labels of a routine keep to their setting in each state to which a reading comes. References do before the first token,
 -- behind each unit that ends, and where the source ends; and in each state behind one in which code had begun and they did. In any case
@@ -46,7 +37,7 @@ pub record EndWithin (o : Choices) (s : State) (w : Compilation) : Type 0 where
 -- no more tokens than its setting says, turn by turn, and so in each state of such turns from the start.
 pub record CountsKeepToSettings (sources : Sources) (o : Choices) : Type 0 where
   pub labels : (name : List ℕ) (s : State) → IsReached sources o name s → is_over s.work ≡ false
-      → used s.quoted s.conditions s.work Labels ≤ number_of Labels o.settings
+      → used s.quoted s.conditions s.work Setting.Labels ≤ number_of Setting.Labels o.settings
   pub begins : (name : List ℕ) → is_over (start sources o name).work ≡ false → AreFew (limits_of o.settings) (start sources o name).work
   pub units : (name : List ℕ) (s : State) → IsReached sources o name s → (context : Context) (first : Place) (has_last : Bool)
       (found : Findings) → is_over (unit_ended (limits_of o.settings) context first has_last found s.work) ≡ false
@@ -55,16 +46,17 @@ pub record CountsKeepToSettings (sources : Sources) (o : Choices) : Type 0 where
       → is_over (begun_at (limits_of o.settings) s.nesting.names first_place s.work) ≡ false
       → EndWithin o s (begun_at (limits_of o.settings) s.nesting.names first_place s.work)
   pub near : (name : List ℕ) (s : State) → IsReached sources o name s → is_over s.work ≡ false
-      → used s.quoted s.conditions s.work References ≤ number_of References o.settings + 1
+      → used s.quoted s.conditions s.work Setting.References ≤ number_of Setting.References o.settings + 1
   pub references : (name : List ℕ) (s t : State) → IsReached sources o name s → s.work.output.code.has_begun ≡ true
       → AreFew (limits_of o.settings) s.work → IsBehind sources o s t → is_over t.work ≡ false
-      → used t.quoted t.conditions t.work References ≤ number_of References o.settings
-  pub expressions : (name : List ℕ) (s : State) → IsReached sources o name s → s.work.most_tokens ≤ number_of ExpressionNodes o.settings
+      → used t.quoted t.conditions t.work Setting.References ≤ number_of Setting.References o.settings
+  pub expressions : (name : List ℕ) (s : State) → IsReached sources o name s →
+      s.work.most_tokens ≤ number_of Setting.ExpressionNodes o.settings
       → is_over (turn (limits_of o.settings) sources o s).work ≡ false
-      → (turn (limits_of o.settings) sources o s).work.most_tokens ≤ number_of ExpressionNodes o.settings
+      → (turn (limits_of o.settings) sources o s).work.most_tokens ≤ number_of Setting.ExpressionNodes o.settings
   pub conditions : (s : State) → SignFits (site_of o.settings s.reading) s.conditions
-      → s.conditions.most_tokens ≤ number_of ExpressionNodes o.settings
+      → s.conditions.most_tokens ≤ number_of Setting.ExpressionNodes o.settings
       → is_over (turn (limits_of o.settings) sources o s).work ≡ false
-      → (turn (limits_of o.settings) sources o s).conditions.most_tokens ≤ number_of ExpressionNodes o.settings
+      → (turn (limits_of o.settings) sources o s).conditions.most_tokens ≤ number_of Setting.ExpressionNodes o.settings
   pub tokens : (name : List ℕ) (s : State) → IsTurned sources o name s → is_over s.work ≡ false
-      → used s.quoted s.conditions s.work ExpressionNodes ≤ number_of ExpressionNodes o.settings
+      → used s.quoted s.conditions s.work Setting.ExpressionNodes ≤ number_of Setting.ExpressionNodes o.settings

@@ -3,9 +3,8 @@ use Rattle.std.specs.Prelude.{ℕ, List}
 use Rattle.inf_settings.specs.Bounds.{limits_of}
 use Rattle.inf_devices.specs.Files.{Sources}
 use Rattle.inf_reader.specs.Handing.{site_of}
-use Rattle.inf_session.specs.Choices.{Choices}
+use Rattle.inf_session.specs.{Choices.Choices, Veneer.next_supplied, Veneer.supplied, Veneer.text_read}
 use Rattle.inf_session.specs.Session.{State, part, run, start, turn}
-use Rattle.inf_session.specs.Veneer.{next_supplied, supplied, text_read}
 use Rattle.inf_limit_laws.specs.Signs.{SignFits}
 
 -- A state comes behind another one, by turns and by supplied routines that are read, or is that one.

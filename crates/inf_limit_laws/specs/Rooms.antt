@@ -1,18 +1,16 @@
 -- The room that is left of limits beside code, where code is counted and no longer laid.
 use Rattle.std.specs.Prelude.{◌≡◌, ◌+◌, ◌≤◌, ℕ, Bool, true, is_some, Option, Some, None}
-use Rattle.inf_settings.specs.Bounds.{Limits}
-use Rattle.inf_settings.specs.declared.setting.Setting.TheVariants as setting
+use Rattle.inf_settings.specs.{Bounds.Limits, declared.setting.Setting.Setting}
 use Rattle.inf_code.specs.Code.{Routines, labels, reference_count, references_open}
-use Rattle.inf_output.specs.Output.{Code, Out, full_past}
-use Rattle.inf_output.specs.declared.past.Past.{Past}
+use Rattle.inf_output.specs.{Output.Code, Output.Out, Output.full_past, declared.past.Past.Past}
 
 -- Code has begun, the open routine has no more labels than it may have, and the references of all routines and those for which there is
 -- still room are no more than there may be.
 pub record LeavesRoom (limits : Limits) (code : Routines) (past : Past) : Type 0 where
   pub begun : code.has_begun ≡ true
-  pub few_labels : labels code ≤ limits setting.Labels
+  pub few_labels : labels code ≤ limits Setting.Labels
   pub few_references : (left : ℕ) → past.refs ≡ Some left
-      → reference_count code + references_open code.opened + left ≤ limits setting.References
+      → reference_count code + references_open code.opened + left ≤ limits Setting.References
 
 -- Knowledge of a compilation before: whether code had begun, and whether all expressions were within their setting.
 pub record Before : Type 0 where

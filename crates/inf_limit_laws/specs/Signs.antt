@@ -1,10 +1,8 @@
 -- A `#` that waits, and conditions that are too long.
 use Rattle.std.specs.Prelude.{◌≡◌, Bool, true, false, Option, Some, None}
 use Rattle.inf_scanner.specs.declared.tokens.Place.{Place}
-use Rattle.inf_conditionals.specs.Judging.{sign_offered}
-use Rattle.inf_conditionals.specs.Open.{Conditions}
+use Rattle.inf_conditionals.specs.{Judging.sign_offered, Open.Conditions, declared.filtered.Site.Site}
 use Rattle.inf_conditionals.specs.Said.{Deep, Long, Right, Said, Wrong}
-use Rattle.inf_conditionals.specs.declared.filtered.Site.{Site}
 
 -- whether a condition is told to be too long or too deep, which is a fatal message
 abbrev pub is_loud : Option Said → Bool

@@ -1,41 +1,32 @@
 -- Fixups that do not overlap may be filled in any order.
 use Rattle.std.proofs.Common.{◌≡◌, ◌∙◌, ℕ, zero, suc, ◌+◌, ◌/◌, ◌%◌, ◌<◌, ◌≤◌, ◌≢◌, ◌⊎◌, inl, inr, List, [], ◌∷◌, Bool, true, false}
-use Rattle.std.proofs.Common.{if◌then◌else◌, length, set, refl, ap, sym, subst, arith, nat_lt, ◌==◌, slice_index_or}
-use Rattle.std.proofs.lemmas.List.{set_comm}
-use Rattle.std.proofs.lemmas.Bool.{eqb-true}
-use Rattle.std.specs.List.{AllPairs, Contains}
-use Rattle.inf_area.specs.declared.fixups.Fixup.{Fixup}
-use Rattle.inf_area.specs.declared.targets.AreaName.{AreaName}
-use Rattle.inf_area.specs.declared.targets.AreaName.TheVariants as name
-use Rattle.inf_area.specs.declared.targets.Target.{Target}
-use Rattle.inf_area.specs.Words.{with_word}
-use Rattle.inf_link.specs.declared.areas.Areas.{Areas}
-use Rattle.inf_link.specs.Areas.{area_of, order, rank}
-use Rattle.inf_link.specs.Filling.{filled, with_filled, with_number}
-use Rattle.inf_link.specs.FillingLaws.{AreApart, HaveSameFixups}
-use Rattle.inf_link.proofs.Fillings.{length-with_number}
-use Rattle.inf_link.proofs.Names.{area_of-by_name, by_name-same}
+use Rattle.std.proofs.Common.{if◌then◌else◌, length, set, refl, ap, sym, subst, arith, nat_lt, ◌==◌, slice_index_or, AllPairs, Contains}
+use Rattle.std.proofs.{lemmas.Bool.eqb-true, lemmas.List.set_comm}
+use Rattle.inf_area.specs.{Words.with_word, declared.fixups.Fixup.Fixup, declared.targets.AreaName.AreaName, declared.targets.Target.Target}
+use Rattle.inf_link.specs.{Areas.area_of, Areas.order, Areas.rank, Filling.filled, Filling.with_filled, Filling.with_number}
+use Rattle.inf_link.specs.{FillingLaws.AreApart, FillingLaws.HaveSameFixups, declared.areas.Areas.Areas}
+use Rattle.inf_link.proofs.{Fillings.length-with_number, Names.area_of-by_name, Names.by_name-same}
 
 -- areas of the same rank are the same
-ranked : (a : AreaName) → slice_index_or order (rank a) name.LowStrings ≡ a
-ranked name.LowStrings = refl
-ranked name.Abbreviations = refl
-ranked name.PropertyDefaults = refl
-ranked name.Objects = refl
-ranked name.PropertyTables = refl
-ranked name.ClassNumbers = refl
-ranked name.IndividualTables = refl
-ranked name.Globals = refl
-ranked name.Arrays = refl
-ranked name.Grammar = refl
-ranked name.Actions = refl
-ranked name.ParsingRoutines = refl
-ranked name.Dictionary = refl
-ranked name.Code = refl
-ranked name.Strings = refl
+ranked : (a : AreaName) → slice_index_or order (rank a) AreaName.LowStrings ≡ a
+ranked AreaName.LowStrings = refl
+ranked AreaName.Abbreviations = refl
+ranked AreaName.PropertyDefaults = refl
+ranked AreaName.Objects = refl
+ranked AreaName.PropertyTables = refl
+ranked AreaName.ClassNumbers = refl
+ranked AreaName.IndividualTables = refl
+ranked AreaName.Globals = refl
+ranked AreaName.Arrays = refl
+ranked AreaName.Grammar = refl
+ranked AreaName.Actions = refl
+ranked AreaName.ParsingRoutines = refl
+ranked AreaName.Dictionary = refl
+ranked AreaName.Code = refl
+ranked AreaName.Strings = refl
 
 pub rank-same : (a b : AreaName) → rank a ≡ rank b → a ≡ b
-rank-same a b same = sym (ranked a) ∙ ap (λ n. slice_index_or order n name.LowStrings) same ∙ ranked b
+rank-same a b same = sym (ranked a) ∙ ap (λ n. slice_index_or order n AreaName.LowStrings) same ∙ ranked b
 
 -- two words that do not overlap
 abbrev Far : ℕ → ℕ → Type 0

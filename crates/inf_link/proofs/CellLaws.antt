@@ -1,26 +1,14 @@
 -- Areas that were written as cells get the cells' numbers.
 use Rattle.std.proofs.Common.{◌≡◌, ◌∙◌, ℕ, ◌+◌, ◌/◌, ◌%◌, ◌<◌, ◌≤◌, ◌≢◌, ◌⊎◌, inl, inr, List, [], ◌∷◌, ◌++◌, Bool, true, false}
-use Rattle.std.proofs.Common.{if◌then◌else◌, length, set, refl, ap, sym, arith, append_assoc, length-append, ◌==◌}
-use Rattle.std.proofs.lemmas.Bool.{eqb-true, eq-eqb, lt-ltb}
-use Rattle.std.proofs.lemmas.List.{set_at}
-use Rattle.std.specs.List.{flat_map}
-use Rattle.inf_area.specs.declared.fixups.Fixup.{Fixup}
-use Rattle.inf_area.specs.declared.targets.AreaName.{AreaName}
-use Rattle.inf_area.specs.declared.targets.AreaName.TheVariants as name
-use Rattle.inf_area.specs.declared.targets.Target.{Target}
-use Rattle.inf_area.specs.Words.{with_word, word}
-use Rattle.inf_area.specs.declared.cells.Cell.{Cell}
-use Rattle.inf_area.specs.declared.cells.Cell.TheVariants as cell
-use Rattle.inf_area.specs.Cells.{bytes_of, fixups_of, size_of}
+use Rattle.std.proofs.Common.{if◌then◌else◌, length, set, refl, ap, sym, arith, append_assoc, length-append, ◌==◌, flat_map}
+use Rattle.std.proofs.{lemmas.Bool.eq-eqb, lemmas.Bool.eqb-true, lemmas.Bool.lt-ltb, lemmas.List.set_at}
+use Rattle.inf_area.specs.{Cells.bytes_of, Cells.fixups_of, Cells.size_of, Words.with_word, Words.word, declared.cells.Cell.Cell}
+use Rattle.inf_area.specs.{declared.fixups.Fixup.Fixup, declared.targets.AreaName.AreaName, declared.targets.Target.Target}
 use Rattle.inf_area.proofs.Joining.{length-bytes_of}
-use Rattle.inf_link.specs.declared.areas.Areas.{Areas}
+use Rattle.inf_link.specs.{Filling.filled, Filling.with_number, MemoryMaps.map_of, Stories.filled_areas, Stories.story, Stories.story_of}
+use Rattle.inf_link.specs.{Targets.Lookup, Targets.number_of, declared.areas.Areas.Areas, declared.header.HeaderFields.HeaderFields}
 use Rattle.inf_link.specs.Areas.{area_of, by_name, lengths, order, rank}
-use Rattle.inf_link.specs.Filling.{filled, with_number}
-use Rattle.inf_link.specs.declared.header.HeaderFields.{HeaderFields}
 use Rattle.inf_link.specs.FillingLaws.{AreApart, CellsComeOutAsNumbers, cells_contents, cells_fixups, cells_sizes, cells_story, numbered}
-use Rattle.inf_link.specs.MemoryMaps.{map_of}
-use Rattle.inf_link.specs.Stories.{filled_areas, story, story_of}
-use Rattle.inf_link.specs.Targets.{Lookup, number_of}
 use Rattle.inf_link.proofs.Apart.{Apart, IsIn, all_apart, area_of-step, filled-any_order, in_same, in_same_back, rank-same, step}
 use Rattle.inf_link.proofs.Names.{area_of-by_name, by_name-same}
 
@@ -81,11 +69,11 @@ with_number-middle front rest place number at =
 filled_area-cells : (number : Target → ℕ) (area : AreaName) (place : ℕ) (front : List ℕ) (cells : List Cell) → place ≡ length front
     → filled_area number (fixups_of area place cells) area (front ++ bytes_of cells) ≡ front ++ numbered number cells
 filled_area-cells number area place front [] at = refl
-filled_area-cells number area place front ((cell.Byte byte) ∷ cells) at =
+filled_area-cells number area place front ((Cell.Byte byte) ∷ cells) at =
     ap (filled_area number (fixups_of area (place + 1) cells) area) (sym (append_assoc front (byte ∷ []) (bytes_of cells)))
     ∙ filled_area-cells number area (place + 1) (front ++ byte ∷ []) cells (omega (arith, length-append front (byte ∷ []), at))
     ∙ append_assoc front (byte ∷ []) (numbered number cells)
-filled_area-cells number area place front ((cell.Later target) ∷ cells) at =
+filled_area-cells number area place front ((Cell.Later target) ∷ cells) at =
     let rest = bytes_of cells in
     let left = fixups_of area (place + 2) cells in
     ap (λ b. filled_area number left area (if b then with_number place (number target) (front ++ 0 ∷ 0 ∷ rest) else front ++ 0 ∷ 0 ∷ rest))
@@ -99,17 +87,17 @@ filled_area-cells number area place front ((cell.Later target) ∷ cells) at =
 in_cells : (area : AreaName) (place : ℕ) (cells : List Cell) (fixup : Fixup) → IsIn fixup (fixups_of area place cells) →
     (fixup.area ≡ area) × (place ≤ fixup.place)
 in_cells area place [] fixup is = elim is [ ]
-in_cells area place ((cell.Byte byte) ∷ cells) fixup is =
+in_cells area place ((Cell.Byte byte) ∷ cells) fixup is =
     let rest = in_cells area (place + 1) cells fixup is in (rest.0, omega (arith, rest.1))
-in_cells area place ((cell.Later target) ∷ cells) fixup (inl e) =
+in_cells area place ((Cell.Later target) ∷ cells) fixup (inl e) =
     (sym (ap (λ (f : Fixup). f.area) e), omega (arith, ap (λ (f : Fixup). f.place) e))
-in_cells area place ((cell.Later target) ∷ cells) fixup (inr is) =
+in_cells area place ((Cell.Later target) ∷ cells) fixup (inr is) =
     let rest = in_cells area (place + 2) cells fixup is in (rest.0, omega (arith, rest.1))
 
 apart-cells : (area : AreaName) (place : ℕ) (cells : List Cell) → Apart (fixups_of area place cells)
 apart-cells area place [] = tt
-apart-cells area place ((cell.Byte byte) ∷ cells) = apart-cells area (place + 1) cells
-apart-cells area place ((cell.Later target) ∷ cells) =
+apart-cells area place ((Cell.Byte byte) ∷ cells) = apart-cells area (place + 1) cells
+apart-cells area place ((Cell.Later target) ∷ cells) =
     ((λ other is same. inl (in_cells area (place + 2) cells other is).1), apart-cells area (place + 2) cells)
 
 in_append : (fixups others : List Fixup) (fixup : Fixup) → IsIn fixup (fixups ++ others) → IsIn fixup fixups ⊎ IsIn fixup others
@@ -192,21 +180,21 @@ has area [] = false
 has area (other ∷ names) = if rank other == rank area then true else has area names
 
 has_each : (area : AreaName) → has area order ≡ true
-has_each name.LowStrings = refl
-has_each name.Abbreviations = refl
-has_each name.PropertyDefaults = refl
-has_each name.Objects = refl
-has_each name.PropertyTables = refl
-has_each name.ClassNumbers = refl
-has_each name.IndividualTables = refl
-has_each name.Globals = refl
-has_each name.Arrays = refl
-has_each name.Grammar = refl
-has_each name.Actions = refl
-has_each name.ParsingRoutines = refl
-has_each name.Dictionary = refl
-has_each name.Code = refl
-has_each name.Strings = refl
+has_each AreaName.LowStrings = refl
+has_each AreaName.Abbreviations = refl
+has_each AreaName.PropertyDefaults = refl
+has_each AreaName.Objects = refl
+has_each AreaName.PropertyTables = refl
+has_each AreaName.ClassNumbers = refl
+has_each AreaName.IndividualTables = refl
+has_each AreaName.Globals = refl
+has_each AreaName.Arrays = refl
+has_each AreaName.Grammar = refl
+has_each AreaName.Actions = refl
+has_each AreaName.ParsingRoutines = refl
+has_each AreaName.Dictionary = refl
+has_each AreaName.Code = refl
+has_each AreaName.Strings = refl
 
 filled_area-areas : (number : Target → ℕ) (cells : Areas (List Cell)) (area : AreaName) (from : ℕ) (names : List AreaName) →
     Rises from names → has area names ≡ true
@@ -259,8 +247,8 @@ sizes-cells cells =
 
 length-numbered : (number : Target → ℕ) (cells : List Cell) → length (numbered number cells) ≡ size_of cells
 length-numbered number [] = refl
-length-numbered number ((cell.Byte byte) ∷ cells) = omega (arith, length-numbered number cells)
-length-numbered number ((cell.Later target) ∷ cells) = omega (arith, length-numbered number cells)
+length-numbered number ((Cell.Byte byte) ∷ cells) = omega (arith, length-numbered number cells)
+length-numbered number ((Cell.Later target) ∷ cells) = omega (arith, length-numbered number cells)
 
 -- numbers that are known later take as many bytes as were kept for them
 pub sizes-numbered : (number : Target → ℕ) (cells : Areas (List Cell)) →

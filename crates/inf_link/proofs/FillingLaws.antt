@@ -1,10 +1,7 @@
 -- The effect of fixups, in whatever order they are filled.
 use Rattle.std.proofs.Common.{ap}
-use Rattle.inf_link.specs.Areas.{lengths}
-use Rattle.inf_link.specs.FillingLaws.{FixupsAreFilledInAnyOrder}
-use Rattle.inf_link.specs.MemoryMaps.{map_of}
+use Rattle.inf_link.specs.{Areas.lengths, FillingLaws.FixupsAreFilledInAnyOrder, MemoryMaps.map_of, Targets.number_of}
 use Rattle.inf_link.specs.Stories.{filled_areas, story_of}
-use Rattle.inf_link.specs.Targets.{number_of}
 use Rattle.inf_link.proofs.Apart.{filled-in_any_order}
 
 pub fixups_are_filled_in_any_order : FixupsAreFilledInAnyOrder

@@ -1,12 +1,8 @@
 -- Filling keeps the lengths of areas, and depends on the numbers alone.
 use Rattle.std.proofs.Common.{◌≡◌, ◌∙◌, ℕ, ◌+◌, List, [], ◌∷◌, Bool, true, false, if◌then◌else◌, length, refl, ap, nat_lt, length-set, ◌==◌}
-use Rattle.inf_area.specs.declared.fixups.Fixup.{Fixup}
-use Rattle.inf_area.specs.declared.targets.AreaName.{AreaName}
-use Rattle.inf_area.specs.declared.targets.Target.{Target}
-use Rattle.inf_area.specs.Words.{with_word}
-use Rattle.inf_link.specs.declared.areas.Areas.{Areas}
-use Rattle.inf_link.specs.Areas.{area_of, lengths, rank}
-use Rattle.inf_link.specs.Filling.{filled, with_filled, with_number}
+use Rattle.inf_area.specs.{Words.with_word, declared.fixups.Fixup.Fixup, declared.targets.AreaName.AreaName, declared.targets.Target.Target}
+use Rattle.inf_link.specs.{Areas.area_of, Areas.lengths, Areas.rank, Filling.filled, Filling.with_filled, Filling.with_number}
+use Rattle.inf_link.specs.{declared.areas.Areas.Areas}
 use Rattle.inf_link.proofs.Names.{area_of-by_name, by_name-same}
 
 pub length-with_number : (place number : ℕ) (bytes : List ℕ) → length (with_number place number bytes) ≡ length bytes

@@ -1,17 +1,9 @@
 -- A story by its parts.
 use Rattle.std.proofs.Common.{◌≡◌, ◌∙◌, ◌++◌, ℕ, List, length, ap, sym}
 use Rattle.inf_area.specs.declared.fixups.Fixup.{Fixup}
-use Rattle.inf_link.specs.declared.areas.Areas.{Areas}
-use Rattle.inf_link.specs.declared.header.HeaderFields.{HeaderFields}
-use Rattle.inf_link.specs.declared.link.Sizes.{Sizes}
-use Rattle.inf_link.specs.declared.memory_map.MemoryMap.{MemoryMap}
-use Rattle.inf_link.specs.Areas.{lengths}
-use Rattle.inf_link.specs.Bodies.{body}
-use Rattle.inf_link.specs.Filling.{filled}
-use Rattle.inf_link.specs.Header.{header}
-use Rattle.inf_link.specs.MemoryMaps.{map_of}
+use Rattle.inf_link.specs.{Areas.lengths, Bodies.body, Filling.filled, Header.header, MemoryMaps.map_of, Targets.Lookup, Targets.number_of}
+use Rattle.inf_link.specs.declared.{areas.Areas.Areas, header.HeaderFields.HeaderFields, link.Sizes.Sizes, memory_map.MemoryMap.MemoryMap}
 use Rattle.inf_link.specs.Stories.{filled_areas, sizes, story, story_of}
-use Rattle.inf_link.specs.Targets.{Lookup, number_of}
 use Rattle.inf_link.proofs.Fillings.{lengths-filled}
 
 -- filled areas, at the places of this map

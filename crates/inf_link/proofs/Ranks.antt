@@ -1,14 +1,10 @@
 -- The place of a text among texts in rising order is the number of those below it.
 use Rattle.std.proofs.Common.{◌≡◌, ◌∷◌, ◌+◌, ◌≤◌, ◌∙◌, Bool, if◌then◌else◌, ℕ, zero, suc, List, [], true, false, refl, sym, ap, arith}
-use Rattle.std.proofs.Common.{Ordering, length, slice_index_or, Less, Equal, Greater}
-use Rattle.std.specs.Ordering.{nat_cmp, is_lt, ordering_reverse}
-use Rattle.std.specs.Cmp.{IsTotalOrder}
-use Rattle.std.specs.Cmp.Lexicographic.{slice_cmp}
-use Rattle.std.specs.List.{sum_by}
-use Rattle.std.specs.List.Sorted.{IsSorted, IsPartitionPoint, IsPartitionedBy, IsPermutation}
-use Rattle.std.proofs.lemmas.Cmp.{lists_total, nat_cmp_total}
-use Rattle.std.proofs.lemmas.List.Sums.{sum_by-cons}
+use Rattle.std.proofs.Common.{Ordering, length, slice_index_or, Less, Equal, Greater, sum_by, nat_cmp, is_lt, IsSorted, IsPermutation}
+use Rattle.std.proofs.{lemmas.Cmp.lists_total, lemmas.Cmp.nat_cmp_total, lemmas.List.Sums.sum_by-cons}
 use Rattle.std.proofs.lemmas.List.Sorted.{sorted_far, ranks_by, sum_by-IsPermutation}
+use Rattle.std.specs.{Cmp.IsTotalOrder, Cmp.Lexicographic.slice_cmp, Ordering.ordering_reverse}
+use Rattle.std.specs.List.Sorted.{IsPartitionPoint, IsPartitionedBy}
 use Rattle.inf_link.specs.Targets.{Text, rank_of, is_below}
 
 abbrev cmp : Text → Text → Ordering

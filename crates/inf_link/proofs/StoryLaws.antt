@@ -2,33 +2,26 @@
 use Rattle.std.proofs.Common.{◌≡◌, ◌∙◌, ℕ, ◌+◌, ◌/◌, ◌%◌, List, [], ◌∷◌, ◌++◌, Bool, true, false, if◌then◌else◌, length, take, drop, sum}
 use Rattle.std.proofs.Common.{refl, ap, sym, subst, arith, append_assoc, length-append, replicate}
 use Rattle.std.proofs.lemmas.List.{length-replicate, take_at, drop_at}
-use Rattle.inf_area.specs.declared.targets.AreaName.{AreaName}
-use Rattle.inf_area.specs.declared.targets.AreaName.TheVariants as name
-use Rattle.inf_area.specs.Words.{word}
-use Rattle.inf_link.specs.declared.areas.Areas.{Areas}
-use Rattle.inf_link.specs.declared.header.HeaderFields.{HeaderFields}
-use Rattle.inf_area.specs.declared.scale.Scale.{Scale}
-use Rattle.inf_area.specs.declared.scale.Scale.TheVariants as scale
-use Rattle.inf_link.specs.Areas.{area_of, is_packed, lengths, order, rank}
-use Rattle.inf_link.specs.Bodies.{body, joined, padded, up_to}
-use Rattle.inf_link.specs.Header.{header, header_back, header_front, header_size, number_bytes}
-use Rattle.inf_link.specs.MemoryMaps.{base_of, begin, end_of, map_of}
+use Rattle.inf_area.specs.{Words.word, declared.scale.Scale.Scale, declared.targets.AreaName.AreaName}
 use Rattle.inf_area.specs.Scales.{aligned, gap, scale_number}
-use Rattle.inf_link.specs.Stories.{story_of}
-use Rattle.inf_link.specs.StoryLaws.{AreasStandAtTheirBases, HasAt, StoriesTellThemselves, TellsItself}
+use Rattle.inf_link.specs.{Areas.area_of, Areas.is_packed, Areas.lengths, Areas.order, Areas.rank, Bodies.body, Bodies.joined}
+use Rattle.inf_link.specs.{Bodies.padded, Bodies.up_to, Header.header, Header.header_back, Header.header_front, Header.header_size}
+use Rattle.inf_link.specs.{Header.number_bytes, MemoryMaps.base_of, MemoryMaps.begin, MemoryMaps.end_of, MemoryMaps.map_of}
+use Rattle.inf_link.specs.{Stories.story_of, StoryLaws.AreasStandAtTheirBases, StoryLaws.HasAt, StoryLaws.StoriesTellThemselves}
+use Rattle.inf_link.specs.{StoryLaws.TellsItself, declared.areas.Areas.Areas, declared.header.HeaderFields.HeaderFields}
 use Rattle.inf_link.proofs.Names.{area_of-by_name}
 
 -- places in the story and behind the header have the same distance from the next packed address
 gap-behind : (s : Scale) (n : ℕ) → gap s (64 + n) ≡ gap s n
-gap-behind scale.Four n = omega arith
-gap-behind scale.Eight n = omega arith
+gap-behind Scale.Four n = omega arith
+gap-behind Scale.Eight n = omega arith
 
 aligned-behind : (s : Scale) (n : ℕ) → aligned s (64 + n) ≡ 64 + aligned s n
 aligned-behind s n = omega (arith, gap-behind s n)
 
 aligned-whole : (s : Scale) (n : ℕ) → aligned s n % scale_number s ≡ 0
-aligned-whole scale.Four n = omega arith
-aligned-whole scale.Eight n = omega arith
+aligned-whole Scale.Four n = omega arith
+aligned-whole Scale.Eight n = omega arith
 
 length-padded : (s : Scale) (bytes : List ℕ) → length (padded s bytes) ≡ aligned s (length bytes)
 length-padded s bytes =
@@ -99,21 +92,21 @@ stands s contents area (first ∷ names) others bytes =
     (length-with_area s contents first bytes) (stands s contents area names others (with_area s contents first bytes))
 
 pub in_order : (a : AreaName) → take (rank a) order ++ a ∷ drop (rank a + 1) order ≡ order
-in_order name.LowStrings = refl
-in_order name.Abbreviations = refl
-in_order name.PropertyDefaults = refl
-in_order name.Objects = refl
-in_order name.PropertyTables = refl
-in_order name.ClassNumbers = refl
-in_order name.IndividualTables = refl
-in_order name.Globals = refl
-in_order name.Arrays = refl
-in_order name.Grammar = refl
-in_order name.Actions = refl
-in_order name.ParsingRoutines = refl
-in_order name.Dictionary = refl
-in_order name.Code = refl
-in_order name.Strings = refl
+in_order AreaName.LowStrings = refl
+in_order AreaName.Abbreviations = refl
+in_order AreaName.PropertyDefaults = refl
+in_order AreaName.Objects = refl
+in_order AreaName.PropertyTables = refl
+in_order AreaName.ClassNumbers = refl
+in_order AreaName.IndividualTables = refl
+in_order AreaName.Globals = refl
+in_order AreaName.Arrays = refl
+in_order AreaName.Grammar = refl
+in_order AreaName.Actions = refl
+in_order AreaName.ParsingRoutines = refl
+in_order AreaName.Dictionary = refl
+in_order AreaName.Code = refl
+in_order AreaName.Strings = refl
 
 stands-body : (s : Scale) (contents : Areas (List ℕ)) (area : AreaName) →
     Stands s contents area (base_of (lengths contents) s area) (body s contents)

@@ -1,10 +1,7 @@
 -- The bytes behind the header of a story. Z-Machine Standard 1.1, section 1.1.
 use Rattle.std.specs.Prelude.{ℕ, List, [], ◌∷◌, ◌++◌, length, replicate, if◌then◌else◌}
-use Rattle.inf_area.specs.declared.targets.AreaName.{AreaName}
-use Rattle.inf_link.specs.declared.areas.Areas.{Areas}
-use Rattle.inf_area.specs.declared.scale.Scale.{Scale}
-use Rattle.inf_link.specs.Areas.{area_of, is_packed, order}
-use Rattle.inf_area.specs.Scales.{gap}
+use Rattle.inf_area.specs.{Scales.gap, declared.scale.Scale.Scale, declared.targets.AreaName.AreaName}
+use Rattle.inf_link.specs.{Areas.area_of, Areas.is_packed, Areas.order, declared.areas.Areas.Areas}
 
 -- Bytes with zeros behind them up to the next place that has a packed address. They follow a header of 64 bytes, which is a
 -- multiple of 4 and of 8.

@@ -1,11 +1,7 @@
 -- The fixups of areas, filled with their numbers.
 use Rattle.std.specs.Prelude.{ℕ, ◌+◌, List, [], ◌∷◌, length, ◌==◌, if◌then◌else◌, nat_lt}
-use Rattle.inf_area.specs.declared.fixups.Fixup.{Fixup}
-use Rattle.inf_area.specs.declared.targets.AreaName.{AreaName}
-use Rattle.inf_area.specs.declared.targets.Target.{Target}
-use Rattle.inf_area.specs.Words.{with_word}
-use Rattle.inf_link.specs.declared.areas.Areas.{Areas}
-use Rattle.inf_link.specs.Areas.{area_of, by_name, rank}
+use Rattle.inf_area.specs.{Words.with_word, declared.fixups.Fixup.Fixup, declared.targets.AreaName.AreaName, declared.targets.Target.Target}
+use Rattle.inf_link.specs.{Areas.area_of, Areas.by_name, Areas.rank, declared.areas.Areas.Areas}
 
 -- a number in the two bytes at a place, if both lie within
 abbrev pub with_number : ℕ → ℕ → List ℕ → List ℕ

@@ -1,18 +1,9 @@
 -- The effect of fixups, in whatever order they are filled.
-use Rattle.std.specs.Prelude.{◌≡◌, ℕ, ◌+◌, ◌≤◌, ◌⊎◌, ◌↔◌, List, [], ◌∷◌, ◌++◌}
-use Rattle.std.specs.List.{AllPairs, Contains, flat_map}
-use Rattle.inf_area.specs.declared.fixups.Fixup.{Fixup}
-use Rattle.inf_area.specs.declared.targets.Target.{Target}
-use Rattle.inf_area.specs.Words.{word}
-use Rattle.inf_area.specs.declared.cells.Cell.{Cell}
-use Rattle.inf_area.specs.declared.cells.Cell.TheVariants as cell
+use Rattle.std.specs.Prelude.{◌≡◌, ℕ, ◌+◌, ◌≤◌, ◌⊎◌, ◌↔◌, List, [], ◌∷◌, ◌++◌, AllPairs, Contains, flat_map}
+use Rattle.inf_area.specs.{Words.word, declared.cells.Cell.Cell, declared.fixups.Fixup.Fixup, declared.targets.Target.Target}
 use Rattle.inf_area.specs.Cells.{bytes_of, fixups_of, size_of}
-use Rattle.inf_link.specs.declared.areas.Areas.{Areas}
-use Rattle.inf_link.specs.declared.header.HeaderFields.{HeaderFields}
-use Rattle.inf_link.specs.Areas.{area_of, by_name, order}
-use Rattle.inf_link.specs.MemoryMaps.{map_of}
-use Rattle.inf_link.specs.Stories.{story, story_of}
-use Rattle.inf_link.specs.Targets.{Lookup, number_of}
+use Rattle.inf_link.specs.{Areas.area_of, Areas.by_name, Areas.order, MemoryMaps.map_of, Stories.story, Stories.story_of, Targets.Lookup}
+use Rattle.inf_link.specs.{Targets.number_of, declared.areas.Areas.Areas, declared.header.HeaderFields.HeaderFields}
 
 -- Tells whether two fixups do not overlap.
 abbrev pub AreApart : Fixup → Fixup → Type 0
@@ -41,8 +32,8 @@ cells_sizes cells = by_name (λ name. size_of (area_of name cells))
 -- the bytes of cells, each with its number
 abbrev pub numbered : (Target → ℕ) → List Cell → List ℕ
 numbered number [] = []
-numbered number (cell.Byte byte ∷ cells) = byte ∷ numbered number cells
-numbered number (cell.Later target ∷ cells) = word (number target) ++ numbered number cells
+numbered number (Cell.Byte byte ∷ cells) = byte ∷ numbered number cells
+numbered number (Cell.Later target ∷ cells) = word (number target) ++ numbered number cells
 
 -- The story of areas of cells: their sizes determine where each begins, this determines the number of each cell, and the
 -- numbers determine the bytes.

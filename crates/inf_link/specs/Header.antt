@@ -1,11 +1,7 @@
 -- The header of a story. Z-Machine Standard 1.1, section 11.1.
-use Rattle.std.specs.Prelude.{ℕ, ◌+◌, ◌/◌, ◌%◌, List, [], ◌∷◌, ◌++◌, length, replicate, sum}
-use Rattle.std.specs.List.{flat_map}
-use Rattle.inf_area.specs.Words.{word}
-use Rattle.inf_link.specs.declared.areas.Areas.{Areas}
-use Rattle.inf_link.specs.declared.header.HeaderFields.{HeaderFields}
-use Rattle.inf_area.specs.declared.scale.Scale.{Scale}
-use Rattle.inf_area.specs.Scales.{scale_number, version}
+use Rattle.std.specs.Prelude.{ℕ, ◌+◌, ◌/◌, ◌%◌, List, [], ◌∷◌, ◌++◌, length, replicate, sum, flat_map}
+use Rattle.inf_area.specs.{Scales.scale_number, Scales.version, Words.word, declared.scale.Scale.Scale}
+use Rattle.inf_link.specs.{declared.areas.Areas.Areas, declared.header.HeaderFields.HeaderFields}
 
 -- the size of the header, behind which the areas begin
 abbrev pub header_size : ℕ

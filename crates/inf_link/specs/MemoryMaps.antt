@@ -1,14 +1,8 @@
 -- The places where the areas of a story begin, by the sizes of those before them. Z-Machine Standard 1.1, section 1.1.
 use Rattle.std.specs.Prelude.{ℕ, ◌+◌, List, [], ◌∷◌, take, if◌then◌else◌, nat_lt, Option, Some, None}
-use Rattle.inf_area.specs.declared.targets.AreaName.{AreaName}
-use Rattle.inf_link.specs.declared.areas.Areas.{Areas}
-use Rattle.inf_area.specs.declared.scale.Scale.{Scale}
-use Rattle.inf_link.specs.declared.link.LinkFault.{LinkFault}
-use Rattle.inf_link.specs.declared.link.LinkFault.TheVariants as link_fault
-use Rattle.inf_link.specs.declared.memory_map.MemoryMap.{MemoryMap}
-use Rattle.inf_link.specs.Areas.{area_of, by_name, is_packed, order, rank}
-use Rattle.inf_link.specs.Header.{header_size}
-use Rattle.inf_area.specs.Scales.{aligned, most_bytes}
+use Rattle.inf_area.specs.{Scales.aligned, Scales.most_bytes, declared.scale.Scale.Scale, declared.targets.AreaName.AreaName}
+use Rattle.inf_link.specs.{Areas.area_of, Areas.by_name, Areas.is_packed, Areas.order, Areas.rank, Header.header_size}
+use Rattle.inf_link.specs.{declared.areas.Areas.Areas, declared.link.LinkFault.LinkFault, declared.memory_map.MemoryMap.MemoryMap}
 
 -- the place where an area begins behind `at` bytes
 abbrev pub begin : Scale → AreaName → ℕ → ℕ
@@ -38,6 +32,6 @@ most_readable = 65534
 abbrev pub too_long : Areas ℕ → Scale → Option LinkFault
 too_long lengths scale =
     let map = map_of lengths scale in
-    if nat_lt most_readable map.bases.code then Some link_fault.ReadableTooLong
-    else if nat_lt (most_bytes scale) map.end then Some link_fault.StoryTooLong
+    if nat_lt most_readable map.bases.code then Some LinkFault.ReadableTooLong
+    else if nat_lt (most_bytes scale) map.end then Some LinkFault.StoryTooLong
     else None

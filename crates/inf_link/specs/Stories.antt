@@ -1,17 +1,8 @@
 -- The story: its header and the bytes of its areas. Z-Machine Standard 1.1, sections 1.1 and 11.
 use Rattle.std.specs.Prelude.{ℕ, List, ◌++◌, length, Option, Some, None}
 use Rattle.inf_area.specs.declared.fixups.Fixup.{Fixup}
-use Rattle.inf_link.specs.declared.areas.Areas.{Areas}
-use Rattle.inf_link.specs.declared.header.HeaderFields.{HeaderFields}
-use Rattle.inf_link.specs.declared.link.LinkFault.{LinkFault}
-use Rattle.inf_link.specs.declared.link.LinkFault.TheVariants as link_fault
-use Rattle.inf_link.specs.declared.link.Sizes.{Sizes}
-use Rattle.inf_link.specs.Areas.{lengths}
-use Rattle.inf_link.specs.Bodies.{body}
-use Rattle.inf_link.specs.Filling.{filled}
-use Rattle.inf_link.specs.Header.{header}
-use Rattle.inf_link.specs.MemoryMaps.{map_of}
-use Rattle.inf_link.specs.Targets.{Lookup, number_of}
+use Rattle.inf_link.specs.{Areas.lengths, Bodies.body, Filling.filled, Header.header, MemoryMaps.map_of, Targets.Lookup, Targets.number_of}
+use Rattle.inf_link.specs.declared.{areas.Areas.Areas, header.HeaderFields.HeaderFields, link.LinkFault.LinkFault, link.Sizes.Sizes}
 
 -- a story: its bytes, and the numbers of bytes of its parts
 pub record Linked : Type 0 where
@@ -44,5 +35,5 @@ sizes contents fields bytes = record {
 
 -- the fault where there is no story: `fault`, or else want of memory
 abbrev pub refusal : Option LinkFault → LinkFault
-refusal None = link_fault.Memory
+refusal None = LinkFault.Memory
 refusal (Some fault) = fault

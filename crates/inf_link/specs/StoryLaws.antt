@@ -1,14 +1,8 @@
 -- The length and the sum that a story's header says, and the places of its areas.
 use Rattle.std.specs.Prelude.{◌≡◌, ℕ, ◌/◌, ◌%◌, List, length, take, drop, sum}
-use Rattle.inf_area.specs.declared.targets.AreaName.{AreaName}
-use Rattle.inf_link.specs.declared.areas.Areas.{Areas}
-use Rattle.inf_link.specs.declared.header.HeaderFields.{HeaderFields}
-use Rattle.inf_area.specs.declared.scale.Scale.{Scale}
-use Rattle.inf_link.specs.Areas.{area_of, lengths}
-use Rattle.inf_link.specs.Header.{number_bytes}
-use Rattle.inf_link.specs.MemoryMaps.{base_of, map_of}
-use Rattle.inf_area.specs.Scales.{scale_number}
-use Rattle.inf_link.specs.Stories.{story_of}
+use Rattle.inf_area.specs.{Scales.scale_number, declared.scale.Scale.Scale, declared.targets.AreaName.AreaName}
+use Rattle.inf_link.specs.{Areas.area_of, Areas.lengths, Header.number_bytes, MemoryMaps.base_of, MemoryMaps.map_of, Stories.story_of}
+use Rattle.inf_link.specs.{declared.areas.Areas.Areas, declared.header.HeaderFields.HeaderFields}
 
 -- Tells whether bytes are found among others, from a place on.
 abbrev pub HasAt : ℕ → List ℕ → List ℕ → Type 0

@@ -1,7 +1,6 @@
 //! The bytes of areas, one behind the other.
 ghost use Rattle.std.specs.Prelude.{◌≡◌, ◌++◌, IfOk, OnOk, length};
-ghost use Rattle.inf_link.specs.Areas.{contents};
-ghost use Rattle.inf_link.specs.Bodies.{body, joined, padded};
+ghost use Rattle.inf_link.specs.{Areas.contents, Bodies.body, Bodies.joined, Bodies.padded};
 
 use crate::areas::Areas;
 use inf_area::{Area, Scale};

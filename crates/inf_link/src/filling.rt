@@ -1,10 +1,7 @@
 //! The numbers of fixups in their areas.
+ghost use Rattle.std.specs.{Cmp.Lexicographic.slice_cmp, List.Sorted.IsSorted, Ordering.nat_cmp};
 ghost use Rattle.std.specs.Prelude.{◌≡◌, List, ℕ};
-ghost use Rattle.std.specs.Ordering.{nat_cmp};
-ghost use Rattle.std.specs.Cmp.Lexicographic.{slice_cmp};
-ghost use Rattle.std.specs.List.Sorted.{IsSorted};
-ghost use Rattle.inf_link.specs.Areas.{contents};
-ghost use Rattle.inf_link.specs.Targets.{lookup, number_of};
+ghost use Rattle.inf_link.specs.{Areas.contents, Targets.lookup, Targets.number_of};
 ghost use Rattle.inf_link.specs.Filling.{filled, with_filled, with_number};
 
 use crate::areas::Areas;

@@ -1,6 +1,5 @@
 //! The header of a story (Z-Machine Standard 1.1, section 11.1).
-ghost use Rattle.std.specs.Prelude.{◌≡◌, ◌++◌, ◌+◌, ◌<◌, OnOk};
-ghost use Rattle.std.specs.List.{flat_map};
+ghost use Rattle.std.specs.Prelude.{◌≡◌, ◌++◌, ◌+◌, ◌<◌, OnOk, flat_map};
 ghost use Rattle.inf_link.specs.Header.{checksum, header, header_back, header_front, number_bytes};
 
 use crate::areas::Areas;

@@ -1,10 +1,7 @@
 //! A story from its areas.
 ghost use Rattle.std.specs.Prelude.{◌≡◌, ◌⊎◌, None, Some, IfOk, MatchResult};
-ghost use Rattle.inf_link.specs.Areas.{contents, lengths};
-ghost use Rattle.inf_link.specs.Filling.{filled};
-ghost use Rattle.inf_link.specs.MemoryMaps.{too_long};
-ghost use Rattle.inf_link.specs.Targets.{lookup, number_of};
-ghost use Rattle.inf_link.specs.declared.link.LinkFault.TheVariants.{Memory};
+ghost use Rattle.inf_link.specs.{Areas.contents, Areas.lengths, Filling.filled, MemoryMaps.too_long, Targets.lookup, Targets.number_of};
+ghost use Rattle.inf_link.specs.{declared.link.LinkFault.TheVariants.Memory};
 
 use crate::areas::Areas;
 use crate::bytes::body;
@@ -95,8 +92,7 @@ pub struct Link<A> {
 }
 
 impl<A: Area + Drop> Link<A> {
-    ghost use Rattle.inf_link.specs.Stories.{refusal, sizes, story};
-    ghost use Rattle.inf_link.specs.Targets.{lookup};
+    ghost use Rattle.inf_link.specs.{Stories.refusal, Stories.sizes, Stories.story, Targets.lookup};
 
     /// Creates the parts of a story. It takes no memory.
     pub fn new(

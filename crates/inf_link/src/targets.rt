@@ -1,8 +1,6 @@
 //! Numbers that are known once a story is laid out.
+ghost use Rattle.std.specs.{Cmp.Lexicographic.slice_cmp, List.Sorted.IsSorted, Ordering.nat_cmp};
 ghost use Rattle.std.specs.Prelude.{◌≡◌, ◌%◌, ◌<◌, ◌≤◌, IfSome, is_none, None, length, slice_get};
-ghost use Rattle.std.specs.Ordering.{nat_cmp};
-ghost use Rattle.std.specs.Cmp.Lexicographic.{slice_cmp};
-ghost use Rattle.std.specs.List.Sorted.{IsSorted};
 ghost use Rattle.inf_link.specs.Targets.{direct_number, divisor, is_below, lookup, number_of, part_of, place_number, rank_of};
 ghost use Rattle.inf_link.specs.Targets.{system_number};
 

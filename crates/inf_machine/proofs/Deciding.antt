@@ -2,14 +2,11 @@
 use Rattle.std.proofs.Common.{◌≡◌, ℕ, ◌+◌, ◌<◌, ◌≤◌, List, [], ◌∷◌, ◌++◌, Bool, true, false, ◌&&◌, ◌||◌, ◌==◌, refl, sym, ◌∙◌, ap, arith}
 use Rattle.std.proofs.Common.{bit_and, if◌then◌else◌, nat_lt}
 use Rattle.std.proofs.lemmas.Bool.{eqb-true, ltb-true, and_parts, false_from_ne_true, both_ways}
-use Rattle.inf_machine.specs.declared.symbols.Symbol.{Symbol}
-use Rattle.inf_machine.specs.declared.symbols.Symbol.TheVariants.{Token, Rule, Act}
+use Rattle.inf_machine.specs.{Machine.Known, Machine.can_end, Machine.fits, Machine.work, declared.symbols.Symbol.Symbol}
 use Rattle.inf_machine.specs.Grammar.{Grammar, Row, has, IsOneOf, first, later}
-use Rattle.inf_machine.specs.Machine.{Known, fits, can_end, work}
 use Rattle.inf_machine.specs.Decided.{is_within, beginning, all_beginnings, are_apart, empty_rows, is_followed, steps_through, is_preferred}
 use Rattle.inf_machine.specs.Decided.{is_sound, are_sound, is_decided}
-use Rattle.inf_machine.proofs.Sets.{has_zero, has_and, has_within}
-use Rattle.inf_machine.proofs.Rows.{fits_is_begun}
+use Rattle.inf_machine.proofs.{Rows.fits_is_begun, Sets.has_and, Sets.has_within, Sets.has_zero}
 
 module _ {A : Type 0} where
   -- The parts of the property that is computed of a rule
@@ -122,9 +119,9 @@ module _ {A : Type 0} where
   pub work_within : (g : Grammar A) (k : Known) (atom : ℕ) (xs ys : List (Symbol A)) → fits g k atom xs ≡ true →
       work k atom (xs ++ ys) ≤ steps_through k xs
   work_within g k atom [] ys f = cc
-  work_within g k atom (Token class ∷ xs) ys f = omega arith
-  work_within g k atom (Act a ∷ xs) ys f = omega (arith, work_within g k atom xs ys f)
-  work_within g k atom (Rule rule ∷ xs) ys f =
+  work_within g k atom (Symbol.Token class ∷ xs) ys f = omega arith
+  work_within g k atom (Symbol.Act a ∷ xs) ys f = omega (arith, work_within g k atom xs ys f)
+  work_within g k atom (Symbol.Rule rule ∷ xs) ys f =
       by_cases (has (k.begins rule) atom) (k.is_empty rule) (fits g k atom xs) f (λ e. work_within g k atom xs ys e)
     where
       by_cases : (h e i : Bool) → (h || (e && i)) ≡ true → (i ≡ true → work k atom (xs ++ ys) ≤ steps_through k xs) →
@@ -138,9 +135,9 @@ module _ {A : Type 0} where
   pub work_past : (k : Known) (atom : ℕ) (xs ys : List (Symbol A)) → can_end k xs ≡ true →
       work k atom (xs ++ ys) ≤ steps_through k xs + work k atom ys
   work_past k atom [] ys e = omega arith
-  work_past k atom (Token class ∷ xs) ys e = cc
-  work_past k atom (Act a ∷ xs) ys e = omega (arith, work_past k atom xs ys e)
-  work_past k atom (Rule rule ∷ xs) ys e =
+  work_past k atom (Symbol.Token class ∷ xs) ys e = cc
+  work_past k atom (Symbol.Act a ∷ xs) ys e = omega (arith, work_past k atom xs ys e)
+  work_past k atom (Symbol.Rule rule ∷ xs) ys e =
       let parts = and_parts (k.is_empty rule) (can_end k xs) e in
       by_cases (has (k.begins rule) atom) (k.is_empty rule) parts.0 (work_past k atom xs ys parts.1)
     where

@@ -2,22 +2,18 @@
 use Rattle.std.proofs.Common.{◌≡◌, ℕ, zero, suc, ◌+◌, ◌≤◌, List, [], ◌∷◌, ◌++◌, Bool, true, false, ◌&&◌, Some, refl, sym, ◌∙◌, ap, arith}
 use Rattle.std.proofs.Common.{if◌then◌else◌}
 use Rattle.std.proofs.lemmas.Bool.{and_parts, and_from, cond-true}
-use Rattle.inf_machine.specs.declared.symbols.Symbol.{Symbol}
-use Rattle.inf_machine.specs.declared.symbols.Symbol.TheVariants.{Token, Rule, Act}
+use Rattle.inf_machine.specs.{Decided.steps_through, Laws.IsDecided, Laws.SourcesEnd, declared.symbols.Symbol.Symbol}
 use Rattle.inf_machine.specs.Grammar.{Grammar, Leads, here, action, row, IsText, Event, Did}
 use Rattle.inf_machine.specs.Machine.{Known, can_end, read, Read}
-use Rattle.inf_machine.specs.Decided.{steps_through}
-use Rattle.inf_machine.specs.Laws.{IsDecided, SourcesEnd}
-use Rattle.inf_machine.proofs.Rows.{empty_counts, some_is_empty}
-use Rattle.inf_machine.proofs.Deciding.{decided_parts, sound_parts}
-use Rattle.inf_machine.proofs.TokenLaws.{texts_are_taken}
+use Rattle.inf_machine.proofs.{Deciding.decided_parts, Deciding.sound_parts, Rows.empty_counts, Rows.some_is_empty}
+use Rattle.inf_machine.proofs.{TokenLaws.texts_are_taken}
 
 module _ {A : Type 0} where
   can_end_append : (k : Known) (xs ys : List (Symbol A)) → can_end k (xs ++ ys) ≡ (can_end k xs && can_end k ys)
   can_end_append k [] ys = refl
-  can_end_append k (Token class ∷ xs) ys = refl
-  can_end_append k (Act a ∷ xs) ys = can_end_append k xs ys
-  can_end_append k (Rule rule ∷ xs) ys =
+  can_end_append k (Symbol.Token class ∷ xs) ys = refl
+  can_end_append k (Symbol.Act a ∷ xs) ys = can_end_append k xs ys
+  can_end_append k (Symbol.Rule rule ∷ xs) ys =
       ap (λ b. k.is_empty rule && b) (can_end_append k xs ys) ∙ regroup (k.is_empty rule) (can_end k xs) (can_end k ys)
     where
       regroup : (a b c : Bool) → (a && (b && c)) ≡ ((a && b) && c)
@@ -27,9 +23,9 @@ module _ {A : Type 0} where
   steps_append : (k : Known) (xs ys : List (Symbol A)) → can_end k xs ≡ true →
       steps_through k (xs ++ ys) ≡ steps_through k xs + steps_through k ys
   steps_append k [] ys e = omega arith
-  steps_append k (Token class ∷ xs) ys e = cc
-  steps_append k (Act a ∷ xs) ys e = omega (arith, steps_append k xs ys e)
-  steps_append k (Rule rule ∷ xs) ys e =
+  steps_append k (Symbol.Token class ∷ xs) ys e = cc
+  steps_append k (Symbol.Act a ∷ xs) ys e = omega (arith, steps_append k xs ys e)
+  steps_append k (Symbol.Rule rule ∷ xs) ys e =
       let parts = and_parts (k.is_empty rule) (can_end k xs) e in
       by_empty (k.is_empty rule) parts.0 (steps_append k xs ys parts.1)
     where
@@ -42,17 +38,17 @@ module _ {A : Type 0} where
   ends : (g : Grammar A) (k : Known) → IsDecided g k → (n : ℕ) (symbols : List (Symbol A)) → steps_through k symbols ≤ n →
       can_end k symbols ≡ true → (events : List (Event A)) × Leads g symbols [] events []
   ends g k d n [] l e = ([], here)
-  ends g k d n (Token class ∷ symbols) l e = cc
-  ends g k d zero (Act a ∷ symbols) l e = absurd (omega arith)
-  ends g k d (suc n) (Act a ∷ symbols) l e =
+  ends g k d n (Symbol.Token class ∷ symbols) l e = cc
+  ends g k d zero (Symbol.Act a ∷ symbols) l e = absurd (omega arith)
+  ends g k d (suc n) (Symbol.Act a ∷ symbols) l e =
       let on = ends g k d n symbols (omega arith) e in
       (Did a ∷ on.0, action on.1)
-  ends g k d zero (Rule rule ∷ symbols) l e =
+  ends g k d zero (Symbol.Rule rule ∷ symbols) l e =
       let of_rule = decided_parts g k rule (d rule) in
       let both = and_parts (k.is_empty rule) (can_end k symbols) e in
       let r = some_is_empty k (g.rows_of rule) (omega (arith, of_rule.empties, cond-true {A = ℕ} (k.is_empty rule) 1 0 both.0)) in
       absurd (omega (arith, (sound_parts g k rule r.row (of_rule.sound r.row r.one)).fewer))
-  ends g k d (suc n) (Rule rule ∷ symbols) l e =
+  ends g k d (suc n) (Symbol.Rule rule ∷ symbols) l e =
       let of_rule = decided_parts g k rule (d rule) in
       let both = and_parts (k.is_empty rule) (can_end k symbols) e in
       let r = some_is_empty k (g.rows_of rule) (omega (arith, of_rule.empties, cond-true {A = ℕ} (k.is_empty rule) 1 0 both.0)) in
@@ -81,14 +77,14 @@ module _ {A : Type 0} where
   pub sources_end : SourcesEnd A
   sources_end g k rule atoms d = (onward, back)
     where
-      onward : ((events : List (Event A)) × IsText g (Rule rule ∷ []) atoms events) →
-          (r : Read A) × (read g k (Rule rule ∷ []) atoms ≡ Some r) × (can_end k r.left ≡ true)
+      onward : ((events : List (Event A)) × IsText g (Symbol.Rule rule ∷ []) atoms events) →
+          (r : Read A) × (read g k (Symbol.Rule rule ∷ []) atoms ≡ Some r) × (can_end k r.left ≡ true)
       onward t =
           let a = (texts_are_taken g k rule atoms t.0 d).0 t.1 in
           (a.0, a.2, ended g k d a.4)
 
-      back : ((r : Read A) × (read g k (Rule rule ∷ []) atoms ≡ Some r) × (can_end k r.left ≡ true)) →
-          (events : List (Event A)) × IsText g (Rule rule ∷ []) atoms events
+      back : ((r : Read A) × (read g k (Symbol.Rule rule ∷ []) atoms ≡ Some r) × (can_end k r.left ≡ true)) →
+          (events : List (Event A)) × IsText g (Symbol.Rule rule ∷ []) atoms events
       back a =
           let on = ends g k d (steps_through k a.0.left) a.0.left (omega arith) a.2 in
           (a.0.events ++ on.0, (texts_are_taken g k rule atoms (a.0.events ++ on.0) d).1 (a.0, on.0, a.1, refl, on.1))

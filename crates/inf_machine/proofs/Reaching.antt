@@ -1,16 +1,10 @@
 -- Walking down a stack to a token: the symbols that are passed over on the way are left out, and their actions come first.
+use Rattle.std.proofs.{Math.Seq.take-suc, lemmas.Bool.or_left, lemmas.List.append-nil, lemmas.List.append_assoc, lemmas.List.reverse-append}
 use Rattle.std.proofs.Common.{◌≡◌, ℕ, zero, suc, ◌-◌, ◌<◌, ◌≤◌, List, [], ◌∷◌, ◌++◌, Bool, true, false, ◌&&◌, ◌||◌, refl, sym, ◌∙◌, ap}
 use Rattle.std.proofs.Common.{arith, reverse, take, length, get_or}
-use Rattle.std.proofs.lemmas.Bool.{or_left}
-use Rattle.std.proofs.lemmas.List.{append_assoc, append-nil, reverse-append}
-use Rattle.std.proofs.Math.Seq.{take-suc}
-use Rattle.inf_machine.specs.declared.symbols.Symbol.{Symbol}
-use Rattle.inf_machine.specs.declared.symbols.Symbol.TheVariants.{Token, Rule, Act}
-use Rattle.inf_machine.specs.Grammar.{Grammar, has}
-use Rattle.inf_machine.specs.Laws.{IsDecided}
+use Rattle.inf_machine.specs.{Grammar.Grammar, Grammar.has, Laws.IsDecided, declared.symbols.Symbol.Symbol}
 use Rattle.inf_machine.specs.Machine.{Known, Taken, fits, taken, opened, are_acts, acts_of, passed_row}
-use Rattle.inf_machine.proofs.Opened.{before, opened_on}
-use Rattle.inf_machine.proofs.Ways.{way_on, way_past}
+use Rattle.inf_machine.proofs.{Opened.before, Opened.opened_on, Ways.way_on, Ways.way_past}
 
 module _ {A : Type 0} where
   -- Actions at the top of a stack
@@ -18,9 +12,9 @@ module _ {A : Type 0} where
   pub acts_fit : (g : Grammar A) (k : Known) (atom : ℕ) (acts rest : List (Symbol A)) → are_acts acts ≡ true →
       fits g k atom (acts ++ rest) ≡ fits g k atom rest
   acts_fit g k atom [] rest e = refl
-  acts_fit g k atom (Token class ∷ acts) rest e = cc
-  acts_fit g k atom (Rule rule ∷ acts) rest e = cc
-  acts_fit g k atom (Act a ∷ acts) rest e = acts_fit g k atom acts rest e
+  acts_fit g k atom (Symbol.Token class ∷ acts) rest e = cc
+  acts_fit g k atom (Symbol.Rule rule ∷ acts) rest e = cc
+  acts_fit g k atom (Symbol.Act a ∷ acts) rest e = acts_fit g k atom acts rest e
 
   abbrev pub behind_all : List A → Taken A → Taken A
   behind_all actions t = record { actions = actions ++ t.actions; left = t.left }
@@ -28,9 +22,9 @@ module _ {A : Type 0} where
   pub acts_taken : (g : Grammar A) (k : Known) (atom : ℕ) (acts rest : List (Symbol A)) → are_acts acts ≡ true →
       taken g k atom (acts ++ rest) ≡ behind_all (acts_of acts) (taken g k atom rest)
   acts_taken g k atom [] rest e = refl
-  acts_taken g k atom (Token class ∷ acts) rest e = cc
-  acts_taken g k atom (Rule rule ∷ acts) rest e = cc
-  acts_taken g k atom (Act a ∷ acts) rest e = ap (behind_all (a ∷ [])) (acts_taken g k atom acts rest e)
+  acts_taken g k atom (Symbol.Token class ∷ acts) rest e = cc
+  acts_taken g k atom (Symbol.Rule rule ∷ acts) rest e = cc
+  acts_taken g k atom (Symbol.Act a ∷ acts) rest e = ap (behind_all (a ∷ [])) (acts_taken g k atom acts rest e)
 
   -- The walk
 
@@ -44,7 +38,8 @@ module _ {A : Type 0} where
   on_start g k atom all first = record { same = refl; actions = λ f. refl; left = λ f. refl }
 
   -- the walk goes on past an action
-  pub on_act : (g : Grammar A) (k : Known) (atom : ℕ) (a : A) (all here rest : List (Symbol A)) (first now : List A) → here ≡ Act a ∷ rest →
+  pub on_act : (g : Grammar A) (k : Known) (atom : ℕ) (a : A) (all here rest : List (Symbol A)) (first now : List A) →
+      here ≡ Symbol.Act a ∷ rest →
       IsOn g k atom all here first now → IsOn g k atom all rest first (now ++ (a ∷ []))
   on_act g k atom a all here rest first now e on =
       let t = taken g k atom rest in
@@ -56,7 +51,7 @@ module _ {A : Type 0} where
 
   -- the walk goes on past a rule that can be empty
   pub on_passed : (g : Grammar A) (k : Known) → IsDecided g k → (atom rule : ℕ) (all here rest : List (Symbol A)) (first now : List A) →
-      here ≡ Rule rule ∷ rest → has (k.begins rule) atom ≡ false → k.is_empty rule ≡ true →
+      here ≡ Symbol.Rule rule ∷ rest → has (k.begins rule) atom ≡ false → k.is_empty rule ≡ true →
       are_acts (passed_row g k (g.rows_of rule)) ≡ true → IsOn g k atom all here first now →
       IsOn g k atom all rest first (now ++ acts_of (passed_row g k (g.rows_of rule)))
   on_passed g k d atom rule all here rest first now e not_it empty acts on =
@@ -80,7 +75,7 @@ module _ {A : Type 0} where
           behind_all (acts_of (passed_row g k (g.rows_of rule))) (taken g k atom rest) ≡ taken g k atom here
       same_taken f =
           let row = passed_row g k (g.rows_of rule) in
-          let fits_it : fits g k atom (Rule rule ∷ rest) ≡ true = ap (fits g k atom) (sym e) ∙ on.same ∙ f in
+          let fits_it : fits g k atom (Symbol.Rule rule ∷ rest) ≡ true = ap (fits g k atom) (sym e) ∙ on.same ∙ f in
           sym (acts_taken g k atom row rest acts)
           ∙ ap (λ parts. taken g k atom (parts ++ rest)) (way_past g k d atom rule not_it)
           ∙ sym (way_on g k d atom rule rest fits_it).same
@@ -95,12 +90,13 @@ module _ {A : Type 0} where
 
   -- a token at hand decides whether the atom fits
   pub token_fits : (g : Grammar A) (k : Known) (atom class : ℕ) (all here rest : List (Symbol A)) (first now : List A) →
-      here ≡ Token class ∷ rest → IsOn g k atom all here first now → has (g.atoms_of class) atom ≡ fits g k atom all
+      here ≡ Symbol.Token class ∷ rest → IsOn g k atom all here first now → has (g.atoms_of class) atom ≡ fits g k atom all
   token_fits g k atom class all here rest first now e on = ap (fits g k atom) (sym e) ∙ on.same
 
   -- the walk ends at a token that fits
   pub at_token : (g : Grammar A) (k : Known) (atom class : ℕ) (all here rest : List (Symbol A)) (first now : List A) →
-      here ≡ Token class ∷ rest → IsOn g k atom all here first now → has (g.atoms_of class) atom ≡ true → Ends g k atom all rest first now
+      here ≡ Symbol.Token class ∷ rest → IsOn g k atom all here first now → has (g.atoms_of class) atom ≡ true → Ends g k atom all
+      rest first now
   at_token g k atom class all here rest first now e on h =
       let whole = token_fits g k atom class all here rest first now e on in
       let f : fits g k atom all ≡ true = sym whole ∙ h in
@@ -112,7 +108,7 @@ module _ {A : Type 0} where
 
   -- the walk ends at a rule that the atom begins
   pub at_rule : (g : Grammar A) (k : Known) → IsDecided g k → (atom rule : ℕ) (all here rest : List (Symbol A)) (first now : List A) →
-      here ≡ Rule rule ∷ rest → has (k.begins rule) atom ≡ true → IsOn g k atom all here first now →
+      here ≡ Symbol.Rule rule ∷ rest → has (k.begins rule) atom ≡ true → IsOn g k atom all here first now →
       Ends g k atom all ((opened g k rule atom).left ++ rest) first (now ++ (opened g k rule atom).actions)
   at_rule g k d atom rule all here rest first now e h on =
       let whole : fits g k atom all ≡ true =
@@ -127,7 +123,7 @@ module _ {A : Type 0} where
 
   -- the atom does not fit at a rule that it does not begin and that cannot be empty
   pub at_other : (g : Grammar A) (k : Known) (atom rule : ℕ) (all here rest : List (Symbol A)) (first now : List A) →
-      here ≡ Rule rule ∷ rest → has (k.begins rule) atom ≡ false → k.is_empty rule ≡ false → IsOn g k atom all here first now →
+      here ≡ Symbol.Rule rule ∷ rest → has (k.begins rule) atom ≡ false → k.is_empty rule ≡ false → IsOn g k atom all here first now →
       false ≡ fits g k atom all
   at_other g k atom rule all here rest first now e not_it some on =
       neither (has (k.begins rule) atom) (k.is_empty rule) (fits g k atom rest) not_it some ∙ ap (fits g k atom) (sym e) ∙ on.same

@@ -1,7 +1,6 @@
 -- The machine reads tokens in two parts as it reads them at once.
 use Rattle.std.proofs.Common.{◌≡◌, ℕ, List, [], ◌∷◌, ◌++◌, Bool, true, false, Option, Some, None, refl, sym, ◌∙◌, ap, append_assoc, cond}
-use Rattle.inf_machine.specs.declared.symbols.Symbol.{Symbol}
-use Rattle.inf_machine.specs.Grammar.{Grammar, Event}
+use Rattle.inf_machine.specs.{Grammar.Event, Grammar.Grammar, declared.symbols.Symbol.Symbol}
 use Rattle.inf_machine.specs.Machine.{Known, Taken, fits, taken, events_of, read, Read, behind}
 
 module _ {A : Type 0} where

@@ -3,11 +3,9 @@ use Rattle.std.proofs.Common.{◌≡◌, ℕ, ◌≤◌, List, [], ◌∷◌, �
 use Rattle.std.proofs.Common.{bit_and, if◌then◌else◌, inl, inr}
 use Rattle.std.proofs.lemmas.Bool.{eqb-true, or_left, or_right, or_cases, or_parts, and_parts, cond-true, cond-false, false_from_ne_true}
 use Rattle.std.proofs.lemmas.Bool.{both_ways}
-use Rattle.inf_machine.specs.declared.symbols.Symbol.{Symbol}
-use Rattle.inf_machine.specs.declared.symbols.Symbol.TheVariants.{Token, Rule, Act}
+use Rattle.inf_machine.specs.{Decided.all_beginnings, Decided.are_apart, Decided.beginning, Decided.empty_rows, Machine.Known}
+use Rattle.inf_machine.specs.{Machine.can_end, Machine.empty_row, Machine.fits, Machine.row_for, declared.symbols.Symbol.Symbol}
 use Rattle.inf_machine.specs.Grammar.{Grammar, Row, has, IsOneOf, first, later}
-use Rattle.inf_machine.specs.Machine.{Known, fits, can_end, empty_row, row_for}
-use Rattle.inf_machine.specs.Decided.{beginning, all_beginnings, are_apart, empty_rows}
 use Rattle.inf_machine.proofs.Sets.{has_zero, has_or, has_and}
 
 or_false : (b : Bool) → b ≡ (b || false)
@@ -24,9 +22,9 @@ module _ {A : Type 0} where
   pub fits_is_begun : (g : Grammar A) (k : Known) (atom : ℕ) (symbols : List (Symbol A)) →
       fits g k atom symbols ≡ has (beginning g k symbols) atom
   fits_is_begun g k atom [] = sym (has_zero atom)
-  fits_is_begun g k atom (Token class ∷ symbols) = refl
-  fits_is_begun g k atom (Act a ∷ symbols) = fits_is_begun g k atom symbols
-  fits_is_begun g k atom (Rule rule ∷ symbols) =
+  fits_is_begun g k atom (Symbol.Token class ∷ symbols) = refl
+  fits_is_begun g k atom (Symbol.Act a ∷ symbols) = fits_is_begun g k atom symbols
+  fits_is_begun g k atom (Symbol.Rule rule ∷ symbols) =
       ap (λ f. has (k.begins rule) atom || (k.is_empty rule && f)) (fits_is_begun g k atom symbols)
       ∙ by_empty (k.is_empty rule) (k.begins rule) (beginning g k symbols)
     where
@@ -38,9 +36,9 @@ module _ {A : Type 0} where
   pub fits_append : (g : Grammar A) (k : Known) (atom : ℕ) (xs ys : List (Symbol A)) →
       fits g k atom (xs ++ ys) ≡ (fits g k atom xs || (can_end k xs && fits g k atom ys))
   fits_append g k atom [] ys = refl
-  fits_append g k atom (Token class ∷ xs) ys = or_false (has (g.atoms_of class) atom)
-  fits_append g k atom (Act a ∷ xs) ys = fits_append g k atom xs ys
-  fits_append g k atom (Rule rule ∷ xs) ys =
+  fits_append g k atom (Symbol.Token class ∷ xs) ys = or_false (has (g.atoms_of class) atom)
+  fits_append g k atom (Symbol.Act a ∷ xs) ys = fits_append g k atom xs ys
+  fits_append g k atom (Symbol.Rule rule ∷ xs) ys =
       ap (λ f. has (k.begins rule) atom || (k.is_empty rule && f)) (fits_append g k atom xs ys)
       ∙ regroup (has (k.begins rule) atom) (k.is_empty rule) (fits g k atom xs) (can_end k xs) (fits g k atom ys)
 

@@ -1,10 +1,9 @@
 -- Sets of atoms as numbers.
 use Rattle.std.proofs.Common.{◌≡◌, ℕ, zero, suc, ◌<◌, true, false, ◌&&◌, ◌||◌, ◌==◌, max, min, refl, sym, ◌∙◌, ap, arith, bit_or, bit_and}
-use Rattle.std.specs.Int.{bit_at}
 use Rattle.std.proofs.lemmas.Bool.{eqb-true, or_left}
 use Rattle.std.proofs.lemmas.Nat.Bits.{bit_at_or, bit_at_and, bit_at-lt, bit_at-zero}
-use Rattle.inf_machine.specs.Grammar.{has}
-use Rattle.inf_machine.specs.Decided.{is_within}
+use Rattle.std.specs.Int.{bit_at}
+use Rattle.inf_machine.specs.{Decided.is_within, Grammar.has}
 
 one_of_two : (m n : ℕ) → m < 2 → n < 2 → (max m n == 1) ≡ ((m == 1) || (n == 1))
 one_of_two zero zero p q = refl

@@ -1,20 +1,14 @@
 -- Every source has its pieces.
+use Rattle.std.proofs.{lemmas.Bool.and_parts, lemmas.Bool.both_ways, lemmas.Bool.cond-false, lemmas.Bool.cond-true, lemmas.List.length-drop}
 use Rattle.std.proofs.Common.{◌≡◌, ℕ, zero, suc, ◌≤◌, List, [], ◌∷◌, ◌++◌, Bool, true, false, ◌&&◌, Option, Some, None, is_some, length}
 use Rattle.std.proofs.Common.{take, drop, refl, sym, ◌∙◌, ap, subst, arith, append_assoc, append-nil, if◌then◌else◌, inl, inr, ◌⊎◌}
-use Rattle.std.proofs.lemmas.Bool.{and_parts, cond-true, cond-false, both_ways}
-use Rattle.std.proofs.lemmas.List.{length-drop}
-use Rattle.inf_machine.specs.declared.symbols.Symbol.{Symbol}
-use Rattle.inf_machine.specs.declared.symbols.Symbol.TheVariants.{Token, Rule, Act}
+use Rattle.inf_machine.specs.{Laws.IsDecided, declared.symbols.Symbol.Symbol}
 use Rattle.inf_machine.specs.Grammar.{Grammar, Row, IsOneOf, first, later, Begins, Event}
 use Rattle.inf_machine.specs.Machine.{Known, fits, can_end, chosen, stepped, work, taken, events_of, read, Read, behind}
-use Rattle.inf_machine.specs.Laws.{IsDecided}
 use Rattle.inf_machine.specs.Pieces.{Piece, Whole, Bad, Cut, IsPiece, IsOpen, ArePieces, ended, whole, bad, cut, last_symbol, all_rows}
 use Rattle.inf_machine.specs.Pieces.{closes, SourcesArePieces}
-use Rattle.inf_machine.proofs.Rows.{some_is_empty}
-use Rattle.inf_machine.proofs.Deciding.{decided_parts}
+use Rattle.inf_machine.proofs.{Deciding.decided_parts, Ending.sources_end, Rows.some_is_empty, TokenLaws.bad_tokens_begin_nothing}
 use Rattle.inf_machine.proofs.Taking.{choice, chosen_fits}
-use Rattle.inf_machine.proofs.TokenLaws.{bad_tokens_begin_nothing}
-use Rattle.inf_machine.proofs.Ending.{sources_end}
 
 and_false : (b : Bool) → (b && false) ≡ false
 and_false true = refl
@@ -38,7 +32,7 @@ module _ {A : Type 0} where
   last_append (x ∷ z ∷ xs) y ys = last_append (z ∷ xs) y ys
 
   closed_row : (g : Grammar A) (rule : ℕ) (r : Row A) (symbols : List (Symbol A)) → IsOneOf r (g.rows_of rule) →
-      Closed g (Rule rule ∷ symbols) → Closed g (r.parts ++ symbols)
+      Closed g (Symbol.Rule rule ∷ symbols) → Closed g (r.parts ++ symbols)
   closed_row g rule r [] m (zero, c) = cc
   closed_row g rule r [] m (suc n, c) = (
     n,
@@ -47,22 +41,22 @@ module _ {A : Type 0} where
   )
   closed_row g rule r (s ∷ symbols) m (n, c) = (n, subst (λ l. closes g l n ≡ true) (sym (last_append r.parts s symbols)) c)
 
-  not_ended : (g : Grammar A) (k : Known) (n : ℕ) → ((rule : ℕ) → closes g (Some (Rule rule)) n ≡ true → k.is_empty rule ≡ false) →
+  not_ended : (g : Grammar A) (k : Known) (n : ℕ) → ((rule : ℕ) → closes g (Some (Symbol.Rule rule)) n ≡ true → k.is_empty rule ≡ false) →
       (symbols : List (Symbol A)) → closes g (last_symbol symbols) n ≡ true → can_end k symbols ≡ false
   not_ended g k n h [] c = cc
-  not_ended g k n h (Token class ∷ symbols) c = refl
-  not_ended g k n h (Act a ∷ []) c = cc
-  not_ended g k n h (Act a ∷ s ∷ symbols) c = not_ended g k n h (s ∷ symbols) c
-  not_ended g k n h (Rule rule ∷ []) c = ap (λ b. b && true) (h rule c)
-  not_ended g k n h (Rule rule ∷ s ∷ symbols) c =
+  not_ended g k n h (Symbol.Token class ∷ symbols) c = refl
+  not_ended g k n h (Symbol.Act a ∷ []) c = cc
+  not_ended g k n h (Symbol.Act a ∷ s ∷ symbols) c = not_ended g k n h (s ∷ symbols) c
+  not_ended g k n h (Symbol.Rule rule ∷ []) c = ap (λ b. b && true) (h rule c)
+  not_ended g k n h (Symbol.Rule rule ∷ s ∷ symbols) c =
       ap (λ b. k.is_empty rule && b) (not_ended g k n h (s ∷ symbols) c) ∙ and_false (k.is_empty rule)
 
-  rule_not_empty : (g : Grammar A) (k : Known) → IsDecided g k → (n rule : ℕ) → closes g (Some (Rule rule)) n ≡ true →
+  rule_not_empty : (g : Grammar A) (k : Known) → IsDecided g k → (n rule : ℕ) → closes g (Some (Symbol.Rule rule)) n ≡ true →
       k.is_empty rule ≡ false
   rule_not_empty g k d zero rule c = cc
   rule_not_empty g k d (suc n) rule c = by_empty (λ r e. rule_not_empty g k d n r e) (k.is_empty rule) refl
     where
-      by_empty : ((r : ℕ) → closes g (Some (Rule r)) n ≡ true → k.is_empty r ≡ false) → (b : Bool) → k.is_empty rule ≡ b →
+      by_empty : ((r : ℕ) → closes g (Some (Symbol.Rule r)) n ≡ true → k.is_empty r ≡ false) → (b : Bool) → k.is_empty rule ≡ b →
           k.is_empty rule ≡ false
       by_empty h false e = e
       by_empty h true e =
@@ -79,11 +73,11 @@ module _ {A : Type 0} where
       Closed g symbols → ((stepped g k atom n symbols).left ≡ []) ⊎ Closed g (stepped g k atom n symbols).left
   closed_left g k d atom zero symbols f c = inr c
   closed_left g k d atom (suc n) [] f c = inl refl
-  closed_left g k d atom (suc n) (Token class ∷ []) f c = inl refl
-  closed_left g k d atom (suc n) (Token class ∷ s ∷ symbols) f c = inr c
-  closed_left g k d atom (suc n) (Act a ∷ []) f c = cc
-  closed_left g k d atom (suc n) (Act a ∷ s ∷ symbols) f c = closed_left g k d atom n (s ∷ symbols) f c
-  closed_left g k d atom (suc n) (Rule rule ∷ symbols) f c =
+  closed_left g k d atom (suc n) (Symbol.Token class ∷ []) f c = inl refl
+  closed_left g k d atom (suc n) (Symbol.Token class ∷ s ∷ symbols) f c = inr c
+  closed_left g k d atom (suc n) (Symbol.Act a ∷ []) f c = cc
+  closed_left g k d atom (suc n) (Symbol.Act a ∷ s ∷ symbols) f c = closed_left g k d atom n (s ∷ symbols) f c
+  closed_left g k d atom (suc n) (Symbol.Rule rule ∷ symbols) f c =
       let o = choice g k d atom rule symbols f in
       closed_left g k d atom n (chosen g k atom rule ++ symbols) (chosen_fits g k d atom rule symbols f)
       (subst (λ parts. Closed g (parts ++ symbols)) (sym o.is) (closed_row g rule o.row symbols o.one c))
@@ -162,16 +156,16 @@ module _ {A : Type 0} where
 
   pub sources_are_pieces : SourcesArePieces A
   sources_are_pieces g k rule deep further atoms d c =
-      go (length atoms) [] atoms (record { events = []; left = Rule rule ∷ [] }) (omega arith) refl (deep, c)
+      go (length atoms) [] atoms (record { events = []; left = Symbol.Rule rule ∷ [] }) (omega arith) refl (deep, c)
     where
-      is_open : (front : List ℕ) (r : Read A) → read g k (Rule rule ∷ []) front ≡ Some r → Closed g r.left → IsOpen g rule front
+      is_open : (front : List ℕ) (r : Read A) → read g k (Symbol.Rule rule ∷ []) front ≡ Some r → Closed g r.left → IsOpen g rule front
       is_open front r e o = (
         (bad_tokens_begin_nothing g k rule front d).0 (ap is_some e),
         λ t. let a = (sources_end g k rule front d).0 t in no_end a.0 a.1
             a.2,
       )
         where
-          no_end : (q : Read A) → read g k (Rule rule ∷ []) front ≡ Some q → can_end k q.left ≡ true → ⊥
+          no_end : (q : Read A) → read g k (Symbol.Rule rule ∷ []) front ≡ Some q → can_end k q.left ≡ true → ⊥
           no_end q i h =
               let same : r ≡ q = some_same (sym e ∙ i) in
               both_ways (can_end k q.left) (subst (λ t. can_end k t.left ≡ false) same (closed_is_open g k d r.left o)) h
@@ -179,7 +173,8 @@ module _ {A : Type 0} where
               some_same : Some r ≡ Some q → r ≡ q
               some_same j = cc
 
-      go : (n : ℕ) (front rest : List ℕ) (r : Read A) → length rest ≤ n → read g k (Rule rule ∷ []) front ≡ Some r → Closed g r.left →
+      go : (n : ℕ) (front rest : List ℕ) (r : Read A) → length rest ≤ n → read g k (Symbol.Rule rule ∷ []) front ≡ Some r →
+          Closed g r.left →
           (pieces : List Piece) × ArePieces g rule further pieces (front ++ rest)
       go n [] [] r l e o = ([], ended)
       go n (x ∷ front) [] r l e o = (
@@ -190,23 +185,24 @@ module _ {A : Type 0} where
       go zero front (a ∷ rest) r l e o = absurd (omega arith)
       go (suc n) front (a ∷ rest) r l e o = by_fit (λ f q s i j m. go n f q s i j m) (fits g k a r.left) refl
         where
-          by_fit : ((f q : List ℕ) (s : Read A) → length q ≤ n → read g k (Rule rule ∷ []) f ≡ Some s → Closed g s.left →
+          by_fit : ((f q : List ℕ) (s : Read A) → length q ≤ n → read g k (Symbol.Rule rule ∷ []) f ≡ Some s → Closed g s.left →
               (pieces : List Piece) × ArePieces g rule further pieces (f ++ q)) → (b : Bool) → fits g k a r.left ≡ b → (pieces : List Piece)
               × ArePieces g rule further pieces (front ++ a ∷ rest)
           by_fit on false f =
-              let on_from = on [] (drop (further front a rest) rest) (record { events = []; left = Rule rule ∷ [] })
+              let on_from = on [] (drop (further front a rest) rest) (record { events = []; left = Symbol.Rule rule ∷ [] })
               (omega (arith, l, length-drop (further front a rest) rest)) refl (deep, c) in
-              let none : Begins g (Rule rule ∷ []) (front ++ a ∷ []) → ⊥ =
-              λ h. both_ways (is_some (read g k (Rule rule ∷ []) (front ++ a ∷ [])))
-              (ap is_some (no_more g k front a (Rule rule ∷ []) r e f)) ((bad_tokens_begin_nothing g k rule (front ++ a ∷ []) d).1 h) in
+              let none : Begins g (Symbol.Rule rule ∷ []) (front ++ a ∷ []) → ⊥ =
+              λ h. both_ways (is_some (read g k (Symbol.Rule rule ∷ []) (front ++ a ∷ [])))
+              (ap is_some (no_more g k front a (Symbol.Rule rule ∷ []) r e f))
+              ((bad_tokens_begin_nothing g k rule (front ++ a ∷ []) d).1 h) in
               (Bad front a (take (further front a rest) rest) ∷ on_from.0, bad front a rest (is_open front r e o) none on_from.1)
-          by_fit on true f = by_left (one_more g k front a (Rule rule ∷ []) r e f) (closed_left g k d a (work k a r.left) r.left f o)
+          by_fit on true f = by_left (one_more g k front a (Symbol.Rule rule ∷ []) r e f) (closed_left g k d a (work k a r.left) r.left f o)
             where
-              by_left : OneMore g k (Rule rule ∷ []) front a (taken g k a r.left).left →
+              by_left : OneMore g k (Symbol.Rule rule ∷ []) front a (taken g k a r.left).left →
                   (((taken g k a r.left).left ≡ []) ⊎ Closed g (taken g k a r.left).left) →
                   (pieces : List Piece) × ArePieces g rule further pieces (front ++ a ∷ rest)
               by_left m (inl h) =
-                  let on_from = on [] rest (record { events = []; left = Rule rule ∷ [] }) (omega arith) refl (deep, c) in
+                  let on_from = on [] rest (record { events = []; left = Symbol.Rule rule ∷ [] }) (omega arith) refl (deep, c) in
                   let text : IsPiece g rule (front ++ a ∷ []) =
                   (sources_end g k rule (front ++ a ∷ []) d).1 (m.r, m.are, ap (can_end k) (m.same ∙ h)) in
                   (Whole (front ++ a ∷ []) ∷ on_from.0, whole front a rest (is_open front r e o) text on_from.1)

@@ -2,17 +2,14 @@
 use Rattle.std.proofs.Common.{◌≡◌, ℕ, zero, suc, ◌<◌, ◌≤◌, List, [], ◌∷◌, ◌++◌, Bool, true, false, ◌&&◌, ◌||◌, refl, sym, ◌∙◌, ap, subst}
 use Rattle.std.proofs.Common.{arith, bit_or, if◌then◌else◌, inl, inr}
 use Rattle.std.proofs.lemmas.Bool.{or_left, or_right, or_cases, and_parts, and_from, cond-true, cond-false, false_from_ne_true, both_ways}
-use Rattle.inf_machine.specs.declared.symbols.Symbol.{Symbol}
-use Rattle.inf_machine.specs.declared.symbols.Symbol.TheVariants.{Token, Rule, Act}
+use Rattle.inf_machine.specs.{Laws.IsDecided, Laws.IsSpaced, declared.symbols.Symbol.Symbol}
 use Rattle.inf_machine.specs.Grammar.{Grammar, Row, has, IsOneOf, Leads, token, action, row, Event, Did}
 use Rattle.inf_machine.specs.Machine.{Known, fits, can_end, empty_row, chosen, after, stepped, work, taken, events_of}
 use Rattle.inf_machine.specs.Decided.{is_within, beginning, is_followed, empty_rows}
-use Rattle.inf_machine.specs.Laws.{IsDecided, IsSpaced}
-use Rattle.inf_machine.proofs.Sets.{has_or, has_within}
-use Rattle.inf_machine.proofs.Rows.{fits_is_begun, fits_append, begun_is_chosen, begins_all, none_chooses_other, some_is_begun}
-use Rattle.inf_machine.proofs.Rows.{empty_counts, empty_is_chosen, some_is_empty}
-use Rattle.inf_machine.proofs.Deciding.{Decided, decided_parts, Sound, sound_parts, unless_of_begun, unless_of_other, unless_of_both}
-use Rattle.inf_machine.proofs.Deciding.{work_within, work_past}
+use Rattle.inf_machine.proofs.{Deciding.Decided, Deciding.Sound, Deciding.decided_parts, Deciding.sound_parts, Deciding.unless_of_begun}
+use Rattle.inf_machine.proofs.{Deciding.unless_of_both, Deciding.unless_of_other, Deciding.work_past, Deciding.work_within, Rows.begins_all}
+use Rattle.inf_machine.proofs.{Rows.begun_is_chosen, Rows.empty_counts, Rows.empty_is_chosen, Rows.fits_append, Rows.fits_is_begun}
+use Rattle.inf_machine.proofs.{Rows.none_chooses_other, Rows.some_is_begun, Rows.some_is_empty, Sets.has_or, Sets.has_within}
 
 module _ {A : Type 0} where
   -- The row that an atom chooses
@@ -23,10 +20,10 @@ module _ {A : Type 0} where
     pub is : chosen g k atom rule ≡ row.parts
     pub free : has row.unless atom ≡ false
     pub fits_on : fits g k atom (row.parts ++ symbols) ≡ true
-    pub less : work k atom (row.parts ++ symbols) < work k atom (Rule rule ∷ symbols)
+    pub less : work k atom (row.parts ++ symbols) < work k atom (Symbol.Rule rule ∷ symbols)
 
   pub choice : (g : Grammar A) (k : Known) → IsDecided g k → (atom rule : ℕ) (symbols : List (Symbol A)) →
-      fits g k atom (Rule rule ∷ symbols) ≡ true → Choice g k atom rule symbols
+      fits g k atom (Symbol.Rule rule ∷ symbols) ≡ true → Choice g k atom rule symbols
   choice g k d atom rule symbols f = by_begun (has (k.begins rule) atom) refl
     where
       rows : List (Row A)
@@ -77,13 +74,14 @@ module _ {A : Type 0} where
 
   -- an atom that fits a rule fits the row that it chooses
   pub chosen_fits : (g : Grammar A) (k : Known) → IsDecided g k → (atom rule : ℕ) (symbols : List (Symbol A)) →
-      fits g k atom (Rule rule ∷ symbols) ≡ true → fits g k atom (chosen g k atom rule ++ symbols) ≡ true
+      fits g k atom (Symbol.Rule rule ∷ symbols) ≡ true → fits g k atom (chosen g k atom rule ++ symbols) ≡ true
   chosen_fits g k d atom rule symbols f =
       let c = choice g k d atom rule symbols f in
       ap (λ parts. fits g k atom (parts ++ symbols)) c.is ∙ c.fits_on
 
   pub chosen_less : (g : Grammar A) (k : Known) → IsDecided g k → (atom rule : ℕ) (symbols : List (Symbol A)) →
-      fits g k atom (Rule rule ∷ symbols) ≡ true → work k atom (chosen g k atom rule ++ symbols) < work k atom (Rule rule ∷ symbols)
+      fits g k atom (Symbol.Rule rule ∷ symbols) ≡ true → work k atom (chosen g k atom rule ++ symbols) < work k atom
+      (Symbol.Rule rule ∷ symbols)
   chosen_less g k d atom rule symbols f =
       let c = choice g k d atom rule symbols f in
       let same : work k atom (chosen g k atom rule ++ symbols) ≡ work k atom (c.row.parts ++ symbols) =
@@ -96,9 +94,9 @@ module _ {A : Type 0} where
   pub some_work : (g : Grammar A) (k : Known) → IsDecided g k → (atom : ℕ) (symbols : List (Symbol A)) → fits g k atom symbols ≡ true →
       0 < work k atom symbols
   some_work g k d atom [] f = cc
-  some_work g k d atom (Token class ∷ symbols) f = omega arith
-  some_work g k d atom (Act a ∷ symbols) f = omega arith
-  some_work g k d atom (Rule rule ∷ symbols) f = omega (arith, chosen_less g k d atom rule symbols f)
+  some_work g k d atom (Symbol.Token class ∷ symbols) f = omega arith
+  some_work g k d atom (Symbol.Act a ∷ symbols) f = omega arith
+  some_work g k d atom (Symbol.Rule rule ∷ symbols) f = omega (arith, chosen_less g k d atom rule symbols f)
 
   -- more steps than enough change nothing
   pub enough : (g : Grammar A) (k : Known) → IsDecided g k → (atom n m : ℕ) (symbols : List (Symbol A)) → fits g k atom symbols ≡ true →
@@ -106,19 +104,21 @@ module _ {A : Type 0} where
   enough g k d atom zero m symbols f p q = absurd (omega (arith, some_work g k d atom symbols f))
   enough g k d atom (suc n) zero symbols f p q = absurd (omega (arith, some_work g k d atom symbols f))
   enough g k d atom (suc n) (suc m) [] f p q = refl
-  enough g k d atom (suc n) (suc m) (Token class ∷ symbols) f p q = refl
-  enough g k d atom (suc n) (suc m) (Act a ∷ symbols) f p q = ap (after a) (enough g k d atom n m symbols f (omega arith) (omega arith))
-  enough g k d atom (suc n) (suc m) (Rule rule ∷ symbols) f p q =
+  enough g k d atom (suc n) (suc m) (Symbol.Token class ∷ symbols) f p q = refl
+  enough g k d atom (suc n) (suc m) (Symbol.Act a ∷ symbols) f p q =
+      ap (after a) (enough g k d atom n m symbols f (omega arith) (omega arith))
+  enough g k d atom (suc n) (suc m) (Symbol.Rule rule ∷ symbols) f p q =
       let l = chosen_less g k d atom rule symbols f in
       enough g k d atom n m (chosen g k atom rule ++ symbols) (chosen_fits g k d atom rule symbols f) (omega (arith, l)) (omega (arith, l))
 
   -- a rule is replaced by the row that is chosen
   pub taken_row : (g : Grammar A) (k : Known) → IsDecided g k → (atom rule : ℕ) (symbols : List (Symbol A)) →
-      fits g k atom (Rule rule ∷ symbols) ≡ true → taken g k atom (Rule rule ∷ symbols) ≡ taken g k atom (chosen g k atom rule ++ symbols)
-  taken_row g k d atom rule symbols f = go (work k atom (Rule rule ∷ symbols)) (chosen_less g k d atom rule symbols f)
+      fits g k atom (Symbol.Rule rule ∷ symbols) ≡ true → taken g k atom (Symbol.Rule rule ∷ symbols) ≡ taken g k atom
+      (chosen g k atom rule ++ symbols)
+  taken_row g k d atom rule symbols f = go (work k atom (Symbol.Rule rule ∷ symbols)) (chosen_less g k d atom rule symbols f)
     where
       go : (n : ℕ) → work k atom (chosen g k atom rule ++ symbols) < n →
-          stepped g k atom n (Rule rule ∷ symbols) ≡ taken g k atom (chosen g k atom rule ++ symbols)
+          stepped g k atom n (Symbol.Rule rule ∷ symbols) ≡ taken g k atom (chosen g k atom rule ++ symbols)
       go zero l = absurd (omega arith)
       go (suc n) l = enough g k d atom n (work k atom (chosen g k atom rule ++ symbols)) (chosen g k atom rule ++ symbols)
           (chosen_fits g k d atom rule symbols f) (omega arith) (omega arith)
@@ -131,9 +131,9 @@ module _ {A : Type 0} where
       Leads g symbols (atom ∷ atoms) (events_of (stepped g k atom n symbols).actions atom ++ events) left
   leads_on g k d atom zero symbols w f l = absurd (omega (arith, some_work g k d atom symbols f))
   leads_on g k d atom (suc n) [] w f l = cc
-  leads_on g k d atom (suc n) (Token class ∷ symbols) w f l = token f l
-  leads_on g k d atom (suc n) (Act a ∷ symbols) w f l = action (leads_on g k d atom n symbols (omega arith) f l)
-  leads_on g k d atom (suc n) (Rule rule ∷ symbols) w f {atoms} {events} {left} l =
+  leads_on g k d atom (suc n) (Symbol.Token class ∷ symbols) w f l = token f l
+  leads_on g k d atom (suc n) (Symbol.Act a ∷ symbols) w f l = action (leads_on g k d atom n symbols (omega arith) f l)
+  leads_on g k d atom (suc n) (Symbol.Rule rule ∷ symbols) w f {atoms} {events} {left} l =
       let c = choice g k d atom rule symbols f in
       let less = chosen_less g k d atom rule symbols f in
       let on = leads_on g k d atom n (chosen g k atom rule ++ symbols) (omega (arith, less)) (chosen_fits g k d atom rule symbols f) l in
@@ -147,9 +147,9 @@ module _ {A : Type 0} where
   spaced_row : (g : Grammar A) (k : Known) (next : ℕ) (parts symbols : List (Symbol A)) → is_followed g k next parts ≡ true →
       ((atom : ℕ) → fits g k atom symbols ≡ true → has next atom ≡ true) → IsSpaced g k symbols → IsSpaced g k (parts ++ symbols)
   spaced_row g k next [] symbols e h s = s
-  spaced_row g k next (Token class ∷ parts) symbols e h s = spaced_row g k next parts symbols e h s
-  spaced_row g k next (Act a ∷ parts) symbols e h s = spaced_row g k next parts symbols e h s
-  spaced_row g k next (Rule rule ∷ parts) symbols e h s =
+  spaced_row g k next (Symbol.Token class ∷ parts) symbols e h s = spaced_row g k next parts symbols e h s
+  spaced_row g k next (Symbol.Act a ∷ parts) symbols e h s = spaced_row g k next parts symbols e h s
+  spaced_row g k next (Symbol.Rule rule ∷ parts) symbols e h s =
       let two = and_parts (is_within (if can_end k parts then bit_or (beginning g k parts) next else beginning g k parts) (k.follows rule))
       (is_followed g k next parts) e in (
         (λ atom f. has_within (if can_end k parts then bit_or (beginning g k parts) next else beginning g k parts) (k.follows rule) atom
@@ -173,7 +173,7 @@ module _ {A : Type 0} where
           ]
 
   pub spaced_choice : (g : Grammar A) (k : Known) → IsDecided g k → (rule : ℕ) (r : Row A) (symbols : List (Symbol A)) →
-      IsOneOf r (g.rows_of rule) → IsSpaced g k (Rule rule ∷ symbols) → IsSpaced g k (r.parts ++ symbols)
+      IsOneOf r (g.rows_of rule) → IsSpaced g k (Symbol.Rule rule ∷ symbols) → IsSpaced g k (r.parts ++ symbols)
   spaced_choice g k d rule r symbols m s =
       let of_rule = decided_parts g k rule (d rule) in
       let sound = sound_parts g k rule r (of_rule.sound r m) in
@@ -181,11 +181,11 @@ module _ {A : Type 0} where
 
   -- a row that the grammar takes before an atom is the row that the atom chooses
   pub record Only (g : Grammar A) (k : Known) (atom rule : ℕ) (r : Row A) (symbols : List (Symbol A)) : Type 0 where
-    pub fits_here : fits g k atom (Rule rule ∷ symbols) ≡ true
+    pub fits_here : fits g k atom (Symbol.Rule rule ∷ symbols) ≡ true
     pub is : chosen g k atom rule ≡ r.parts
 
   only : (g : Grammar A) (k : Known) → IsDecided g k → (atom rule : ℕ) (r : Row A) (symbols : List (Symbol A)) →
-      IsOneOf r (g.rows_of rule) → has r.unless atom ≡ false → IsSpaced g k (Rule rule ∷ symbols) →
+      IsOneOf r (g.rows_of rule) → has r.unless atom ≡ false → IsSpaced g k (Symbol.Rule rule ∷ symbols) →
       fits g k atom (r.parts ++ symbols) ≡ true → Only g k atom rule r symbols
   only g k d atom rule r symbols m free s f = by_begun (fits g k atom r.parts) refl
     where
@@ -244,7 +244,7 @@ module _ {A : Type 0} where
   leads_only g k d {atom} {atoms = atoms} (row {rule} {r} {symbols} {left} {events} m free l) s =
       let on = leads_only g k d l (spaced_choice g k d rule r symbols m s) in
       let o = only g k d atom rule r symbols m free s on.fits_here in
-      let same : taken g k atom (r.parts ++ symbols) ≡ taken g k atom (Rule rule ∷ symbols) =
+      let same : taken g k atom (r.parts ++ symbols) ≡ taken g k atom (Symbol.Rule rule ∷ symbols) =
       sym (taken_row g k d atom rule symbols o.fits_here ∙ ap (λ parts. taken g k atom (parts ++ symbols)) o.is) in
       record {
         fits_here = o.fits_here;
@@ -258,9 +258,9 @@ module _ {A : Type 0} where
       IsSpaced g k symbols → IsSpaced g k (stepped g k atom n symbols).left
   spaced_left g k d atom zero symbols f s = s
   spaced_left g k d atom (suc n) [] f s = s
-  spaced_left g k d atom (suc n) (Token class ∷ symbols) f s = s
-  spaced_left g k d atom (suc n) (Act a ∷ symbols) f s = spaced_left g k d atom n symbols f s
-  spaced_left g k d atom (suc n) (Rule rule ∷ symbols) f s =
+  spaced_left g k d atom (suc n) (Symbol.Token class ∷ symbols) f s = s
+  spaced_left g k d atom (suc n) (Symbol.Act a ∷ symbols) f s = spaced_left g k d atom n symbols f s
+  spaced_left g k d atom (suc n) (Symbol.Rule rule ∷ symbols) f s =
       let c = choice g k d atom rule symbols f in
       spaced_left g k d atom n (chosen g k atom rule ++ symbols) (chosen_fits g k d atom rule symbols f)
       (subst (λ parts. IsSpaced g k (parts ++ symbols)) (sym c.is) (spaced_choice g k d rule c.row symbols c.one s))

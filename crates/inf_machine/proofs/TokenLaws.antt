@@ -2,11 +2,9 @@
 use Rattle.std.proofs.Common.{◌≡◌, ℕ, List, [], ◌∷◌, ◌++◌, Bool, true, false, Option, Some, None, is_some, refl, sym, ◌∙◌, ap, subst, arith}
 use Rattle.std.proofs.Common.{append_assoc, if◌then◌else◌}
 use Rattle.std.proofs.lemmas.Bool.{cond-true}
-use Rattle.inf_machine.specs.declared.symbols.Symbol.{Symbol}
-use Rattle.inf_machine.specs.declared.symbols.Symbol.TheVariants.{Rule}
+use Rattle.inf_machine.specs.{Laws.BadTokensBeginNothing, Laws.IsDecided, Laws.IsSpaced, Laws.TextsAreTaken, declared.symbols.Symbol.Symbol}
 use Rattle.inf_machine.specs.Grammar.{Grammar, Leads, here, IsText, Begins, Event}
 use Rattle.inf_machine.specs.Machine.{Known, fits, taken, events_of, work, read, Read, behind}
-use Rattle.inf_machine.specs.Laws.{IsDecided, IsSpaced, BadTokensBeginNothing, TextsAreTaken}
 use Rattle.inf_machine.proofs.Taking.{leads_on, leads_only, spaced_left}
 
 module _ {A : Type 0} where
@@ -66,7 +64,7 @@ module _ {A : Type 0} where
 
   -- The laws
 
-  first_is_spaced : (g : Grammar A) (k : Known) (rule : ℕ) → IsSpaced g k (Rule rule ∷ [])
+  first_is_spaced : (g : Grammar A) (k : Known) (rule : ℕ) → IsSpaced g k (Symbol.Rule rule ∷ [])
   first_is_spaced g k rule = ((λ atom f. cc), tt)
 
   some_read : (o : Option (Read A)) → is_some o ≡ true → (r : Read A) × (o ≡ Some r)
@@ -76,23 +74,25 @@ module _ {A : Type 0} where
   pub bad_tokens_begin_nothing : BadTokensBeginNothing A
   bad_tokens_begin_nothing g k rule atoms d = (onward, back)
     where
-      onward : is_some (read g k (Rule rule ∷ []) atoms) ≡ true → Begins g (Rule rule ∷ []) atoms
+      onward : is_some (read g k (Symbol.Rule rule ∷ []) atoms) ≡ true → Begins g (Symbol.Rule rule ∷ []) atoms
       onward e =
-          let r = some_read (read g k (Rule rule ∷ []) atoms) e in
-          (r.0.events ++ [], r.0.left, all_lead g k d (Rule rule ∷ []) atoms r.0 r.1 here)
+          let r = some_read (read g k (Symbol.Rule rule ∷ []) atoms) e in
+          (r.0.events ++ [], r.0.left, all_lead g k d (Symbol.Rule rule ∷ []) atoms r.0 r.1 here)
 
-      back : Begins g (Rule rule ∷ []) atoms → is_some (read g k (Rule rule ∷ []) atoms) ≡ true
-      back b = ap is_some (takes_all g k d (Rule rule ∷ []) atoms (first_is_spaced g k rule) b.2).are
+      back : Begins g (Symbol.Rule rule ∷ []) atoms → is_some (read g k (Symbol.Rule rule ∷ []) atoms) ≡ true
+      back b = ap is_some (takes_all g k d (Symbol.Rule rule ∷ []) atoms (first_is_spaced g k rule) b.2).are
 
   pub texts_are_taken : TextsAreTaken A
   texts_are_taken g k rule atoms events d = (onward, back)
     where
-      onward : IsText g (Rule rule ∷ []) atoms events → (r : Read A) × (rest : List (Event A)) × (read g k (Rule rule ∷ []) atoms ≡ Some r)
+      onward : IsText g (Symbol.Rule rule ∷ []) atoms events →
+          (r : Read A) × (rest : List (Event A)) × (read g k (Symbol.Rule rule ∷ []) atoms ≡ Some r)
           × (events ≡ r.events ++ rest) × IsText g r.left [] rest
       onward t =
-          let a = takes_all g k d (Rule rule ∷ []) atoms (first_is_spaced g k rule) t in
+          let a = takes_all g k d (Symbol.Rule rule ∷ []) atoms (first_is_spaced g k rule) t in
           (a.r, a.rest, a.are, a.same, a.leads)
 
-      back : ((r : Read A) × (rest : List (Event A)) × (read g k (Rule rule ∷ []) atoms ≡ Some r) × (events ≡ r.events ++ rest) × IsText g
-          r.left [] rest) → IsText g (Rule rule ∷ []) atoms events
-      back t = subst (λ es. IsText g (Rule rule ∷ []) atoms es) (sym t.3) (all_lead g k d (Rule rule ∷ []) atoms t.0 t.2 t.4)
+      back : ((r : Read A) × (rest : List (Event A)) × (read g k (Symbol.Rule rule ∷ []) atoms ≡ Some r) ×
+          (events ≡ r.events ++ rest) × IsText g
+          r.left [] rest) → IsText g (Symbol.Rule rule ∷ []) atoms events
+      back t = subst (λ es. IsText g (Symbol.Rule rule ∷ []) atoms es) (sym t.3) (all_lead g k d (Symbol.Rule rule ∷ []) atoms t.0 t.2 t.4)

@@ -3,16 +3,12 @@
 use Rattle.std.proofs.Common.{◌≡◌, ℕ, zero, suc, ◌<◌, ◌≤◌, List, [], ◌∷◌, ◌++◌, Bool, true, false, ◌&&◌, refl, sym, ◌∙◌, ap, arith, bit_or}
 use Rattle.std.proofs.Common.{if◌then◌else◌, inl, inr}
 use Rattle.std.proofs.lemmas.Bool.{or_right, or_cases, or_parts, and_parts, and_from, cond-true, cond-false, false_from_ne_true, both_ways}
-use Rattle.inf_machine.specs.declared.symbols.Symbol.{Symbol}
-use Rattle.inf_machine.specs.declared.symbols.Symbol.TheVariants.{Token, Rule, Act}
+use Rattle.inf_machine.specs.{Decided.beginning, Decided.empty_rows, Laws.IsDecided, declared.symbols.Symbol.Symbol}
 use Rattle.inf_machine.specs.Grammar.{Grammar, Row, has}
 use Rattle.inf_machine.specs.Machine.{Known, fits, can_end, empty_row, chosen, work, taken, is_silent, depth, passed_row, way}
-use Rattle.inf_machine.specs.Decided.{beginning, empty_rows}
-use Rattle.inf_machine.specs.Laws.{IsDecided}
-use Rattle.inf_machine.proofs.Sets.{has_or}
+use Rattle.inf_machine.proofs.{Deciding.Decided, Deciding.decided_parts, Deciding.sound_parts, Sets.has_or, Taking.chosen_fits}
+use Rattle.inf_machine.proofs.{Taking.chosen_less, Taking.taken_row}
 use Rattle.inf_machine.proofs.Rows.{fits_is_begun, fits_append, begins_all, none_chooses_other, begun_whatever, some_is_empty}
-use Rattle.inf_machine.proofs.Deciding.{Decided, decided_parts, sound_parts}
-use Rattle.inf_machine.proofs.Taking.{chosen_fits, chosen_less, taken_row}
 
 module _ {A : Type 0} where
   -- the facts about a rule that can be empty, before an atom that does not begin it
@@ -47,21 +43,21 @@ module _ {A : Type 0} where
       is_silent g k n symbols ≡ true → can_end k symbols ≡ true → has (beginning g k symbols) atom ≡ false → fits g k atom rest ≡ true →
       taken g k atom (symbols ++ rest) ≡ taken g k atom rest
   silent_passes g k d atom n [] rest s e h f = refl
-  silent_passes g k d atom n (Token class ∷ symbols) rest s e h f = cc
-  silent_passes g k d atom n (Act a ∷ symbols) rest s e h f = cc
-  silent_passes g k d atom zero (Rule rule ∷ symbols) rest s e h f = cc
-  silent_passes g k d atom (suc n) (Rule rule ∷ symbols) rest s e h f =
+  silent_passes g k d atom n (Symbol.Token class ∷ symbols) rest s e h f = cc
+  silent_passes g k d atom n (Symbol.Act a ∷ symbols) rest s e h f = cc
+  silent_passes g k d atom zero (Symbol.Rule rule ∷ symbols) rest s e h f = cc
+  silent_passes g k d atom (suc n) (Symbol.Rule rule ∷ symbols) rest s e h f =
       let empty = empty_row k (g.rows_of rule) in
       let still = and_parts (is_silent g k n empty) (is_silent g k (suc n) symbols) s in
       let ends = and_parts (k.is_empty rule) (can_end k symbols) e in
-      let whole : beginning g k (Rule rule ∷ symbols) ≡ bit_or (k.begins rule) (beginning g k symbols) =
+      let whole : beginning g k (Symbol.Rule rule ∷ symbols) ≡ bit_or (k.begins rule) (beginning g k symbols) =
       cond-true {A = ℕ} (k.is_empty rule) (bit_or (k.begins rule) (beginning g k symbols)) (k.begins rule) ends.0 in
       let none = or_parts (has (k.begins rule) atom) (has (beginning g k symbols) atom)
       (sym (has_or (k.begins rule) (beginning g k symbols) atom) ∙ ap (λ s. has s atom) (sym whole) ∙ h) in
       let fits_behind : fits g k atom (symbols ++ rest) ≡ true =
       fits_append g k atom symbols rest ∙ or_right (fits g k atom symbols) (can_end k symbols && fits g k atom rest)
       (and_from (can_end k symbols) (fits g k atom rest) ends.1 f) in
-      let fits_here : fits g k atom (Rule rule ∷ (symbols ++ rest)) ≡ true =
+      let fits_here : fits g k atom (Symbol.Rule rule ∷ (symbols ++ rest)) ≡ true =
       or_right (has (k.begins rule) atom) (k.is_empty rule && fits g k atom (symbols ++ rest))
       (and_from (k.is_empty rule) (fits g k atom (symbols ++ rest)) ends.0 fits_behind) in
       let p = passed g k d atom rule none.0 ends.0 in
@@ -73,12 +69,12 @@ module _ {A : Type 0} where
   -- the facts about the symbols that are put in place of a rule before an atom that fits
   pub record Way (g : Grammar A) (k : Known) (atom rule : ℕ) (symbols : List (Symbol A)) : Type 0 where
     pub fits_on : fits g k atom (way g k atom rule ++ symbols) ≡ true
-    pub less : work k atom (way g k atom rule ++ symbols) < work k atom (Rule rule ∷ symbols)
-    pub same : taken g k atom (Rule rule ∷ symbols) ≡ taken g k atom (way g k atom rule ++ symbols)
+    pub less : work k atom (way g k atom rule ++ symbols) < work k atom (Symbol.Rule rule ∷ symbols)
+    pub same : taken g k atom (Symbol.Rule rule ∷ symbols) ≡ taken g k atom (way g k atom rule ++ symbols)
 
   -- the chosen row can take the place of its rule
   as_chosen : (g : Grammar A) (k : Known) → IsDecided g k → (atom rule : ℕ) (symbols : List (Symbol A)) →
-      fits g k atom (Rule rule ∷ symbols) ≡ true → way g k atom rule ≡ chosen g k atom rule → Way g k atom rule symbols
+      fits g k atom (Symbol.Rule rule ∷ symbols) ≡ true → way g k atom rule ≡ chosen g k atom rule → Way g k atom rule symbols
   as_chosen g k d atom rule symbols f e =
       let as_work : work k atom (way g k atom rule ++ symbols) ≡ work k atom (chosen g k atom rule ++ symbols) =
       ap (λ parts. work k atom (parts ++ symbols)) e in
@@ -90,7 +86,7 @@ module _ {A : Type 0} where
 
   -- nothing can take the place of a rule that is passed over without an action
   as_nothing : (g : Grammar A) (k : Known) → IsDecided g k → (atom rule : ℕ) (symbols : List (Symbol A)) →
-      fits g k atom (Rule rule ∷ symbols) ≡ true → has (k.begins rule) atom ≡ false →
+      fits g k atom (Symbol.Rule rule ∷ symbols) ≡ true → has (k.begins rule) atom ≡ false →
       is_silent g k depth (empty_row k (g.rows_of rule)) ≡ true → way g k atom rule ≡ [] → Way g k atom rule symbols
   as_nothing g k d atom rule symbols f not_it silent e =
       let two = elim (or_cases (has (k.begins rule) atom) (k.is_empty rule && fits g k atom symbols) f)
@@ -113,7 +109,7 @@ module _ {A : Type 0} where
       }
 
   pub way_on : (g : Grammar A) (k : Known) → IsDecided g k → (atom rule : ℕ) (symbols : List (Symbol A)) →
-      fits g k atom (Rule rule ∷ symbols) ≡ true → Way g k atom rule symbols
+      fits g k atom (Symbol.Rule rule ∷ symbols) ≡ true → Way g k atom rule symbols
   way_on g k d atom rule symbols f = by_begun (has (k.begins rule) atom) refl
     where
       rows : List (Row A)

@@ -1,9 +1,6 @@
 -- The property of a grammar's table by which one token decides. It is computed, rule by rule.
 use Rattle.std.specs.Prelude.{ℕ, ◌+◌, List, [], ◌∷◌, Bool, true, ◌&&◌, ◌==◌, nat_lt, if◌then◌else◌, suc, bit_or, bit_and}
-use Rattle.inf_machine.specs.declared.symbols.Symbol.{Symbol}
-use Rattle.inf_machine.specs.declared.symbols.Symbol.TheVariants.{Token, Rule, Act}
-use Rattle.inf_machine.specs.Grammar.{Grammar, Row}
-use Rattle.inf_machine.specs.Machine.{Known, can_end}
+use Rattle.inf_machine.specs.{Grammar.Grammar, Grammar.Row, Machine.Known, Machine.can_end, declared.symbols.Symbol.Symbol}
 
 -- tells whether a set is a part of another
 abbrev pub is_within : ℕ → ℕ → Bool
@@ -12,9 +9,9 @@ is_within inner outer = bit_or inner outer == outer
 -- the atoms that begin symbols
 abbrev pub beginning : {A : Type 0} → Grammar A → Known → List (Symbol A) → ℕ
 beginning g k [] = 0
-beginning g k (Token class ∷ symbols) = g.atoms_of class
-beginning g k (Act a ∷ symbols) = beginning g k symbols
-beginning g k (Rule rule ∷ symbols) = if k.is_empty rule then bit_or (k.begins rule) (beginning g k symbols) else k.begins rule
+beginning g k (Symbol.Token class ∷ symbols) = g.atoms_of class
+beginning g k (Symbol.Act a ∷ symbols) = beginning g k symbols
+beginning g k (Symbol.Rule rule ∷ symbols) = if k.is_empty rule then bit_or (k.begins rule) (beginning g k symbols) else k.begins rule
 
 -- the atoms that begin any of the rows
 abbrev pub all_beginnings : {A : Type 0} → Grammar A → Known → List (Row A) → ℕ
@@ -35,18 +32,18 @@ empty_rows k (row ∷ rows) = (if can_end k row.parts then 1 else 0) + empty_row
 -- tells whether all atoms that follow a rule among the symbols are known to follow it, where the atoms `next` come behind the symbols
 abbrev pub is_followed : {A : Type 0} → Grammar A → Known → ℕ → List (Symbol A) → Bool
 is_followed g k next [] = true
-is_followed g k next (Token class ∷ symbols) = is_followed g k next symbols
-is_followed g k next (Act a ∷ symbols) = is_followed g k next symbols
-is_followed g k next (Rule rule ∷ symbols) =
+is_followed g k next (Symbol.Token class ∷ symbols) = is_followed g k next symbols
+is_followed g k next (Symbol.Act a ∷ symbols) = is_followed g k next symbols
+is_followed g k next (Symbol.Rule rule ∷ symbols) =
     is_within (if can_end k symbols then bit_or (beginning g k symbols) next else beginning g k symbols) (k.follows rule)
     && is_followed g k next symbols
 
 -- a bound on the steps through symbols to a token
 abbrev pub steps_through : {A : Type 0} → Known → List (Symbol A) → ℕ
 steps_through k [] = 0
-steps_through k (Token class ∷ symbols) = 1
-steps_through k (Act a ∷ symbols) = suc (steps_through k symbols)
-steps_through k (Rule rule ∷ symbols) = k.steps rule + (if k.is_empty rule then steps_through k symbols else 0)
+steps_through k (Symbol.Token class ∷ symbols) = 1
+steps_through k (Symbol.Act a ∷ symbols) = suc (steps_through k symbols)
+steps_through k (Symbol.Rule rule ∷ symbols) = k.steps rule + (if k.is_empty rule then steps_through k symbols else 0)
 
 -- Tells whether a row is fit for its rule. If it can be empty, the atoms before which it is not taken begin the rule, and each atom
 -- that both begins the rule and may follow it is one of them; where there are any, no atom begins the row. If it cannot be empty

@@ -2,7 +2,6 @@
 use Rattle.std.specs.Prelude.{◌≡◌, ℕ, List, [], ◌∷◌, ◌++◌, Bool, true, false, ◌==◌}
 use Rattle.std.specs.Int.{bit_at}
 use Rattle.inf_machine.specs.declared.symbols.Symbol.{Symbol}
-use Rattle.inf_machine.specs.declared.symbols.Symbol.TheVariants.{Token, Rule, Act}
 
 -- A set of atoms is a number: its bit `atom` says whether the atom is in it.
 abbrev pub has : ℕ → ℕ → Bool
@@ -38,11 +37,11 @@ pub data Leads {A : Type 0} (g : Grammar A) : List (Symbol A) → List ℕ → L
   here : {symbols : List (Symbol A)} → Leads g symbols [] [] symbols
   token : {class atom : ℕ} {symbols left : List (Symbol A)} {atoms : List ℕ} {events : List (Event A)} →
       has (g.atoms_of class) atom ≡ true → Leads g symbols atoms events left →
-      Leads g (Token class ∷ symbols) (atom ∷ atoms) (Took atom ∷ events) left
+      Leads g (Symbol.Token class ∷ symbols) (atom ∷ atoms) (Took atom ∷ events) left
   action : {a : A} {symbols left : List (Symbol A)} {atoms : List ℕ} {events : List (Event A)} → Leads g symbols atoms events left →
-      Leads g (Act a ∷ symbols) atoms (Did a ∷ events) left
+      Leads g (Symbol.Act a ∷ symbols) atoms (Did a ∷ events) left
   row : {rule : ℕ} {r : Row A} {symbols left : List (Symbol A)} {atoms : List ℕ} {events : List (Event A)} → IsOneOf r (g.rows_of rule) →
-      IsNext_not r.unless atoms → Leads g (r.parts ++ symbols) atoms events left → Leads g (Rule rule ∷ symbols) atoms events left
+      IsNext_not r.unless atoms → Leads g (r.parts ++ symbols) atoms events left → Leads g (Symbol.Rule rule ∷ symbols) atoms events left
 
 -- The tokens are a text of the symbols, with these events: no symbol is left.
 abbrev pub IsText : {A : Type 0} → Grammar A → List (Symbol A) → List ℕ → List (Event A) → Type 0

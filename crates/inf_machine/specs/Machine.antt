@@ -3,7 +3,6 @@
 -- empty, by which one atom decides the row.
 use Rattle.std.specs.Prelude.{ℕ, ◌+◌, List, [], ◌∷◌, ◌++◌, Bool, true, false, ◌&&◌, ◌||◌, if◌then◌else◌, zero, suc, Option, Some, None}
 use Rattle.inf_machine.specs.declared.symbols.Symbol.{Symbol}
-use Rattle.inf_machine.specs.declared.symbols.Symbol.TheVariants.{Token, Rule, Act}
 use Rattle.inf_machine.specs.Grammar.{Grammar, Row, has, Event, Took, Did}
 
 -- The facts that the machine knows of each rule: the atoms that begin it, those that may follow it where it can be empty, whether
@@ -17,16 +16,16 @@ pub record Known : Type 0 where
 -- tells whether an atom fits the symbols: the first, or one behind symbols that can be empty
 abbrev pub fits : {A : Type 0} → Grammar A → Known → ℕ → List (Symbol A) → Bool
 fits g k atom [] = false
-fits g k atom (Token class ∷ symbols) = has (g.atoms_of class) atom
-fits g k atom (Act a ∷ symbols) = fits g k atom symbols
-fits g k atom (Rule rule ∷ symbols) = has (k.begins rule) atom || (k.is_empty rule && fits g k atom symbols)
+fits g k atom (Symbol.Token class ∷ symbols) = has (g.atoms_of class) atom
+fits g k atom (Symbol.Act a ∷ symbols) = fits g k atom symbols
+fits g k atom (Symbol.Rule rule ∷ symbols) = has (k.begins rule) atom || (k.is_empty rule && fits g k atom symbols)
 
 -- tells whether the symbols can be empty
 abbrev pub can_end : {A : Type 0} → Known → List (Symbol A) → Bool
 can_end k [] = true
-can_end k (Token class ∷ symbols) = false
-can_end k (Act a ∷ symbols) = can_end k symbols
-can_end k (Rule rule ∷ symbols) = k.is_empty rule && can_end k symbols
+can_end k (Symbol.Token class ∷ symbols) = false
+can_end k (Symbol.Act a ∷ symbols) = can_end k symbols
+can_end k (Symbol.Rule rule ∷ symbols) = k.is_empty rule && can_end k symbols
 
 -- the row that can be empty
 abbrev pub empty_row : {A : Type 0} → Known → List (Row A) → List (Symbol A)
@@ -45,10 +44,10 @@ chosen g k atom rule = row_for g k atom (empty_row k (g.rows_of rule)) (g.rows_o
 -- tells whether symbols that can be empty have no action on the way through them, as far as `n` rules deep shows it
 abbrev pub is_silent : {A : Type 0} → Grammar A → Known → ℕ → List (Symbol A) → Bool
 is_silent g k n [] = true
-is_silent g k n (Token class ∷ symbols) = false
-is_silent g k n (Act a ∷ symbols) = false
-is_silent g k zero (Rule rule ∷ symbols) = false
-is_silent g k (suc n) (Rule rule ∷ symbols) = is_silent g k n (empty_row k (g.rows_of rule)) && is_silent g k (suc n) symbols
+is_silent g k n (Symbol.Token class ∷ symbols) = false
+is_silent g k n (Symbol.Act a ∷ symbols) = false
+is_silent g k zero (Symbol.Rule rule ∷ symbols) = false
+is_silent g k (suc n) (Symbol.Rule rule ∷ symbols) = is_silent g k n (empty_row k (g.rows_of rule)) && is_silent g k (suc n) symbols
 
 -- the depth to which rules are searched for actions
 abbrev pub depth : ℕ
@@ -61,16 +60,16 @@ passed_row g k rows = if is_silent g k depth (empty_row k rows) then [] else emp
 -- tells whether symbols are actions alone
 abbrev pub are_acts : {A : Type 0} → List (Symbol A) → Bool
 are_acts [] = true
-are_acts (Token class ∷ symbols) = false
-are_acts (Rule rule ∷ symbols) = false
-are_acts (Act a ∷ symbols) = are_acts symbols
+are_acts (Symbol.Token class ∷ symbols) = false
+are_acts (Symbol.Rule rule ∷ symbols) = false
+are_acts (Symbol.Act a ∷ symbols) = are_acts symbols
 
 -- the actions among symbols
 abbrev pub acts_of : {A : Type 0} → List (Symbol A) → List A
 acts_of [] = []
-acts_of (Token class ∷ symbols) = acts_of symbols
-acts_of (Rule rule ∷ symbols) = acts_of symbols
-acts_of (Act a ∷ symbols) = a ∷ acts_of symbols
+acts_of (Symbol.Token class ∷ symbols) = acts_of symbols
+acts_of (Symbol.Rule rule ∷ symbols) = acts_of symbols
+acts_of (Symbol.Act a ∷ symbols) = a ∷ acts_of symbols
 
 -- the symbols that the machine puts in place of a rule before an atom: the row that the atom begins, else those of the rule passed over
 abbrev pub way : {A : Type 0} → Grammar A → Known → ℕ → ℕ → List (Symbol A)
@@ -88,16 +87,16 @@ after a t = record { actions = a ∷ t.actions; left = t.left }
 abbrev pub stepped : {A : Type 0} → Grammar A → Known → ℕ → ℕ → List (Symbol A) → Taken A
 stepped g k atom zero symbols = record { actions = []; left = symbols }
 stepped g k atom (suc n) [] = record { actions = []; left = [] }
-stepped g k atom (suc n) (Token class ∷ symbols) = record { actions = []; left = symbols }
-stepped g k atom (suc n) (Act a ∷ symbols) = after a (stepped g k atom n symbols)
-stepped g k atom (suc n) (Rule rule ∷ symbols) = stepped g k atom n (chosen g k atom rule ++ symbols)
+stepped g k atom (suc n) (Symbol.Token class ∷ symbols) = record { actions = []; left = symbols }
+stepped g k atom (suc n) (Symbol.Act a ∷ symbols) = after a (stepped g k atom n symbols)
+stepped g k atom (suc n) (Symbol.Rule rule ∷ symbols) = stepped g k atom n (chosen g k atom rule ++ symbols)
 
 -- a number of steps that is enough
 abbrev pub work : {A : Type 0} → Known → ℕ → List (Symbol A) → ℕ
 work k atom [] = 0
-work k atom (Token class ∷ symbols) = 1
-work k atom (Act a ∷ symbols) = suc (work k atom symbols)
-work k atom (Rule rule ∷ symbols) = k.steps rule + (if has (k.begins rule) atom then 0 else work k atom symbols)
+work k atom (Symbol.Token class ∷ symbols) = 1
+work k atom (Symbol.Act a ∷ symbols) = suc (work k atom symbols)
+work k atom (Symbol.Rule rule ∷ symbols) = k.steps rule + (if has (k.begins rule) atom then 0 else work k atom symbols)
 
 -- the result of taking an atom that fits
 abbrev pub taken : {A : Type 0} → Grammar A → Known → ℕ → List (Symbol A) → Taken A
@@ -105,7 +104,7 @@ taken g k atom symbols = stepped g k atom (work k atom symbols) symbols
 
 -- the result of taking an atom where a rule that it begins is at hand, whatever comes behind the rule
 abbrev pub opened : {A : Type 0} → Grammar A → Known → ℕ → ℕ → Taken A
-opened g k rule atom = taken g k atom (Rule rule ∷ [])
+opened g k rule atom = taken g k atom (Symbol.Rule rule ∷ [])
 
 -- the events of actions and of a token behind them
 abbrev pub events_of : {A : Type 0} → List A → ℕ → List (Event A)

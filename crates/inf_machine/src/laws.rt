@@ -1,6 +1,5 @@
 //! Laws of grammars and of the machine. The contract of each function is a law, for any type of actions; its body does nothing.
-ghost use Rattle.inf_machine.specs.Laws.{BadTokensBeginNothing, TextsAreTaken, SourcesEnd};
-ghost use Rattle.inf_machine.specs.Pieces.{SourcesArePieces};
+ghost use Rattle.inf_machine.specs.{Laws.BadTokensBeginNothing, Laws.SourcesEnd, Laws.TextsAreTaken, Pieces.SourcesArePieces};
 
 /// Shows for each grammar in which one token decides: tokens are all taken exactly where they begin a text. Thus the bad token is
 /// the first with which the tokens begin none.

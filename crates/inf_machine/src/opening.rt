@@ -1,7 +1,6 @@
 //! The openings of rules by the atoms that begin them.
 ghost use Rattle.std.specs.Prelude.{◌≡◌, [], ◌∷◌, ◌↔◌, ◌++◌, IsTrue, IfOk, OnOk, reverse, true};
-ghost use Rattle.inf_machine.specs.Grammar.{has};
-ghost use Rattle.inf_machine.specs.Machine.{fits, taken, opened};
+ghost use Rattle.inf_machine.specs.{Grammar.has, Machine.fits, Machine.opened, Machine.taken};
 
 use crate::stack::Stack;
 use crate::symbols::Symbol;

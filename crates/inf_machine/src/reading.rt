@@ -1,7 +1,6 @@
 //! Questions about a stack of symbols, which the table of a grammar answers.
 ghost use Rattle.std.specs.Prelude.{◌≡◌, ◌∷◌, ◌&&◌, List, reverse, unwrap_or};
-ghost use Rattle.inf_machine.specs.Machine.{fits, can_end};
-ghost use Rattle.inf_machine.specs.declared.symbols.Symbol.{Symbol};
+ghost use Rattle.inf_machine.specs.{Machine.can_end, Machine.fits, declared.symbols.Symbol.Symbol};
 
 use crate::symbols::Symbol;
 use crate::table::Table;

@@ -1,7 +1,6 @@
 //! Questions of a machine to the table of a grammar.
 ghost use Rattle.std.specs.Prelude.{◌≡◌, reverse, true};
-ghost use Rattle.inf_machine.specs.Grammar.{Grammar, has};
-ghost use Rattle.inf_machine.specs.Laws.{IsDecided};
+ghost use Rattle.inf_machine.specs.{Grammar.Grammar, Grammar.has, Laws.IsDecided};
 ghost use Rattle.inf_machine.specs.Machine.{Known, are_acts, passed_row, way};
 
 use crate::symbols::Symbol;

@@ -3,33 +3,25 @@ use Rattle.std.proofs.Common.{arith, ◌≡◌, ◌≤◌, ℕ, List, [], ◌∷
 use Rattle.std.proofs.lemmas.Bool.{eq-eqb}
 use Rattle.std.specs.Prelude.{length, not, ◌+◌, ◌==◌, ◌||◌, if◌then◌else◌}
 use Rattle.inf_settings.specs.Bounds.{Limits}
-use Rattle.inf_opcode.specs.declared.instructions.Label.{Label}
-use Rattle.inf_opcode.specs.declared.opcodes.Opcode.TheVariants as opcode
-use Rattle.inf_expressions.specs.declared.operators.Operand.{Operand}
-use Rattle.inf_expressions.specs.declared.operators.Operand.TheVariants as operand
-use Rattle.inf_expressions.specs.declared.operators.Direction.{Direction}
-use Rattle.inf_expressions.specs.declared.operators.Direction.TheVariants as step
-use Rattle.inf_expressions.specs.declared.operators.Unary.TheVariants as unary
-use Rattle.inf_expressions.specs.declared.operators.Binary.TheVariants as binary
-use Rattle.inf_expressions.specs.Trees.{Leaf}
+use Rattle.inf_opcode.specs.{declared.instructions.Label.Label, declared.opcodes.Opcode.Opcode}
+use Rattle.inf_expressions.specs.{Trees.Leaf, declared.operators.Binary.Binary, declared.operators.Direction.Direction}
+use Rattle.inf_expressions.specs.{declared.operators.Operand.Operand, declared.operators.Unary.Unary}
 use Rattle.inf_output.specs.Output.{Code, nothing, ◌▸◌}
-use Rattle.inf_templates.specs.Parts.{Part, call_routine, evaluated, is, load, operands, put}
-use Rattle.inf_templates.specs.Parts.{simple}
+use Rattle.inf_templates.specs.Parts.{Part, call_routine, evaluated, is, load, operands, put, simple}
 use Rattle.inf_templates.specs.Meaning.{Meaning, InMemory, meaning, part}
 use Rattle.inf_templates.specs.Meaning as code
 use Rattle.inf_interpreter.specs.Machine.{World, Store, State, Place, ◌then◌, given, with_variable}
+use Rattle.inf_interpreter.specs.Claims.{Comes, Kept, state}
 use Rattle.inf_meaning_laws.specs.Values.{forgotten, Width, Bytes, Words, Properties, Named, Element, Arg, Sense, Taker, answer, arg}
 use Rattle.inf_meaning_laws.specs.Values.{is_own, leaf_value, nobody, number, sense}
-use Rattle.inf_meaning_laws.specs.Values as values
-use Rattle.inf_interpreter.specs.Claims.{Comes, Kept, state}
 use Rattle.inf_meaning_laws.specs.Laws.{GivesNothing, GivesValue, taken, taker}
+use Rattle.inf_meaning_laws.specs.Values as values
 use Rattle.inf_interpreter.proofs.Laying.{Always, so, then_}
 use Rattle.inf_interpreter.proofs.Running.{comes_then, kept_here, none_some, opened, same_some}
-use Rattle.inf_meaning_laws.proofs.Working.{AreParts, IsPart}
+use Rattle.inf_meaning_laws.proofs.{Groups.same_length, Supplying.supplied_means, Supplying.writes_property, Working.AreParts}
+use Rattle.inf_meaning_laws.proofs.{Working.IsPart}
 use Rattle.inf_meaning_laws.proofs.Instructions.{given_taken, left_as, finish, load_, step_, writes_}
 use Rattle.inf_meaning_laws.proofs.Meant.{memory_of, part_of, leaf_put, leaf_alone, simple_part, valued_means, Means}
-use Rattle.inf_meaning_laws.proofs.Groups.{same_length}
-use Rattle.inf_meaning_laws.proofs.Supplying.{supplied_means, writes_property}
 
 pub taken_own : (v n : ℕ) (stack : List ℕ) (left : ℕ) (s : Store) → is_own v ≡ false → taken v n stack left s ≡ state stack left s
 taken_own v n stack left s e = ap (λ b. if b then given v n (state stack left s) else state stack left s) e
@@ -96,17 +88,17 @@ silent_assigned {keeps} w limits m a h =
     (so (λ at from to p stack temp s t e. none_some e) h.alone)
 
 pub assign_means : {keeps : Bool} (w : World) (limits : Limits) (x : Operand) (m : Meaning) (a : Sense) → Means keeps w limits m a →
-    Means keeps w limits (code.two limits binary.Assign (meaning limits (Leaf x)) m) (values.two w binary.Assign (sense w (Leaf x)) a)
+    Means keeps w limits (code.two limits Binary.Assign (meaning limits (Leaf x)) m) (values.two w Binary.Assign (sense w (Leaf x)) a)
 unfolding code.assign_value code.assign_alone
-assign_means {keeps} w limits (operand.Variable v) m a h =
+assign_means {keeps} w limits (Operand.Variable v) m a h =
     subst (λ e. Means keeps w limits (code.valued limits (λ d. m.value v ▸ load limits v d) (m.value v)) e)
     (assigned_valued w v (is_own v) a)
     (valued_means w limits (values.assigned w (values.aim_at v (is_own v)) a).value (λ d. m.value v ▸ load limits v d) (m.value v)
     (assigned_value w limits v (is_own v) refl m a h) (assigned_alone w limits v (is_own v) refl m a h))
-assign_means {keeps} w limits (operand.Known n) m a h = silent_assigned w limits m a h
-assign_means {keeps} w limits (operand.Later n) m a h = silent_assigned w limits m a h
-assign_means {keeps} w limits (operand.Function n) m a h = silent_assigned w limits m a h
-assign_means {keeps} w limits operand.Unknown m a h = silent_assigned w limits m a h
+assign_means {keeps} w limits (Operand.Known n) m a h = silent_assigned w limits m a h
+assign_means {keeps} w limits (Operand.Later n) m a h = silent_assigned w limits m a h
+assign_means {keeps} w limits (Operand.Function n) m a h = silent_assigned w limits m a h
+assign_means {keeps} w limits Operand.Unknown m a h = silent_assigned w limits m a h
 
 -- Elements of arrays and properties of objects
 pub are_joined : (keeps : Bool) (w : World) (ps : List Part) (args : List Arg) (qs : List Part) (others : List Arg) →
@@ -134,13 +126,13 @@ stepper_is Properties = refl
 element_alone : (keeps : Bool) (w : World) (limits : Limits) (width : Width) (ps : List Part) (args : List Arg) →
     AreParts keeps w ps args → length ps ≤ 7 →
     Always w (evaluated ps ▸ code.stored limits (memory_of width) (operands ps)) (GivesNothing w (values.element_assigned w width args))
-element_alone keeps w limits Bytes ps args h few = writes_ keeps w limits opcode.Storeb (values.with_element w Bytes) ps args refl h
-element_alone keeps w limits Words ps args h few = writes_ keeps w limits opcode.Storew (values.with_element w Words) ps args refl h
+element_alone keeps w limits Bytes ps args h few = writes_ keeps w limits Opcode.Storeb (values.with_element w Bytes) ps args refl h
+element_alone keeps w limits Words ps args h few = writes_ keeps w limits Opcode.Storew (values.with_element w Words) ps args refl h
 element_alone keeps w limits Properties ps args h few = writes_property keeps w limits ps args h few
 
 pub element_means : (keeps : Bool) (w : World) (limits : Limits) (width : Width) (args : List Arg) (n : Meaning) (b : Sense) →
     b.aim ≡ Element width args → length args ≡ 2 → (m : Meaning) (a : Sense) → Means keeps w limits n b → Means keeps w limits m a →
-    Means false w limits (code.two limits binary.Assign n m) (values.assigned w (Element width args) a)
+    Means false w limits (code.two limits Binary.Assign n m) (values.assigned w (Element width args) a)
 unfolding code.assign_value code.assign_alone
 element_means keeps w limits width args n b e two m a k h =
     let q = k.aims width args e in
@@ -168,16 +160,16 @@ element_means keeps w limits width args n b e two m a k h =
 
 -- the size of a step, and whether it answers the new value
 by_part : {keeps : Bool} (w : World) (how : Direction) → IsPart keeps w (is (code.by how)) (number (values.step_by how))
-by_part w step.Up = simple_part w (operand.Known 1) (λ s. Some (1, s))
-by_part w step.Down = simple_part w (operand.Known 65535) (λ s. Some (65535, s))
+by_part w Direction.Up = simple_part w (Operand.Known 1) (λ s. Some (1, s))
+by_part w Direction.Down = simple_part w (Operand.Known 65535) (λ s. Some (65535, s))
 
 abbrev pub new_of : Bool → ℕ
 new_of true = 1
 new_of false = 0
 
 new_part : {keeps : Bool} (w : World) (before : Bool) → IsPart keeps w (is (code.leaves_new before)) (number (new_of before))
-new_part w true = simple_part w (operand.Known 1) (λ s. Some (1, s))
-new_part w false = simple_part w (operand.Known 0) (λ s. Some (0, s))
+new_part w true = simple_part w (Operand.Known 1) (λ s. Some (1, s))
+new_part w false = simple_part w (Operand.Known 0) (λ s. Some (0, s))
 
 pub element_steps : (keeps : Bool) (w : World) (limits : Limits) (before : Bool) (how : Direction) (width : Width) (args : List Arg)
     (n : Meaning) (b : Sense) → b.aim ≡ Element width args → length args ≡ 2 → Means keeps w limits n b →
@@ -285,31 +277,31 @@ step_alone_behind w limits how v false own =
     (step_ w limits how v)
 
 pub before_means : {keeps : Bool} (w : World) (limits : Limits) (how : Direction) (x : Operand) →
-    Means keeps w limits (code.one limits (unary.Before how) (meaning limits (Leaf x))) (values.one w (unary.Before how) (sense w (Leaf x)))
+    Means keeps w limits (code.one limits (Unary.Before how) (meaning limits (Leaf x))) (values.one w (Unary.Before how) (sense w (Leaf x)))
 unfolding code.step_value code.step_alone
-before_means {keeps} w limits how (operand.Variable v) =
+before_means {keeps} w limits how (Operand.Variable v) =
     subst (λ e. Means keeps w limits (code.valued limits (λ d. code.stepping limits how v ▸ load limits v d)
     (code.stepping limits how v)) e)
     (before_valued w how v (is_own v))
     (valued_means w limits (values.stepped_before w how (values.aim_at v (is_own v))).value
     (λ d. code.stepping limits how v ▸ load limits v d)
     (code.stepping limits how v) (before_value w limits how v (is_own v) refl) (step_alone w limits how v (is_own v) refl))
-before_means {keeps} w limits how (operand.Known n) = silent_leaf w limits (operand.Known n)
-before_means {keeps} w limits how (operand.Later n) = silent_leaf w limits (operand.Later n)
-before_means {keeps} w limits how (operand.Function n) = silent_leaf w limits (operand.Function n)
-before_means {keeps} w limits how operand.Unknown = silent_leaf w limits operand.Unknown
+before_means {keeps} w limits how (Operand.Known n) = silent_leaf w limits (Operand.Known n)
+before_means {keeps} w limits how (Operand.Later n) = silent_leaf w limits (Operand.Later n)
+before_means {keeps} w limits how (Operand.Function n) = silent_leaf w limits (Operand.Function n)
+before_means {keeps} w limits how Operand.Unknown = silent_leaf w limits Operand.Unknown
 
 pub behind_means : {keeps : Bool} (w : World) (limits : Limits) (how : Direction) (x : Operand) →
-    Means keeps w limits (code.one limits (unary.Behind how) (meaning limits (Leaf x))) (values.one w (unary.Behind how) (sense w (Leaf x)))
+    Means keeps w limits (code.one limits (Unary.Behind how) (meaning limits (Leaf x))) (values.one w (Unary.Behind how) (sense w (Leaf x)))
 unfolding code.step_value code.step_alone
-behind_means {keeps} w limits how (operand.Variable v) =
+behind_means {keeps} w limits how (Operand.Variable v) =
     subst (λ e. Means keeps w limits (code.valued limits (λ d. load limits v d ▸ code.stepping limits how v)
     (code.stepping limits how v)) e)
     (behind_valued w how v (is_own v))
     (valued_means w limits (values.stepped_behind w how (values.aim_at v (is_own v))).value
     (λ d. load limits v d ▸ code.stepping limits how v)
     (code.stepping limits how v) (behind_value w limits how v (is_own v) refl) (step_alone_behind w limits how v (is_own v) refl))
-behind_means {keeps} w limits how (operand.Known n) = silent_leaf w limits (operand.Known n)
-behind_means {keeps} w limits how (operand.Later n) = silent_leaf w limits (operand.Later n)
-behind_means {keeps} w limits how (operand.Function n) = silent_leaf w limits (operand.Function n)
-behind_means {keeps} w limits how operand.Unknown = silent_leaf w limits operand.Unknown
+behind_means {keeps} w limits how (Operand.Known n) = silent_leaf w limits (Operand.Known n)
+behind_means {keeps} w limits how (Operand.Later n) = silent_leaf w limits (Operand.Later n)
+behind_means {keeps} w limits how (Operand.Function n) = silent_leaf w limits (Operand.Function n)
+behind_means {keeps} w limits how Operand.Unknown = silent_leaf w limits Operand.Unknown

@@ -2,29 +2,21 @@
 use Rattle.std.proofs.Common.{arith, ◌≡◌, ◌≤◌, ℕ, zero, suc, List, [], ◌∷◌, Option, Some, None, Bool, true, false, refl, ap, sym, subst}
 use Rattle.std.specs.Prelude.{length, take}
 use Rattle.inf_settings.specs.Bounds.{Limits}
-use Rattle.inf_expressions.specs.declared.operators.Operand.TheVariants as operand
-use Rattle.inf_expressions.specs.declared.operators.Operation.{Operation}
-use Rattle.inf_expressions.specs.declared.operators.Operation.TheVariants as operation
-use Rattle.inf_expressions.specs.declared.operators.PropertyPart.TheVariants as property
-use Rattle.inf_expressions.specs.declared.operators.Single.TheVariants as single
-use Rattle.inf_expressions.specs.declared.operators.Direction.{Direction}
-use Rattle.inf_expressions.specs.declared.operators.Unary.{Unary}
-use Rattle.inf_expressions.specs.declared.operators.Unary.TheVariants as unary
-use Rattle.inf_expressions.specs.declared.operators.Binary.TheVariants as binary
+use Rattle.inf_expressions.specs.declared.{operators.Binary.Binary, operators.Direction.Direction, operators.Operand.Operand}
+use Rattle.inf_expressions.specs.declared.{operators.Operation.Operation, operators.PropertyPart.PropertyPart, operators.Single.Single}
+use Rattle.inf_expressions.specs.declared.{operators.Unary.Unary}
 use Rattle.inf_expressions.specs.Trees.{Tree, Leaf, One, Two}
-use Rattle.inf_output.specs.declared.operands.Simple.{Simple}
-use Rattle.inf_output.specs.Output.{instruction, ◌▸◌}
+use Rattle.inf_output.specs.{Output.instruction, Output.◌▸◌, declared.operands.Simple.Simple}
 use Rattle.inf_templates.specs.Parts.{Part, call, operand_of, call_opcode, calling, evaluated, operands}
 use Rattle.inf_templates.specs.Meaning.{Meaning, meaning, part}
 use Rattle.inf_templates.specs.Meaning as code
 use Rattle.inf_interpreter.specs.Machine.{World}
 use Rattle.inf_meaning_laws.specs.Values.{Aim, Arg, Bytes, Element, Named, Nowhere, Properties, Sense, Words, arg, forgotten, is_own, sense}
-use Rattle.inf_meaning_laws.specs.Values as values
 use Rattle.inf_meaning_laws.specs.Laws.{GivesNothing, GivesValue}
+use Rattle.inf_meaning_laws.specs.Values as values
 use Rattle.inf_interpreter.proofs.Laying.{Always}
-use Rattle.inf_meaning_laws.proofs.Working.{AreParts}
+use Rattle.inf_meaning_laws.proofs.{Meant.Means, Meant.part_of, Meant.valued_means, Working.AreParts}
 use Rattle.inf_meaning_laws.proofs.Instructions.{calls_, calls_alone, call_acts, call_value}
-use Rattle.inf_meaning_laws.proofs.Meant.{valued_means, part_of, Means}
 
 -- Calls: with up to seven arguments all operands are laid
 
@@ -57,54 +49,54 @@ calls_means keeps w limits p ps args h few =
 
 -- An expression that is no property is called as a value.
 abbrev pub IsCalled : Tree → Type 0
-IsCalled (Two (binary.Property property.Value) a b) = ⊥
+IsCalled (Two (Binary.Property PropertyPart.Value) a b) = ⊥
 IsCalled f = Unit {0}
 
 abbrev pub IsCall : Limits → Meaning → Type 0
 IsCall limits m = (ps : List Part) (store : Option ℕ) → code.called_by limits m.target m ps store ≡ call limits (part m) ps store
 
 one_called : (limits : Limits) (op : Unary) (m : Meaning) → IsCall limits (code.one limits op m)
-one_called limits unary.Negate m ps store = refl
-one_called limits unary.Not m ps store = refl
-one_called limits (unary.Single s) m ps store = refl
-one_called limits (unary.Before s) m ps store = refl
-one_called limits (unary.Behind s) m ps store = refl
-one_called limits (unary.Relative r) m ps store = refl
-one_called limits unary.Children m ps store = refl
-one_called limits unary.Call m ps store = refl
-one_called limits unary.Indirect m ps store = refl
+one_called limits Unary.Negate m ps store = refl
+one_called limits Unary.Not m ps store = refl
+one_called limits (Unary.Single s) m ps store = refl
+one_called limits (Unary.Before s) m ps store = refl
+one_called limits (Unary.Behind s) m ps store = refl
+one_called limits (Unary.Relative r) m ps store = refl
+one_called limits Unary.Children m ps store = refl
+one_called limits Unary.Call m ps store = refl
+one_called limits Unary.Indirect m ps store = refl
 
-operation_called : (limits : Limits) (o : Operation) (m n : Meaning) → IsCall limits (code.two limits (binary.Operation o) m n)
-operation_called limits operation.Add m n ps store = refl
-operation_called limits operation.Subtract m n ps store = refl
-operation_called limits operation.Multiply m n ps store = refl
-operation_called limits operation.Divide m n ps store = refl
-operation_called limits operation.Remainder m n ps store = refl
-operation_called limits operation.BitAnd m n ps store = refl
-operation_called limits operation.BitOr m n ps store = refl
-operation_called limits operation.Byte m n ps store = refl
-operation_called limits operation.Word m n ps store = refl
+operation_called : (limits : Limits) (o : Operation) (m n : Meaning) → IsCall limits (code.two limits (Binary.Operation o) m n)
+operation_called limits Operation.Add m n ps store = refl
+operation_called limits Operation.Subtract m n ps store = refl
+operation_called limits Operation.Multiply m n ps store = refl
+operation_called limits Operation.Divide m n ps store = refl
+operation_called limits Operation.Remainder m n ps store = refl
+operation_called limits Operation.BitAnd m n ps store = refl
+operation_called limits Operation.BitOr m n ps store = refl
+operation_called limits Operation.Byte m n ps store = refl
+operation_called limits Operation.Word m n ps store = refl
 
 is_call : (limits : Limits) (f : Tree) → IsCalled f → IsCall limits (meaning limits f)
-is_call limits (Leaf (operand.Known n)) h ps store = refl
-is_call limits (Leaf (operand.Variable n)) h ps store = refl
-is_call limits (Leaf (operand.Later n)) h ps store = refl
-is_call limits (Leaf (operand.Function n)) h ps store = refl
-is_call limits (Leaf operand.Unknown) h ps store = refl
+is_call limits (Leaf (Operand.Known n)) h ps store = refl
+is_call limits (Leaf (Operand.Variable n)) h ps store = refl
+is_call limits (Leaf (Operand.Later n)) h ps store = refl
+is_call limits (Leaf (Operand.Function n)) h ps store = refl
+is_call limits (Leaf Operand.Unknown) h ps store = refl
 is_call limits (One op a) h ps store = one_called limits op (meaning limits a) ps store
-is_call limits (Two (binary.Operation o) a b) h ps store = operation_called limits o (meaning limits a) (meaning limits b) ps store
-is_call limits (Two (binary.Property property.Value) a b) h ps store = absurd h
-is_call limits (Two (binary.Property property.Address) a b) h ps store = refl
-is_call limits (Two (binary.Property property.Length) a b) h ps store = refl
-is_call limits (Two (binary.Test t) a b) h ps store = refl
-is_call limits (Two (binary.Fails t) a b) h ps store = refl
-is_call limits (Two binary.Assign a b) h ps store = refl
-is_call limits (Two binary.Comma a b) h ps store = refl
-is_call limits (Two binary.And a b) h ps store = refl
-is_call limits (Two binary.Or a b) h ps store = refl
-is_call limits (Two binary.Call a b) h ps store = refl
-is_call limits (Two binary.Then a b) h ps store = refl
-is_call limits (Two binary.To a b) h ps store = refl
+is_call limits (Two (Binary.Operation o) a b) h ps store = operation_called limits o (meaning limits a) (meaning limits b) ps store
+is_call limits (Two (Binary.Property PropertyPart.Value) a b) h ps store = absurd h
+is_call limits (Two (Binary.Property PropertyPart.Address) a b) h ps store = refl
+is_call limits (Two (Binary.Property PropertyPart.Length) a b) h ps store = refl
+is_call limits (Two (Binary.Test t) a b) h ps store = refl
+is_call limits (Two (Binary.Fails t) a b) h ps store = refl
+is_call limits (Two Binary.Assign a b) h ps store = refl
+is_call limits (Two Binary.Comma a b) h ps store = refl
+is_call limits (Two Binary.And a b) h ps store = refl
+is_call limits (Two Binary.Or a b) h ps store = refl
+is_call limits (Two Binary.Call a b) h ps store = refl
+is_call limits (Two Binary.Then a b) h ps store = refl
+is_call limits (Two Binary.To a b) h ps store = refl
 
 called_alike : (limits : Limits) (f : Tree) → IsCalled f → (ps : List Part) (store : Option ℕ) →
     call limits (part (meaning limits f)) ps store ≡ code.call_of limits (meaning limits f) ps store
@@ -146,51 +138,51 @@ behind_aim w how (Named v) = refl
 behind_aim w how (Element width parts) = refl
 
 one_aim : (w : World) (op : Unary) (e : Sense) → (values.one w op e).aim ≡ Nowhere
-one_aim w unary.Negate e = refl
-one_aim w unary.Not e = refl
-one_aim w (unary.Single single.Complement) e = refl
-one_aim w (unary.Single single.Parent) e = refl
-one_aim w (unary.Single single.Random) e = refl
-one_aim w (unary.Before how) e = before_aim w how e.aim
-one_aim w (unary.Behind how) e = behind_aim w how e.aim
-one_aim w (unary.Relative how) e = refl
-one_aim w unary.Children e = refl
-one_aim w unary.Call e = called_aim w e.aim e []
-one_aim w unary.Indirect e = refl
+one_aim w Unary.Negate e = refl
+one_aim w Unary.Not e = refl
+one_aim w (Unary.Single Single.Complement) e = refl
+one_aim w (Unary.Single Single.Parent) e = refl
+one_aim w (Unary.Single Single.Random) e = refl
+one_aim w (Unary.Before how) e = before_aim w how e.aim
+one_aim w (Unary.Behind how) e = behind_aim w how e.aim
+one_aim w (Unary.Relative how) e = refl
+one_aim w Unary.Children e = refl
+one_aim w Unary.Call e = called_aim w e.aim e []
+one_aim w Unary.Indirect e = refl
 
-operation_meant : (w : World) (o : Operation) (a b : Sense) → IsCallMeant w (values.two w (binary.Operation o) a b)
-operation_meant w operation.Add a b arguments = refl
-operation_meant w operation.Subtract a b arguments = refl
-operation_meant w operation.Multiply a b arguments = refl
-operation_meant w operation.Divide a b arguments = refl
-operation_meant w operation.Remainder a b arguments = refl
-operation_meant w operation.BitAnd a b arguments = refl
-operation_meant w operation.BitOr a b arguments = refl
-operation_meant w operation.Byte a b arguments = refl
-operation_meant w operation.Word a b arguments = refl
+operation_meant : (w : World) (o : Operation) (a b : Sense) → IsCallMeant w (values.two w (Binary.Operation o) a b)
+operation_meant w Operation.Add a b arguments = refl
+operation_meant w Operation.Subtract a b arguments = refl
+operation_meant w Operation.Multiply a b arguments = refl
+operation_meant w Operation.Divide a b arguments = refl
+operation_meant w Operation.Remainder a b arguments = refl
+operation_meant w Operation.BitAnd a b arguments = refl
+operation_meant w Operation.BitOr a b arguments = refl
+operation_meant w Operation.Byte a b arguments = refl
+operation_meant w Operation.Word a b arguments = refl
 
 is_meant : (w : World) (f : Tree) → IsCalled f → IsCallMeant w (sense w f)
-is_meant w (Leaf (operand.Known n)) h arguments = refl
-is_meant w (Leaf (operand.Variable v)) h arguments = variable_meant w v (is_own v) (sense w (Leaf (operand.Variable v))) arguments
-is_meant w (Leaf (operand.Later n)) h arguments = refl
-is_meant w (Leaf (operand.Function n)) h arguments = refl
-is_meant w (Leaf operand.Unknown) h arguments = refl
+is_meant w (Leaf (Operand.Known n)) h arguments = refl
+is_meant w (Leaf (Operand.Variable v)) h arguments = variable_meant w v (is_own v) (sense w (Leaf (Operand.Variable v))) arguments
+is_meant w (Leaf (Operand.Later n)) h arguments = refl
+is_meant w (Leaf (Operand.Function n)) h arguments = refl
+is_meant w (Leaf Operand.Unknown) h arguments = refl
 is_meant w (One op a) h arguments = aimless_meant w (sense w (One op a)) (one_aim w op (sense w a)) arguments
-is_meant w (Two (binary.Operation o) a b) h arguments = operation_meant w o (sense w a) (sense w b) arguments
-is_meant w (Two (binary.Property property.Value) a b) h arguments = absurd h
-is_meant w (Two (binary.Property property.Address) a b) h arguments = refl
-is_meant w (Two (binary.Property property.Length) a b) h arguments = refl
-is_meant w (Two (binary.Test t) a b) h arguments = refl
-is_meant w (Two (binary.Fails t) a b) h arguments = refl
-is_meant w (Two binary.Assign a b) h arguments =
-    aimless_meant w (sense w (Two binary.Assign a b)) (assigned_aim w (sense w a).aim (sense w b)) arguments
-is_meant w (Two binary.Comma a b) h arguments = refl
-is_meant w (Two binary.And a b) h arguments = refl
-is_meant w (Two binary.Or a b) h arguments = refl
-is_meant w (Two binary.Call a b) h arguments =
-    aimless_meant w (sense w (Two binary.Call a b)) (called_aim w (sense w a).aim (sense w a) (values.args (sense w b))) arguments
-is_meant w (Two binary.Then a b) h arguments = refl
-is_meant w (Two binary.To a b) h arguments = refl
+is_meant w (Two (Binary.Operation o) a b) h arguments = operation_meant w o (sense w a) (sense w b) arguments
+is_meant w (Two (Binary.Property PropertyPart.Value) a b) h arguments = absurd h
+is_meant w (Two (Binary.Property PropertyPart.Address) a b) h arguments = refl
+is_meant w (Two (Binary.Property PropertyPart.Length) a b) h arguments = refl
+is_meant w (Two (Binary.Test t) a b) h arguments = refl
+is_meant w (Two (Binary.Fails t) a b) h arguments = refl
+is_meant w (Two Binary.Assign a b) h arguments =
+    aimless_meant w (sense w (Two Binary.Assign a b)) (assigned_aim w (sense w a).aim (sense w b)) arguments
+is_meant w (Two Binary.Comma a b) h arguments = refl
+is_meant w (Two Binary.And a b) h arguments = refl
+is_meant w (Two Binary.Or a b) h arguments = refl
+is_meant w (Two Binary.Call a b) h arguments =
+    aimless_meant w (sense w (Two Binary.Call a b)) (called_aim w (sense w a).aim (sense w a) (values.args (sense w b))) arguments
+is_meant w (Two Binary.Then a b) h arguments = refl
+is_meant w (Two Binary.To a b) h arguments = refl
 
 pub call_of_means : (keeps : Bool) (w : World) (limits : Limits) (f : Tree) → IsCalled f →
     Means keeps w limits (meaning limits f) (sense w f) → (ps : List Part) (arguments : List Arg) → AreParts keeps w ps arguments →

@@ -2,35 +2,22 @@
 use Rattle.std.proofs.Common.{◌≡◌, ◌≤◌, ℕ, List, [], ◌∷◌, Option, Some, None, Bool, refl, ◌∙◌, ap, sym, subst, true, false}
 use Rattle.std.specs.Prelude.{◌==◌, not, if◌then◌else◌, length, map}
 use Rattle.inf_settings.specs.Bounds.{Limits}
-use Rattle.inf_opcode.specs.declared.opcodes.Opcode.{Opcode}
-use Rattle.inf_expressions.specs.declared.operators.Operand.TheVariants as operand
-use Rattle.inf_output.specs.declared.operands.Simple.TheVariants.{Variable}
+use Rattle.inf_opcode.specs.{Instructions.Parts, declared.instructions.Label.Label, declared.opcodes.Opcode.Opcode}
+use Rattle.inf_expressions.specs.{Numbers.same, Numbers.truth, declared.operators.Operand.Operand, declared.operators.Test.Test}
+use Rattle.inf_output.specs.{Operands.written, declared.items.Item.Item, declared.operands.Simple.Simple, declared.veneer.Veneer.Veneer}
 use Rattle.inf_output.specs.Output.{to, ◌▸◌, instruction}
-use Rattle.inf_opcode.specs.declared.instructions.Label.{Label}
-use Rattle.inf_opcode.specs.declared.opcodes.Opcode.TheVariants as opcode
-use Rattle.inf_expressions.specs.declared.operators.Test.{Test}
-use Rattle.inf_expressions.specs.declared.operators.Test.TheVariants as test
-use Rattle.inf_expressions.specs.Numbers.{same, truth}
-use Rattle.inf_output.specs.declared.veneer.Veneer.{Veneer}
-use Rattle.inf_output.specs.declared.veneer.Veneer.TheVariants as veneer
 use Rattle.inf_templates.specs.Parts.{Part, SP, TEMP, call_routine, is, evaluated, operands}
 use Rattle.inf_templates.specs.Meaning as code
-use Rattle.inf_output.specs.Operands.{written}
-use Rattle.inf_opcode.specs.Instructions.{Parts}
-use Rattle.inf_output.specs.declared.items.Item.TheVariants.{Instruction}
-use Rattle.inf_interpreter.specs.Supplied.{supplied, told}
+use Rattle.inf_interpreter.specs.{Claims.Claim, Claims.Comes, Claims.Kept, Claims.state, Supplied.supplied, Supplied.told}
+use Rattle.inf_interpreter.specs.Machine.{first_is_any, less, of_two, test_of_two, World, Store, Place, ◌then◌, and_first, action_of, acted}
+use Rattle.inf_interpreter.specs.Machine.{branched, Tests}
+use Rattle.inf_meaning_laws.specs.{Covered.CoversTest, Laws.Branches}
 use Rattle.inf_meaning_laws.specs.Values.{answer, is_not_zero, nobody, number, supplied_value, Worked, worked_all, Arg, settled_all, Reads}
-use Rattle.inf_interpreter.specs.Machine.{first_is_any, less, of_two, test_of_two, World, Store, Place, ◌then◌, and_first, action_of}
-use Rattle.inf_interpreter.specs.Machine.{acted, branched, Tests}
 use Rattle.inf_meaning_laws.specs.Values as values
-use Rattle.inf_meaning_laws.specs.Covered.{CoversTest}
-use Rattle.inf_interpreter.specs.Claims.{Comes, state, Claim, Kept}
-use Rattle.inf_meaning_laws.specs.Laws.{Branches}
 use Rattle.inf_interpreter.proofs.Laying.{Always, so, then_, nothing_, instruction_}
 use Rattle.inf_interpreter.proofs.Running.{none_some, opened, same_some, comes_then, stepping}
-use Rattle.inf_meaning_laws.proofs.Working.{AreParts, looks}
+use Rattle.inf_meaning_laws.proofs.{Supplying.supplies_value, Working.AreParts, Working.looks}
 use Rattle.inf_meaning_laws.proofs.Instructions.{same_not, moved, tested_of, tests_, goes, zero_tested}
-use Rattle.inf_meaning_laws.proofs.Supplying.{supplies_value}
 
 -- A branch, by a truth that depends on the number that variable 255 has at the beginning
 abbrev pub BranchesBy : Bool → World → (ℕ → Store → Option (Bool × Store)) → Bool → Label → Claim
@@ -71,17 +58,17 @@ Instructs keeps w limits ps args =
 pub instructed : (keeps : Bool) (w : World) (limits : Limits) (t : Test) → CoversTest true t → (ps : List Part) (args : ℕ → List Arg) →
     Instructs keeps w limits ps args → (sense : Bool) (label : Label) →
     Always w (code.tested limits t ps sense label) (BranchesBy keeps w (λ temp. values.tested w t (args temp)) sense label)
-instructed keeps w limits test.Equal d ps args h sense label = h opcode.Je (λ s. first_is_any) refl sense label
-instructed keeps w limits test.Less d ps args h sense label = h opcode.Jl (λ s. test_of_two (λ a b. less a b)) refl sense label
-instructed keeps w limits test.Greater d ps args h sense label = h opcode.Jg (λ s. test_of_two (λ a b. less b a)) refl sense label
-instructed keeps w limits test.AtMost d ps args h sense label =
-    so (opposite_tests keeps w (λ a b. less b a) args label sense) (h opcode.Jg (λ s. test_of_two (λ a b. less b a)) refl (not sense) label)
-instructed keeps w limits test.AtLeast d ps args h sense label =
-    so (opposite_tests keeps w (λ a b. less a b) args label sense) (h opcode.Jl (λ s. test_of_two (λ a b. less a b)) refl (not sense) label)
-instructed keeps w limits test.Has d ps args h sense label = h opcode.TestAttr (λ s. test_of_two (λ a b. w.has s a b)) refl sense label
-instructed keeps w limits test.In d ps args h sense label = h opcode.Jin (λ s. test_of_two (λ a b. w.inside s a b)) refl sense label
-instructed keeps w limits test.OfClass d ps args h sense label = absurd (cc d)
-instructed keeps w limits test.Provides d ps args h sense label = absurd (cc d)
+instructed keeps w limits Test.Equal d ps args h sense label = h Opcode.Je (λ s. first_is_any) refl sense label
+instructed keeps w limits Test.Less d ps args h sense label = h Opcode.Jl (λ s. test_of_two (λ a b. less a b)) refl sense label
+instructed keeps w limits Test.Greater d ps args h sense label = h Opcode.Jg (λ s. test_of_two (λ a b. less b a)) refl sense label
+instructed keeps w limits Test.AtMost d ps args h sense label =
+    so (opposite_tests keeps w (λ a b. less b a) args label sense) (h Opcode.Jg (λ s. test_of_two (λ a b. less b a)) refl (not sense) label)
+instructed keeps w limits Test.AtLeast d ps args h sense label =
+    so (opposite_tests keeps w (λ a b. less a b) args label sense) (h Opcode.Jl (λ s. test_of_two (λ a b. less a b)) refl (not sense) label)
+instructed keeps w limits Test.Has d ps args h sense label = h Opcode.TestAttr (λ s. test_of_two (λ a b. w.has s a b)) refl sense label
+instructed keeps w limits Test.In d ps args h sense label = h Opcode.Jin (λ s. test_of_two (λ a b. w.inside s a b)) refl sense label
+instructed keeps w limits Test.OfClass d ps args h sense label = absurd (cc d)
+instructed keeps w limits Test.Provides d ps args h sense label = absurd (cc d)
 
 -- A supplied routine tests some operands: its answer is pushed, and compared with 0.
 not_zero_truth : (b : Bool) → not (truth b == 0) ≡ b
@@ -119,12 +106,12 @@ asks_ keeps w limits v f tells ps args h few sense label =
 pub compares : {keeps : Bool} (w : World) (limits : Limits) (t : Test) → CoversTest keeps t → (ps : List Part) (args : List Arg) →
     AreParts keeps w ps args → length ps ≤ 7 → (sense : Bool) (label : Label) →
     Always w (code.tested limits t ps sense label) (Branches keeps w (values.tested w t args) sense label)
-compares {keeps} w limits test.OfClass d ps args h few sense label =
-    subst (λ k. Always w (code.tested limits test.OfClass ps sense label) (Branches k w (values.tested w test.OfClass args) sense label))
-    (sym d) (asks_ keeps w limits veneer.OfClass w.of_class refl ps args h few sense label)
-compares {keeps} w limits test.Provides d ps args h few sense label =
-    subst (λ k. Always w (code.tested limits test.Provides ps sense label) (Branches k w (values.tested w test.Provides args) sense label))
-    (sym d) (asks_ keeps w limits veneer.Provides w.provides refl ps args h few sense label)
+compares {keeps} w limits Test.OfClass d ps args h few sense label =
+    subst (λ k. Always w (code.tested limits Test.OfClass ps sense label) (Branches k w (values.tested w Test.OfClass args) sense label))
+    (sym d) (asks_ keeps w limits Veneer.OfClass w.of_class refl ps args h few sense label)
+compares {keeps} w limits Test.Provides d ps args h few sense label =
+    subst (λ k. Always w (code.tested limits Test.Provides ps sense label) (Branches k w (values.tested w Test.Provides args) sense label))
+    (sym d) (asks_ keeps w limits Veneer.Provides w.provides refl ps args h few sense label)
 compares {keeps} w limits t d ps args h few sense label =
     instructed keeps w limits t tt ps (λ temp. args) (λ op g act how l. tests_ w limits op g ps args act h how l) sense label
 
@@ -136,7 +123,7 @@ abbrev read_all : World → List Worked × Store → Option (List ℕ × Store)
 read_all w p = settled_all w p.0 p.1 then with_store p.1
 
 abbrev with_number : ℕ → List Worked × Store → Option (List Worked × Store)
-with_number n p = Some (Reads (operand.Known n) ∷ p.0, p.1)
+with_number n p = Some (Reads (Operand.Known n) ∷ p.0, p.1)
 
 number_first : (w : World) (n : ℕ) (args : List Arg) (s : Store) (ns : List ℕ) (u : Store) →
     values.values w (number n ∷ args) s ≡ Some (ns, u) → (ms : List ℕ) × (values.values w args s ≡ Some (ms, u)) × (n ∷ ms ≡ ns)
@@ -153,14 +140,14 @@ number_first w n args s ns u e = by_worked (worked_all args s) e
     by_worked (Some p) f = by_settled (settled_all w p.0 p.1) p.1 f
 
 pub kept_instructs : (w : World) (limits : Limits) (ps : List Part) (args : List Arg) → AreParts true w ps args →
-    Instructs true w limits (is (Variable TEMP) ∷ ps) (λ temp. number temp ∷ args)
+    Instructs true w limits (is (Simple.Variable TEMP) ∷ ps) (λ temp. number temp ∷ args)
 kept_instructs w limits ps args h op g act sense label =
     so (λ at from rest p stack temp s b t e.
     let o = opened (values.values w (number temp ∷ args) s) (λ p. g p.1 p.0 then λ b. Some (b, p.1)) (b, t) e in
     let q = opened (g o.0.1 o.0.0) (λ b. Some (b, o.0.1)) (b, t) o.2 in
     let f = number_first w temp args s o.0.0 o.0.1 o.1 in
     let l = p.1.1 stack temp s f.0 o.0.1 f.1 in
-    let all = map written (operands (is (Variable TEMP) ∷ ps)) in
+    let all = map written (operands (is (Simple.Variable TEMP) ∷ ps)) in
     let item : Parts = record { opcode = op; operands = all; store = None; branch = to sense label; text = [] } in
     let read = ap (and_first l.2.temp) l.4 ∙ ap (λ v. Some (v ∷ f.0, state stack l.0 o.0.1)) (l.3 ∙ l.1.same refl) in
     let moves =
@@ -169,12 +156,12 @@ kept_instructs w limits ps args h op g act sense label =
     ∙ ap (λ ms. g o.0.1 ms then λ b. branched (to sense label) b at rest (state stack l.0 o.0.1)) f.2
     ∙ ap (λ m. m then λ b. branched (to sense label) b at rest (state stack l.0 o.0.1)) q.1
     ∙ goes (same q.0 sense) label at rest (state stack l.0 o.0.1) in
-    let c = comes_then l.5 (stepping w at (Instruction item) p.1.0 rest l.2
+    let c = comes_then l.5 (stepping w at (Item.Instruction item) p.1.0 rest l.2
     (if same q.0 sense then at label else rest, state stack l.0 o.0.1) (p.1.2 ∙ p.2) moves) in (
       l.0,
       l.1,
       subst (λ x. Comes w at from (state stack temp s) (if same x.0 sense then at label else rest) (state stack l.0 x.1))
           (same_some q.2) c,
     ))
-    (then_ (then_ (looks {keeps = true} w ps args h) nothing_) (instruction_ limits op (operands (is (Variable TEMP) ∷ ps)) None
+    (then_ (then_ (looks {keeps = true} w ps args h) nothing_) (instruction_ limits op (operands (is (Simple.Variable TEMP) ∷ ps)) None
     (to sense label)))

@@ -1,27 +1,22 @@
 -- Expressions that are worked out one behind the other: lists with commas, `~~`, `&&` and `||`.
-use Rattle.std.proofs.Common.{◌≡◌, ℕ, List, Option, Some, Bool, true, false, refl, ◌∙◌, sym, subst}
-use Rattle.std.specs.Prelude.{take, not, if◌then◌else◌}
+use Rattle.std.proofs.Common.{◌≡◌, ℕ, List, Option, Some, Bool, true, false, refl, ◌∙◌, sym, subst, take, not, if◌then◌else◌}
 use Rattle.inf_settings.specs.Bounds.{Limits}
 use Rattle.inf_opcode.specs.declared.instructions.Label.{Label}
-use Rattle.inf_expressions.specs.declared.operators.Unary.TheVariants as unary
-use Rattle.inf_expressions.specs.declared.operators.Binary.TheVariants as binary
-use Rattle.inf_expressions.specs.Numbers.{same}
+use Rattle.inf_expressions.specs.{Numbers.same, declared.operators.Binary.Binary, declared.operators.Unary.Unary}
 use Rattle.inf_output.specs.Output.{◌▸◌}
-use Rattle.inf_templates.specs.Meaning.{Meaning}
+use Rattle.inf_templates.specs.{Meaning.Meaning, Parts.SP}
 use Rattle.inf_templates.specs.Meaning as code
-use Rattle.inf_templates.specs.Parts.{SP}
 use Rattle.inf_interpreter.specs.Machine.{World, Store, State, Place, ◌then◌}
-use Rattle.inf_meaning_laws.specs.Values.{Sense, opposite, sense}
-use Rattle.inf_meaning_laws.specs.Values as values
 use Rattle.inf_interpreter.specs.Claims.{Kept, Comes, state}
-use Rattle.inf_meaning_laws.specs.Laws.{Branches, taker}
+use Rattle.inf_meaning_laws.specs.{Laws.Branches, Laws.taker, Values.Sense, Values.opposite, Values.sense}
+use Rattle.inf_meaning_laws.specs.Values as values
 use Rattle.inf_interpreter.proofs.Laying.{Always, Marks, labelled, marked_, so, then_}
 use Rattle.inf_interpreter.proofs.Running.{kept_here, kept_then, comes_then, opened, same_some, not_kept}
 use Rattle.inf_meaning_laws.proofs.Instructions.{pass, moved, opposed, zero_tested}
 use Rattle.inf_meaning_laws.proofs.Meant.{stored_means, condition_means, Means, part_of, no_element}
 
 pub comma_means : {keeps keeps' : Bool} (w : World) (limits : Limits) (m n : Meaning) (a b : Sense) → Means keeps w limits m a →
-    Means keeps' w limits n b → Means false w limits (code.two limits binary.Comma m n) (values.two w binary.Comma a b)
+    Means keeps' w limits n b → Means false w limits (code.two limits Binary.Comma m n) (values.two w Binary.Comma a b)
 comma_means {keeps} {keeps'} w limits m n a b h k =
     stored_means w limits (λ take s. a.alone s then λ t. b.value take t) (λ d. m.alone ▸ n.value d)
     (λ d. so (λ at from to p stack temp s x t e.
@@ -31,7 +26,7 @@ comma_means {keeps} {keeps'} w limits m n a b h k =
     (r'.0, not_kept, comes_then r.1 r'.2)) (then_ h.alone (k.value d)))
 
 pub not_means : {keeps : Bool} (w : World) (limits : Limits) (m : Meaning) (a : Sense) → Means keeps w limits m a →
-    Means keeps w limits (code.one limits unary.Not m) (values.one w unary.Not a)
+    Means keeps w limits (code.one limits Unary.Not m) (values.one w Unary.Not a)
 not_means {keeps} w limits m a h =
     condition_means w limits (opposite a.truth) (λ sense label. m.branch (not sense) label)
     (λ sense label. so (opposed w a.truth sense label) (h.branch (not sense) label))
@@ -153,7 +148,7 @@ or_branches {keeps} w limits m n a b h k false label = both_ w limits false m n 
 
 -- a list is its first member
 pub then_means : {keeps : Bool} (w : World) (limits : Limits) (m n : Meaning) (a b : Sense) → Means keeps w limits m a →
-    Means keeps w limits n b → Means keeps w limits (code.two limits binary.Then m n) (values.two w binary.Then a b)
+    Means keeps w limits n b → Means keeps w limits (code.two limits Binary.Then m n) (values.two w Binary.Then a b)
 then_means {keeps} w limits m n a b h k = record {
   operand = refl;
   first = part_of w limits m a h;

@@ -1,32 +1,24 @@
 -- Tests with any number of alternatives, by groups.
 use Rattle.std.proofs.Common.{arith, ◌≡◌, ◌≤◌, ℕ, suc, List, [], ◌∷◌, Option, Some, None, Bool, refl, ◌∙◌, ap, sym, subst, true, false}
-use Rattle.std.specs.Prelude.{length, if◌then◌else◌, nat_lt}
 use Rattle.std.proofs.lemmas.Bool.{ltb-false}
+use Rattle.std.specs.Prelude.{length, if◌then◌else◌, nat_lt}
 use Rattle.inf_settings.specs.Bounds.{Limits}
-use Rattle.inf_output.specs.declared.operands.Simple.TheVariants.{Variable}
 use Rattle.inf_opcode.specs.declared.instructions.Label.{Label}
-use Rattle.inf_expressions.specs.declared.operators.Operand.{Operand}
-use Rattle.inf_expressions.specs.declared.operators.Test.{Test}
-use Rattle.inf_expressions.specs.declared.operators.Test.TheVariants as test
-use Rattle.inf_expressions.specs.Numbers.{same}
-use Rattle.inf_output.specs.declared.operands.Simple.{Simple}
-use Rattle.inf_output.specs.Output.{marked, Code, ◌▸◌}
+use Rattle.inf_expressions.specs.{Numbers.same, declared.operators.Operand.Operand, declared.operators.Test.Test}
+use Rattle.inf_output.specs.{Output.Code, Output.marked, Output.◌▸◌, declared.operands.Simple.Simple}
 use Rattle.inf_templates.specs.Parts.{Part, TEMP, is, simple, evaluated, operands}
 use Rattle.inf_templates.specs.Meaning.{Meaning, part}
 use Rattle.inf_templates.specs.Meaning as code
 use Rattle.inf_interpreter.specs.Machine.{State, World, Store, Place, ◌then◌}
-use Rattle.inf_meaning_laws.specs.Values.{Arg, Sense, arg, nobody, either, compares_three, together, by_threes, one_by_one}
-use Rattle.inf_meaning_laws.specs.Values.{in_groups, number}
-use Rattle.inf_meaning_laws.specs.Values as values
-use Rattle.inf_meaning_laws.specs.Covered.{CoversTest}
 use Rattle.inf_interpreter.specs.Claims.{Comes, state, Claim, Kept}
-use Rattle.inf_meaning_laws.specs.Laws.{Branches}
+use Rattle.inf_meaning_laws.specs.{Covered.CoversTest, Laws.Branches}
+use Rattle.inf_meaning_laws.specs.Values.{Arg, Sense, arg, nobody, either, compares_three, together, by_threes, one_by_one, in_groups}
+use Rattle.inf_meaning_laws.specs.Values.{number}
+use Rattle.inf_meaning_laws.specs.Values as values
 use Rattle.inf_interpreter.proofs.Laying.{Always, labelled, marked_, so, then_}
 use Rattle.inf_interpreter.proofs.Running.{opened, same_some, comes_then, kept_then, not_kept}
-use Rattle.inf_meaning_laws.proofs.Working.{AreParts, leaf_simple}
-use Rattle.inf_meaning_laws.proofs.Instructions.{pass, moved}
-use Rattle.inf_meaning_laws.proofs.Meant.{part_of, Means, simple_part}
-use Rattle.inf_meaning_laws.proofs.Called.{taken_whole, operands_length}
+use Rattle.inf_meaning_laws.proofs.{Called.operands_length, Called.taken_whole, Instructions.moved, Instructions.pass, Meant.Means}
+use Rattle.inf_meaning_laws.proofs.{Meant.part_of, Meant.simple_part, Working.AreParts, Working.leaf_simple}
 use Rattle.inf_meaning_laws.proofs.Compared.{BranchesBy, instructed, compares, kept_instructs}
 
 -- Groups of alternatives to a first operand, in front of a label that those which hold jump to where they decide that nothing is branched
@@ -47,11 +39,12 @@ leaf_stays keeps w limits x value = record {
       (simple_part {keeps = keeps} w x value, h) (omega (arith, few)) sense label;
 }
 
-temp_stays : (w : World) (limits : Limits) → Stays true w limits (Variable TEMP) number
+temp_stays : (w : World) (limits : Limits) → Stays true w limits (Simple.Variable TEMP) number
 temp_stays w limits = record {
   same = λ temp left k. ap number (k.same refl);
   tests = λ t d ps args h few sense label.
-      instructed true w limits t d (is (Variable TEMP) ∷ ps) (λ temp. number temp ∷ args) (kept_instructs w limits ps args h) sense label;
+      instructed true w limits t d (is (Simple.Variable TEMP) ∷ ps) (λ temp. number temp ∷ args) (kept_instructs w limits ps args h)
+      sense label;
 }
 
 abbrev Over : Label → Claim → Claim
@@ -113,23 +106,23 @@ threes_ : {keeps : Bool} (w : World) (limits : Limits) (x : Simple) (a : ℕ →
     (Over over (BranchesBy keeps w (λ temp. by_threes w (a temp) args) sense label))
 unfolding code.triple_tests
 threes_ {keeps} w limits x a g p [] (b ∷ []) h sense label over =
-    last_group {keeps = keeps} w limits (code.tested limits test.Equal (is x ∷ p ∷ []) sense label) (λ temp. by_threes w (a temp)
+    last_group {keeps = keeps} w limits (code.tested limits Test.Equal (is x ∷ p ∷ []) sense label) (λ temp. by_threes w (a temp)
     (b ∷ [])) sense label over
-    (g.tests test.Equal tt (p ∷ []) (b ∷ []) h (omega arith) sense label)
+    (g.tests Test.Equal tt (p ∷ []) (b ∷ []) h (omega arith) sense label)
 threes_ {keeps} w limits x a g p (p1 ∷ []) (b ∷ b1 ∷ []) h sense label over =
-    last_group {keeps = keeps} w limits (code.tested limits test.Equal (is x ∷ p ∷ p1 ∷ []) sense label) (λ temp. by_threes w (a temp)
+    last_group {keeps = keeps} w limits (code.tested limits Test.Equal (is x ∷ p ∷ p1 ∷ []) sense label) (λ temp. by_threes w (a temp)
     (b ∷ b1 ∷ []))
-    sense label over (g.tests test.Equal tt (p ∷ p1 ∷ []) (b ∷ b1 ∷ []) h (omega arith) sense label)
+    sense label over (g.tests Test.Equal tt (p ∷ p1 ∷ []) (b ∷ b1 ∷ []) h (omega arith) sense label)
 threes_ {keeps} w limits x a g p (p1 ∷ p2 ∷ []) (b ∷ b1 ∷ b2 ∷ []) h sense label over =
-    last_group {keeps = keeps} w limits (code.tested limits test.Equal (is x ∷ p ∷ p1 ∷ p2 ∷ []) sense label)
-    (λ temp. by_threes w (a temp) (b ∷ b1 ∷ b2 ∷ [])) sense label over (g.tests test.Equal tt (p ∷ p1 ∷ p2 ∷ [])
+    last_group {keeps = keeps} w limits (code.tested limits Test.Equal (is x ∷ p ∷ p1 ∷ p2 ∷ []) sense label)
+    (λ temp. by_threes w (a temp) (b ∷ b1 ∷ b2 ∷ [])) sense label over (g.tests Test.Equal tt (p ∷ p1 ∷ p2 ∷ [])
     (b ∷ b1 ∷ b2 ∷ []) h (omega arith) sense label)
 threes_ {keeps} w limits x a g p (p1 ∷ p2 ∷ p3 ∷ others) (b ∷ b1 ∷ b2 ∷ b3 ∷ args) h sense label over =
-    two_groups {keeps = keeps} w limits (code.tested limits test.Equal (is x ∷ p ∷ p1 ∷ p2 ∷ []) true (if sense then label else over))
+    two_groups {keeps = keeps} w limits (code.tested limits Test.Equal (is x ∷ p ∷ p1 ∷ p2 ∷ []) true (if sense then label else over))
     (code.triple_tests limits x (p3 ∷ others) sense label (if sense then label else over) ▸ marked limits over)
-    (λ temp. values.tested w test.Equal (a temp ∷ b ∷ b1 ∷ b2 ∷ [])) (λ temp. by_threes w (a temp) (b3 ∷ args)) sense label over
+    (λ temp. values.tested w Test.Equal (a temp ∷ b ∷ b1 ∷ b2 ∷ [])) (λ temp. by_threes w (a temp) (b3 ∷ args)) sense label over
     (λ temp left k. ap (λ y. by_threes w y (b3 ∷ args)) (g.same temp left k))
-    (g.tests test.Equal tt (p ∷ p1 ∷ p2 ∷ []) (b ∷ b1 ∷ b2 ∷ []) (h.0, (h.1.0, (h.1.1.0, tt))) (omega arith) true
+    (g.tests Test.Equal tt (p ∷ p1 ∷ p2 ∷ []) (b ∷ b1 ∷ b2 ∷ []) (h.0, (h.1.0, (h.1.1.0, tt))) (omega arith) true
     (if sense then label else over))
     (threes_ {keeps = keeps} w limits x a g p3 others (b3 ∷ args) h.1.1.1 sense label over)
 threes_ w limits x a g p others [] h sense label over = absurd h
@@ -162,15 +155,15 @@ ones_ w limits t d x a g p [] (b ∷ b1 ∷ args) h sense label over = absurd h.
 ones_ w limits t d x a g p (p1 ∷ others) (b ∷ []) h sense label over = absurd h.1
 
 three_is_equal : (t : Test) → code.takes_three t ≡ values.compares_three t
-three_is_equal test.Equal = refl
-three_is_equal test.Less = refl
-three_is_equal test.Greater = refl
-three_is_equal test.AtMost = refl
-three_is_equal test.AtLeast = refl
-three_is_equal test.Has = refl
-three_is_equal test.In = refl
-three_is_equal test.OfClass = refl
-three_is_equal test.Provides = refl
+three_is_equal Test.Equal = refl
+three_is_equal Test.Less = refl
+three_is_equal Test.Greater = refl
+three_is_equal Test.AtMost = refl
+three_is_equal Test.AtLeast = refl
+three_is_equal Test.Has = refl
+three_is_equal Test.In = refl
+three_is_equal Test.OfClass = refl
+three_is_equal Test.Provides = refl
 
 groups_ : {keeps : Bool} (w : World) (limits : Limits) (t : Test) → CoversTest keeps t → (x : Simple) (a : ℕ → Arg) →
     Stays keeps w limits x a →
@@ -178,24 +171,24 @@ groups_ : {keeps : Bool} (w : World) (limits : Limits) (t : Test) → CoversTest
     Always w (code.tests limits t x (p ∷ others) sense label (if sense then label else over) ▸ marked limits over)
     (Over over (BranchesBy keeps w (λ temp. in_groups (compares_three t) w t (a temp) args) sense label))
 unfolding code.tests
-groups_ {keeps} w limits test.Equal d x a g p others args h sense label over =
+groups_ {keeps} w limits Test.Equal d x a g p others args h sense label over =
     threes_ {keeps = keeps} w limits x a g p others args h sense label over
-groups_ {keeps} w limits test.Less d x a g p others args h how label over =
-    ones_ {keeps = keeps} w limits test.Less d x a g p others args h how label over
-groups_ {keeps} w limits test.Greater d x a g p others args h how label over =
-    ones_ {keeps = keeps} w limits test.Greater d x a g p others args h how label over
-groups_ {keeps} w limits test.AtMost d x a g p others args h how label over =
-    ones_ {keeps = keeps} w limits test.AtMost d x a g p others args h how label over
-groups_ {keeps} w limits test.AtLeast d x a g p others args h how label over =
-    ones_ {keeps = keeps} w limits test.AtLeast d x a g p others args h how label over
-groups_ {keeps} w limits test.Has d x a g p others args h how label over =
-    ones_ {keeps = keeps} w limits test.Has d x a g p others args h how label over
-groups_ {keeps} w limits test.In d x a g p others args h how label over =
-    ones_ {keeps = keeps} w limits test.In d x a g p others args h how label over
-groups_ {keeps} w limits test.OfClass d x a g p others args h how label over =
-    ones_ {keeps = keeps} w limits test.OfClass d x a g p others args h how label over
-groups_ {keeps} w limits test.Provides d x a g p others args h how label over =
-    ones_ {keeps = keeps} w limits test.Provides d x a g p others args h how label over
+groups_ {keeps} w limits Test.Less d x a g p others args h how label over =
+    ones_ {keeps = keeps} w limits Test.Less d x a g p others args h how label over
+groups_ {keeps} w limits Test.Greater d x a g p others args h how label over =
+    ones_ {keeps = keeps} w limits Test.Greater d x a g p others args h how label over
+groups_ {keeps} w limits Test.AtMost d x a g p others args h how label over =
+    ones_ {keeps = keeps} w limits Test.AtMost d x a g p others args h how label over
+groups_ {keeps} w limits Test.AtLeast d x a g p others args h how label over =
+    ones_ {keeps = keeps} w limits Test.AtLeast d x a g p others args h how label over
+groups_ {keeps} w limits Test.Has d x a g p others args h how label over =
+    ones_ {keeps = keeps} w limits Test.Has d x a g p others args h how label over
+groups_ {keeps} w limits Test.In d x a g p others args h how label over =
+    ones_ {keeps = keeps} w limits Test.In d x a g p others args h how label over
+groups_ {keeps} w limits Test.OfClass d x a g p others args h how label over =
+    ones_ {keeps = keeps} w limits Test.OfClass d x a g p others args h how label over
+groups_ {keeps} w limits Test.Provides d x a g p others args h how label over =
+    ones_ {keeps = keeps} w limits Test.Provides d x a g p others args h how label over
 
 -- A value that is no leaf: one instruction takes all alternatives, or it is kept in variable 255.
 pub same_length : (keeps : Bool) (w : World) (ps : List Part) (args : List Arg) → AreParts keeps w ps args → length args ≡ length ps
@@ -208,15 +201,15 @@ group_is : (t : Test) → code.group t ≡ together t
 group_is t = ap (λ b. if b then 3 else 1) (three_is_equal t)
 
 most_is : (t : Test) → code.most_compared t ≡ suc (together t)
-most_is test.Equal = refl
-most_is test.Less = refl
-most_is test.Greater = refl
-most_is test.AtMost = refl
-most_is test.AtLeast = refl
-most_is test.Has = refl
-most_is test.In = refl
-most_is test.OfClass = refl
-most_is test.Provides = refl
+most_is Test.Equal = refl
+most_is Test.Less = refl
+most_is Test.Greater = refl
+most_is Test.AtMost = refl
+most_is Test.AtLeast = refl
+most_is Test.Has = refl
+most_is Test.In = refl
+most_is Test.OfClass = refl
+most_is Test.Provides = refl
 
 few_together : (b : Bool) → (if b then 3 else 1) ≤ 3
 few_together true = omega arith
@@ -259,8 +252,8 @@ kept_tests_ {keeps} w limits t d m a h p others args k sense label over =
     let r = q.1 stack temp s o.0.0 o.0.1 o.1 in
     let z = q.2.1 stack o.0.0 o.0.1 b u o.2 in
     (z.0, not_kept, comes_then r.2 z.2))
-    (regrouped (m.value TEMP) (code.tests limits t (Variable TEMP) (p ∷ others) sense label (if sense then label else over)) over
-    (then_ (h.value TEMP) (groups_ {keeps = true} w limits t d (Variable TEMP) number
+    (regrouped (m.value TEMP) (code.tests limits t (Simple.Variable TEMP) (p ∷ others) sense label (if sense then label else over)) over
+    (then_ (h.value TEMP) (groups_ {keeps = true} w limits t d (Simple.Variable TEMP) number
     (temp_stays w limits) p others args k sense label over)))
   where
     regrouped : {P : Claim} (c d : Code) (l : Label) → Always w (c ▸ (d ▸ marked limits l)) P → Always w ((c ▸ d) ▸ marked limits l) P

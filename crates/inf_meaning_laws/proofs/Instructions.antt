@@ -2,27 +2,19 @@
 use Rattle.std.proofs.Common.{◌≡◌, ℕ, List, [], ◌∷◌, Option, Some, None, Bool, true, false, refl, ◌∙◌, ap, sym, subst}
 use Rattle.std.specs.Prelude.{map, nat_le, not, ◌==◌, ◌||◌, ◌+◌, ◌%◌, if◌then◌else◌, take}
 use Rattle.inf_settings.specs.Bounds.{Limits}
-use Rattle.inf_opcode.specs.declared.instructions.Label.{Label}
-use Rattle.inf_opcode.specs.declared.instructions.Destination.TheVariants.{To}
-use Rattle.inf_opcode.specs.declared.opcodes.Opcode.{Opcode}
-use Rattle.inf_opcode.specs.declared.opcodes.Opcode.TheVariants as opcode
-use Rattle.inf_opcode.specs.Instructions.{Parts}
-use Rattle.inf_expressions.specs.declared.operators.Direction.{Direction}
-use Rattle.inf_expressions.specs.declared.operators.Direction.TheVariants as step
-use Rattle.inf_expressions.specs.Numbers.{same, truth}
-use Rattle.inf_output.specs.declared.items.Item.TheVariants.{Instruction, Mark}
-use Rattle.inf_output.specs.declared.operands.Simple.{Simple}
-use Rattle.inf_output.specs.declared.operands.Simple.TheVariants.{Known, Variable}
-use Rattle.inf_output.specs.Operands.{written}
+use Rattle.inf_opcode.specs.{Instructions.Parts, declared.instructions.Destination.Destination, declared.instructions.Label.Label}
+use Rattle.inf_opcode.specs.{declared.opcodes.Opcode.Opcode}
+use Rattle.inf_expressions.specs.{Numbers.same, Numbers.truth, declared.operators.Direction.Direction}
+use Rattle.inf_output.specs.{Operands.written, declared.items.Item.Item, declared.operands.Simple.Simple}
 use Rattle.inf_output.specs.Output.{Code, instruction, marked, naming, to, ◌▸◌}
 use Rattle.inf_templates.specs.Parts.{Part, SP, TEMP, call_opcode, evaluated, jump_zero, load, operands, put, worked}
 use Rattle.inf_templates.specs.Meaning as code
 use Rattle.inf_interpreter.specs.Machine.{Calls, Writes, World, Store, State, Place, Computes, Tests, ◌then◌, acted, action_of, branched}
 use Rattle.inf_interpreter.specs.Machine.{called, delivered, first_put, given, goes_by, named, operand_value, operand_values, put_in}
 use Rattle.inf_interpreter.specs.Machine.{pushed, with_top, and_first, with_variable}
+use Rattle.inf_interpreter.specs.Claims.{Claim, Comes, Kept, state}
 use Rattle.inf_interpreter.specs.Machine as machine
 use Rattle.inf_meaning_laws.specs.Values.{forgotten, Arg, Taker, answer, is_not_zero, is_own, nobody, opposite, values, with_step, sense}
-use Rattle.inf_interpreter.specs.Claims.{Claim, Comes, Kept, state}
 use Rattle.inf_meaning_laws.specs.Laws.{Branches, GivesNothing, GivesValue, taken, taker}
 use Rattle.inf_interpreter.proofs.Laying.{Always, Lies, Marks, instruction_, instruction_of, jump_to, jumped_, labelled, marked_}
 use Rattle.inf_interpreter.proofs.Laying.{naming_, naming_of, so, then_}
@@ -83,23 +75,23 @@ pub one_value : (w : World) (x : Simple) (s t : State) (n : ℕ) → operand_val
 one_value w x s t n e = ap (λ m. m then λ p. and_first p.0 (operand_values w [] p.1)) e
 
 put_by : (w : World) (limits : Limits) (x : Simple) (d : ℕ) (b : Bool) → (d == 0) ≡ b →
-    Always w (if b then instruction limits opcode.Push (x ∷ []) None None else naming limits opcode.Store d (x ∷ []) None None) (Puts w x d)
+    Always w (if b then instruction limits Opcode.Push (x ∷ []) None None else naming limits Opcode.Store d (x ∷ []) None None) (Puts w x d)
 put_by w limits x d true e =
     so (λ at from to place s n v.
-    stepping w at (instruction_of opcode.Push (x ∷ []) None None) from to s (to, given d n s) place
+    stepping w at (instruction_of Opcode.Push (x ∷ []) None None) from to s (to, given d n s) place
     (ap (λ m. m then λ p. pushed p.0 to p.1) (one_value w x s s n v)
     ∙ ap (λ b. Some (
       to,
       if b then record s { stack = n ∷ s.stack } else if d == 255 then record s { temp = n } else record s
           { store = with_variable d n s.store },
     )) (sym e)))
-    (instruction_ limits opcode.Push (x ∷ []) None None)
+    (instruction_ limits Opcode.Push (x ∷ []) None None)
 put_by w limits x d false e =
     so (λ at from to place s n v.
-    stepping w at (naming_of opcode.Store d (x ∷ []) None None) from to s (to, given d n s) place
+    stepping w at (naming_of Opcode.Store d (x ∷ []) None None) from to s (to, given d n s) place
     (ap (λ m. m then λ p. first_put d p.0 to p.1) (one_value w x s s n v)
     ∙ ap (λ b. Some (to, if b then record s { stack = with_top n s.stack } else given d n s)) e))
-    (naming_ limits opcode.Store d (x ∷ []) None None)
+    (naming_ limits Opcode.Store d (x ∷ []) None None)
 
 pub put_ : (w : World) (limits : Limits) (x : Simple) (d : ℕ) → Always w (put limits x d) (Puts w x d)
 put_ w limits x d = put_by w limits x d (d == 0) refl
@@ -130,35 +122,35 @@ Loads w v d at from to = (s : State) → is_own v ≡ false → Comes w at from 
 pub load_ : (w : World) (limits : Limits) (v d : ℕ) → Always w (load limits v d) (Loads w v d)
 load_ w limits v d =
     so (λ at from to place s own.
-    stepping w at (naming_of opcode.Load v [] (Some d) None) from to s (to, given d (s.store.variables v) s) place
-    (ap (λ m. m then λ n. delivered (Some d) n to s) (named_is v s own))) (naming_ limits opcode.Load v [] (Some d) None)
+    stepping w at (naming_of Opcode.Load v [] (Some d) None) from to s (to, given d (s.store.variables v) s) place
+    (ap (λ m. m then λ n. delivered (Some d) n to s) (named_is v s own))) (naming_ limits Opcode.Load v [] (Some d) None)
 
 abbrev pub MakesStep : World → Direction → ℕ → Claim
 MakesStep w how v at from to = (s : State) → is_own v ≡ false → Comes w at from s to (record s { store = with_step how v s.store })
 
 pub step_ : (w : World) (limits : Limits) (how : Direction) (v : ℕ) → Always w (code.stepping limits how v) (MakesStep w how v)
-step_ w limits step.Up v =
+step_ w limits Direction.Up v =
     so (λ at from to place s own.
-    stepping w at (naming_of opcode.Inc v [] None None) from to s (to, record s { store = with_step step.Up v s.store }) place
+    stepping w at (naming_of Opcode.Inc v [] None None) from to s (to, record s { store = with_step Direction.Up v s.store }) place
     (ap (λ m. m then λ n. Some (to, put_in v ((n + 1) % 65536) s)) (named_is v s own)
-    ∙ ap (λ t. Some (to, t)) (put_in_is v ((s.store.variables v + 1) % 65536) s own))) (naming_ limits opcode.Inc v [] None None)
-step_ w limits step.Down v =
+    ∙ ap (λ t. Some (to, t)) (put_in_is v ((s.store.variables v + 1) % 65536) s own))) (naming_ limits Opcode.Inc v [] None None)
+step_ w limits Direction.Down v =
     so (λ at from to place s own.
-    stepping w at (naming_of opcode.Dec v [] None None) from to s (to, record s { store = with_step step.Down v s.store }) place
+    stepping w at (naming_of Opcode.Dec v [] None None) from to s (to, record s { store = with_step Direction.Down v s.store }) place
     (ap (λ m. m then λ n. Some (to, put_in v ((n + 65535) % 65536) s)) (named_is v s own)
-    ∙ ap (λ t. Some (to, t)) (put_in_is v ((s.store.variables v + 65535) % 65536) s own))) (naming_ limits opcode.Dec v [] None None)
+    ∙ ap (λ t. Some (to, t)) (put_in_is v ((s.store.variables v + 65535) % 65536) s own))) (naming_ limits Opcode.Dec v [] None None)
 
 pub jump_comes : (w : World) (at : Label → Place) (l : Label) (from to : Place) (s : State) → Lies (jump_to l) at from to →
     Comes w at from s (at l) s
 jump_comes w at l from to s place = stepping w at (jump_to l) from to s (at l, s) place refl
 
 pub mark_comes : (w : World) (at : Label → Place) (l : Label) (from to : Place) (s : State) → Marks l at from to → Comes w at from s to s
-mark_comes w at l from to s m = stepping w at (Mark l) from to s (to, s) m.0 refl
+mark_comes w at l from to s m = stepping w at (Item.Mark l) from to s (to, s) m.0 refl
 
 -- Branches: where control goes by a truth and the sense of the branch
 
 pub goes : (b : Bool) (l : Label) (at : Label → Place) (rest : Place) (s : State) →
-    goes_by b (To l) at rest s ≡ Some (if b then at l else rest, s)
+    goes_by b (Destination.To l) at rest s ≡ Some (if b then at l else rest, s)
 goes true l at rest s = refl
 goes false l at rest s = refl
 
@@ -171,13 +163,13 @@ pub jump_zero_ : (w : World) (limits : Limits) (x : Simple) (sense : Bool) (labe
     Always w (jump_zero limits x sense label) (JumpsZero w x sense label)
 jump_zero_ w limits x sense label =
     so (λ at from rest place s n t v.
-    stepping w at (instruction_of opcode.Jz (x ∷ []) None (to (not sense) label)) from rest s
+    stepping w at (instruction_of Opcode.Jz (x ∷ []) None (to (not sense) label)) from rest s
     (if same (not (n == 0)) sense then at label else rest, t) place
     (ap (λ m. m then λ p. machine.test_of_one (λ a. a == 0) p.0 then λ b. branched (to (not sense) label) b at rest p.1)
     (one_value w x s t n v)
     ∙ goes (same (n == 0) (not sense)) label at rest t
     ∙ ap (λ b. Some (if b then at label else rest, t)) (same_not (n == 0) sense)))
-    (instruction_ limits opcode.Jz (x ∷ []) None (to (not sense) label))
+    (instruction_ limits Opcode.Jz (x ∷ []) None (to (not sense) label))
 
 -- a negated condition branches on the other sense
 pub opposed : {keeps : Bool} (w : World) (holds : Store → Option (Bool × Store)) (sense : Bool) (label : Label) (at : Label → Place)
@@ -218,7 +210,7 @@ computes_ {keeps} w limits op f parts args act h d =
     ∙ ap (λ m. m then λ p. f p.1.store p.0 then λ n. delivered (Some d) n rest p.1) l.4
     ∙ ap (λ m. m then λ n. delivered (Some d) n rest (state stack l.0 o.0.1)) q.1 in
     finish keeps w at from rest (state stack temp s) d q.0 n stack temp l.0 o.0.1 t l.1
-    (comes_then l.5 (stepping w at (Instruction item) p.0 rest l.2 (rest, given d q.0 (state stack l.0 o.0.1)) p.2 moves)) q.2)
+    (comes_then l.5 (stepping w at (Item.Instruction item) p.0 rest l.2 (rest, given d q.0 (state stack l.0 o.0.1)) p.2 moves)) q.2)
     (then_ (looks {keeps = keeps} w parts args h) (instruction_ limits op (operands parts) (Some d) None))
 
 -- Tests
@@ -242,7 +234,7 @@ tests_ {keeps} w limits op g parts args act h sense label =
     ∙ ap (λ m. m then λ p. g p.1.store p.0 then λ b. branched (to sense label) b at rest p.1) l.4
     ∙ ap (λ m. m then λ b. branched (to sense label) b at rest (state stack l.0 o.0.1)) q.1
     ∙ goes (same q.0 sense) label at rest (state stack l.0 o.0.1) in
-    let c = comes_then l.5 (stepping w at (Instruction item) p.0 rest l.2
+    let c = comes_then l.5 (stepping w at (Item.Instruction item) p.0 rest l.2
     (if same q.0 sense then at label else rest, state stack l.0 o.0.1) p.2 moves) in (
       l.0,
       l.1,
@@ -262,7 +254,7 @@ without {keeps} w value at from to h stack temp s t e =
 pub zero_tested : {keeps : Bool} (w : World) (limits : Limits) (value : Taker → Store → Option (ℕ × Store)) (c : Code) →
     Always w c (GivesValue keeps w value SP) →
     (sense : Bool) (label : Label) →
-    Always w (c ▸ jump_zero limits (Variable SP) sense label) (Branches keeps w (λ s. is_not_zero (value nobody s)) sense label)
+    Always w (c ▸ jump_zero limits (Simple.Variable SP) sense label) (Branches keeps w (λ s. is_not_zero (value nobody s)) sense label)
 zero_tested {keeps} w limits value c h sense label =
     so (λ at from rest p stack temp s b t e.
     let o = opened (value nobody s) (λ p. Some (not (p.0 == 0), p.1)) (b, t) e in
@@ -272,12 +264,13 @@ zero_tested {keeps} w limits value c h sense label =
       subst (λ x. Comes w at from (state stack temp s) (if same x.0 sense then at label else rest) (state stack r.0 x.1)) (same_some o.2)
           (comes_then r.2 (p.2 (state (o.0.0 ∷ stack) r.0 o.0.1) o.0.0 (state stack r.0 o.0.1) refl)),
     ))
-    (then_ h (jump_zero_ w limits (Variable SP) sense label))
+    (then_ h (jump_zero_ w limits (Simple.Variable SP) sense label))
 
 -- A condition as a value puts 1 or 0.
 
 truth_comes : (w : World) (at : Label → Place) (from m1 m2 m3 m4 m5 to : Place) (fails last : Label) (d : ℕ) (start s : State) (b : Bool) →
-    Puts w (Known 1) d at m1 m2 → Lies (jump_to last) at m2 m3 → Marks fails at m3 m4 → Puts w (Known 0) d at m4 m5 → Marks last at m5 to →
+    Puts w (Simple.Known 1) d at m1 m2 → Lies (jump_to last) at m2 m3 → Marks fails at m3 m4 → Puts w (Simple.Known 0) d at m4 m5 → Marks
+    last at m5 to →
     Comes w at from start (if same b false then at fails else m1) s → Comes w at from start to (given d (truth b) s)
 truth_comes w at from m1 m2 m3 m4 m5 to fails last d start s true one jump mark other end c =
     comes_then c (comes_then (one s 1 refl) (moved end.1 (jump_comes w at last m2 m3 (given d 1 s) jump)))
@@ -302,8 +295,8 @@ truth_ {keeps} w limits holds branch h d =
     (truth_comes w at from p.0 p1.0 p2.0 p3.0 p4.0 rest fails last d (state stack temp s)
     (state stack r.0 o.0.1) o.0.0 p1.1 p2.1 p3.1 p4.1 p4.2
     r.2) o.2)
-    (then_ (h false fails) (then_ (put_ w limits (Known 1) d) (then_ (jumped_ limits last) (then_ (marked_ limits fails) (then_
-    (put_ w limits (Known 0) d) (marked_ limits last))))))
+    (then_ (h false fails) (then_ (put_ w limits (Simple.Known 1) d) (then_ (jumped_ limits last) (then_ (marked_ limits fails) (then_
+    (put_ w limits (Simple.Known 0) d) (marked_ limits last))))))
 
 -- An object that an instruction finds: it is stored, and the branch leads to the next instruction in any case.
 abbrev pub found_of : World → (Store → ℕ → ℕ) → List Arg → Taker → Store → Option (ℕ × Store)
@@ -324,7 +317,7 @@ finds_ {keeps} w limits op f parts args act h d next =
     ∙ ap (λ m. m then λ p'. machine.found_one (f p'.1.store) p'.0 then λ n. machine.branched_with (Some d) (to true next) n at p.0 p'.1) l.4
     ∙ ap (λ m. m then λ n. machine.branched_with (Some d) (to true next) n at p.0 (state stack l.0 o.0.1)) q.1
     ∙ goes (same (not (q.0 == 0)) true) next at p.0 now in
-    let there = comes_then l.5 (stepping w at (Instruction item) p.1.0 p.0 l.2
+    let there = comes_then l.5 (stepping w at (Item.Instruction item) p.1.0 p.0 l.2
     (if same (not (q.0 == 0)) true then at next else p.0, now) p.1.2 moves) in
     finish keeps w at from rest (state stack temp s) d q.0 n stack temp l.0 o.0.1 t l.1
     (led w at from p.0 rest next (state stack temp s) now (same (not (q.0 == 0)) true) p.2 there) q.2)
@@ -336,14 +329,14 @@ abbrev pub drawn_value : World → List Arg → Taker → Store → Option (ℕ 
 drawn_value w args take s = values w args s then λ p. machine.drawn w p.0 p.1 then λ r. answer take r.0 r.1
 
 pub draws_ : {keeps : Bool} (w : World) (limits : Limits) (parts : List Part) (args : List Arg) → AreParts keeps w parts args → (d : ℕ) →
-    Always w (worked limits opcode.Random parts (Some d) None) (GivesValue keeps w (drawn_value w args) d)
+    Always w (worked limits Opcode.Random parts (Some d) None) (GivesValue keeps w (drawn_value w args) d)
 draws_ {keeps} w limits parts args h d =
     so (λ at from rest p stack temp s n t e.
     let o = opened (values w args s) (λ p. machine.drawn w p.0 p.1 then λ r. answer (taker d) r.0 r.1) (n, t) e in
     let q = opened (machine.drawn w o.0.0 o.0.1) (λ r. answer (taker d) r.0 r.1) (n, t) o.2 in
     let l = p.1 stack temp s o.0.0 o.0.1 o.1 in
     let item : Parts = record {
-      opcode = opcode.Random;
+      opcode = Opcode.Random;
       operands = map written (operands parts);
       store = Some d;
       branch = None;
@@ -353,8 +346,8 @@ draws_ {keeps} w limits parts args h d =
     ap (λ m. m then λ p. machine.drawn w p.0 p.1.store then λ r. delivered (Some d) r.0 rest (record p.1 { store = r.1 })) l.4
     ∙ ap (λ m. m then λ r. delivered (Some d) r.0 rest (state stack l.0 r.1)) q.1 in
     finish keeps w at from rest (state stack temp s) d q.0.0 n stack temp l.0 q.0.1 t l.1
-    (comes_then l.5 (stepping w at (Instruction item) p.0 rest l.2 (rest, given d q.0.0 (state stack l.0 q.0.1)) p.2 moves)) q.2)
-    (then_ (looks {keeps = keeps} w parts args h) (instruction_ limits opcode.Random (operands parts) (Some d) None))
+    (comes_then l.5 (stepping w at (Item.Instruction item) p.0 rest l.2 (rest, given d q.0.0 (state stack l.0 q.0.1)) p.2 moves)) q.2)
+    (then_ (looks {keeps = keeps} w parts args h) (instruction_ limits Opcode.Random (operands parts) (Some d) None))
 
 -- An instruction that writes into memory
 
@@ -372,20 +365,20 @@ writes_ keeps w limits op f parts args act h =
     ap (λ a. acted w at a item rest l.2) act
     ∙ ap (λ m. m then λ p. f p.0 p.1.store then λ t. Some (rest, record p.1 { store = t })) l.4
     ∙ ap (λ m. m then λ t. Some (rest, state stack l.0 t)) o.2 in
-    (l.0, comes_then l.5 (stepping w at (Instruction item) p.0 rest l.2 (rest, state stack l.0 t) p.2 moves)))
+    (l.0, comes_then l.5 (stepping w at (Item.Instruction item) p.0 rest l.2 (rest, state stack l.0 t) p.2 moves)))
     (then_ (looks {keeps = keeps} w parts args h) (instruction_ limits op (operands parts) None None))
 
 -- Calls: with up to seven arguments all operands are laid
 
 call_acts_some : (w : World) (x y z : Bool) →
-    action_of w (if x then opcode.Call1s else if y then opcode.Call2s else if z then opcode.CallVs else opcode.CallVs2) ≡ Calls
+    action_of w (if x then Opcode.Call1s else if y then Opcode.Call2s else if z then Opcode.CallVs else Opcode.CallVs2) ≡ Calls
 call_acts_some w true y z = refl
 call_acts_some w false true z = refl
 call_acts_some w false false true = refl
 call_acts_some w false false false = refl
 
 call_acts_none : (w : World) (x y z : Bool) →
-    action_of w (if x then opcode.Call1n else if y then opcode.Call2n else if z then opcode.CallVn else opcode.CallVn2) ≡ Calls
+    action_of w (if x then Opcode.Call1n else if y then Opcode.Call2n else if z then Opcode.CallVn else Opcode.CallVn2) ≡ Calls
 call_acts_none w true y z = refl
 call_acts_none w false true z = refl
 call_acts_none w false false true = refl
@@ -412,7 +405,7 @@ calls_ keeps w limits op parts args act h d =
     ∙ ap (λ m. m then λ p. called w p.0 p.1.store then λ r. machine.returned (Some d) r.0 rest (record p.1 { temp = r.1; store = r.2 })) l.4
     ∙ ap (λ m. m then λ r. machine.returned (Some d) r.0 rest (state stack r.1 r.2)) q.1 in
     finish false w at from rest (state stack temp s) d q.0.0 n stack temp q.0.1 q.0.2 t not_kept
-    (comes_then l.5 (stepping w at (Instruction item) p.0 rest l.2 (rest, given d q.0.0 (state stack q.0.1 q.0.2)) p.2 moves)) q.2)
+    (comes_then l.5 (stepping w at (Item.Instruction item) p.0 rest l.2 (rest, given d q.0.0 (state stack q.0.1 q.0.2)) p.2 moves)) q.2)
     (then_ (looks {keeps = keeps} w parts args h) (instruction_ limits op (operands parts) (Some d) None))
 
 pub calls_alone : (keeps : Bool) (w : World) (limits : Limits) (op : Opcode) (parts : List Part) (args : List Arg) →
@@ -431,7 +424,7 @@ calls_alone keeps w limits op parts args act h =
     ∙ ap (λ m. m then λ r. machine.returned None r.0 rest (state stack r.1 r.2)) q.1 in (
       q.0.1,
       subst (λ u. Comes w at from (state stack temp s) rest (state stack q.0.1 u)) (ap (λ x. x.1) (same_some q.2) ∙ same_some f.2)
-          (comes_then l.5 (stepping w at (Instruction item) p.0 rest l.2 (rest, state stack q.0.1 q.0.2) p.2 moves)),
+          (comes_then l.5 (stepping w at (Item.Instruction item) p.0 rest l.2 (rest, state stack q.0.1 q.0.2) p.2 moves)),
     ))
     (then_ (looks {keeps = keeps} w parts args h) (instruction_ limits op (operands parts) None None))
 

@@ -1,30 +1,19 @@
 -- Values, conditions and leaves: their code does in each use what they mean.
-use Rattle.std.proofs.Common.{◌≡◌, ℕ, List, [], ◌∷◌, Option, Some, None, Bool, true, false, refl, ap, subst}
-use Rattle.std.specs.Prelude.{not, ◌==◌, if◌then◌else◌}
+use Rattle.std.proofs.Common.{◌≡◌, ℕ, List, [], ◌∷◌, Option, Some, None, Bool, true, false, refl, ap, subst, not, ◌==◌, if◌then◌else◌}
 use Rattle.inf_settings.specs.Bounds.{Limits}
-use Rattle.inf_opcode.specs.declared.instructions.Label.{Label}
-use Rattle.inf_opcode.specs.declared.opcodes.Opcode.{Opcode}
-use Rattle.inf_expressions.specs.declared.operators.Operand.{Operand}
-use Rattle.inf_expressions.specs.declared.operators.Operand.TheVariants as operand
-use Rattle.inf_expressions.specs.declared.operators.Operation.{Operation}
-use Rattle.inf_expressions.specs.declared.operators.Operation.TheVariants as operation
-use Rattle.inf_expressions.specs.declared.operators.Binary.TheVariants as binary
-use Rattle.inf_expressions.specs.Numbers.{same}
-use Rattle.inf_expressions.specs.Trees.{Leaf}
-use Rattle.inf_output.specs.declared.operands.Simple.TheVariants.{Known}
-use Rattle.inf_output.specs.Output.{Code, nothing}
+use Rattle.inf_opcode.specs.{declared.instructions.Label.Label, declared.opcodes.Opcode.Opcode}
+use Rattle.inf_expressions.specs.{Numbers.same, Trees.Leaf, declared.operators.Binary.Binary, declared.operators.Operand.Operand}
+use Rattle.inf_expressions.specs.{declared.operators.Operation.Operation}
+use Rattle.inf_output.specs.{Output.Code, Output.nothing, declared.operands.Simple.Simple}
+use Rattle.inf_templates.specs.{Meaning.InMemory, Meaning.Meaning, Meaning.meaning, Meaning.part, declared.tasks.Memory.Memory}
 use Rattle.inf_templates.specs.Parts.{Part, SP, TEMP, is, jump_zero, put, simple, worked}
-use Rattle.inf_templates.specs.Meaning.{Meaning, InMemory, meaning, part}
 use Rattle.inf_templates.specs.Meaning as code
-use Rattle.inf_templates.specs.declared.tasks.Memory.{Memory}
-use Rattle.inf_templates.specs.declared.tasks.Memory.TheVariants as memory
 use Rattle.inf_interpreter.specs.Machine.{World, Store, State, Computes, ◌then◌, action_of}
-use Rattle.inf_meaning_laws.specs.Values.{forgotten, Width, Bytes, Words, Properties, Aim, Nowhere, Named, Element, Arg, Sense, Taker}
-use Rattle.inf_meaning_laws.specs.Values.{answer, arg}
-use Rattle.inf_meaning_laws.specs.Values.{is_not_zero, is_own, leaf_value, nobody, read, sense}
-use Rattle.inf_meaning_laws.specs.Values as values
 use Rattle.inf_interpreter.specs.Claims.{Comes, state}
+use Rattle.inf_meaning_laws.specs.Values.{forgotten, Width, Bytes, Words, Properties, Aim, Nowhere, Named, Element, Arg, Sense, Taker}
+use Rattle.inf_meaning_laws.specs.Values.{answer, arg, is_not_zero, is_own, leaf_value, nobody, read, sense}
 use Rattle.inf_meaning_laws.specs.Laws.{Branches, GivesNothing, GivesValue, taker}
+use Rattle.inf_meaning_laws.specs.Values as values
 use Rattle.inf_interpreter.proofs.Laying.{Always, jumped_, nothing_, so}
 use Rattle.inf_interpreter.proofs.Running.{here, kept_here, none_some, opened, same_some}
 use Rattle.inf_meaning_laws.proofs.Working.{AreParts, IsPart, leaf_simple, looked_up}
@@ -32,9 +21,9 @@ use Rattle.inf_meaning_laws.proofs.Instructions.{computed_of, computes_, finish,
 use Rattle.inf_meaning_laws.proofs.Instructions.{without, zero_tested}
 
 abbrev pub memory_of : Width → Memory
-memory_of Bytes = memory.Byte
-memory_of Words = memory.Word
-memory_of Properties = memory.Property
+memory_of Bytes = Memory.Byte
+memory_of Words = Memory.Word
+memory_of Properties = Memory.Property
 
 -- The claims about the code and the meaning of a tree together, use by use.
 pub record Means (keeps : Bool) (w : World) (limits : Limits) (m : Meaning) (e : Sense) : Type 0 where
@@ -87,7 +76,8 @@ tested_leaf {keeps} w limits x sense label =
 
 pub known_leaf : {keeps : Bool} (w : World) (limits : Limits) (x : Operand) (n : ℕ) → ((s : Store) (m : ℕ) → read w x s ≡ Some m → n ≡ m) →
     (sense : Bool) (label : Label) →
-    Always w (code.leaf_branch limits (Known n) sense label) (Branches keeps w (λ s. is_not_zero (leaf_value w x nobody s)) sense label)
+    Always w (code.leaf_branch limits (Simple.Known n) sense label)
+    (Branches keeps w (λ s. is_not_zero (leaf_value w x nobody s)) sense label)
 known_leaf {keeps} w limits x n is_n sense label =
     so (λ at from to h stack temp s b t e.
     let o = opened (leaf_value w x nobody s) (λ p. Some (not (p.0 == 0), p.1)) (b, t) e in
@@ -104,14 +94,14 @@ known_leaf {keeps} w limits x n is_n sense label =
 
 pub leaf_branches : {keeps : Bool} (w : World) (limits : Limits) (x : Operand) (sense : Bool) (label : Label) →
     Always w (code.leaf_branch limits (simple x) sense label) (Branches keeps w (λ s. is_not_zero (leaf_value w x nobody s)) sense label)
-leaf_branches {keeps} w limits (operand.Known n) sense label =
-    known_leaf {keeps = keeps} w limits (operand.Known n) n (λ s m e. same_some e) sense label
-leaf_branches {keeps} w limits (operand.Variable v) sense label = tested_leaf {keeps = keeps} w limits (operand.Variable v) sense label
-leaf_branches {keeps} w limits (operand.Later t) sense label = tested_leaf {keeps = keeps} w limits (operand.Later t) sense label
-leaf_branches {keeps} w limits (operand.Function f) sense label =
-    known_leaf {keeps = keeps} w limits (operand.Function f) 0 (λ s m e. none_some e) sense label
-leaf_branches {keeps} w limits operand.Unknown sense label =
-    known_leaf {keeps = keeps} w limits operand.Unknown 0 (λ s m e. none_some e) sense label
+leaf_branches {keeps} w limits (Operand.Known n) sense label =
+    known_leaf {keeps = keeps} w limits (Operand.Known n) n (λ s m e. same_some e) sense label
+leaf_branches {keeps} w limits (Operand.Variable v) sense label = tested_leaf {keeps = keeps} w limits (Operand.Variable v) sense label
+leaf_branches {keeps} w limits (Operand.Later t) sense label = tested_leaf {keeps = keeps} w limits (Operand.Later t) sense label
+leaf_branches {keeps} w limits (Operand.Function f) sense label =
+    known_leaf {keeps = keeps} w limits (Operand.Function f) 0 (λ s m e. none_some e) sense label
+leaf_branches {keeps} w limits Operand.Unknown sense label =
+    known_leaf {keeps = keeps} w limits Operand.Unknown 0 (λ s m e. none_some e) sense label
 
 pub leaf_put : {keeps : Bool} (w : World) (limits : Limits) (x : Operand) (d : ℕ) →
     Always w (put limits (simple x) d) (GivesValue keeps w (leaf_value w x) d)
@@ -141,11 +131,11 @@ no_element_by v true e = absurd (cc e)
 no_element_by v false e = absurd (cc e)
 
 pub leaf_no_element : {B : Type 0} {width : Width} {args : List Arg} (x : Operand) → values.leaf_aim x ≡ Element width args → B
-leaf_no_element (operand.Known n) e = no_element e
-leaf_no_element (operand.Variable v) e = no_element_by v (is_own v) e
-leaf_no_element (operand.Later t) e = no_element e
-leaf_no_element (operand.Function f) e = no_element e
-leaf_no_element operand.Unknown e = no_element e
+leaf_no_element (Operand.Known n) e = no_element e
+leaf_no_element (Operand.Variable v) e = no_element_by v (is_own v) e
+leaf_no_element (Operand.Later t) e = no_element e
+leaf_no_element (Operand.Function f) e = no_element e
+leaf_no_element Operand.Unknown e = no_element e
 
 pub leaf_means : {keeps : Bool} (w : World) (limits : Limits) (x : Operand) →
     Means keeps w limits (meaning limits (Leaf x)) (sense w (Leaf x))
@@ -198,15 +188,15 @@ computed_means {keeps} w limits op f ps args act h =
     stored_means w limits (computed_of w f args) (λ d. worked limits op ps (Some d) None) (computes_ w limits op f ps args act h)
 
 pub operation_acts : (w : World) (o : Operation) → action_of w (code.operation_opcode o) ≡ Computes (values.operation_of o)
-operation_acts w operation.Add = refl
-operation_acts w operation.Subtract = refl
-operation_acts w operation.Multiply = refl
-operation_acts w operation.Divide = refl
-operation_acts w operation.Remainder = refl
-operation_acts w operation.BitAnd = refl
-operation_acts w operation.BitOr = refl
-operation_acts w operation.Byte = refl
-operation_acts w operation.Word = refl
+operation_acts w Operation.Add = refl
+operation_acts w Operation.Subtract = refl
+operation_acts w Operation.Multiply = refl
+operation_acts w Operation.Divide = refl
+operation_acts w Operation.Remainder = refl
+operation_acts w Operation.BitAnd = refl
+operation_acts w Operation.BitOr = refl
+operation_acts w Operation.Byte = refl
+operation_acts w Operation.Word = refl
 
 abbrev pub width_of : Aim → Width
 width_of Nowhere = Bytes
@@ -222,21 +212,21 @@ pub element_parts : {keeps : Bool} (w : World) (o : Operation) (ps : List Part) 
     (width : Width) (given_args : List Arg) →
     values.element_of o args ≡ Element width given_args →
     (qs : List Part) × (code.operation_target o ps ≡ InMemory (memory_of width) qs) × AreParts keeps w qs given_args
-element_parts {keeps} w operation.Add ps args h width given_args e = no_element e
-element_parts {keeps} w operation.Subtract ps args h width given_args e = no_element e
-element_parts {keeps} w operation.Multiply ps args h width given_args e = no_element e
-element_parts {keeps} w operation.Divide ps args h width given_args e = no_element e
-element_parts {keeps} w operation.Remainder ps args h width given_args e = no_element e
-element_parts {keeps} w operation.BitAnd ps args h width given_args e = no_element e
-element_parts {keeps} w operation.BitOr ps args h width given_args e = no_element e
-element_parts {keeps} w operation.Byte ps args h width given_args e =
+element_parts {keeps} w Operation.Add ps args h width given_args e = no_element e
+element_parts {keeps} w Operation.Subtract ps args h width given_args e = no_element e
+element_parts {keeps} w Operation.Multiply ps args h width given_args e = no_element e
+element_parts {keeps} w Operation.Divide ps args h width given_args e = no_element e
+element_parts {keeps} w Operation.Remainder ps args h width given_args e = no_element e
+element_parts {keeps} w Operation.BitAnd ps args h width given_args e = no_element e
+element_parts {keeps} w Operation.BitOr ps args h width given_args e = no_element e
+element_parts {keeps} w Operation.Byte ps args h width given_args e =
     (ps, ap (λ a. InMemory (memory_of (width_of a)) ps) e, subst (λ l. AreParts keeps w ps l) (ap args_of e) h)
-element_parts {keeps} w operation.Word ps args h width given_args e =
+element_parts {keeps} w Operation.Word ps args h width given_args e =
     (ps, ap (λ a. InMemory (memory_of (width_of a)) ps) e, subst (λ l. AreParts keeps w ps l) (ap args_of e) h)
 
 pub operation_means : {keeps : Bool} (w : World) (limits : Limits) (o : Operation) (m n : Meaning) (a b : Sense) →
     Means keeps w limits m a → Means keeps w limits n b →
-    Means keeps w limits (code.two limits (binary.Operation o) m n) (values.two w (binary.Operation o) a b)
+    Means keeps w limits (code.two limits (Binary.Operation o) m n) (values.two w (Binary.Operation o) a b)
 operation_means {keeps} w limits o m n a b h k =
     let ps = part m ∷ part n ∷ [] in
     let args = arg a ∷ arg b ∷ [] in

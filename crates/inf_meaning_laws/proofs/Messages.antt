@@ -1,23 +1,15 @@
 -- Calls of properties, which are messages to objects, and calls of anything.
-use Rattle.std.proofs.Common.{arith, ◌≡◌, ◌≤◌, List, [], ◌∷◌, ◌++◌, Bool, false, refl, sym, subst}
-use Rattle.std.specs.Prelude.{length}
+use Rattle.std.proofs.Common.{arith, ◌≡◌, ◌≤◌, List, [], ◌∷◌, ◌++◌, Bool, false, refl, sym, subst, length}
 use Rattle.inf_settings.specs.Bounds.{Limits}
-use Rattle.inf_expressions.specs.declared.operators.PropertyPart.TheVariants as property
-use Rattle.inf_expressions.specs.declared.operators.Binary.TheVariants as binary
-use Rattle.inf_expressions.specs.Trees.{Tree, Two}
-use Rattle.inf_output.specs.declared.veneer.Veneer.TheVariants as veneer
-use Rattle.inf_templates.specs.Parts.{Part}
-use Rattle.inf_templates.specs.Meaning.{Meaning, meaning}
+use Rattle.inf_expressions.specs.{Trees.Tree, Trees.Two, declared.operators.Binary.Binary, declared.operators.PropertyPart.PropertyPart}
+use Rattle.inf_output.specs.declared.veneer.Veneer.{Veneer}
+use Rattle.inf_templates.specs.{Meaning.Meaning, Meaning.meaning, Parts.Part}
 use Rattle.inf_templates.specs.Meaning as code
 use Rattle.inf_interpreter.specs.Machine.{World}
 use Rattle.inf_meaning_laws.specs.Values.{Arg, Element, Properties, Sense, arg, sense}
-use Rattle.inf_meaning_laws.specs.Values as values
 use Rattle.inf_meaning_laws.specs.Covered.{most_arguments}
-use Rattle.inf_meaning_laws.proofs.Working.{AreParts}
-use Rattle.inf_meaning_laws.proofs.Meant.{Means}
-use Rattle.inf_meaning_laws.proofs.Called.{call_of_means}
-use Rattle.inf_meaning_laws.proofs.Groups.{same_length}
-use Rattle.inf_meaning_laws.proofs.Supplying.{supplied_means}
+use Rattle.inf_meaning_laws.specs.Values as values
+use Rattle.inf_meaning_laws.proofs.{Called.call_of_means, Groups.same_length, Meant.Means, Supplying.supplied_means, Working.AreParts}
 use Rattle.inf_meaning_laws.proofs.Assigned.{are_joined, joined_length}
 
 -- The object, the property and the arguments are handed to the routine that sends the message.
@@ -35,14 +27,14 @@ message_means keeps w limits m e parts aim two k ps arguments h few =
     let same = same_length keeps w all args are in
     let alike = same_length keeps w ps arguments h in
     let fits : length all ≤ 7 = omega (arith, long, same, alike, two, few) in
-    subst (λ t. Means false w limits (code.called limits (code.called_by limits t m ps)) (values.supplied_by w veneer.CallProperty args))
-    (sym q.1) (supplied_means keeps w limits veneer.CallProperty all args are fits)
+    subst (λ t. Means false w limits (code.called limits (code.called_by limits t m ps)) (values.supplied_by w Veneer.CallProperty args))
+    (sym q.1) (supplied_means keeps w limits Veneer.CallProperty all args are fits)
 
 pub call_means : (keeps : Bool) (w : World) (limits : Limits) (f : Tree) (ps : List Part) (arguments : List Arg) →
     Means keeps w limits (meaning limits f) (sense w f) → AreParts keeps w ps arguments → length ps ≤ most_arguments f →
     Means false w limits (code.called limits (code.call_of limits (meaning limits f) ps))
     (values.called_as w (sense w f).aim (sense w f) arguments)
-call_means keeps w limits (Two (binary.Property property.Value) o p) ps arguments k h few =
-    message_means keeps w limits (meaning limits (Two (binary.Property property.Value) o p))
-    (sense w (Two (binary.Property property.Value) o p)) (arg (sense w o) ∷ arg (sense w p) ∷ []) refl refl k ps arguments h few
+call_means keeps w limits (Two (Binary.Property PropertyPart.Value) o p) ps arguments k h few =
+    message_means keeps w limits (meaning limits (Two (Binary.Property PropertyPart.Value) o p))
+    (sense w (Two (Binary.Property PropertyPart.Value) o p)) (arg (sense w o) ∷ arg (sense w p) ∷ []) refl refl k ps arguments h few
 call_means keeps w limits f ps arguments k h few = call_of_means keeps w limits f tt k ps arguments h few

@@ -1,33 +1,24 @@
 -- Calls of routines that the compiler supplies.
-use Rattle.std.proofs.Common.{arith, ◌≡◌, ◌≤◌, ℕ, List, [], ◌∷◌, Option, Some, None, Bool, false, refl, ◌∙◌, ap, sym, subst}
-use Rattle.std.specs.Prelude.{length, map}
+use Rattle.std.proofs.Common.{arith, ◌≡◌, ◌≤◌, ℕ, List, [], ◌∷◌, Option, Some, None, Bool, false, refl, ◌∙◌, ap, sym, subst, length, map}
 use Rattle.inf_settings.specs.Bounds.{Limits}
 use Rattle.inf_opcode.specs.Instructions.{Parts}
-use Rattle.inf_expressions.specs.declared.operators.PropertyPart.{PropertyPart}
-use Rattle.inf_expressions.specs.declared.operators.PropertyPart.TheVariants as property
-use Rattle.inf_expressions.specs.declared.operators.Binary.TheVariants as binary
-use Rattle.inf_output.specs.declared.items.Item.TheVariants.{Instruction}
-use Rattle.inf_output.specs.declared.operands.Simple.{Simple}
-use Rattle.inf_output.specs.declared.veneer.Veneer.{Veneer}
-use Rattle.inf_output.specs.declared.veneer.Veneer.TheVariants as veneer
-use Rattle.inf_output.specs.Operands.{written}
-use Rattle.inf_output.specs.Output.{instruction}
+use Rattle.inf_expressions.specs.{declared.operators.Binary.Binary, declared.operators.PropertyPart.PropertyPart}
+use Rattle.inf_output.specs.{Operands.written, Output.instruction, declared.items.Item.Item, declared.operands.Simple.Simple}
+use Rattle.inf_output.specs.{declared.veneer.Veneer.Veneer}
 use Rattle.inf_templates.specs.Parts.{Part, call_opcode, call_routine, calling, calling_routine, operands}
 use Rattle.inf_templates.specs.Meaning.{InMemory, Meaning, part}
 use Rattle.inf_templates.specs.Meaning as code
+use Rattle.inf_interpreter.specs.{Claims.Claim, Claims.Comes, Claims.state, Supplied.supplied, Supplied.wrote}
 use Rattle.inf_interpreter.specs.Machine.{World, Store, State, Place, ◌then◌, acted, and_first, called, given, operand_values}
 use Rattle.inf_interpreter.specs.Machine.{write_of_three}
 use Rattle.inf_interpreter.specs.Machine as machine
-use Rattle.inf_interpreter.specs.Supplied.{supplied, wrote}
 use Rattle.inf_meaning_laws.specs.Values.{Arg, Element, Properties, Sense, Width, answer, arg, forgotten, nobody, supplied_value, values}
-use Rattle.inf_meaning_laws.specs.Values as meant
-use Rattle.inf_interpreter.specs.Claims.{Claim, Comes, state}
 use Rattle.inf_meaning_laws.specs.Laws.{GivesNothing, GivesValue, taker}
+use Rattle.inf_meaning_laws.specs.Values as meant
 use Rattle.inf_interpreter.proofs.Laying.{Always, Supplied, instruction_, routined, so, then_}
 use Rattle.inf_interpreter.proofs.Running.{comes_then, none_some, not_kept, opened, same_some, stepping}
-use Rattle.inf_meaning_laws.proofs.Working.{AreParts, looks}
-use Rattle.inf_meaning_laws.proofs.Instructions.{call_acts, finish}
-use Rattle.inf_meaning_laws.proofs.Called.{operands_length, taken_whole}
+use Rattle.inf_meaning_laws.proofs.{Called.operands_length, Called.taken_whole, Instructions.call_acts, Instructions.finish}
+use Rattle.inf_meaning_laws.proofs.{Working.AreParts, Working.looks}
 use Rattle.inf_meaning_laws.proofs.Meant.{Means, args_of, memory_of, no_element, part_of, valued_means, width_of}
 
 -- the state where a routine has returned, with its result stored or forgotten
@@ -67,7 +58,7 @@ called_by w limits v x all few store =
     (ap (λ m. m then λ p. and_first p.0 (operand_values w (map written all) p.1)) (is.number s) ∙ ap (and_first (w.routine v)) e)
     ∙ ap (λ m. m then λ r. machine.returned store r.0 to (record u { temp = r.1; store = r.2 })) r.1
     ∙ returns store n to now in
-    (r.0, stepping w at (Instruction item) from to s (to, returned_as store n now) place moves))
+    (r.0, stepping w at (Item.Instruction item) from to s (to, returned_as store n now) place moves))
     (instruction_ limits (call_opcode store (length all)) (x ∷ all) store None))
 
 pub calling_ : (w : World) (limits : Limits) (v : Veneer) (all : List Simple) → length all ≤ 7 → (store : Option ℕ) →
@@ -123,7 +114,7 @@ wrote_as f (a ∷ i ∷ n ∷ []) s t e = (n, ap (λ u. Some (n, u)) (same_some 
 wrote_as f (a ∷ i ∷ n ∷ m ∷ ns) s t e = none_some e
 
 pub writes_property : (keeps : Bool) (w : World) (limits : Limits) (ps : List Part) (args : List Arg) → AreParts keeps w ps args →
-    length ps ≤ 7 → Always w (call_routine limits veneer.WriteProperty ps None) (GivesNothing w (meant.element_assigned w Properties args))
+    length ps ≤ 7 → Always w (call_routine limits Veneer.WriteProperty ps None) (GivesNothing w (meant.element_assigned w Properties args))
 writes_property keeps w limits ps args h few =
     so (λ at from rest p stack temp s t e.
     let o = opened (values w args s) (λ p. meant.with_element w Properties p.0 p.1) t e in
@@ -131,24 +122,24 @@ writes_property keeps w limits ps args h few =
     let l = p.1 stack temp s o.0.0 o.0.1 o.1 in
     let c = p.2 l.2 o.0.0 (state stack l.0 o.0.1) l.4 a.0 t a.1 in
     (c.0, comes_then l.5 c.1))
-    (then_ (looks {keeps = keeps} w ps args h) (calling_ w limits veneer.WriteProperty (operands ps) (few_operands ps few) None))
+    (then_ (looks {keeps = keeps} w ps args h) (calling_ w limits Veneer.WriteProperty (operands ps) (few_operands ps few) None))
 
 -- The routine for a question about a property is the one of its meaning.
 reader_is : (p : PropertyPart) → code.reader p ≡ meant.asked p
-reader_is property.Value = refl
-reader_is property.Address = refl
-reader_is property.Length = refl
+reader_is PropertyPart.Value = refl
+reader_is PropertyPart.Address = refl
+reader_is PropertyPart.Length = refl
 
 property_parts : (w : World) (p : PropertyPart) (ps : List Part) (args : List Arg) → AreParts false w ps args → (width : Width)
     (given_args : List Arg) → meant.property_aim p args ≡ Element width given_args →
     (qs : List Part) × (code.property_target p ps ≡ InMemory (memory_of width) qs) × AreParts false w qs given_args
-property_parts w property.Value ps args h width given_args e =
+property_parts w PropertyPart.Value ps args h width given_args e =
     (ps, ap (λ a. InMemory (memory_of (width_of a)) ps) e, subst (λ l. AreParts false w ps l) (ap args_of e) h)
-property_parts w property.Address ps args h width given_args e = no_element e
-property_parts w property.Length ps args h width given_args e = no_element e
+property_parts w PropertyPart.Address ps args h width given_args e = no_element e
+property_parts w PropertyPart.Length ps args h width given_args e = no_element e
 
 pub property_means : (w : World) (limits : Limits) (p : PropertyPart) (m n : Meaning) (a b : Sense) → Means false w limits m a →
-    Means false w limits n b → Means false w limits (code.two limits (binary.Property p) m n) (meant.two w (binary.Property p) a b)
+    Means false w limits n b → Means false w limits (code.two limits (Binary.Property p) m n) (meant.two w (Binary.Property p) a b)
 property_means w limits p m n a b h k =
     let ps = part m ∷ part n ∷ [] in
     let args = arg a ∷ arg b ∷ [] in

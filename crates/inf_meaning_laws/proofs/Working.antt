@@ -4,15 +4,11 @@ use Rattle.std.specs.Prelude.{map, nat_lt, ◌==◌, ◌||◌, if◌then◌else�
 use Rattle.inf_opcode.specs.declared.instructions.Label.{Label}
 use Rattle.inf_opcode.specs.declared.instructions.Operand.TheVariants.{Large, Small}
 use Rattle.inf_expressions.specs.declared.operators.Operand.{Operand}
-use Rattle.inf_expressions.specs.declared.operators.Operand.TheVariants as operand
-use Rattle.inf_output.specs.declared.operands.Simple.{Simple}
-use Rattle.inf_output.specs.declared.operands.Simple.TheVariants.{Variable}
-use Rattle.inf_output.specs.Operands.{written}
-use Rattle.inf_output.specs.Output.{Code}
+use Rattle.inf_output.specs.{Operands.written, Output.Code, declared.operands.Simple.Simple}
 use Rattle.inf_templates.specs.Parts.{Part, SP, evaluated, evaluated_by, operand_by, operands, simple, worked_out}
 use Rattle.inf_interpreter.specs.Machine.{World, Store, State, Place, ◌then◌, and_first, operand_value, operand_values, popped}
-use Rattle.inf_meaning_laws.specs.Values.{Arg, Worked, Is, Reads, is_own, read, settled, settled_all, values, worked_all, worked_by}
 use Rattle.inf_interpreter.specs.Claims.{Claim, Comes, Kept, state}
+use Rattle.inf_meaning_laws.specs.Values.{Arg, Worked, Is, Reads, is_own, read, settled, settled_all, values, worked_all, worked_by}
 use Rattle.inf_interpreter.proofs.Laying.{Always, nothing_, so, then_}
 use Rattle.inf_interpreter.proofs.Running.{comes_then, here, kept_here, kept_then, none_some, opened, same_some}
 
@@ -96,7 +92,7 @@ works_all {keeps} w (p ∷ parts) (a ∷ args) h =
 -- Operands: the simple operand of each part
 
 abbrev pub simple_of : Worked → Simple
-simple_of (Is n) = Variable SP
+simple_of (Is n) = Simple.Variable SP
 simple_of (Reads x) = simple x
 
 operand_is : (w : World) (o : Option Simple) (leaf : Option Operand) (value : Store → Option (ℕ × Store)) (s : Store) (a : Worked)
@@ -142,13 +138,13 @@ no_variable false false a b c n m e = refl
 
 pub looked_up : (w : World) (x : Operand) (s : State) (n : ℕ) → read w x s.store ≡ Some n →
     operand_value w (written (simple x)) s ≡ Some (n, s)
-looked_up w (operand.Known m) s n e = known w s m (nat_lt m 256) ∙ ap (λ k. Some (k, s)) (same_some e)
-looked_up w (operand.Variable v) s n e =
+looked_up w (Operand.Known m) s n e = known w s m (nat_lt m 256) ∙ ap (λ k. Some (k, s)) (same_some e)
+looked_up w (Operand.Variable v) s n e =
     no_variable (v == 0) (v == 255) (popped s.stack s) (Some (s.temp, s)) (Some (s.store.variables v, s)) (s.store.variables v) n e
     ∙ ap (λ k. Some (k, s)) (read_number (is_own v) (s.store.variables v) n e)
-looked_up w (operand.Later t) s n e = ap (λ k. Some (k, s)) (same_some e)
-looked_up w (operand.Function f) s n e = none_some e
-looked_up w operand.Unknown s n e = none_some e
+looked_up w (Operand.Later t) s n e = ap (λ k. Some (k, s)) (same_some e)
+looked_up w (Operand.Function f) s n e = none_some e
+looked_up w Operand.Unknown s n e = none_some e
 
 first_looked_up : (w : World) (a : Worked) (stack : List ℕ) (temp : ℕ) (s : Store) (n : ℕ) → settled w a s ≡ Some n →
     operand_value w (written (simple_of a)) (state (with_worked a stack) temp s) ≡ Some (n, state stack temp s)

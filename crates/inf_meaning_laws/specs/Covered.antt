@@ -1,49 +1,43 @@
 -- Which expressions the laws speak of, and which of these keep variable 255: they neither call a routine nor store a value in it.
 use Rattle.std.specs.Prelude.{◌≡◌, ℕ, suc, ◌≤◌, ◌⊎◌, Bool, true, false}
-use Rattle.inf_expressions.specs.declared.operators.Operation.TheVariants as operation
-use Rattle.inf_expressions.specs.declared.operators.PropertyPart.TheVariants as property
-use Rattle.inf_expressions.specs.declared.operators.Test.{Test}
-use Rattle.inf_expressions.specs.declared.operators.Test.TheVariants as test
-use Rattle.inf_expressions.specs.declared.operators.Unary.{Unary}
-use Rattle.inf_expressions.specs.declared.operators.Unary.TheVariants as unary
-use Rattle.inf_expressions.specs.declared.operators.Binary.{Binary}
-use Rattle.inf_expressions.specs.declared.operators.Binary.TheVariants as binary
+use Rattle.inf_expressions.specs.declared.{operators.Binary.Binary, operators.Operation.Operation, operators.PropertyPart.PropertyPart}
+use Rattle.inf_expressions.specs.declared.{operators.Test.Test, operators.Unary.Unary}
 use Rattle.inf_expressions.specs.Trees.{Tree, Leaf, One, Two}
 use Rattle.inf_meaning_laws.specs.Values.{together}
 
 -- the number of a list's members
 abbrev pub count : Tree → ℕ
-count (Two binary.Then a b) = suc (count b)
+count (Two Binary.Then a b) = suc (count b)
 count b = 1
 
 -- A routine takes seven arguments at most. A call of a property is a message: the routine that sends it takes the object and the property
 -- as two of them.
 abbrev pub most_arguments : Tree → ℕ
-most_arguments (Two (binary.Property property.Value) a b) = 5
+most_arguments (Two (Binary.Property PropertyPart.Value) a b) = 5
 most_arguments f = 7
 
 -- An element of an array or a property of an object: where its value is assigned or stepped, a supplied routine does it.
 abbrev pub IsElement : Tree → Type 0
-IsElement (Two (binary.Operation operation.Byte) a i) = Unit {0}
-IsElement (Two (binary.Operation operation.Word) a i) = Unit {0}
-IsElement (Two (binary.Property property.Value) a p) = Unit {0}
+IsElement (Two (Binary.Operation Operation.Byte) a i) = Unit {0}
+IsElement (Two (Binary.Operation Operation.Word) a i) = Unit {0}
+IsElement (Two (Binary.Property PropertyPart.Value) a p) = Unit {0}
 IsElement a = ⊥
 
 -- calls keep nothing, nor do supplied routines
 abbrev pub CoversOne : Bool → Unary → Tree → Type 0
-CoversOne keeps (unary.Before s) (Leaf x) = Unit {0}
-CoversOne keeps (unary.Before s) a = (keeps ≡ false) × IsElement a
-CoversOne keeps (unary.Behind s) (Leaf x) = Unit {0}
-CoversOne keeps (unary.Behind s) a = (keeps ≡ false) × IsElement a
-CoversOne keeps unary.Children a = keeps ≡ false
-CoversOne keeps unary.Call f = keeps ≡ false
-CoversOne keeps unary.Indirect list = (keeps ≡ false) × (count list ≤ 8)
+CoversOne keeps (Unary.Before s) (Leaf x) = Unit {0}
+CoversOne keeps (Unary.Before s) a = (keeps ≡ false) × IsElement a
+CoversOne keeps (Unary.Behind s) (Leaf x) = Unit {0}
+CoversOne keeps (Unary.Behind s) a = (keeps ≡ false) × IsElement a
+CoversOne keeps Unary.Children a = keeps ≡ false
+CoversOne keeps Unary.Call f = keeps ≡ false
+CoversOne keeps Unary.Indirect list = (keeps ≡ false) × (count list ≤ 8)
 CoversOne keeps op a = Unit {0}
 
 -- A test by an instruction keeps variable 255, and one by a supplied routine keeps nothing.
 abbrev pub CoversTest : Bool → Test → Type 0
-CoversTest keeps test.OfClass = keeps ≡ false
-CoversTest keeps test.Provides = keeps ≡ false
+CoversTest keeps Test.OfClass = keeps ≡ false
+CoversTest keeps Test.Provides = keeps ≡ false
 CoversTest keeps t = Unit {0}
 
 abbrev pub IsLeaf : Tree → Type 0
@@ -56,17 +50,17 @@ abbrev pub Fits : Bool → Test → Tree → Tree → Type 0 → Type 0
 Fits keeps t a b AreKept = (count b ≤ together t) ⊎ (IsLeaf a ⊎ ((keeps ≡ false) × CoversTest true t × AreKept))
 
 abbrev pub CoversTwo : Bool → Binary → Tree → Tree → Type 0 → Type 0
-CoversTwo keeps (binary.Operation o) a b AreKept = Unit {0}
-CoversTwo keeps (binary.Test t) a b AreKept = CoversTest keeps t × Fits keeps t a b AreKept
-CoversTwo keeps (binary.Fails t) a b AreKept = CoversTest keeps t × Fits keeps t a b AreKept
-CoversTwo keeps binary.Assign (Leaf x) b AreKept = Unit {0}
-CoversTwo keeps binary.Assign a b AreKept = (keeps ≡ false) × IsElement a
-CoversTwo keeps (binary.Property p) a b AreKept = keeps ≡ false
-CoversTwo keeps binary.Comma a b AreKept = keeps ≡ false
-CoversTwo keeps binary.And a b AreKept = Unit {0}
-CoversTwo keeps binary.Or a b AreKept = Unit {0}
-CoversTwo keeps binary.Then a b AreKept = Unit {0}
-CoversTwo keeps binary.Call f b AreKept = (keeps ≡ false) × (count b ≤ most_arguments f)
+CoversTwo keeps (Binary.Operation o) a b AreKept = Unit {0}
+CoversTwo keeps (Binary.Test t) a b AreKept = CoversTest keeps t × Fits keeps t a b AreKept
+CoversTwo keeps (Binary.Fails t) a b AreKept = CoversTest keeps t × Fits keeps t a b AreKept
+CoversTwo keeps Binary.Assign (Leaf x) b AreKept = Unit {0}
+CoversTwo keeps Binary.Assign a b AreKept = (keeps ≡ false) × IsElement a
+CoversTwo keeps (Binary.Property p) a b AreKept = keeps ≡ false
+CoversTwo keeps Binary.Comma a b AreKept = keeps ≡ false
+CoversTwo keeps Binary.And a b AreKept = Unit {0}
+CoversTwo keeps Binary.Or a b AreKept = Unit {0}
+CoversTwo keeps Binary.Then a b AreKept = Unit {0}
+CoversTwo keeps Binary.Call f b AreKept = (keeps ≡ false) × (count b ≤ most_arguments f)
 CoversTwo keeps _ a b AreKept = ⊥
 
 abbrev pub Covered : Bool → Tree → Type 0

@@ -2,14 +2,12 @@
 use Rattle.std.specs.Prelude.{◌≡◌, ℕ, Bool, List, Option, Some, if◌then◌else◌}
 use Rattle.inf_settings.specs.Bounds.{Limits}
 use Rattle.inf_opcode.specs.declared.instructions.Label.{Label}
-use Rattle.inf_expressions.specs.Trees.{Tree}
-use Rattle.inf_expressions.specs.Numbers.{same}
+use Rattle.inf_expressions.specs.{Numbers.same, Trees.Tree}
 use Rattle.inf_output.specs.Output.{Out}
 use Rattle.inf_templates.specs.Meaning.{meaning}
 use Rattle.inf_interpreter.specs.Machine.{World, Store, State, given, with_variable}
 use Rattle.inf_interpreter.specs.Claims.{Claim, Comes, Does, Kept, state}
-use Rattle.inf_meaning_laws.specs.Values.{Taker, is_own, nobody, truth_of, sense}
-use Rattle.inf_meaning_laws.specs.Covered.{Covered}
+use Rattle.inf_meaning_laws.specs.{Covered.Covered, Values.Taker, Values.is_own, Values.nobody, Values.sense, Values.truth_of}
 
 -- Who takes a value that is laid into a variable: nobody in the store, where it is the stack or variable 255.
 abbrev pub taker : ℕ → Taker

@@ -2,45 +2,26 @@
 -- The parts of an operator are worked out from right to left. A part that is a variable or a constant is read behind all others, so
 -- `x + (x = 5)` is 10. An assignment is made as soon as its value is known: in `x = x++` the step comes behind it, and `x` is one more.
 use Rattle.std.specs.Prelude.{ℕ, ◌+◌, ◌-◌, ◌*◌, ◌%◌, nat_lt, ◌==◌, ◌||◌, not, Bool, true, false, List, [], ◌∷◌, ◌++◌, length, bit_and}
-use Rattle.std.specs.Prelude.{bit_or}
-use Rattle.std.specs.Prelude.{Option, Some, None, if◌then◌else◌}
-use Rattle.inf_expressions.specs.declared.operators.Operand.{Operand}
-use Rattle.inf_expressions.specs.declared.operators.Operand.TheVariants as operand
-use Rattle.inf_expressions.specs.declared.operators.Operation.{Operation}
-use Rattle.inf_expressions.specs.declared.operators.Operation.TheVariants as operation
-use Rattle.inf_expressions.specs.declared.operators.Test.{Test}
-use Rattle.inf_expressions.specs.declared.operators.Test.TheVariants as test
-use Rattle.inf_expressions.specs.declared.operators.Direction.{Direction}
-use Rattle.inf_expressions.specs.declared.operators.Direction.TheVariants as step
-use Rattle.inf_expressions.specs.declared.operators.Single.{Single}
-use Rattle.inf_expressions.specs.declared.operators.Single.TheVariants as single
-use Rattle.inf_expressions.specs.declared.operators.Relative.{Relative}
-use Rattle.inf_expressions.specs.declared.operators.Relative.TheVariants as relative
-use Rattle.inf_expressions.specs.declared.operators.Unary.{Unary}
-use Rattle.inf_expressions.specs.declared.operators.Unary.TheVariants as unary
-use Rattle.inf_expressions.specs.declared.operators.Binary.{Binary}
-use Rattle.inf_expressions.specs.declared.operators.Binary.TheVariants as binary
-use Rattle.inf_expressions.specs.declared.operators.PropertyPart.{PropertyPart}
-use Rattle.inf_expressions.specs.declared.operators.PropertyPart.TheVariants as property
-use Rattle.inf_expressions.specs.Numbers.{negated, truth}
-use Rattle.inf_expressions.specs.Trees.{Tree, Leaf, One, Two}
+use Rattle.std.specs.Prelude.{bit_or, Option, Some, None, if◌then◌else◌}
+use Rattle.inf_expressions.specs.{Numbers.negated, Numbers.truth, Trees.Leaf, Trees.One, Trees.Tree, Trees.Two}
+use Rattle.inf_expressions.specs.declared.{operators.Binary.Binary, operators.Direction.Direction, operators.Operand.Operand}
+use Rattle.inf_expressions.specs.declared.{operators.Operation.Operation, operators.PropertyPart.PropertyPart, operators.Relative.Relative}
+use Rattle.inf_expressions.specs.declared.{operators.Single.Single, operators.Test.Test, operators.Unary.Unary}
 use Rattle.inf_output.specs.declared.veneer.Veneer.{Veneer}
-use Rattle.inf_output.specs.declared.veneer.Veneer.TheVariants as veneer
 use Rattle.inf_interpreter.specs.Machine.{World, Store, called, ◌then◌, byte_at, divided, first_is_any, left_over, less, of_one, of_two}
-use Rattle.inf_interpreter.specs.Machine.{test_of_two}
+use Rattle.inf_interpreter.specs.Machine.{test_of_two, drawn, found_one, with_byte, with_variable, with_word, word_at, write_of_three}
 use Rattle.inf_interpreter.specs.Supplied.{supplied}
-use Rattle.inf_interpreter.specs.Machine.{drawn, found_one, with_byte, with_variable, with_word, word_at, write_of_three}
 
 -- The value of a leaf. The stack and variable 255 are none that an expression may name, and a name that is wrong has no value.
 abbrev pub is_own : ℕ → Bool
 is_own v = (v == 0) || (v == 255)
 
 abbrev pub read : World → Operand → Store → Option ℕ
-read w (operand.Known n) s = Some n
-read w (operand.Variable v) s = if is_own v then None else Some (s.variables v)
-read w (operand.Later t) s = Some (w.later t)
-read w (operand.Function f) s = None
-read w operand.Unknown s = None
+read w (Operand.Known n) s = Some n
+read w (Operand.Variable v) s = if is_own v then None else Some (s.variables v)
+read w (Operand.Later t) s = Some (w.later t)
+read w (Operand.Function f) s = None
+read w Operand.Unknown s = None
 
 -- Who takes a value changes the store the moment the value is known; behind that the expression may go on.
 abbrev pub Taker : Type 0
@@ -142,7 +123,7 @@ abbrev pub aim_at : ℕ → Bool → Aim
 aim_at v own = if own then Nowhere else Named v
 
 abbrev pub leaf_aim : Operand → Aim
-leaf_aim (operand.Variable v) = aim_at v (is_own v)
+leaf_aim (Operand.Variable v) = aim_at v (is_own v)
 leaf_aim _ = Nowhere
 
 abbrev pub leaf_value : World → Operand → Taker → Store → Option (ℕ × Store)
@@ -164,24 +145,24 @@ abbrev pub computed : World → (Store → List ℕ → Option ℕ) → List Arg
 computed w f parts = valued (λ take s. values w parts s then λ p. f p.1 p.0 then λ n. answer take n p.1)
 
 abbrev pub operation_of : Operation → Store → List ℕ → Option ℕ
-operation_of operation.Add s = of_two (λ a b. Some ((a + b) % 65536))
-operation_of operation.Subtract s = of_two (λ a b. Some ((a + negated b) % 65536))
-operation_of operation.Multiply s = of_two (λ a b. Some ((a * b) % 65536))
-operation_of operation.Divide s = of_two divided
-operation_of operation.Remainder s = of_two left_over
-operation_of operation.BitAnd s = of_two (λ a b. Some (bit_and a b))
-operation_of operation.BitOr s = of_two (λ a b. Some (bit_or a b))
-operation_of operation.Byte s = of_two (λ a b. Some (byte_at s a b))
-operation_of operation.Word s = of_two (λ a b. Some (word_at s a b))
+operation_of Operation.Add s = of_two (λ a b. Some ((a + b) % 65536))
+operation_of Operation.Subtract s = of_two (λ a b. Some ((a + negated b) % 65536))
+operation_of Operation.Multiply s = of_two (λ a b. Some ((a * b) % 65536))
+operation_of Operation.Divide s = of_two divided
+operation_of Operation.Remainder s = of_two left_over
+operation_of Operation.BitAnd s = of_two (λ a b. Some (bit_and a b))
+operation_of Operation.BitOr s = of_two (λ a b. Some (bit_or a b))
+operation_of Operation.Byte s = of_two (λ a b. Some (byte_at s a b))
+operation_of Operation.Word s = of_two (λ a b. Some (word_at s a b))
 
 abbrev pub single_of : World → Single → Store → List ℕ → Option ℕ
-single_of w single.Complement s = of_one (λ a. Some (65535 - a))
-single_of w single.Parent s = of_one (λ a. Some (w.parent s a))
-single_of w single.Random s = λ ns. None
+single_of w Single.Complement s = of_one (λ a. Some (65535 - a))
+single_of w Single.Parent s = of_one (λ a. Some (w.parent s a))
+single_of w Single.Random s = λ ns. None
 
 abbrev pub relative_of : World → Relative → Store → List ℕ → Option ℕ
-relative_of w relative.Child s = found_one (w.child s)
-relative_of w relative.Sibling s = found_one (w.sibling s)
+relative_of w Relative.Child s = found_one (w.child s)
+relative_of w Relative.Sibling s = found_one (w.sibling s)
 
 -- a random number between 1 and another one, or for other numbers the outcome that the standard says
 abbrev pub drawn_of : World → List Arg → Sense
@@ -189,7 +170,7 @@ drawn_of w parts = valued (λ take s. values w parts s then λ p. drawn w p.0 p.
 
 -- a part that is a known number
 abbrev pub number : ℕ → Arg
-number n = record { leaf = Some (operand.Known n); value = λ s. Some (n, s) }
+number n = record { leaf = Some (Operand.Known n); value = λ s. Some (n, s) }
 
 abbrev pub truth_found : Bool → Store → Option (Bool × Store)
 truth_found b s = Some (b, s)
@@ -202,26 +183,26 @@ abbrev pub supplied_by : World → Veneer → List Arg → Sense
 supplied_by w v parts = valued (supplied_value w v parts)
 
 abbrev pub asked : PropertyPart → Veneer
-asked property.Value = veneer.ReadProperty
-asked property.Address = veneer.PropertyAddress
-asked property.Length = veneer.PropertyLength
+asked PropertyPart.Value = Veneer.ReadProperty
+asked PropertyPart.Address = Veneer.PropertyAddress
+asked PropertyPart.Length = Veneer.PropertyLength
 
 abbrev pub property_aim : PropertyPart → List Arg → Aim
-property_aim property.Value parts = Element Properties parts
-property_aim property.Address parts = Nowhere
-property_aim property.Length parts = Nowhere
+property_aim PropertyPart.Value parts = Element Properties parts
+property_aim PropertyPart.Address parts = Nowhere
+property_aim PropertyPart.Length parts = Nowhere
 
 -- Tests: the first value against the others, of which `==` may have any number.
 abbrev pub test_of : World → Test → Store → List ℕ → Option Bool
-test_of w test.Equal s = first_is_any
-test_of w test.Less s = test_of_two (λ a b. less a b)
-test_of w test.Greater s = test_of_two (λ a b. less b a)
-test_of w test.AtMost s = test_of_two (λ a b. not (less b a))
-test_of w test.AtLeast s = test_of_two (λ a b. not (less a b))
-test_of w test.Has s = test_of_two (λ a b. w.has s a b)
-test_of w test.In s = test_of_two (λ a b. w.inside s a b)
-test_of w test.OfClass s = test_of_two (λ a b. w.of_class s a b)
-test_of w test.Provides s = test_of_two (λ a b. w.provides s a b)
+test_of w Test.Equal s = first_is_any
+test_of w Test.Less s = test_of_two (λ a b. less a b)
+test_of w Test.Greater s = test_of_two (λ a b. less b a)
+test_of w Test.AtMost s = test_of_two (λ a b. not (less b a))
+test_of w Test.AtLeast s = test_of_two (λ a b. not (less a b))
+test_of w Test.Has s = test_of_two (λ a b. w.has s a b)
+test_of w Test.In s = test_of_two (λ a b. w.inside s a b)
+test_of w Test.OfClass s = test_of_two (λ a b. w.of_class s a b)
+test_of w Test.Provides s = test_of_two (λ a b. w.provides s a b)
 
 abbrev pub tested : World → Test → List Arg → Store → Option (Bool × Store)
 tested w t parts s = values w parts s then λ p. test_of w t p.1 p.0 then λ b. Some (b, p.1)
@@ -239,7 +220,7 @@ either a b s = a s then λ p. if p.0 then Some (true, p.1) else b p.1
 -- Alternatives behind `or`. A leaf is read anew for each group of alternatives: as many as are worked out together, and compared behind
 -- that. A value that is no leaf and has more alternatives than a group is worked out before them; with fewer it is worked out behind them.
 abbrev pub compares_three : Test → Bool
-compares_three test.Equal = true
+compares_three Test.Equal = true
 compares_three _ = false
 
 abbrev pub together : Test → ℕ
@@ -247,10 +228,10 @@ together t = if compares_three t then 3 else 1
 
 abbrev pub by_threes : World → Arg → List Arg → Store → Option (Bool × Store)
 by_threes w a [] s = None
-by_threes w a (b ∷ []) s = tested w test.Equal (a ∷ b ∷ []) s
-by_threes w a (b ∷ c ∷ []) s = tested w test.Equal (a ∷ b ∷ c ∷ []) s
-by_threes w a (b ∷ c ∷ d ∷ []) s = tested w test.Equal (a ∷ b ∷ c ∷ d ∷ []) s
-by_threes w a (b ∷ c ∷ d ∷ e ∷ others) s = either (tested w test.Equal (a ∷ b ∷ c ∷ d ∷ [])) (by_threes w a (e ∷ others)) s
+by_threes w a (b ∷ []) s = tested w Test.Equal (a ∷ b ∷ []) s
+by_threes w a (b ∷ c ∷ []) s = tested w Test.Equal (a ∷ b ∷ c ∷ []) s
+by_threes w a (b ∷ c ∷ d ∷ []) s = tested w Test.Equal (a ∷ b ∷ c ∷ d ∷ []) s
+by_threes w a (b ∷ c ∷ d ∷ e ∷ others) s = either (tested w Test.Equal (a ∷ b ∷ c ∷ d ∷ [])) (by_threes w a (e ∷ others)) s
 
 abbrev pub one_by_one : World → Test → Arg → List Arg → Store → Option (Bool × Store)
 one_by_one w t a [] s = None
@@ -277,14 +258,14 @@ with_element w Words = write_of_three (λ a i n. with_word ((a + 2 * i) % 65536)
 with_element w Properties = write_of_three w.with_property
 
 abbrev pub setter : Width → Veneer
-setter Bytes = veneer.WriteByte
-setter Words = veneer.WriteWord
-setter Properties = veneer.WriteProperty
+setter Bytes = Veneer.WriteByte
+setter Words = Veneer.WriteWord
+setter Properties = Veneer.WriteProperty
 
 abbrev pub stepper : Width → Veneer
-stepper Bytes = veneer.StepByte
-stepper Words = veneer.StepWord
-stepper Properties = veneer.StepProperty
+stepper Bytes = Veneer.StepByte
+stepper Words = Veneer.StepWord
+stepper Properties = Veneer.StepProperty
 
 abbrev pub element_assigned : World → Width → List Arg → Store → Option Store
 element_assigned w width parts s = values w parts s then λ p. with_element w width p.0 p.1
@@ -296,8 +277,8 @@ assigned w (Element width parts) a =
     record (supplied_by w (setter width) (parts ++ arg a ∷ [])) { alone = element_assigned w width (parts ++ arg a ∷ []) }
 
 abbrev pub step_by : Direction → ℕ
-step_by step.Up = 1
-step_by step.Down = 65535
+step_by Direction.Up = 1
+step_by Direction.Down = 65535
 
 abbrev pub next : Direction → ℕ → Store → ℕ
 next how v s = (s.variables v + step_by how) % 65536
@@ -323,8 +304,8 @@ abbrev pub in_order : Sense → Sense → Sense
 in_order a b = valued (λ take s. a.alone s then λ t. b.value take t)
 
 abbrev pub element_of : Operation → List Arg → Aim
-element_of operation.Byte parts = Element Bytes parts
-element_of operation.Word parts = Element Words parts
+element_of Operation.Byte parts = Element Bytes parts
+element_of Operation.Word parts = Element Words parts
 element_of _ parts = Nowhere
 
 -- Calls: the routine is a part as its arguments are.
@@ -338,33 +319,33 @@ called_as w Nowhere a arguments = calls w (arg a ∷ arguments)
 called_as w (Named v) a arguments = calls w (arg a ∷ arguments)
 called_as w (Element Bytes parts) a arguments = calls w (arg a ∷ arguments)
 called_as w (Element Words parts) a arguments = calls w (arg a ∷ arguments)
-called_as w (Element Properties parts) a arguments = supplied_by w veneer.CallProperty (parts ++ arguments)
+called_as w (Element Properties parts) a arguments = supplied_by w Veneer.CallProperty (parts ++ arguments)
 
 -- The meaning of each operator, by that of its parts
 
 abbrev pub one : World → Unary → Sense → Sense
-one w unary.Negate a = computed w (operation_of operation.Subtract) (number 0 ∷ arg a ∷ [])
-one w unary.Not a = condition (opposite a.truth)
-one w (unary.Single single.Random) a = drawn_of w (arg a ∷ [])
-one w (unary.Single how) a = computed w (single_of w how) (arg a ∷ [])
-one w (unary.Relative how) a = computed w (relative_of w how) (arg a ∷ [])
-one w (unary.Before how) a = stepped_before w how a.aim
-one w (unary.Behind how) a = stepped_behind w how a.aim
-one w unary.Children a = supplied_by w veneer.Children (arg a ∷ [])
-one w unary.Call a = called_as w a.aim a []
-one w unary.Indirect a = calls w (args a)
+one w Unary.Negate a = computed w (operation_of Operation.Subtract) (number 0 ∷ arg a ∷ [])
+one w Unary.Not a = condition (opposite a.truth)
+one w (Unary.Single Single.Random) a = drawn_of w (arg a ∷ [])
+one w (Unary.Single how) a = computed w (single_of w how) (arg a ∷ [])
+one w (Unary.Relative how) a = computed w (relative_of w how) (arg a ∷ [])
+one w (Unary.Before how) a = stepped_before w how a.aim
+one w (Unary.Behind how) a = stepped_behind w how a.aim
+one w Unary.Children a = supplied_by w Veneer.Children (arg a ∷ [])
+one w Unary.Call a = called_as w a.aim a []
+one w Unary.Indirect a = calls w (args a)
 
 abbrev pub two : World → Binary → Sense → Sense → Sense
-two w (binary.Operation o) a b = record (computed w (operation_of o) (arg a ∷ arg b ∷ [])) { aim = element_of o (arg a ∷ arg b ∷ []) }
-two w (binary.Property p) a b = let parts = arg a ∷ arg b ∷ [] in record (supplied_by w (asked p) parts) { aim = property_aim p parts }
-two w (binary.Test t) a b = condition (compared w t a.leaf a (args b))
-two w (binary.Fails t) a b = condition (opposite (compared w t a.leaf a (args b)))
-two w binary.Assign a b = assigned w a.aim b
-two w binary.Comma a b = in_order a b
-two w binary.And a b = condition (both a.truth b.truth)
-two w binary.Or a b = condition (either a.truth b.truth)
-two w binary.Then a b = record (valued a.value) { first = arg a; others = args b; alone = a.alone }
-two w binary.Call a b = called_as w a.aim a (args b)
+two w (Binary.Operation o) a b = record (computed w (operation_of o) (arg a ∷ arg b ∷ [])) { aim = element_of o (arg a ∷ arg b ∷ []) }
+two w (Binary.Property p) a b = let parts = arg a ∷ arg b ∷ [] in record (supplied_by w (asked p) parts) { aim = property_aim p parts }
+two w (Binary.Test t) a b = condition (compared w t a.leaf a (args b))
+two w (Binary.Fails t) a b = condition (opposite (compared w t a.leaf a (args b)))
+two w Binary.Assign a b = assigned w a.aim b
+two w Binary.Comma a b = in_order a b
+two w Binary.And a b = condition (both a.truth b.truth)
+two w Binary.Or a b = condition (either a.truth b.truth)
+two w Binary.Then a b = record (valued a.value) { first = arg a; others = args b; alone = a.alone }
+two w Binary.Call a b = called_as w a.aim a (args b)
 two w _ a b = no_value
 
 abbrev pub sense : World → Tree → Sense

@@ -3,58 +3,47 @@ use Rattle.std.proofs.Common.{◌≡◌, ◌⊎◌, inl, inr, ℕ, true, false, 
 use Rattle.inf_settings.specs.Bounds.{Limits}
 use Rattle.inf_scanner.specs.declared.tokens.Place.{Place}
 use Rattle.inf_syntax.specs.declared.actions.Action.{Action}
-use Rattle.inf_unit.specs.Roles.{role_of}
-use Rattle.inf_unit.specs.Units.{stepped}
-use Rattle.inf_unit.specs.declared.roles.Ending.{Ending}
-use Rattle.inf_unit.specs.declared.roles.Ending.TheVariants as ending
-use Rattle.inf_unit.specs.declared.roles.Role.{Role}
-use Rattle.inf_unit.specs.declared.roles.Role.TheVariants as role
+use Rattle.inf_unit.specs.{Roles.role_of, Units.stepped, declared.roles.Ending.Ending, declared.roles.Role.Role}
 use Rattle.inf_compilation.specs.Context.{Context}
 use Rattle.inf_compilation.specs.Actions.{Compilation, body_ended, cut, given_up, opening_checked, opening_checked_at, sized}
-use Rattle.inf_parts.specs.declared.parts.Part.TheVariants as part
+use Rattle.inf_parts.specs.declared.parts.Part.{Part}
 use Rattle.inf_reader.specs.Acting.{act, cut_at, ended, held_ended, kind_of, played}
 use Rattle.inf_message_laws.specs.Growing.{EndsNoDirective, Grows, Keeps}
+use Rattle.inf_message_laws.proofs.{Choosing.abbreviation_keeps, Directives.directive_grows, Headings.header_keeps, Lines.line_keeps}
+use Rattle.inf_message_laws.proofs.{Listed.entry_keeps, Notes.noted_keeps, Parts.part_keeps, Parts.statement_part_keeps}
+use Rattle.inf_message_laws.proofs.{Routines.close_keeps, Routines.header_end_keeps, Tokens.deeper_keeps, Tokens.sized_keeps}
+use Rattle.inf_message_laws.proofs.{Values.embedded_read_keeps, Values.value_read_keeps}
 use Rattle.inf_message_laws.proofs.Bodies.{attribute_read_keeps, class_read_keeps, property_read_keeps}
-use Rattle.inf_message_laws.proofs.Choosing.{abbreviation_keeps}
-use Rattle.inf_message_laws.proofs.Directives.{directive_grows}
-use Rattle.inf_message_laws.proofs.Headings.{header_keeps}
 use Rattle.inf_message_laws.proofs.Keeping.{grows_of, nothing_keeps, then_keeps, unit_keeps, with_keeps}
-use Rattle.inf_message_laws.proofs.Lines.{line_keeps}
-use Rattle.inf_message_laws.proofs.Listed.{entry_keeps}
-use Rattle.inf_message_laws.proofs.Notes.{noted_keeps}
-use Rattle.inf_message_laws.proofs.Parts.{part_keeps, statement_part_keeps}
-use Rattle.inf_message_laws.proofs.Routines.{close_keeps, header_end_keeps}
 use Rattle.inf_message_laws.proofs.Statements.{closing_keeps, joining_keeps, opening_keeps}
-use Rattle.inf_message_laws.proofs.Tokens.{deeper_keeps, sized_keeps}
-use Rattle.inf_message_laws.proofs.Values.{embedded_read_keeps, value_read_keeps}
 
 body_keeps : Keeps body_ended
 body_keeps = record { keeps = λ b w. refl }
 
 -- A step at the end of a unit keeps what is asked, unless a directive ends.
 ended_or : (limits : Limits) (context : Context) (place : Place) (e : Ending)
-    → Keeps (ended limits context place e) ⊎ (e ≡ ending.Directive)
-ended_or limits context place ending.Locals = inl (header_end_keeps limits context place)
-ended_or limits context place ending.Embedded = inl (embedded_read_keeps limits context place)
-ended_or limits context place ending.Routine = inl (close_keeps limits context place)
-ended_or limits context place ending.Directive = inr refl
-ended_or limits context place ending.Header = inl (header_keeps limits context place)
-ended_or limits context place ending.Body = inl body_keeps
-ended_or limits context place ending.Class = inl (class_read_keeps limits context place)
-ended_or limits context place ending.Attribute = inl (attribute_read_keeps limits context place)
-ended_or limits context place ending.Property = inl (property_read_keeps limits context place)
-ended_or limits context place ending.Value = inl (value_read_keeps limits context place)
-ended_or limits context place ending.Line = inl (line_keeps limits context place)
-ended_or limits context place ending.Abbreviation = inl (abbreviation_keeps limits context place)
-ended_or limits context place ending.Entry = inl (entry_keeps limits context place false)
-ended_or limits context place ending.Alone = inl (entry_keeps limits context place true)
-ended_or limits context place ending.Statement = inl (statement_part_keeps limits context place)
-ended_or limits context place ending.Condition = inl (part_keeps limits context place part.Condition)
-ended_or limits context place ending.Start = inl (part_keeps limits context place part.Start)
-ended_or limits context place ending.Step = inl (part_keeps limits context place part.Step)
-ended_or limits context place ending.Loop = inl (part_keeps limits context place part.Loop)
-ended_or limits context place ending.Switched = inl (part_keeps limits context place part.Switched)
-ended_or limits context place ending.Case = inl (part_keeps limits context place part.Case)
+    → Keeps (ended limits context place e) ⊎ (e ≡ Ending.Directive)
+ended_or limits context place Ending.Locals = inl (header_end_keeps limits context place)
+ended_or limits context place Ending.Embedded = inl (embedded_read_keeps limits context place)
+ended_or limits context place Ending.Routine = inl (close_keeps limits context place)
+ended_or limits context place Ending.Directive = inr refl
+ended_or limits context place Ending.Header = inl (header_keeps limits context place)
+ended_or limits context place Ending.Body = inl body_keeps
+ended_or limits context place Ending.Class = inl (class_read_keeps limits context place)
+ended_or limits context place Ending.Attribute = inl (attribute_read_keeps limits context place)
+ended_or limits context place Ending.Property = inl (property_read_keeps limits context place)
+ended_or limits context place Ending.Value = inl (value_read_keeps limits context place)
+ended_or limits context place Ending.Line = inl (line_keeps limits context place)
+ended_or limits context place Ending.Abbreviation = inl (abbreviation_keeps limits context place)
+ended_or limits context place Ending.Entry = inl (entry_keeps limits context place false)
+ended_or limits context place Ending.Alone = inl (entry_keeps limits context place true)
+ended_or limits context place Ending.Statement = inl (statement_part_keeps limits context place)
+ended_or limits context place Ending.Condition = inl (part_keeps limits context place Part.Condition)
+ended_or limits context place Ending.Start = inl (part_keeps limits context place Part.Start)
+ended_or limits context place Ending.Step = inl (part_keeps limits context place Part.Step)
+ended_or limits context place Ending.Loop = inl (part_keeps limits context place Part.Loop)
+ended_or limits context place Ending.Switched = inl (part_keeps limits context place Part.Switched)
+ended_or limits context place Ending.Case = inl (part_keeps limits context place Part.Case)
 
 -- the word of a statement waits for the next token
 abbrev waiting : Place → Compilation → Compilation
@@ -63,26 +52,26 @@ waiting place w = record w { opening = Some place }
 waiting_keeps : (place : Place) → Keeps (waiting place)
 waiting_keeps place = record { keeps = λ b w. refl }
 
-end_or : (limits : Limits) (context : Context) (place : Place) (e : Ending) → Keeps (ended limits context place e) ⊎ (e ≡ ending.Directive)
-    → Keeps (played limits context place (role.End e)) ⊎ (role.End e ≡ role.End ending.Directive)
+end_or : (limits : Limits) (context : Context) (place : Place) (e : Ending) → Keeps (ended limits context place e) ⊎ (e ≡ Ending.Directive)
+    → Keeps (played limits context place (Role.End e)) ⊎ (Role.End e ≡ Role.End Ending.Directive)
 end_or limits context place e (inl keeps) = inl keeps
-end_or limits context place e (inr same) = inr (ap role.End same)
+end_or limits context place e (inr same) = inr (ap Role.End same)
 
 -- An action keeps what is asked, unless it is the end of a directive.
 played_or : (limits : Limits) (context : Context) (place : Place) (r : Role)
-    → Keeps (played limits context place r) ⊎ (r ≡ role.End ending.Directive)
-played_or limits context place (role.Gather s) = inl (unit_keeps (stepped s))
-played_or limits context place (role.Note n) = inl (noted_keeps limits context n)
-played_or limits context place (role.End e) = end_or limits context place e (ended_or limits context place e)
-played_or limits context place (role.Open o) = inl (opening_keeps limits context place (kind_of o))
-played_or limits context place role.Join = inl (joining_keeps limits)
-played_or limits context place role.Close = inl (closing_keeps limits)
-played_or limits context place role.Deeper = inl (deeper_keeps context place)
-played_or limits context place role.MaybeDeeper = inl (waiting_keeps place)
-played_or limits context place role.Nothing = inl nothing_keeps
+    → Keeps (played limits context place r) ⊎ (r ≡ Role.End Ending.Directive)
+played_or limits context place (Role.Gather s) = inl (unit_keeps (stepped s))
+played_or limits context place (Role.Note n) = inl (noted_keeps limits context n)
+played_or limits context place (Role.End e) = end_or limits context place e (ended_or limits context place e)
+played_or limits context place (Role.Open o) = inl (opening_keeps limits context place (kind_of o))
+played_or limits context place Role.Join = inl (joining_keeps limits)
+played_or limits context place Role.Close = inl (closing_keeps limits)
+played_or limits context place Role.Deeper = inl (deeper_keeps context place)
+played_or limits context place Role.MaybeDeeper = inl (waiting_keeps place)
+played_or limits context place Role.Nothing = inl nothing_keeps
 
 grows_by : (limits : Limits) (context : Context) (place : Place) (r : Role)
-    → Keeps (played limits context place r) ⊎ (r ≡ role.End ending.Directive) → Grows (played limits context place r)
+    → Keeps (played limits context place r) ⊎ (r ≡ Role.End Ending.Directive) → Grows (played limits context place r)
 grows_by limits context place r (inl keeps) = grows_of keeps
 grows_by limits context place r (inr same) =
     subst (λ (x : Role). Grows (played limits context place x)) (sym same) (directive_grows limits context place)
@@ -91,7 +80,7 @@ pub act_grows : (limits : Limits) (context : Context) (place : Place) (a : Actio
 act_grows limits context place a = grows_by limits context place (role_of a) (played_or limits context place (role_of a))
 
 keeps_by : (limits : Limits) (context : Context) (place : Place) (r : Role)
-    → Keeps (played limits context place r) ⊎ (r ≡ role.End ending.Directive) → (r ≡ role.End ending.Directive → ⊥)
+    → Keeps (played limits context place r) ⊎ (r ≡ Role.End Ending.Directive) → (r ≡ Role.End Ending.Directive → ⊥)
     → Keeps (played limits context place r)
 keeps_by limits context place r (inl keeps) other = keeps
 keeps_by limits context place r (inr same) other = absurd (other same)

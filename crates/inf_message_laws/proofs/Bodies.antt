@@ -3,13 +3,10 @@ use Rattle.std.proofs.Common.{ℕ, Option, Some, None, refl, ap}
 use Rattle.inf_settings.specs.Bounds.{Limits}
 use Rattle.inf_scanner.specs.declared.tokens.Place.{Place}
 use Rattle.inf_area.specs.declared.targets.Value.{Value}
-use Rattle.inf_expressions.specs.Findings.{least_of_both}
-use Rattle.inf_expressions.specs.declared.findings.Finding.{Finding}
+use Rattle.inf_expressions.specs.{Findings.least_of_both, declared.findings.Finding.Finding}
 use Rattle.inf_names.specs.declared.symbols.Found.{Found}
-use Rattle.inf_names.specs.declared.symbols.Found.TheVariants as found
 use Rattle.inf_unit.specs.Units.{first_place, name_at}
-use Rattle.inf_compilation.specs.Context.{Context}
-use Rattle.inf_compilation.specs.Actions.{Compilation}
+use Rattle.inf_compilation.specs.{Actions.Compilation, Context.Context}
 use Rattle.inf_bodies.specs.Bodies.{attribute_finding, attribute_of, attribute_read, attribute_read_by, attribute_set_some, class_finding}
 use Rattle.inf_bodies.specs.Bodies.{class_read, class_read_by, further, further_added, further_found, further_placed, given, given_finding}
 use Rattle.inf_bodies.specs.Bodies.{given_with, individual_given, is_given, is_words, last_at, number_finding, place_finding, placed}
@@ -88,10 +85,10 @@ number_stays limits None v at b w = refl
 number_stays limits (Some number) v at b w = refl
 
 property_by_stays : (limits : Limits) (f : Found Place) (at : ℕ) (v : Option Value) → Rests (property_finding_by limits f at v)
-property_by_stays limits (found.System m) at v b w = number_stays limits (property_in m) v at b w
-property_by_stays limits (found.Declared m first) at v b w = number_stays limits (property_in m) v at b w
-property_by_stays limits found.Used at v b w = refl
-property_by_stays limits found.Unknown at v b w = refl
+property_by_stays limits (Found.System m) at v b w = number_stays limits (property_in m) v at b w
+property_by_stays limits (Found.Declared m first) at v b w = number_stays limits (property_in m) v at b w
+property_by_stays limits Found.Used at v b w = refl
+property_by_stays limits Found.Unknown at v b w = refl
 
 property_stays : (limits : Limits) (at : ℕ) (v : Option Value) → Rests (property_finding limits at v)
 property_stays limits at v b w = property_by_stays limits (found_at at w) at v b w

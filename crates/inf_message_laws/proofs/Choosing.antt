@@ -2,32 +2,25 @@
 -- `Serial`, `Abbreviate` and `Lowstring`.
 use Rattle.std.proofs.Common.{ℕ, List, [], ◌∷◌, map, true, false, Option, Some, None, Ok, Err, Result, refl}
 use Rattle.inf_settings.specs.Bounds.{Limits}
-use Rattle.inf_characters.specs.Reading.{text_of}
-use Rattle.inf_characters.specs.declared.reading.Mode.TheVariants as mode
-use Rattle.inf_characters.specs.declared.texts.TextItem.{TextItem}
+use Rattle.inf_characters.specs.{Reading.text_of, declared.reading.Mode.Mode, declared.texts.TextItem.TextItem}
 use Rattle.inf_scanner.specs.declared.tokens.Place.{Place}
-use Rattle.inf_expressions.specs.Findings.{out_of_range}
-use Rattle.inf_expressions.specs.declared.findings.Finding.{Finding}
-use Rattle.inf_expressions.specs.declared.findings.UnitError.{UnitError}
-use Rattle.inf_expressions.specs.declared.units.Wanted.TheVariants as wanted
+use Rattle.inf_expressions.specs.{Findings.out_of_range, declared.findings.Finding.Finding, declared.findings.UnitError.UnitError}
+use Rattle.inf_expressions.specs.{declared.units.Wanted.Wanted}
 use Rattle.inf_names.specs.Spellings.{Name}
-use Rattle.inf_report.specs.declared.messages.FixedLimit.TheVariants as countable
+use Rattle.inf_report.specs.declared.messages.FixedLimit.{FixedLimit}
 use Rattle.inf_unit.specs.Units.{first_place, name_order, quoted_in}
 use Rattle.inf_constructs.specs.Roots.{tree_in}
-use Rattle.inf_compilation.specs.Context.{Context}
+use Rattle.inf_compilation.specs.{Context.Context, Findings.found_alone}
 use Rattle.inf_compilation.specs.Actions.{Compilation, finding_at, operands_of, trees_at, unit_ended}
-use Rattle.inf_compilation.specs.Findings.{found_alone}
 use Rattle.inf_declarations.specs.Abbreviations.{abbreviate_header, abbreviation, abbreviation_added, abbreviation_ended}
 use Rattle.inf_declarations.specs.Abbreviations.{abbreviation_error, abbreviation_findings, abbreviation_with, low_string}
 use Rattle.inf_declarations.specs.Abbreviations.{low_string_added, low_string_with, or_error}
-use Rattle.inf_named_values.specs.Declarations.{plainly_known}
 use Rattle.inf_declarations.specs.Headers.{known_number, release, release_ended, release_finding, release_told, release_with, serial}
 use Rattle.inf_declarations.specs.Headers.{serial_by, serial_in}
-use Rattle.inf_named_values.specs.declared.declarations.Declared.{Declared}
+use Rattle.inf_named_values.specs.{Declarations.plainly_known, declared.declarations.Declared.Declared}
 use Rattle.inf_message_laws.specs.Growing.{Keeps}
+use Rattle.inf_message_laws.proofs.{Declaring.declaration_keeps, Tokens.end_keeps, Tokens.passed_keeps}
 use Rattle.inf_message_laws.proofs.Keeping.{laid_keeps, nothing_keeps, then_keeps, with_keeps}
-use Rattle.inf_message_laws.proofs.Declaring.{declaration_keeps}
-use Rattle.inf_message_laws.proofs.Tokens.{end_keeps, passed_keeps}
 
 -- Releases and serial numbers
 
@@ -44,10 +37,10 @@ release_ended_keeps limits context first number finding =
 
 pub release_keeps : (limits : Limits) (context : Context) (first : Place) → Keeps (release limits context first)
 release_keeps limits context first =
-    with_keeps (λ (w : Compilation). known_number (map tree_in (trees_at 0 wanted.Constant (operands_of w) w)))
-    (λ (number : Option ℕ) (w : Compilation). release_with limits context first number (finding_at 0 wanted.Constant w) w)
+    with_keeps (λ (w : Compilation). known_number (map tree_in (trees_at 0 Wanted.Constant (operands_of w) w)))
+    (λ (number : Option ℕ) (w : Compilation). release_with limits context first number (finding_at 0 Wanted.Constant w) w)
     (λ b w. refl)
-    (λ number. with_keeps (finding_at 0 wanted.Constant) (release_with limits context first number) (λ b w. refl)
+    (λ number. with_keeps (finding_at 0 Wanted.Constant) (release_with limits context first number) (λ b w. refl)
     (λ found. release_ended_keeps limits context first number (release_finding number found)))
 
 -- the story has a serial number
@@ -99,9 +92,9 @@ pub abbreviation_keeps : (limits : Limits) (context : Context) (place : Place) �
 abbreviation_keeps limits context place =
     with_keeps (λ (w : Compilation). first_place w.unit.tokens place)
     (λ (first : Place) (w : Compilation). abbreviation_with limits context first
-    (or_error (text_of context.set mode.Abbreviation (quoted_in w.unit.tokens))) w)
+    (or_error (text_of context.set Mode.Abbreviation (quoted_in w.unit.tokens))) w)
     (λ b w. refl)
-    (λ first. with_keeps (λ (w : Compilation). or_error (text_of context.set mode.Abbreviation (quoted_in w.unit.tokens)))
+    (λ first. with_keeps (λ (w : Compilation). or_error (text_of context.set Mode.Abbreviation (quoted_in w.unit.tokens)))
     (abbreviation_with limits context first) (λ b w. refl) (abbreviation_with_keeps limits context first))
 
 pub abbreviate_keeps : (limits : Limits) (context : Context) (first : Place) → Keeps (abbreviate_header limits context first)
@@ -112,7 +105,7 @@ abbreviate_keeps limits context first = end_keeps limits context first false (fo
 low_with_keeps : (limits : Limits) (context : Context) (first : Place) (name : Name) (d : Declared)
     → Keeps (low_string_with limits context first name d)
 low_with_keeps limits context first name d =
-    declaration_keeps limits context first name countable.Values d
+    declaration_keeps limits context first name FixedLimit.Values d
     (λ (w : Compilation). low_string_added limits context.set d.finding name w.unit.tokens w.output) (λ b w. refl)
 
 pub low_keeps : (limits : Limits) (context : Context) (first : Place) (names : List Name) → Keeps (low_string limits context first names)

@@ -1,6 +1,5 @@
 -- Steps of a compilation whose messages grow, put together.
-use Rattle.std.proofs.Common.{◌≡◌, ℕ, List, Bool, true, false, refl, ◌∙◌, ap}
-use Rattle.std.specs.Prelude.{if◌then◌else◌}
+use Rattle.std.proofs.Common.{◌≡◌, ℕ, List, Bool, true, false, refl, ◌∙◌, ap, if◌then◌else◌}
 use Rattle.inf_compilation.specs.Actions.{Compilation}
 use Rattle.inf_message_laws.specs.Growing.{Grows, with_lines_before}
 

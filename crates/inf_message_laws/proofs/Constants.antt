@@ -1,55 +1,45 @@
 -- Nothing is asked, and messages grow, at the directives `Constant`, `Default`, `Replace` and `Stub`.
-use Rattle.std.proofs.Common.{ℕ, List, [], ◌∷◌, map, true, Option, Some, None, refl}
-use Rattle.std.specs.Prelude.{if◌then◌else◌, nat_lt}
+use Rattle.std.proofs.Common.{ℕ, List, [], ◌∷◌, map, true, Option, Some, None, refl, if◌then◌else◌, nat_lt}
 use Rattle.inf_settings.specs.Bounds.{Limits}
 use Rattle.inf_scanner.specs.declared.tokens.Place.{Place}
-use Rattle.inf_expressions.specs.Findings.{out_of_range}
-use Rattle.inf_expressions.specs.Trees.{Leaf, Tree}
-use Rattle.inf_expressions.specs.declared.findings.Finding.{Finding}
-use Rattle.inf_expressions.specs.declared.operators.Operand.TheVariants as operand
-use Rattle.inf_expressions.specs.declared.units.Wanted.TheVariants as wanted
+use Rattle.inf_expressions.specs.{Findings.out_of_range, Trees.Leaf, Trees.Tree, declared.findings.Finding.Finding}
+use Rattle.inf_expressions.specs.{declared.operators.Operand.Operand, declared.units.Wanted.Wanted}
 use Rattle.inf_gathering.specs.declared.gathering.Leaf.{Leaf as UnitLeaf}
-use Rattle.inf_gathering.specs.declared.gathering.Leaf.TheVariants as leaf
-use Rattle.inf_names.specs.NameSets.{with_name}
-use Rattle.inf_names.specs.Spellings.{Name}
-use Rattle.inf_names.specs.Symbols.{declare_fault}
-use Rattle.inf_names.specs.declared.meanings.Meaning.{Meaning}
-use Rattle.inf_names.specs.declared.symbols.DeclareFault.{DeclareFault}
+use Rattle.inf_names.specs.{NameSets.with_name, Spellings.Name, Symbols.declare_fault, declared.meanings.Meaning.Meaning}
+use Rattle.inf_names.specs.{declared.symbols.DeclareFault.DeclareFault}
 use Rattle.inf_output.specs.Output.{declared, referred}
 use Rattle.inf_unit.specs.Units.{name_order}
 use Rattle.inf_constructs.specs.Roots.{tree_in}
 use Rattle.inf_operands.specs.Operands.{leaf_added}
-use Rattle.inf_compilation.specs.Context.{Context}
+use Rattle.inf_compilation.specs.{Context.Context, Findings.Findings, Findings.again_by, Findings.found_alone, Findings.nothing_found}
 use Rattle.inf_compilation.specs.Actions.{Compilation, constant, constant_added, constant_declared, constant_ended, constant_finding}
 use Rattle.inf_compilation.specs.Actions.{constant_findings, constant_meaning, constant_of, constant_with, finding_at, is_first_declared}
 use Rattle.inf_compilation.specs.Actions.{leaf_meaning, new_stub, operands_of, replace, routine_declared, stub, stub_code, stub_locals}
 use Rattle.inf_compilation.specs.Actions.{stubbed, trees_at, unit_ended}
-use Rattle.inf_compilation.specs.Findings.{Findings, again_by, found_alone, nothing_found}
 use Rattle.inf_declarations.specs.Defaults.{default}
 use Rattle.inf_message_laws.specs.Growing.{Keeps}
+use Rattle.inf_message_laws.proofs.{Routines.declared_keeps, Tokens.end_keeps, Tokens.passed_keeps}
 use Rattle.inf_message_laws.proofs.Keeping.{Rests, either_keeps, if_keeps, laid_keeps, nothing_keeps, then_keeps, with_keeps}
-use Rattle.inf_message_laws.proofs.Routines.{declared_keeps}
-use Rattle.inf_message_laws.proofs.Tokens.{end_keeps, passed_keeps}
 
 -- The meaning of a constant does not depend on what was reported.
 
 leaf_stays : (leaves : List UnitLeaf) → Rests (leaf_meaning leaves)
-leaf_stays ((leaf.Text at) ∷ leaves) b w = refl
-leaf_stays ((leaf.Word word) ∷ leaves) b w = refl
+leaf_stays ((UnitLeaf.Text at) ∷ leaves) b w = refl
+leaf_stays ((UnitLeaf.Word word) ∷ leaves) b w = refl
 leaf_stays leaves b w = refl
 
 meaning_stays : (trees : List Tree) → Rests (constant_of trees)
 meaning_stays [] b w = refl
-meaning_stays ((Leaf (operand.Known number)) ∷ trees) b w = refl
-meaning_stays ((Leaf (operand.Later target)) ∷ trees) b w = leaf_stays w.unit.gathering.leaves b w
+meaning_stays ((Leaf (Operand.Known number)) ∷ trees) b w = refl
+meaning_stays ((Leaf (Operand.Later target)) ∷ trees) b w = leaf_stays w.unit.gathering.leaves b w
 meaning_stays (t ∷ trees) b w = refl
 
 -- the meaning of the constant that the unit at hand declares
 abbrev own_meaning : Compilation → Option Meaning
-own_meaning w = constant_of (map tree_in (trees_at 0 wanted.Constant (operands_of w) w)) w
+own_meaning w = constant_of (map tree_in (trees_at 0 Wanted.Constant (operands_of w) w)) w
 
 own_stays : Rests own_meaning
-own_stays b w = meaning_stays (map tree_in (trees_at 0 wanted.Constant (operands_of w) w)) b w
+own_stays b w = meaning_stays (map tree_in (trees_at 0 Wanted.Constant (operands_of w) w)) b w
 
 -- Constants
 
@@ -85,8 +75,8 @@ pub constant_keeps : (limits : Limits) (context : Context) (first : Place) (name
 constant_keeps limits context first [] = passed_keeps true
 constant_keeps limits context first (name ∷ names) =
     with_keeps own_meaning
-    (λ (m : Option Meaning) (w : Compilation). constant_with limits context first name m (finding_at 0 wanted.Constant w) w) own_stays
-    (λ m. with_keeps (finding_at 0 wanted.Constant) (constant_with limits context first name m) (λ b w. refl)
+    (λ (m : Option Meaning) (w : Compilation). constant_with limits context first name m (finding_at 0 Wanted.Constant w) w) own_stays
+    (λ m. with_keeps (finding_at 0 Wanted.Constant) (constant_with limits context first name m) (λ b w. refl)
     (λ found. declaring_keeps limits context first name m (constant_finding m found)))
 
 pub default_keeps : (limits : Limits) (context : Context) (first : Place) (names : List Name)

@@ -2,29 +2,19 @@
 use Rattle.std.proofs.Common.{ℕ, List, [], ◌∷◌, Bool, true, false, Option, Some, None, refl}
 use Rattle.inf_settings.specs.Bounds.{Limits}
 use Rattle.inf_scanner.specs.declared.tokens.Place.{Place}
-use Rattle.inf_expressions.specs.Findings.{least_of_both}
-use Rattle.inf_expressions.specs.declared.findings.Finding.{Finding}
-use Rattle.inf_names.specs.Spellings.{Name}
-use Rattle.inf_names.specs.declared.meanings.Meaning.{Meaning}
+use Rattle.inf_expressions.specs.{Findings.least_of_both, declared.findings.Finding.Finding}
+use Rattle.inf_names.specs.{Spellings.Name, declared.meanings.Meaning.Meaning}
 use Rattle.inf_output.specs.Output.{Out, declared}
 use Rattle.inf_report.specs.declared.messages.FixedLimit.{FixedLimit}
-use Rattle.inf_report.specs.declared.messages.FixedLimit.TheVariants as countable
 use Rattle.inf_unit.specs.Units.{name_order}
-use Rattle.inf_compilation.specs.Context.{Context}
-use Rattle.inf_compilation.specs.Actions.{Compilation}
-use Rattle.inf_named_values.specs.Declarations.{alias_by, alias_finding, alias_told, alias_with, aliased}
-use Rattle.inf_declarations.specs.Attributes.{attribute, attribute_added}
-use Rattle.inf_named_values.specs.Declarations.{declaration_ended, declared_ended, declared_findings}
-use Rattle.inf_declarations.specs.Attributes.{attribute_ended, attribute_with}
-use Rattle.inf_declarations.specs.Globals.{global_added, global_ended, global_variable, global_with}
-use Rattle.inf_declarations.specs.Attributes.{has_most_attributes}
-use Rattle.inf_named_values.specs.Declarations.{is_additive, is_alias, last_meaning, name_known}
-use Rattle.inf_declarations.specs.Globals.{has_most_globals}
-use Rattle.inf_declarations.specs.Properties.{has_most_properties}
-use Rattle.inf_declarations.specs.Properties.{property, property_added, property_ended, property_named, property_names, property_order}
-use Rattle.inf_named_values.specs.Declarations.{valued}
-use Rattle.inf_declarations.specs.Properties.{property_with}
+use Rattle.inf_compilation.specs.{Actions.Compilation, Context.Context}
+use Rattle.inf_named_values.specs.Declarations.{alias_by, alias_finding, alias_told, alias_with, aliased, declaration_ended, declared_ended}
+use Rattle.inf_named_values.specs.Declarations.{declared_findings, is_additive, is_alias, last_meaning, name_known, valued}
 use Rattle.inf_named_values.specs.declared.declarations.Declared.{Declared}
+use Rattle.inf_declarations.specs.Attributes.{attribute, attribute_added, attribute_ended, attribute_with, has_most_attributes}
+use Rattle.inf_declarations.specs.Globals.{global_added, global_ended, global_variable, global_with, has_most_globals}
+use Rattle.inf_declarations.specs.Properties.{has_most_properties, property, property_added, property_ended, property_named, property_names}
+use Rattle.inf_declarations.specs.Properties.{property_order, property_with}
 use Rattle.inf_message_laws.specs.Growing.{Keeps}
 use Rattle.inf_message_laws.proofs.Keeping.{Rests, if_keeps, laid_keeps, then_keeps, with_keeps}
 use Rattle.inf_message_laws.proofs.Tokens.{end_keeps, passed_keeps}
@@ -79,7 +69,7 @@ attribute_out_stays limits finding name b w = refl
 attribute_ended_keeps : (limits : Limits) (context : Context) (first : Place) (name : Name) (d : Declared)
     → Keeps (attribute_ended limits context first name d)
 attribute_ended_keeps limits context first name d =
-    declaration_keeps limits context first name countable.Attributes d
+    declaration_keeps limits context first name FixedLimit.Attributes d
     (λ (w : Compilation). attribute_added limits d.finding name w.output) (attribute_out_stays limits d.finding name)
 
 attribute_with_keeps : (limits : Limits) (context : Context) (first : Place) (name : Name)
@@ -93,11 +83,11 @@ pub attribute_keeps : (limits : Limits) (context : Context) (first : Place) (nam
 attribute_keeps limits context first [] = passed_keeps true
 attribute_keeps limits context first (name ∷ names) =
     if_keeps (λ (w : Compilation). is_alias names w.unit.gathering.leaves)
-    (λ (w : Compilation). alias_told limits context first name (name_order w.unit.tokens) countable.Attributes w)
+    (λ (w : Compilation). alias_told limits context first name (name_order w.unit.tokens) FixedLimit.Attributes w)
     (attribute_with limits context first name) (λ b w. refl)
     (with_keeps (λ (w : Compilation). name_order w.unit.tokens)
-    (λ (at : ℕ) (w : Compilation). alias_told limits context first name at countable.Attributes w) (λ b w. refl)
-    (λ at. alias_keeps limits context first name at countable.Attributes))
+    (λ (at : ℕ) (w : Compilation). alias_told limits context first name at FixedLimit.Attributes w) (λ b w. refl)
+    (λ at. alias_keeps limits context first name at FixedLimit.Attributes))
     (attribute_with_keeps limits context first name)
 
 -- Properties
@@ -110,7 +100,7 @@ property_out_stays limits context None name is_additive b w = refl
 property_ended_keeps : (limits : Limits) (context : Context) (first : Place) (is_additive : Bool) (name : Name) (d : Declared)
     → Keeps (property_ended limits context first is_additive name d)
 property_ended_keeps limits context first is_additive name d =
-    declaration_keeps limits context first name countable.Properties d (property_added limits context d.finding name is_additive)
+    declaration_keeps limits context first name FixedLimit.Properties d (property_added limits context d.finding name is_additive)
     (property_out_stays limits context d.finding name is_additive)
 
 -- the knowledge of the name of a property
@@ -128,11 +118,11 @@ property_named_keeps : (limits : Limits) (context : Context) (first : Place) (is
 property_named_keeps limits context first is_additive [] = passed_keeps true
 property_named_keeps limits context first is_additive (name ∷ names) =
     if_keeps (λ (w : Compilation). is_alias names w.unit.gathering.leaves)
-    (λ (w : Compilation). alias_told limits context first name (property_order w.unit.tokens is_additive) countable.Properties w)
+    (λ (w : Compilation). alias_told limits context first name (property_order w.unit.tokens is_additive) FixedLimit.Properties w)
     (property_with limits context first is_additive name) (λ b w. refl)
     (with_keeps (λ (w : Compilation). property_order w.unit.tokens is_additive)
-    (λ (at : ℕ) (w : Compilation). alias_told limits context first name at countable.Properties w) (λ b w. refl)
-    (λ at. alias_keeps limits context first name at countable.Properties))
+    (λ (at : ℕ) (w : Compilation). alias_told limits context first name at FixedLimit.Properties w) (λ b w. refl)
+    (λ at. alias_keeps limits context first name at FixedLimit.Properties))
     (property_with_keeps limits context first is_additive name)
 
 pub property_keeps : (limits : Limits) (context : Context) (first : Place) (names : List Name)
@@ -149,7 +139,7 @@ global_out_stays limits context None name b w = refl
 global_ended_keeps : (limits : Limits) (context : Context) (first : Place) (name : Name) (d : Declared)
     → Keeps (global_ended limits context first name d)
 global_ended_keeps limits context first name d =
-    declaration_keeps limits context first name countable.Globals d (global_added limits context d.finding name)
+    declaration_keeps limits context first name FixedLimit.Globals d (global_added limits context d.finding name)
     (global_out_stays limits context d.finding name)
 
 global_with_keeps : (limits : Limits) (context : Context) (first : Place) (name : Name) → Keeps (global_with limits context first name)

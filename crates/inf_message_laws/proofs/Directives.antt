@@ -1,34 +1,23 @@
 -- Messages grow at the end of each directive.
-use Rattle.std.proofs.Common.{List, [], ◌∷◌, true, refl}
+use Rattle.std.proofs.Common.{List, [], ◌∷◌, true, refl, Option, None, Some}
 use Rattle.inf_settings.specs.Bounds.{Limits}
 use Rattle.inf_scanner.specs.declared.tokens.Place.{Place}
 use Rattle.inf_names.specs.Spellings.{Name}
 use Rattle.inf_report.specs.OwnWords.{Words}
+use Rattle.inf_unit.specs.{Messages.location, Messages.with_words, declared.directives.Directive.Directive}
 use Rattle.inf_unit.specs.Directives.{End, Include, Request, directive_of, weight_of}
-use Rattle.inf_unit.specs.Messages.{location, with_words}
 use Rattle.inf_unit.specs.Units.{directive_word, first_place, names_in, quoted_in}
-use Rattle.inf_unit.specs.declared.directives.Directive.{Directive}
-use Rattle.inf_unit.specs.declared.directives.Directive.TheVariants as directive
-use Rattle.inf_compilation.specs.Context.{Context}
-use Rattle.inf_compilation.specs.Actions.{Compilation, words_of}
-use Rattle.inf_compilation.specs.Findings.{nothing_found}
+use Rattle.inf_compilation.specs.{Context.Context, Findings.found_alone, Findings.nothing_found}
+use Rattle.inf_compilation.specs.Actions.{Compilation, words_of, unit_ended}
 use Rattle.inf_reader.specs.Directives.{carried_out, code_begun_by, directive_end, directive_of_names, fit_ended}
 use Rattle.inf_message_laws.specs.Growing.{Grows}
-use Rattle.inf_message_laws.proofs.Combined.{nothing_grows, then_grows, with_grows}
-use Rattle.inf_message_laws.proofs.Told.{told_grows, words_add}
-use Rattle.inf_message_laws.proofs.Choosing.{low_keeps, release_keeps, serial_keeps}
+use Rattle.inf_message_laws.proofs.{Choosing.low_keeps, Choosing.release_keeps, Choosing.serial_keeps, Declaring.attribute_keeps}
+use Rattle.inf_message_laws.proofs.{Declaring.global_keeps, Declaring.property_keeps, Keeping.grows_of, Lines.fake_keeps}
+use Rattle.inf_message_laws.proofs.{Tokens.begun_keeps, Tokens.end_keeps, Tokens.passed_keeps, Told.told_grows, Told.words_add}
+use Rattle.inf_message_laws.proofs.Combined.{nothing_grows, then_grows, with_grows, if_grows}
 use Rattle.inf_message_laws.proofs.Constants.{constant_keeps, default_keeps, replace_keeps, stub_keeps}
-use Rattle.inf_message_laws.proofs.Declaring.{attribute_keeps, global_keeps, property_keeps}
-use Rattle.inf_message_laws.proofs.Keeping.{grows_of}
-use Rattle.inf_message_laws.proofs.Lines.{fake_keeps}
-use Rattle.inf_message_laws.proofs.Tokens.{begun_keeps, end_keeps, passed_keeps}
-use Rattle.inf_letters.specs.Letters.{ignores}
-use Rattle.inf_letters.specs.declared.letters.Letters.{Letters}
+use Rattle.inf_letters.specs.{Letters.ignores, declared.letters.Letters.Letters}
 use Rattle.inf_declarations.specs.Switches.{has_code, letters_behind, misplaced, switched, switches, switches_by}
-use Rattle.inf_compilation.specs.Actions.{unit_ended}
-use Rattle.inf_compilation.specs.Findings.{found_alone}
-use Rattle.std.proofs.Common.{Option, None, Some}
-use Rattle.inf_message_laws.proofs.Combined.{if_grows}
 
 fit_grows : (limits : Limits) (context : Context) (first : Place) → Grows (fit_ended limits context first)
 fit_grows limits context first = grows_of (end_keeps limits context first true nothing_found)
@@ -41,7 +30,7 @@ asking_grows : (request : Request) → Grows (asking request)
 asking_grows request = record { grows = λ lines w. refl }
 
 include_grows : (limits : Limits) (context : Context) (first : Place) (names : List Name)
-    → Grows (carried_out limits directive.Include context first names)
+    → Grows (carried_out limits Directive.Include context first names)
 include_grows limits context first names =
     then_grows (λ (w : Compilation). asking (Include (quoted_in w.unit.tokens) first) w) (fit_ended limits context first)
     (with_grows (λ (w : Compilation). Include (quoted_in w.unit.tokens) first) asking (λ lines w. refl) asking_grows)
@@ -58,7 +47,7 @@ worded_grows context first names words =
     (words_add (location context.names first) (weight_of names) words)
 
 message_grows : (limits : Limits) (context : Context) (first : Place) (names : List Name)
-    → Grows (carried_out limits directive.Message context first names)
+    → Grows (carried_out limits Directive.Message context first names)
 message_grows limits context first names =
     then_grows (λ (w : Compilation). worded context first names (words_of context.set w.unit) w) (fit_ended limits context first)
     (with_grows (λ (w : Compilation). words_of context.set w.unit) (worded context first names) (λ lines w. refl)
@@ -95,27 +84,27 @@ switches_grows limits context first (name ∷ names) =
 
 carried_grows : (limits : Limits) (d : Directive) (context : Context) (first : Place) (names : List Name)
     → Grows (carried_out limits d context first names)
-carried_grows limits directive.Include context first names = include_grows limits context first names
-carried_grows limits directive.Message context first names = message_grows limits context first names
-carried_grows limits directive.End context first names =
+carried_grows limits Directive.Include context first names = include_grows limits context first names
+carried_grows limits Directive.Message context first names = message_grows limits context first names
+carried_grows limits Directive.End context first names =
     then_grows (asking End) (fit_ended limits context first) (asking_grows End) (fit_grows limits context first)
-carried_grows limits directive.Constant context first names = grows_of (constant_keeps limits context first names)
-carried_grows limits directive.Replace context first names = grows_of (replace_keeps limits context first names)
-carried_grows limits directive.Stub context first names = grows_of (stub_keeps limits context first names)
-carried_grows limits directive.Default context first names = grows_of (default_keeps limits context first names)
-carried_grows limits directive.Attribute context first names = grows_of (attribute_keeps limits context first names)
-carried_grows limits directive.Property context first names = grows_of (property_keeps limits context first names)
-carried_grows limits directive.Global context first names = grows_of (global_keeps limits context first names)
-carried_grows limits directive.FakeAction context first names = grows_of (fake_keeps limits context first names)
-carried_grows limits directive.Switches context first names = switches_grows limits context first names
-carried_grows limits directive.Lowstring context first names = grows_of (low_keeps limits context first names)
-carried_grows limits directive.Release context first names = grows_of (release_keeps limits context first)
-carried_grows limits directive.Serial context first names = grows_of (serial_keeps limits context first)
-carried_grows limits directive.SystemFile context first names =
+carried_grows limits Directive.Constant context first names = grows_of (constant_keeps limits context first names)
+carried_grows limits Directive.Replace context first names = grows_of (replace_keeps limits context first names)
+carried_grows limits Directive.Stub context first names = grows_of (stub_keeps limits context first names)
+carried_grows limits Directive.Default context first names = grows_of (default_keeps limits context first names)
+carried_grows limits Directive.Attribute context first names = grows_of (attribute_keeps limits context first names)
+carried_grows limits Directive.Property context first names = grows_of (property_keeps limits context first names)
+carried_grows limits Directive.Global context first names = grows_of (global_keeps limits context first names)
+carried_grows limits Directive.FakeAction context first names = grows_of (fake_keeps limits context first names)
+carried_grows limits Directive.Switches context first names = switches_grows limits context first names
+carried_grows limits Directive.Lowstring context first names = grows_of (low_keeps limits context first names)
+carried_grows limits Directive.Release context first names = grows_of (release_keeps limits context first)
+carried_grows limits Directive.Serial context first names = grows_of (serial_keeps limits context first)
+carried_grows limits Directive.SystemFile context first names =
     then_grows marked (fit_ended limits context first) marked_grows (fit_grows limits context first)
 
 begun_by_grows : (limits : Limits) (d : Directive) → Grows (code_begun_by limits d)
-begun_by_grows limits directive.Switches = nothing_grows
+begun_by_grows limits Directive.Switches = nothing_grows
 begun_by_grows limits _ = grows_of (begun_keeps limits)
 
 -- a directive by its word

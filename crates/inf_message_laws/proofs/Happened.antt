@@ -1,16 +1,13 @@
 -- Messages grow over all happenings of a text, one after the other.
 use Rattle.std.proofs.Common.{List, [], ◌∷◌, refl, ap}
 use Rattle.inf_settings.specs.Bounds.{Limits}
-use Rattle.inf_compilation.specs.Context.{Context}
-use Rattle.inf_compilation.specs.Actions.{Compilation, took}
+use Rattle.inf_compilation.specs.{Actions.Compilation, Actions.took, Context.Context}
 use Rattle.inf_reader.specs.Acting.{act}
 use Rattle.inf_statement_laws.specs.Happenings.{Acts, Between, Happening, Takes}
 use Rattle.inf_statement_laws.specs.Laid.{next_comes, passed, run}
 use Rattle.inf_message_laws.specs.Growing.{AllOnlyAdd, Grows, MessagesGrow, OnlyAdds}
+use Rattle.inf_message_laws.proofs.{Combined.nothing_grows, Combined.then_grows, Keeping.asks_nothing, Tokens.took_grows, Tokens.took_keeps}
 use Rattle.inf_message_laws.proofs.Actions.{act_grows, act_keeps, cut_at_grows, cut_at_keeps}
-use Rattle.inf_message_laws.proofs.Combined.{nothing_grows, then_grows}
-use Rattle.inf_message_laws.proofs.Keeping.{asks_nothing}
-use Rattle.inf_message_laws.proofs.Tokens.{took_grows, took_keeps}
 
 between_grows : (m : Between) → OnlyAdds m → Grows (passed m)
 between_grows m adds = record {

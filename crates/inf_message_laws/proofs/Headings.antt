@@ -4,17 +4,11 @@ use Rattle.inf_settings.specs.Bounds.{Limits}
 use Rattle.inf_scanner.specs.declared.tokens.Place.{Place}
 use Rattle.inf_names.specs.Spellings.{Name}
 use Rattle.inf_unit.specs.Units.{directive_word, first_place, names_in}
-use Rattle.inf_compilation.specs.Context.{Context}
-use Rattle.inf_compilation.specs.Actions.{Compilation, code_begun}
+use Rattle.inf_compilation.specs.{Actions.Compilation, Actions.code_begun, Context.Context}
 use Rattle.inf_reader.specs.Headers.{class_named, header_as, header_ended, directive_header, heading_of}
 use Rattle.inf_reader.specs.declared.headers.Heading.{Heading}
-use Rattle.inf_reader.specs.declared.headers.Heading.TheVariants as heading
-use Rattle.inf_message_laws.proofs.Choosing.{abbreviate_keeps}
-use Rattle.inf_message_laws.proofs.Keeping.{then_keeps, with_keeps}
-use Rattle.inf_message_laws.proofs.Lines.{extend_keeps, verb_keeps}
-use Rattle.inf_message_laws.proofs.Listed.{array_keeps}
-use Rattle.inf_message_laws.proofs.Objects.{class_keeps, object_keeps}
-use Rattle.inf_message_laws.proofs.Tokens.{begun_keeps, passed_keeps}
+use Rattle.inf_message_laws.proofs.{Choosing.abbreviate_keeps, Keeping.then_keeps, Keeping.with_keeps, Lines.extend_keeps, Lines.verb_keeps}
+use Rattle.inf_message_laws.proofs.{Listed.array_keeps, Objects.class_keeps, Objects.object_keeps, Tokens.begun_keeps, Tokens.passed_keeps}
 use Rattle.inf_message_laws.specs.Growing.{Keeps}
 
 class_named_keeps : (limits : Limits) (context : Context) (first : Place) (names : List Name)
@@ -24,12 +18,12 @@ class_named_keeps limits context first (name ∷ names) = class_keeps limits con
 
 heading_keeps : (limits : Limits) (h : Heading) (context : Context) (first : Place) (names : List Name)
     → Keeps (header_as limits h context first names)
-heading_keeps limits heading.Array context first names = array_keeps limits context first names
-heading_keeps limits heading.Class context first names = class_named_keeps limits context first names
-heading_keeps limits heading.Object context first names = object_keeps limits context first
-heading_keeps limits heading.Verb context first names = verb_keeps limits context first
-heading_keeps limits heading.Extend context first names = extend_keeps limits context first
-heading_keeps limits heading.Abbreviate context first names = abbreviate_keeps limits context first
+heading_keeps limits Heading.Array context first names = array_keeps limits context first names
+heading_keeps limits Heading.Class context first names = class_named_keeps limits context first names
+heading_keeps limits Heading.Object context first names = object_keeps limits context first
+heading_keeps limits Heading.Verb context first names = verb_keeps limits context first
+heading_keeps limits Heading.Extend context first names = extend_keeps limits context first
+heading_keeps limits Heading.Abbreviate context first names = abbreviate_keeps limits context first
 
 header_names_keep : (limits : Limits) (context : Context) (first : Place) (names : List Name)
     → Keeps (directive_header limits context first names)

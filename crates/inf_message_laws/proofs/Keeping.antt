@@ -1,14 +1,9 @@
 -- Steps of a compilation that depend neither on the lines of the report nor on what is asked, and change neither, put together.
-use Rattle.std.proofs.Common.{◌≡◌, List, [], Bool, true, false, refl, ◌∙◌, ap}
-use Rattle.std.specs.Prelude.{if◌then◌else◌}
+use Rattle.std.proofs.Common.{◌≡◌, List, [], Bool, true, false, refl, ◌∙◌, ap, if◌then◌else◌}
 use Rattle.inf_output.specs.Output.{Out}
-use Rattle.inf_unit.specs.Directives.{Request}
-use Rattle.inf_unit.specs.Messages.{Reported}
-use Rattle.inf_unit.specs.Units.{Unit}
-use Rattle.inf_constructs.specs.Constructs.{Laying}
-use Rattle.inf_constructs.specs.declared.constructs.Construct.{Construct}
-use Rattle.inf_compilation.specs.Actions.{Compilation}
-use Rattle.inf_compilation.specs.Nesting.{constructs_laid}
+use Rattle.inf_unit.specs.{Directives.Request, Messages.Reported, Units.Unit}
+use Rattle.inf_constructs.specs.{Constructs.Laying, declared.constructs.Construct.Construct}
+use Rattle.inf_compilation.specs.{Actions.Compilation, Nesting.constructs_laid}
 use Rattle.inf_message_laws.specs.Growing.{Before, Grows, Keeps, told_before, with_before}
 use Rattle.inf_message_laws.proofs.Told.{Adds}
 

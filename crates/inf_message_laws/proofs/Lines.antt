@@ -1,18 +1,13 @@
 -- Nothing is asked, and messages grow, at the headers of `Verb` and `Extend`, at their lines, and at a fake action.
-use Rattle.std.proofs.Common.{ℕ, List, [], ◌∷◌, true, false, Option, Some, None, refl}
-use Rattle.std.specs.Prelude.{◌+◌}
+use Rattle.std.proofs.Common.{ℕ, List, [], ◌∷◌, true, false, Option, Some, None, refl, ◌+◌}
 use Rattle.inf_settings.specs.Bounds.{Limits}
 use Rattle.inf_scanner.specs.declared.tokens.Place.{Place}
 use Rattle.inf_expressions.specs.declared.findings.Finding.{Finding}
-use Rattle.inf_names.specs.Spellings.{Name}
-use Rattle.inf_names.specs.declared.symbols.DeclareFault.{DeclareFault}
-use Rattle.inf_output.specs.Actions.{faked}
-use Rattle.inf_output.specs.Output.{Out}
+use Rattle.inf_names.specs.{Spellings.Name, declared.symbols.DeclareFault.DeclareFault}
+use Rattle.inf_output.specs.{Actions.faked, Output.Out}
 use Rattle.inf_unit.specs.Units.{bytes_at, first_place, name_order}
 use Rattle.inf_verbs.specs.declared.verbs.LinePlace.{LinePlace}
-use Rattle.inf_compilation.specs.Context.{Context}
-use Rattle.inf_compilation.specs.Actions.{Compilation, unit_ended}
-use Rattle.inf_compilation.specs.Findings.{again_by}
+use Rattle.inf_compilation.specs.{Actions.Compilation, Actions.unit_ended, Context.Context, Findings.again_by}
 use Rattle.inf_verb_lines.specs.Verbs.{arrow_in, extend_header, extend_with, fake_action, fake_findings, fake_with, head_finding}
 use Rattle.inf_verb_lines.specs.Verbs.{header_opened, line_added, line_ended, line_found, line_judged, line_laid, lines_of, no_verb_finding}
 use Rattle.inf_verb_lines.specs.Verbs.{place_named, tokens_finding, verb_ended, verb_extended, verb_findings, verb_head, verb_header}

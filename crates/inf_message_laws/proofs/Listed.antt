@@ -2,31 +2,24 @@
 use Rattle.std.proofs.Common.{ℕ, List, [], ◌∷◌, Bool, true, false, Option, Some, None, refl, ap}
 use Rattle.inf_settings.specs.Bounds.{Limits, unbounded}
 use Rattle.inf_scanner.specs.declared.tokens.Place.{Place}
-use Rattle.inf_arrays.specs.Arrays.{Adding, Characters, added_fault}
-use Rattle.inf_arrays.specs.declared.kinds.ArrayKind.{ArrayKind}
+use Rattle.inf_arrays.specs.{Arrays.Adding, Arrays.Characters, Arrays.added_fault, declared.kinds.ArrayKind.ArrayKind}
 use Rattle.inf_characters.specs.declared.texts.TextItem.{TextItem}
-use Rattle.inf_expressions.specs.Findings.{least_of_both}
-use Rattle.inf_expressions.specs.declared.findings.Finding.{Finding}
-use Rattle.inf_expressions.specs.declared.units.Wanted.TheVariants as wanted
+use Rattle.inf_expressions.specs.{Findings.least_of_both, declared.findings.Finding.Finding, declared.units.Wanted.Wanted}
 use Rattle.inf_names.specs.Spellings.{Name}
-use Rattle.inf_report.specs.declared.messages.FixedLimit.TheVariants as countable
+use Rattle.inf_report.specs.declared.messages.FixedLimit.{FixedLimit}
 use Rattle.inf_unit.specs.Units.{first_place, name_order}
 use Rattle.inf_operands.specs.Texts.{text_at}
-use Rattle.inf_compilation.specs.Context.{Context}
+use Rattle.inf_compilation.specs.{Context.Context, Findings.found_alone, Findings.nothing_found}
 use Rattle.inf_compilation.specs.Actions.{Compilation, finding_at, settled_of, unit_ended}
-use Rattle.inf_compilation.specs.Findings.{found_alone, nothing_found}
-use Rattle.inf_named_values.specs.Declarations.{declared_ended, plainly_known}
-use Rattle.inf_named_values.specs.Values.{value_of}
-use Rattle.inf_named_values.specs.declared.declarations.Declared.{Declared}
+use Rattle.inf_named_values.specs.{Declarations.declared_ended, Declarations.plainly_known, Values.value_of, Values.variables_from}
+use Rattle.inf_named_values.specs.{declared.declarations.Declared.Declared}
 use Rattle.inf_declarations.specs.Arrays.{added, adding, array_header, array_named, bare_text, codes_of, entry_added, entry_added_by}
 use Rattle.inf_declarations.specs.Arrays.{entry_ended, entry_finding, entry_judged, entry_with, header_with, is_alone, kind_in}
 use Rattle.inf_declarations.specs.Arrays.{items_finding}
 use Rattle.inf_declarations.specs.Arrays.{listed, lost_added, one_more, own_finding, story_added, text_added, text_finding, value_added}
-use Rattle.inf_named_values.specs.Values.{variables_from}
 use Rattle.inf_message_laws.specs.Growing.{Keeps}
+use Rattle.inf_message_laws.proofs.{Declaring.declared_ended_keeps, Tokens.end_keeps, Tokens.passed_keeps}
 use Rattle.inf_message_laws.proofs.Keeping.{Rests, if_keeps, laid_keeps, nothing_keeps, then_keeps, with_keeps}
-use Rattle.inf_message_laws.proofs.Declaring.{declared_ended_keeps}
-use Rattle.inf_message_laws.proofs.Tokens.{end_keeps, passed_keeps}
 
 -- Headers
 
@@ -47,8 +40,8 @@ begun_keeps limits name d =
 header_keeps : (limits : Limits) (context : Context) (first : Place) (name : Name) (d : Declared)
     → Keeps (header_with limits context first name d)
 header_keeps limits context first name d =
-    then_keeps (begun limits name d) (declared_ended limits context first false name countable.Globals d) (begun_keeps limits name d)
-    (declared_ended_keeps limits context first false name countable.Globals d)
+    then_keeps (begun limits name d) (declared_ended limits context first false name FixedLimit.Globals d) (begun_keeps limits name d)
+    (declared_ended_keeps limits context first false name FixedLimit.Globals d)
 
 array_header_keeps : (limits : Limits) (context : Context) (first : Place) (name : Name)
     → Keeps (array_header limits context first name)
@@ -77,7 +70,7 @@ own_stays limits context None alone b w = refl
 
 finding_stays : (limits : Limits) (context : Context) (alone : Bool) → Rests (entry_finding limits context alone)
 finding_stays limits context alone b w =
-    ap (least_of_both (finding_at 0 wanted.Constant w)) (own_stays limits context (bare_text alone w) alone b w)
+    ap (least_of_both (finding_at 0 Wanted.Constant w)) (own_stays limits context (bare_text alone w) alone b w)
 
 -- Entries
 

@@ -1,13 +1,9 @@
 -- Nothing is asked, and messages grow, where something is noted of the unit at hand.
-use Rattle.std.proofs.Common.{refl}
-use Rattle.std.specs.Prelude.{◌&&◌, if◌then◌else◌}
+use Rattle.std.proofs.Common.{refl, ◌&&◌, if◌then◌else◌}
 use Rattle.inf_settings.specs.Bounds.{Limits}
+use Rattle.inf_unit.specs.{Units.is_full, Units.last_passed, Units.noted as unit_noted, Units.text_passed, declared.roles.Note.Note}
 use Rattle.inf_unit.specs.Roles.{ends_outer, ends_token, ends_value, is_arrow, is_text, is_verb_word, makes_sure}
-use Rattle.inf_unit.specs.Units.{is_full, last_passed, noted as unit_noted, text_passed}
-use Rattle.inf_unit.specs.declared.roles.Note.{Note}
-use Rattle.inf_compilation.specs.Context.{Context}
-use Rattle.inf_compilation.specs.Actions.{Compilation, sized}
-use Rattle.inf_compilation.specs.Crowds.{value_sifted}
+use Rattle.inf_compilation.specs.{Actions.Compilation, Actions.sized, Context.Context, Crowds.value_sifted}
 use Rattle.inf_verb_lines.specs.Verbs.{token_sifted, word_sifted}
 use Rattle.inf_reader.specs.Acting.{is_crowded, is_long, is_tall, is_wordy, noted, noted_of, operands_named, value_noted}
 use Rattle.inf_message_laws.specs.Growing.{Keeps}

@@ -1,20 +1,15 @@
 -- Nothing is asked, and messages grow, at the headers of classes and objects.
-use Rattle.std.proofs.Common.{ℕ, List, false, Option, Some, None, refl, ◌∙◌, ap}
-use Rattle.std.specs.Prelude.{unwrap_or}
+use Rattle.std.proofs.Common.{ℕ, List, false, Option, Some, None, refl, ◌∙◌, ap, unwrap_or}
 use Rattle.inf_settings.specs.Bounds.{Limits}
 use Rattle.inf_scanner.specs.declared.tokens.Place.{Place}
 use Rattle.inf_characters.specs.declared.texts.TextItem.{TextItem}
-use Rattle.inf_expressions.specs.Findings.{least_of_both}
-use Rattle.inf_expressions.specs.declared.findings.Finding.{Finding}
+use Rattle.inf_expressions.specs.{Findings.least_of_both, declared.findings.Finding.Finding}
 use Rattle.inf_names.specs.Spellings.{Name}
-use Rattle.inf_report.specs.declared.messages.FixedLimit.TheVariants as countable
+use Rattle.inf_report.specs.declared.messages.FixedLimit.{FixedLimit}
 use Rattle.inf_tables.specs.declared.kinds.Parent.{Parent}
 use Rattle.inf_unit.specs.Units.{name_order, order}
-use Rattle.inf_compilation.specs.Context.{Context}
-use Rattle.inf_compilation.specs.Actions.{Compilation}
-use Rattle.inf_compilation.specs.Findings.{found_alone, many_finding}
-use Rattle.inf_named_values.specs.Declarations.{declared_ended, plainly_known}
-use Rattle.inf_named_values.specs.declared.declarations.Declared.{Declared}
+use Rattle.inf_compilation.specs.{Actions.Compilation, Context.Context, Findings.found_alone, Findings.many_finding}
+use Rattle.inf_named_values.specs.{Declarations.declared_ended, Declarations.plainly_known, declared.declarations.Declared.Declared}
 use Rattle.inf_bodies.specs.Objects.{above_finding, class_header, class_lost, class_of_word, class_opened, class_with, entry_told}
 use Rattle.inf_bodies.specs.Objects.{has_most_classes, headed_finding, header_in, named_parent_finding, object_begun, object_ended}
 use Rattle.inf_bodies.specs.Objects.{object_header, object_known, object_lost, object_new, object_opened, object_with, object_with_known}
@@ -22,9 +17,8 @@ use Rattle.inf_bodies.specs.Objects.{own_name, parent_finding, parent_in}
 use Rattle.inf_bodies.specs.ShortNames.{header_text, name_packed, packed_name, short_by, short_text}
 use Rattle.inf_bodies.specs.declared.headers.Header.{Header}
 use Rattle.inf_message_laws.specs.Growing.{Keeps, with_before}
+use Rattle.inf_message_laws.proofs.{Declaring.declared_ended_keeps, Tokens.end_keeps}
 use Rattle.inf_message_laws.proofs.Keeping.{Rests, laid_keeps, then_keeps, with_keeps}
-use Rattle.inf_message_laws.proofs.Declaring.{declared_ended_keeps}
-use Rattle.inf_message_laws.proofs.Tokens.{end_keeps}
 
 pub entry_keeps : (limits : Limits) (context : Context) (first : Place) (f : Option Finding) → Keeps (entry_told limits context first f)
 entry_keeps limits context first f = end_keeps limits context first false (found_alone f)
@@ -40,8 +34,8 @@ class_opened_keeps limits context (Some f) name =
 class_with_keeps : (limits : Limits) (context : Context) (first : Place) (name : Name) (d : Declared)
     → Keeps (class_with limits context first name d)
 class_with_keeps limits context first name d =
-    then_keeps (class_opened limits context d.finding name) (declared_ended limits context first false name countable.Globals d)
-    (class_opened_keeps limits context d.finding name) (declared_ended_keeps limits context first false name countable.Globals d)
+    then_keeps (class_opened limits context d.finding name) (declared_ended limits context first false name FixedLimit.Globals d)
+    (class_opened_keeps limits context d.finding name) (declared_ended_keeps limits context first false name FixedLimit.Globals d)
 
 pub class_keeps : (limits : Limits) (context : Context) (first : Place) (name : Name) → Keeps (class_header limits context first name)
 class_keeps limits context first name =
@@ -124,7 +118,7 @@ opened_keeps limits context (Some f) h name =
 ended_keeps : (limits : Limits) (context : Context) (first : Place) (name : Option Name) (d : Declared)
     → Keeps (object_ended limits context first name d)
 ended_keeps limits context first None d = entry_keeps limits context first d.finding
-ended_keeps limits context first (Some name) d = declared_ended_keeps limits context first false name countable.Values d
+ended_keeps limits context first (Some name) d = declared_ended_keeps limits context first false name FixedLimit.Values d
 
 with_known_keeps : (limits : Limits) (context : Context) (first : Place) (h : Header) (name : Option Name) (d : Declared)
     → Keeps (object_with_known limits context first h name d)

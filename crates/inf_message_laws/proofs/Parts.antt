@@ -1,30 +1,20 @@
 -- Nothing is asked, and messages grow, at the end of each part of a routine that has expressions: a statement, a condition, the parts of
 -- loops, and a case.
-use Rattle.std.proofs.Common.{List, Bool, true, false, Option, Some, None, refl, ◌∙◌, ap}
-use Rattle.std.specs.Prelude.{map}
+use Rattle.std.proofs.Common.{List, Bool, true, false, Option, Some, None, refl, ◌∙◌, ap, map}
 use Rattle.inf_settings.specs.Bounds.{Limits}
 use Rattle.inf_scanner.specs.declared.tokens.Place.{Place}
-use Rattle.inf_expressions.specs.Findings.{least_of_both}
-use Rattle.inf_expressions.specs.Rooted.{Rooted}
-use Rattle.inf_expressions.specs.declared.findings.Finding.{Finding}
+use Rattle.inf_expressions.specs.{Findings.least_of_both, Rooted.Rooted, declared.findings.Finding.Finding}
 use Rattle.inf_output.specs.Output.{Out, apart, ◌▸◌}
-use Rattle.inf_constructs.specs.Cases.{case_code}
+use Rattle.inf_constructs.specs.{Cases.case_code, Labels.NamedLabel, Roots.tree_in}
 use Rattle.inf_constructs.specs.Constructs.{are_own, cases_begun, changed, condition_label, entered, looped_over, next_case, stepped}
-use Rattle.inf_constructs.specs.Labels.{NamedLabel}
-use Rattle.inf_constructs.specs.Roots.{tree_in}
-use Rattle.inf_statements.specs.Effects.{Site, statement_laid}
+use Rattle.inf_statements.specs.{Effects.Site, Effects.statement_laid, declared.statements.Statement.Statement}
 use Rattle.inf_statements.specs.Statements.{alone, switched, tested}
-use Rattle.inf_statements.specs.declared.statements.Statement.{Statement}
-use Rattle.inf_statements.specs.declared.statements.Statement.TheVariants as statement
-use Rattle.inf_compilation.specs.Context.{Context}
+use Rattle.inf_compilation.specs.{Context.Context, Findings.found_alone, Findings.nothing_found, Nesting.constructs_laid}
 use Rattle.inf_compilation.specs.Actions.{Compilation, finding_at, named, passed, settled_of, trees_at, unit_ended}
-use Rattle.inf_compilation.specs.Findings.{found_alone, nothing_found}
 use Rattle.inf_parts.specs.Parts.{actions_named, case_prepared, found_in, has_last, is_default, order_of}
-use Rattle.inf_compilation.specs.Nesting.{constructs_laid}
 use Rattle.inf_parts.specs.Parts.{own_case_prepared, own_finding, part_begun, part_carried, part_effect, part_ended, part_finished}
 use Rattle.inf_parts.specs.Parts.{part_prepared, place_of, site_of, statement_at, wanted_of}
 use Rattle.inf_parts.specs.declared.parts.Part.{Part}
-use Rattle.inf_parts.specs.declared.parts.Part.TheVariants as part
 use Rattle.inf_message_laws.specs.Growing.{Keeps, with_before}
 use Rattle.inf_message_laws.proofs.Keeping.{Rests, constructs_keep, if_keeps, laid_keeps, nothing_keeps, then_keeps, with_keeps}
 use Rattle.inf_message_laws.proofs.Tokens.{end_keeps, passed_keeps}
@@ -32,17 +22,17 @@ use Rattle.inf_message_laws.proofs.Tokens.{end_keeps, passed_keeps}
 -- The place of a part, and the findings about it, do not depend on what was reported.
 
 order_stays : (p : Part) → Rests (order_of p)
-order_stays part.Case b w = refl
+order_stays Part.Case b w = refl
 order_stays _ b w = refl
 
 place_stays : (p : Part) (place : Place) → Rests (place_of p place)
-place_stays part.Case place b w = refl
+place_stays Part.Case place b w = refl
 place_stays _ place b w = refl
 
 own_stays : (limits : Limits) (context : Context) (p : Part) → Rests (own_finding limits context p)
-own_stays limits context (part.Statement statement.Assembly) b w = refl
-own_stays limits context (part.Statement s) b w = refl
-own_stays limits context part.Case b w = refl
+own_stays limits context (Part.Statement Statement.Assembly) b w = refl
+own_stays limits context (Part.Statement s) b w = refl
+own_stays limits context Part.Case b w = refl
 own_stays limits context _ b w = refl
 
 found_stays : (limits : Limits) (context : Context) (p : Part) → Rests (found_in limits context p)
@@ -78,18 +68,18 @@ statement_keeps limits context s trees =
 
 effect_keeps : (limits : Limits) (context : Context) (p : Part) (trees : List Rooted) → Keeps (part_effect limits context p trees)
 unfolding part_effect
-effect_keeps limits context (part.Statement s) trees = statement_keeps limits context s trees
-effect_keeps limits context part.Condition trees =
+effect_keeps limits context (Part.Statement s) trees = statement_keeps limits context s trees
+effect_keeps limits context Part.Condition trees =
     laid_keeps (λ (w : Compilation). tested limits (condition_label w.constructs) (map tree_in trees) w.output) (λ b w. refl)
-effect_keeps limits context part.Start trees =
+effect_keeps limits context Part.Start trees =
     laid_keeps (λ (w : Compilation). alone limits (map tree_in trees) w.output) (λ b w. refl)
-effect_keeps limits context part.Step trees =
+effect_keeps limits context Part.Step trees =
     constructs_keep (λ (w : Compilation) (o : Out). stepped w.constructs ((apart ▸ alone limits (map tree_in trees)) o)) (λ b w. refl)
-effect_keeps limits context part.Loop trees =
+effect_keeps limits context Part.Loop trees =
     constructs_keep (λ (w : Compilation). looped_over limits trees w.constructs) (λ b w. refl)
-effect_keeps limits context part.Switched trees =
+effect_keeps limits context Part.Switched trees =
     laid_keeps (λ (w : Compilation). switched limits (map tree_in trees) w.output) (λ b w. refl)
-effect_keeps limits context part.Case trees =
+effect_keeps limits context Part.Case trees =
     laid_keeps (λ (w : Compilation). case_code limits (next_case w.constructs) (map tree_in trees) w.output) (λ b w. refl)
 
 -- the names of a part are used, and its code stands at a place
@@ -124,7 +114,7 @@ carried_keeps limits context first p None =
 -- From the beginning of a part to its end
 
 begun_keeps : (limits : Limits) (p : Part) → Keeps (part_begun limits p)
-begun_keeps limits part.Case =
+begun_keeps limits Part.Case =
     constructs_keep (λ (w : Compilation). changed (entered limits (is_default w.unit.items)) w.constructs) (λ b w. refl)
 begun_keeps limits _ = nothing_keeps
 
@@ -151,7 +141,7 @@ own_prepared_keeps limits =
     (with_keeps (λ (w : Compilation). are_own w.constructs) actions_named (λ b w. refl) actions_grow)
 
 case_keeps : (limits : Limits) (p : Part) → Keeps (case_prepared limits p)
-case_keeps limits part.Case = own_prepared_keeps limits
+case_keeps limits Part.Case = own_prepared_keeps limits
 case_keeps limits _ = nothing_keeps
 
 prepared_keeps : Keeps part_prepared
@@ -177,7 +167,7 @@ part_keeps limits context place p =
 
 -- a statement is what its unit says
 pub statement_part_keeps : (limits : Limits) (context : Context) (place : Place)
-    → Keeps (λ w. part_ended limits context place (part.Statement (statement_at w)) w)
+    → Keeps (λ w. part_ended limits context place (Part.Statement (statement_at w)) w)
 statement_part_keeps limits context place =
-    with_keeps statement_at (λ (s : Statement) (w : Compilation). part_ended limits context place (part.Statement s) w) (λ b w. refl)
-    (λ s. part_keeps limits context place (part.Statement s))
+    with_keeps statement_at (λ (s : Statement) (w : Compilation). part_ended limits context place (Part.Statement s) w) (λ b w. refl)
+    (λ s. part_keeps limits context place (Part.Statement s))

@@ -1,26 +1,19 @@
 -- Nothing is asked, and messages grow, at the header and at the end of a routine.
-use Rattle.std.proofs.Common.{List, [], ◌∷◌, length, true, false, refl}
-use Rattle.std.specs.Prelude.{is_some, max}
+use Rattle.std.proofs.Common.{List, [], ◌∷◌, length, true, false, refl, is_some, max}
 use Rattle.inf_settings.specs.Bounds.{Limits}
 use Rattle.inf_scanner.specs.declared.tokens.Place.{Place}
 use Rattle.inf_assembler.specs.declared.routines.RoutineKind.{RoutineKind}
-use Rattle.inf_names.specs.Locals.{Headed}
-use Rattle.inf_names.specs.Spellings.{Name}
-use Rattle.inf_names.specs.Symbols.{declare_fault}
-use Rattle.inf_names.specs.declared.meanings.Meaning.TheVariants as meaning
+use Rattle.inf_names.specs.{Locals.Headed, Spellings.Name, Symbols.declare_fault, declared.meanings.Meaning.Meaning}
 use Rattle.inf_code.specs.Code.{fault_closed, labels as labels_of, place_behind}
 use Rattle.inf_output.specs.Output.{closed, declared, opened}
-use Rattle.inf_unit.specs.Messages.{Reported}
-use Rattle.inf_unit.specs.Units.{first_place, names_in}
+use Rattle.inf_unit.specs.{Messages.Reported, Units.first_place, Units.names_in}
 use Rattle.inf_constructs.specs.Constructs.{ended}
-use Rattle.inf_compilation.specs.Context.{Context}
+use Rattle.inf_compilation.specs.{Context.Context, Findings.Findings, Findings.again_by, Findings.header_findings, Findings.nothing_found}
 use Rattle.inf_compilation.specs.Actions.{Compilation, cases_ended, close, close_as, close_open, code_closed, header_end, header_named}
 use Rattle.inf_compilation.specs.Actions.{header_of, header_with, is_to_be_replaced, kind_ended, opened_with, passed, routine_declared}
 use Rattle.inf_compilation.specs.Actions.{unit_ended, with_all_unused, with_routine_fault}
-use Rattle.inf_compilation.specs.Findings.{Findings, again_by, header_findings, nothing_found}
 use Rattle.inf_message_laws.specs.Growing.{Keeps}
-use Rattle.inf_message_laws.proofs.Keeping.{constructs_keep, if_keeps, laid_keeps, then_keeps, with_keeps}
-use Rattle.inf_message_laws.proofs.Keeping.{telling_keeps}
+use Rattle.inf_message_laws.proofs.Keeping.{constructs_keep, if_keeps, laid_keeps, then_keeps, with_keeps, telling_keeps}
 use Rattle.inf_message_laws.proofs.Told.{Adds, all_unused_add, routine_adds, then_adds}
 use Rattle.inf_message_laws.proofs.Tokens.{end_keeps, passed_keeps}
 
@@ -47,7 +40,7 @@ opened_keeps limits context first h found =
 pub declared_keeps : (limits : Limits) (name : Name) → Keeps (routine_declared limits name)
 declared_keeps limits name =
     laid_keeps
-    (λ (w : Compilation). declared limits name.bytes name.place (meaning.Routine (place_behind w.output.code.finished)) w.output)
+    (λ (w : Compilation). declared limits name.bytes name.place (Meaning.Routine (place_behind w.output.code.finished)) w.output)
     (λ b w. refl)
 
 header_keeps : (limits : Limits) (context : Context) (first : Place) (name : Name) (h : Headed)

@@ -1,17 +1,13 @@
 -- Nothing is asked, and messages grow, where a statement that holds others is opened, goes on, or is closed.
-use Rattle.std.proofs.Common.{refl}
-use Rattle.std.specs.Prelude.{◌-◌, nat_lt}
+use Rattle.std.proofs.Common.{refl, ◌-◌, nat_lt}
 use Rattle.inf_settings.specs.Bounds.{Limits}
 use Rattle.inf_scanner.specs.declared.tokens.Place.{Place}
 use Rattle.inf_unit.specs.Units.{last_place}
-use Rattle.inf_constructs.specs.Constructs.{begun, between, changed, ended}
-use Rattle.inf_constructs.specs.declared.constructs.Kind.{Kind}
-use Rattle.inf_compilation.specs.Context.{Context}
-use Rattle.inf_compilation.specs.Actions.{Compilation, is_deep, nested}
+use Rattle.inf_constructs.specs.{Constructs.begun, Constructs.between, Constructs.changed, Constructs.ended, declared.constructs.Kind.Kind}
+use Rattle.inf_compilation.specs.{Actions.Compilation, Actions.is_deep, Actions.nested, Context.Context}
 use Rattle.inf_compilation.specs.Nesting.{construct_closed, construct_ended, construct_joined, construct_opened, constructs_laid}
 use Rattle.inf_message_laws.specs.Growing.{Keeps}
-use Rattle.inf_message_laws.proofs.Keeping.{constructs_keep, if_keeps, then_keeps, with_keeps}
-use Rattle.inf_message_laws.proofs.Tokens.{deeper_keeps}
+use Rattle.inf_message_laws.proofs.{Keeping.constructs_keep, Keeping.if_keeps, Keeping.then_keeps, Keeping.with_keeps, Tokens.deeper_keeps}
 
 deeper_at_keeps : (context : Context) (place : Place)
     → Keeps (λ w. nested context (last_place w.unit.tokens place) (is_deep w 1) w)

@@ -1,23 +1,17 @@
 -- Nothing is asked, and messages grow, where a token is taken, and where a unit ends.
-use Rattle.std.proofs.Common.{Bool, true, false, Option, Some, None, refl}
-use Rattle.std.specs.Prelude.{◌&&◌, max}
-use Rattle.inf_settings.specs.Bounds.{Limits}
-use Rattle.inf_settings.specs.declared.setting.Setting.{Setting}
-use Rattle.inf_settings.specs.declared.setting.Setting.TheVariants as setting
+use Rattle.std.proofs.Common.{Bool, true, false, Option, Some, None, refl, ◌&&◌, max}
+use Rattle.inf_settings.specs.{Bounds.Limits, declared.setting.Setting.Setting}
 use Rattle.inf_scanner.specs.declared.tokens.Place.{Place}
 use Rattle.inf_code.specs.Code.{labels as labels_of}
 use Rattle.inf_output.specs.Output.{begun, full}
 use Rattle.inf_report.specs.Messages.{DeepNesting, Exceeded}
+use Rattle.inf_unit.specs.{Tokens.SourceToken, Units.long_at, Units.over, Units.taken}
 use Rattle.inf_unit.specs.Messages.{Diagnostic, location, with_fatal, with_fault, with_full}
-use Rattle.inf_unit.specs.Tokens.{SourceToken}
-use Rattle.inf_unit.specs.Units.{long_at, over, taken}
-use Rattle.inf_compilation.specs.Context.{Context, longest}
+use Rattle.inf_compilation.specs.{Context.Context, Context.longest, Findings.Findings, Findings.told_as}
 use Rattle.inf_compilation.specs.Actions.{Compilation, code_begun, is_deep, nested, opens, passed, sized, stopped, token_checked, took}
 use Rattle.inf_compilation.specs.Actions.{unit_ended}
-use Rattle.inf_compilation.specs.Findings.{Findings, told_as}
 use Rattle.inf_message_laws.specs.Growing.{Grows, Keeps}
-use Rattle.inf_message_laws.proofs.Keeping.{grows_of, laid_keeps, then_keeps, unit_keeps, with_keeps}
-use Rattle.inf_message_laws.proofs.Keeping.{told_keeps}
+use Rattle.inf_message_laws.proofs.Keeping.{grows_of, laid_keeps, then_keeps, unit_keeps, with_keeps, told_keeps}
 use Rattle.inf_message_laws.proofs.Told.{end_adds, fatal_adds}
 
 -- Tokens
@@ -25,8 +19,8 @@ use Rattle.inf_message_laws.proofs.Told.{end_adds, fatal_adds}
 stopped_keeps : (context : Context) (place : Option Place) → Keeps (stopped context place)
 stopped_keeps context None = record { keeps = λ b w. refl }
 stopped_keeps context (Some place) =
-    told_keeps (with_fatal (location context.names place) (Exceeded setting.ExpressionNodes))
-    (fatal_adds (location context.names place) (Exceeded setting.ExpressionNodes))
+    told_keeps (with_fatal (location context.names place) (Exceeded Setting.ExpressionNodes))
+    (fatal_adds (location context.names place) (Exceeded Setting.ExpressionNodes))
 
 pub sized_keeps : (context : Context) → Keeps (sized context)
 sized_keeps context =

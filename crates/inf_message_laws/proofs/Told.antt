@@ -4,16 +4,13 @@ use Rattle.std.specs.Prelude.{[], ◌∷◌, ◌++◌, if◌then◌else◌}
 use Rattle.inf_settings.specs.declared.setting.Setting.{Setting}
 use Rattle.inf_scanner.specs.declared.tokens.Place.{Place}
 use Rattle.inf_assembler.specs.declared.routines.CloseFault.{CloseFault}
-use Rattle.inf_assembler.specs.declared.routines.CloseFault.TheVariants as close_fault
 use Rattle.inf_names.specs.Locals.{Local}
 use Rattle.inf_constructs.specs.Labels.{NamedLabel, missing}
+use Rattle.inf_report.specs.{OwnWords.Words, declared.messages.Kind.Kind}
 use Rattle.inf_report.specs.Messages.{BranchTooFar, ErrorText, Exceeded, FatalText, LabelMissing, Location, Message, UnusedLocal}
 use Rattle.inf_report.specs.Messages.{WarningText}
-use Rattle.inf_report.specs.OwnWords.{Words}
 use Rattle.inf_report.specs.Reports.{Counts, error_lines, fatal_lines, plain_lines, warning_lines, with_error as error_counted}
 use Rattle.inf_report.specs.Reports.{with_fatal as fatal_counted, with_warning as warning_counted}
-use Rattle.inf_report.specs.declared.messages.Kind.{Kind}
-use Rattle.inf_report.specs.declared.messages.Kind.TheVariants as weight
 use Rattle.inf_unit.specs.Messages.{Diagnostic, FileNames, Reported, location, with_error, with_fatal, with_fault, with_full, with_plain}
 use Rattle.inf_unit.specs.Messages.{with_warning, with_words}
 use Rattle.inf_compilation.specs.Context.{Context}
@@ -62,9 +59,9 @@ plain_adds words = more_adds (plain_lines words) (λ c. c)
 
 pub words_add : (at : Location) (kind : Option Kind) (words : Words) → Adds (with_words at kind words)
 words_add at None words = plain_adds words
-words_add at (Some weight.Error) words = error_adds at at (ErrorText words)
-words_add at (Some weight.Warning) words = warning_adds at (WarningText words)
-words_add at (Some weight.Fatal) words = fatal_adds at (FatalText words)
+words_add at (Some Kind.Error) words = error_adds at at (ErrorText words)
+words_add at (Some Kind.Warning) words = warning_adds at (WarningText words)
+words_add at (Some Kind.Fatal) words = fatal_adds at (FatalText words)
 
 fault_adds : (files : FileNames) (unit : Place) (blame : Option Diagnostic) → Adds (with_fault files unit blame)
 fault_adds files unit None = nothing_adds
@@ -96,9 +93,9 @@ all_unused_add context place (l ∷ locals) =
     (all_unused_add context place locals)
 
 branch_adds : (context : Context) (place : Place) (fault : Option CloseFault) → Adds (with_branch_fault context place fault)
-branch_adds context place (Some (close_fault.LabelTwice label)) =
+branch_adds context place (Some (CloseFault.LabelTwice label)) =
     error_adds (location context.names place) (location context.names place) BranchTooFar
-branch_adds context place (Some close_fault.TooFar) =
+branch_adds context place (Some CloseFault.TooFar) =
     error_adds (location context.names place) (location context.names place) BranchTooFar
 branch_adds context place _ = nothing_adds
 

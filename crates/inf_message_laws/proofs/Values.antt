@@ -1,27 +1,20 @@
 -- Nothing is asked, and messages grow, at the values of properties: words of the dictionary, expressions, and the headers of routines.
-use Rattle.std.proofs.Common.{ℕ, List, Bool, true, false, length, Option, Some, None, refl, ◌∙◌, ap}
-use Rattle.std.specs.Prelude.{is_some}
+use Rattle.std.proofs.Common.{ℕ, List, Bool, true, false, length, Option, Some, None, refl, ◌∙◌, ap, is_some}
 use Rattle.inf_settings.specs.Bounds.{Limits}
 use Rattle.inf_scanner.specs.declared.tokens.Place.{Place}
 use Rattle.inf_area.specs.declared.targets.Value.{Value}
 use Rattle.inf_characters.specs.declared.texts.TextItem.{TextItem}
-use Rattle.inf_dictionary.specs.declared.uses.WordUse.TheVariants as word_use
-use Rattle.inf_expressions.specs.Findings.{least_of_both}
-use Rattle.inf_expressions.specs.declared.findings.Finding.{Finding}
-use Rattle.inf_expressions.specs.declared.units.Wanted.TheVariants as wanted
+use Rattle.inf_dictionary.specs.declared.uses.WordUse.{WordUse}
+use Rattle.inf_expressions.specs.{Findings.least_of_both, declared.findings.Finding.Finding, declared.units.Wanted.Wanted}
 use Rattle.inf_gathering.specs.declared.gathering.Leaf.{Leaf}
-use Rattle.inf_gathering.specs.declared.gathering.Leaf.TheVariants as leaf
 use Rattle.inf_names.specs.Locals.{Headed, no_locals}
 use Rattle.inf_output.specs.Output.{with_word}
 use Rattle.inf_text.specs.Packing.{dictionary_bytes}
 use Rattle.inf_unit.specs.Units.{first_place, order}
-use Rattle.inf_compilation.specs.Context.{Context}
+use Rattle.inf_compilation.specs.{Context.Context, Findings.Findings, Findings.header_findings}
 use Rattle.inf_compilation.specs.Actions.{Compilation, finding_at, opened_with}
-use Rattle.inf_compilation.specs.Findings.{Findings, header_findings}
-use Rattle.inf_named_values.specs.Values.{value_of}
-use Rattle.inf_named_values.specs.Values.{looked_value, variables_from}
-use Rattle.inf_bodies.specs.Bodies.{place_finding, placed}
-use Rattle.inf_bodies.specs.Objects.{entry_told}
+use Rattle.inf_named_values.specs.Values.{value_of, looked_value, variables_from}
+use Rattle.inf_bodies.specs.{Bodies.place_finding, Bodies.placed, Objects.entry_told}
 use Rattle.inf_bodies.specs.Values.{any_finding, any_placed, bracket_in, embedded, embedded_begun, embedded_findings, embedded_opened}
 use Rattle.inf_bodies.specs.Values.{embedded_read, expression_finding, expression_placed, found_embedded, leaf_text, name_place}
 use Rattle.inf_bodies.specs.Values.{next_routine, place_before, routine_placed, settled_finding, settled_placed, settled_work, takes_words}
@@ -29,10 +22,9 @@ use Rattle.inf_bodies.specs.Values.{text_finding_by, text_placed_by, text_value,
 use Rattle.inf_bodies.specs.Values.{value_read, value_read_at, value_with, value_with_finding, word_leaf, word_text, word_text_by}
 use Rattle.inf_bodies.specs.Values.{word_used, wrong_if}
 use Rattle.inf_message_laws.specs.Growing.{Keeps, with_before}
+use Rattle.inf_message_laws.proofs.{Objects.entry_keeps, Routines.opened_keeps}
 use Rattle.inf_message_laws.proofs.Bodies.{place_stays, placed_finding_stays, placed_keeps}
 use Rattle.inf_message_laws.proofs.Keeping.{Rests, laid_keeps, nothing_keeps, then_keeps, with_keeps}
-use Rattle.inf_message_laws.proofs.Objects.{entry_keeps}
-use Rattle.inf_message_laws.proofs.Routines.{opened_keeps}
 
 -- The text of a word does not depend on what was reported.
 
@@ -41,8 +33,8 @@ takes_stays None b w = refl
 takes_stays (Some at) b w = refl
 
 leaf_stays : (context : Context) (l : Leaf) → Rests (leaf_text context l)
-leaf_stays context (leaf.Char c) b w = refl
-leaf_stays context (leaf.Text at) b w = refl
+leaf_stays context (Leaf.Char c) b w = refl
+leaf_stays context (Leaf.Text at) b w = refl
 leaf_stays context _ b w = refl
 
 word_by_stays : (context : Context) (l : Option Leaf) → Rests (word_text_by context l)
@@ -64,7 +56,7 @@ own_text_stays context name b w =
 
 word_used_keeps : (limits : Limits) (f : Option Finding) (items : List TextItem) → Keeps (word_used limits f items)
 word_used_keeps limits None items =
-    laid_keeps (λ (w : Compilation). with_word limits (dictionary_bytes items) word_use.Other false w.output) (λ b w. refl)
+    laid_keeps (λ (w : Compilation). with_word limits (dictionary_bytes items) WordUse.Other false w.output) (λ b w. refl)
 word_used_keeps limits (Some f) items = nothing_keeps
 
 text_by_stays : (limits : Limits) (is_wrong : Bool) (name : Option ℕ) (items : List TextItem)
@@ -139,11 +131,11 @@ value_with_keeps limits context name judged looked =
 
 expression_stays : (limits : Limits) (context : Context) (name : Option ℕ) → Rests (expression_finding limits context name)
 expression_stays limits context name b w =
-    value_with_stays limits context name (finding_at 0 wanted.Constant w) (looked_value w) b w
+    value_with_stays limits context name (finding_at 0 Wanted.Constant w) (looked_value w) b w
 
 expression_keeps : (limits : Limits) (context : Context) (name : Option ℕ) → Keeps (expression_placed limits context name)
 expression_keeps limits context name =
-    with_keeps (finding_at 0 wanted.Constant)
+    with_keeps (finding_at 0 Wanted.Constant)
     (λ (judged : Option Finding) (w : Compilation). value_with limits context name judged (looked_value w) w) (λ b w. refl)
     (λ judged. with_keeps looked_value (value_with limits context name judged) (λ b w. refl)
     (value_with_keeps limits context name judged))

@@ -4,17 +4,11 @@ use Rattle.inf_settings.specs.Bounds.{Limits}
 use Rattle.inf_scanner.specs.declared.tokens.Place.{Place}
 use Rattle.inf_syntax.specs.declared.actions.Action.{Action}
 use Rattle.inf_output.specs.Output.{Out}
-use Rattle.inf_unit.specs.Directives.{Request}
-use Rattle.inf_unit.specs.Messages.{Reported}
-use Rattle.inf_unit.specs.Roles.{role_of}
-use Rattle.inf_unit.specs.Tokens.{SourceToken}
-use Rattle.inf_unit.specs.declared.roles.Ending.TheVariants as ending
-use Rattle.inf_unit.specs.declared.roles.Role.TheVariants as role
-use Rattle.inf_compilation.specs.Context.{Context}
-use Rattle.inf_compilation.specs.Actions.{Compilation, took}
+use Rattle.inf_unit.specs.{Directives.Request, Messages.Reported, Roles.role_of, Tokens.SourceToken, declared.roles.Ending.Ending}
+use Rattle.inf_unit.specs.{declared.roles.Role.Role}
+use Rattle.inf_compilation.specs.{Actions.Compilation, Actions.took, Context.Context}
 use Rattle.inf_reader.specs.Acting.{act, cut_at}
-use Rattle.inf_statement_laws.specs.Happenings.{Acts, Between, Happening, Takes}
-use Rattle.inf_statement_laws.specs.Laid.{run}
+use Rattle.inf_statement_laws.specs.{Happenings.Acts, Happenings.Between, Happenings.Happening, Happenings.Takes, Laid.run}
 
 -- Report with some lines before its own, whose messages are not counted.
 abbrev pub told_before : List ℕ → Reported → Reported
@@ -50,7 +44,7 @@ AllOnlyAdd (Takes t m ∷ happenings) = OnlyAdds m × AllOnlyAdd happenings
 
 -- Tells whether an action is not the end of a directive.
 abbrev pub EndsNoDirective : Action → Type 0
-EndsNoDirective a = role_of a ≡ role.End ending.Directive → ⊥
+EndsNoDirective a = role_of a ≡ Role.End Ending.Directive → ⊥
 
 -- Nothing is asked where a token is taken, where any action acts but the end of a directive, and where a bad token cuts a unit.
 pub record AsksAtDirectives (limits : Limits) : Type 0 where

@@ -1,46 +1,33 @@
 -- Names that directives declare. Designer's Manual, fourth edition, sections 2 and 3.
-use Rattle.std.specs.Prelude.{ℕ, ◌-◌, List, [], ◌∷◌, length, codes, Bool, true, false, ◌||◌}
-use Rattle.std.specs.Prelude.{if◌then◌else◌, Option, Some, None}
+use Rattle.std.specs.Prelude.{ℕ, ◌-◌, List, [], ◌∷◌, length, codes, Bool, true, false, ◌||◌, if◌then◌else◌, Option, Some, None}
 use Rattle.std.specs.Str.{str_eq_ignore_ascii_case}
 use Rattle.inf_settings.specs.Bounds.{Limits}
 use Rattle.inf_scanner.specs.declared.tokens.Place.{Place}
-use Rattle.inf_expressions.specs.declared.findings.Finding.{Finding}
-use Rattle.inf_expressions.specs.declared.findings.UnitError.TheVariants as unit_error
-use Rattle.inf_expressions.specs.declared.units.Wanted.TheVariants as wanted
+use Rattle.inf_expressions.specs.{declared.findings.Finding.Finding, declared.findings.UnitError.UnitError, declared.units.Wanted.Wanted}
 use Rattle.inf_expressions.specs.Findings.{least_of_both, wrong_kind}
 use Rattle.inf_gathering.specs.declared.gathering.Leaf.{Leaf}
-use Rattle.inf_gathering.specs.declared.gathering.Leaf.TheVariants as leaf
-use Rattle.inf_names.specs.Symbols.{found_in}
-use Rattle.inf_names.specs.declared.meanings.Meaning.{Meaning}
-use Rattle.inf_names.specs.declared.meanings.Meaning.TheVariants as meaning
-use Rattle.inf_names.specs.declared.symbols.DeclareFault.{DeclareFault}
-use Rattle.inf_names.specs.declared.symbols.DeclareFault.TheVariants as declaring
-use Rattle.inf_names.specs.declared.symbols.Found.{Found}
-use Rattle.inf_names.specs.declared.symbols.Found.TheVariants as found
+use Rattle.inf_names.specs.{Spellings.Name, Symbols.found_in, declared.meanings.Meaning.Meaning, declared.symbols.DeclareFault.DeclareFault}
+use Rattle.inf_names.specs.{declared.symbols.Found.Found}
 use Rattle.inf_output.specs.Output.{Code, declared}
 use Rattle.inf_report.specs.declared.messages.FixedLimit.{FixedLimit}
-use Rattle.inf_report.specs.declared.messages.FixedLimit.TheVariants as countable
-use Rattle.inf_names.specs.Spellings.{Name}
-use Rattle.inf_compilation.specs.Context.{Context}
-use Rattle.inf_unit.specs.Tokens.{SourceToken}
-use Rattle.inf_unit.specs.Units.{bytes_at, order}
-use Rattle.inf_tables.specs.World.{WorldOf}
-use Rattle.inf_compilation.specs.Actions.{Compilation, finding_at, unit_ended}
+use Rattle.inf_compilation.specs.{Actions.Compilation, Actions.finding_at, Actions.unit_ended, Context.Context}
 use Rattle.inf_compilation.specs.Findings.{Again, Findings, again_by, again_finding, many_finding}
+use Rattle.inf_unit.specs.{Tokens.SourceToken, Units.bytes_at, Units.order}
+use Rattle.inf_tables.specs.World.{WorldOf}
 use Rattle.inf_named_values.specs.declared.declarations.Declared.{Declared}
 
 -- Findings about the name
 
 -- the reason why a name cannot be declared that is declared already, or is one of the language
 abbrev pub standing_fault : Found Place → Option (DeclareFault Place)
-standing_fault (found.System m) = Some (declaring.Present None)
-standing_fault (found.Declared m first) = Some (declaring.Present (Some first))
-standing_fault found.Used = None
-standing_fault found.Unknown = None
+standing_fault (Found.System m) = Some (DeclareFault.Present None)
+standing_fault (Found.Declared m first) = Some (DeclareFault.Present (Some first))
+standing_fault Found.Used = None
+standing_fault Found.Unknown = None
 
 -- whether a leaf of an expression is this name
 abbrev pub is_name_at : List SourceToken → List ℕ → Leaf → Bool
-is_name_at tokens name (leaf.Name at) = str_eq_ignore_ascii_case (bytes_at tokens at) name
+is_name_at tokens name (Leaf.Name at) = str_eq_ignore_ascii_case (bytes_at tokens at) name
 is_name_at tokens name _ = false
 
 -- whether one of these is, or one was found before
@@ -53,13 +40,13 @@ names_itself tokens name leaves = names_from tokens name leaves false
 
 -- Whether a declaration comes too late: its name may not be used before, and its own expression may not use it.
 abbrev pub is_late : Found Place → Bool → Bool
-is_late (found.System m) names_itself = false
-is_late (found.Declared m first) names_itself = false
-is_late found.Used names_itself = true
-is_late found.Unknown names_itself = names_itself
+is_late (Found.System m) names_itself = false
+is_late (Found.Declared m first) names_itself = false
+is_late Found.Used names_itself = true
+is_late Found.Unknown names_itself = names_itself
 
 abbrev pub late_finding : ℕ → Bool → Option Finding
-late_finding order is_late = if is_late then Some (record { order = order; error = unit_error.UsedBefore }) else None
+late_finding order is_late = if is_late then Some (record { order = order; error = UnitError.UsedBefore }) else None
 
 abbrev pub declared_finding : ℕ → Option Again → Bool → Bool → Option Finding
 declared_finding order again is_late are_many =
@@ -79,7 +66,7 @@ name_known name order are_many w = name_known_by (found_in name.bytes w.output.n
 abbrev pub valued : Name → ℕ → Bool → Compilation → Declared
 valued name order are_many w =
     let d = name_known name order are_many w in
-    record { found = d.found; finding = least_of_both d.finding (finding_at 0 wanted.Constant w) }
+    record { found = d.found; finding = least_of_both d.finding (finding_at 0 Wanted.Constant w) }
 
 -- the declaration of a name that may have been used before, as far as it is known
 abbrev pub plainly_known_by : Found Place → Name → ℕ → Declared
@@ -112,35 +99,35 @@ is_alias (n ∷ names) [] = true
 is_alias (n ∷ names) (l ∷ leaves) = false
 
 abbrev pub attribute_meaning : Meaning → Option Meaning
-attribute_meaning (meaning.Attribute number) = Some (meaning.Attribute number)
+attribute_meaning (Meaning.Attribute number) = Some (Meaning.Attribute number)
 attribute_meaning _ = None
 
 abbrev pub property_meaning : Meaning → Option Meaning
-property_meaning (meaning.Property number is_additive) = Some (meaning.Property number is_additive)
+property_meaning (Meaning.Property number is_additive) = Some (Meaning.Property number is_additive)
 property_meaning _ = None
 
 -- the language has no attributes, and one property
 abbrev pub attribute_found : Found Place → Option Meaning
-attribute_found (found.System m) = None
-attribute_found (found.Declared m first) = attribute_meaning m
-attribute_found found.Used = None
-attribute_found found.Unknown = None
+attribute_found (Found.System m) = None
+attribute_found (Found.Declared m first) = attribute_meaning m
+attribute_found Found.Used = None
+attribute_found Found.Unknown = None
 
 abbrev pub property_found : Found Place → Option Meaning
-property_found (found.System m) = property_meaning m
-property_found (found.Declared m first) = property_meaning m
-property_found found.Used = None
-property_found found.Unknown = None
+property_found (Found.System m) = property_meaning m
+property_found (Found.Declared m first) = property_meaning m
+property_found Found.Used = None
+property_found Found.Unknown = None
 
 abbrev pub alias_meaning : FixedLimit → Found Place → Option Meaning
-alias_meaning countable.Attributes f = attribute_found f
+alias_meaning FixedLimit.Attributes f = attribute_found f
 alias_meaning _ f = property_found f
 
 -- the meaning of a name of this kind whose declaration has an error
 abbrev pub nothing_of : FixedLimit → Meaning
-nothing_of countable.Attributes = meaning.Attribute 0
-nothing_of countable.Globals = meaning.Variable 16
-nothing_of _ = meaning.Property 0 false
+nothing_of FixedLimit.Attributes = Meaning.Attribute 0
+nothing_of FixedLimit.Globals = Meaning.Variable 16
+nothing_of _ = Meaning.Property 0 false
 
 abbrev pub alias_finding : List SourceToken → Option Meaning → Option Finding
 alias_finding tokens None = Some (wrong_kind (order (length tokens - 1)))

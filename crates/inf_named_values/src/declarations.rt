@@ -1,13 +1,11 @@
 //! The common parts of all declarations: the findings about a name, its declaration with a meaning, and the end of its directive.
-ghost use Rattle.inf_compilation.specs.Context.{handed};
+ghost use Rattle.inf_compilation.specs.{Context.handed, Meant.again_as, Meant.found_as, Works.work};
 ghost use Rattle.std.specs.Prelude.{IfOk, OnOk, map, option_map, ◌≡◌};
 ghost use Rattle.inf_names.specs.Spellings.{as_name};
 ghost use Rattle.inf_named_values.specs.Declarations.{alias_finding, alias_meaning, alias_told, aliased, declaration_ended};
 ghost use Rattle.inf_named_values.specs.Declarations.{declared_ended, declared_finding, declared_findings, is_alias, is_late};
 ghost use Rattle.inf_named_values.specs.Declarations.{is_name_at, last_meaning, late_finding, name_declared, name_known, names_itself};
 ghost use Rattle.inf_named_values.specs.Declarations.{nothing_of, plainly_known, standing_fault, valued};
-ghost use Rattle.inf_compilation.specs.Meant.{again_as, found_as};
-ghost use Rattle.inf_compilation.specs.Works.{work};
 
 use inf_compilation::compilation::Compilation;
 use inf_compilation::context::Context;

@@ -1,16 +1,10 @@
 //! The values of a unit: those of its expression, and the characters of its texts.
-ghost use Rattle.inf_compilation.specs.Context.{handed};
+ghost use Rattle.inf_compilation.specs.{Actions.operands_of, Actions.settled_of, Actions.trees_at, Context.handed, Works.work};
 ghost use Rattle.std.specs.Prelude.{IfOk, OnOk, [], false, map, ◌∷◌, ◌≡◌};
-ghost use Rattle.inf_expressions.specs.Forests.{trees_in as rooted_in};
-ghost use Rattle.inf_expressions.specs.Trees.{Leaf};
-ghost use Rattle.inf_expressions.specs.Units.{operand_at};
+ghost use Rattle.inf_expressions.specs.{Forests.trees_in as rooted_in, Trees.Leaf, Units.operand_at};
 ghost use Rattle.inf_constructs.specs.Roots.{tree_in};
-ghost use Rattle.inf_operands.specs.Operands.{leaf_added};
-ghost use Rattle.inf_operands.specs.Texts.{text_at};
-ghost use Rattle.inf_named_values.specs.Values.{is_variable, looked_value, variables_from};
-ghost use Rattle.inf_named_values.specs.Values.{value_in};
-ghost use Rattle.inf_compilation.specs.Actions.{operands_of, settled_of, trees_at};
-ghost use Rattle.inf_compilation.specs.Works.{work};
+ghost use Rattle.inf_operands.specs.{Operands.leaf_added, Texts.text_at};
+ghost use Rattle.inf_named_values.specs.Values.{is_variable, looked_value, variables_from, value_in};
 
 use inf_area::Value;
 use inf_compilation::compilation::Compilation;

@@ -1,11 +1,9 @@
 -- Forty bytes of a key, and the name that they begin with.
 use Rattle.std.proofs.Common.{◌≡◌, ℕ, ◌+◌, ◌-◌, ◌≤◌, zero, suc, Bool, true, false, List, [], ◌∷◌, ◌++◌, length, map, take, drop, refl, sym}
-use Rattle.std.proofs.Common.{◌∙◌, ap, arith, drop_of_length-le}
-use Rattle.std.specs.Prelude.{◌↔◌, IsTrue, replicate}
-use Rattle.std.specs.Char.{to_ascii_lowercase}
-use Rattle.std.specs.Str.{bytes_eq}
+use Rattle.std.proofs.Common.{◌∙◌, ap, arith, drop_of_length-le, bytes_eq, ◌↔◌, IsTrue, replicate}
 use Rattle.std.proofs.lemmas.List.{drop-drop, drop-map, drop-replicate, drop_at, length-take, take-append-drop, take-map, take_at}
 use Rattle.std.proofs.lemmas.Slice.Eq.{bytes_eq-Decides}
+use Rattle.std.specs.Char.{to_ascii_lowercase}
 use Rattle.inf_names.specs.Keys.{padded}
 
 -- a test of two lists that holds exactly where they are the same

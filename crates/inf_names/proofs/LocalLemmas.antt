@@ -1,11 +1,8 @@
 -- The code does with its locals as the definitions do with the list of locals.
 use Rattle.std.proofs.Common.{◌≡◌, ◌<◌, ◌≤◌, ℕ, suc, ◌+◌, Bool, true, false, cond, not, List, [], ◌∷◌, length, get_or, set, map, None, Some}
 use Rattle.std.proofs.Common.{refl, ap, ◌∙◌, arith}
-use Rattle.std.specs.List.{position_or_len}
-use Rattle.std.specs.Str.{str_eq_ignore_ascii_case}
-use Rattle.inf_names.specs.LocalList.{local}
-use Rattle.inf_names.specs.Locals.{local_of, number_from, with_named}
-use Rattle.inf_names.specs.declared.locals.Local.{Local}
+use Rattle.std.specs.{List.position_or_len, Str.str_eq_ignore_ascii_case}
+use Rattle.inf_names.specs.{LocalList.local, Locals.local_of, Locals.number_from, Locals.with_named, declared.locals.Local.Local}
 
 -- whether a local has this name, in any case
 abbrev pub has : List ℕ → Local → Bool

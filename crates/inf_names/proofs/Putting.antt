@@ -1,25 +1,17 @@
 -- The code does with its map as the definitions do with the list of names.
 use Rattle.std.proofs.Common.{◌≡◌, ◌≤◌, ℕ, ◌+◌, Bool, true, false, cond, not, ltb, List, [], ◌∷◌, length, map, Option, None, Some, refl}
 use Rattle.std.proofs.Common.{sym, ◌∙◌, ap, arith, zero, suc}
-use Rattle.std.specs.Prelude.{is_some, nat_le, position, slice_get, option_map, if◌then◌else◌}
 use Rattle.std.proofs.lemmas.Bool.Decides.{nat_tests}
-use Rattle.std.specs.Borrow.{Bor}
-use Rattle.std.specs.List.{position_or_len}
-use Rattle.std.specs.Option.{option_copied}
-use Rattle.std.specs.Map.{keys_of, lookup}
-use Rattle.std.specs.Str.{bytes_eq}
+use Rattle.std.specs.{Borrow.Bor, List.position_or_len, Map.keys_of, Map.lookup, Option.option_copied, Str.bytes_eq}
+use Rattle.std.specs.Prelude.{is_some, nat_le, position, slice_get, option_map, if◌then◌else◌}
 use Rattle.arrayvec.specs.declared.array_vec.ArrayVec.{ArrayVec}
 use Rattle.indexmap.specs.IndexMap.{insert_entry}
+use Rattle.inf_names.specs.{declared.meanings.Meaning.Meaning, declared.symbols.DeclareFault.DeclareFault, declared.symbols.Entry.Entry}
+use Rattle.inf_names.specs.{declared.symbols.Found.Found, declared.symbols.ReferFault.ReferFault}
 use Rattle.inf_names.specs.Entries.{as_named, standing}
 use Rattle.inf_names.specs.Symbols.{Named, Standing, IsDeclared, IsUsed, Table, declarations, declare_fault_by, declare_refusal, found_as}
-use Rattle.inf_names.specs.Symbols.{folded, index_of, number_among, number_by, put, refer_fault_by, refer_refusal, standing_at}
-use Rattle.inf_names.specs.Symbols.{standing_of, with_used_by}
-use Rattle.inf_names.specs.declared.meanings.Meaning.{Meaning}
-use Rattle.inf_names.specs.declared.symbols.DeclareFault.TheVariants as declaring
-use Rattle.inf_names.specs.declared.symbols.Entry.{Entry}
-use Rattle.inf_names.specs.declared.symbols.Found.{Found}
-use Rattle.inf_names.specs.declared.symbols.Found.TheVariants as found
-use Rattle.inf_names.specs.declared.symbols.ReferFault.TheVariants as referring
+use Rattle.inf_names.specs.Symbols.{folded, index_of, number_among, number_by, put, refer_fault_by, refer_refusal, standing_at, standing_of}
+use Rattle.inf_names.specs.Symbols.{with_used_by}
 
 abbrev pub Key : Type 0
 Key = ArrayVec ℕ 35 Unit
@@ -190,43 +182,43 @@ known_fault system (Some (IsDeclared number meaning first)) full is = refl
 
 -- a name that the language lacks, and that was neither declared nor used, is unknown
 pub unknown_where : {P : Type 0} (system : Option Meaning) (s : Option (Standing P)) → is_some system ≡ false → is_some s ≡ false →
-    found_as system s ≡ found.Unknown
+    found_as system s ≡ Found.Unknown
 unknown_where None None free absent = refl
 unknown_where (Some meaning) s free absent = cc
 unknown_where None (Some s) free absent = cc
 
 -- a name that is not there is unknown where it has no fault
 pub unknown_where_fit : {P : Type 0} (system : Option Meaning) (s : Option (Standing P)) (full : Bool) →
-    declare_fault_by (found_as system s) full ≡ None → is_some s ≡ false → found_as system s ≡ found.Unknown
+    declare_fault_by (found_as system s) full ≡ None → is_some s ≡ false → found_as system s ≡ Found.Unknown
 unknown_where_fit None None full is absent = refl
 unknown_where_fit (Some meaning) None full is absent = cc
 unknown_where_fit system (Some s) full is absent = cc
 
 -- want of memory is no fault that is found
-pub never_lacks : {P : Type 0} (f : Found P) (full : Bool) → Some declaring.Memory ≡ declare_fault_by f full → ⊥
-never_lacks (found.System meaning) full is = cc
-never_lacks (found.Declared meaning place) full is = cc
-never_lacks found.Used full is = cc
-never_lacks found.Unknown true is = cc
-never_lacks found.Unknown false is = cc
+pub never_lacks : {P : Type 0} (f : Found P) (full : Bool) → Some DeclareFault.Memory ≡ declare_fault_by f full → ⊥
+never_lacks (Found.System meaning) full is = cc
+never_lacks (Found.Declared meaning place) full is = cc
+never_lacks Found.Used full is = cc
+never_lacks Found.Unknown true is = cc
+never_lacks Found.Unknown false is = cc
 
 -- where want of memory is told, nothing is wrong with a name that is to be declared
-pub fit_where_memory : {P : Type 0} (f : Found P) (full : Bool) → declaring.Memory ≡ declare_refusal (declare_fault_by f full) →
+pub fit_where_memory : {P : Type 0} (f : Found P) (full : Bool) → DeclareFault.Memory ≡ declare_refusal (declare_fault_by f full) →
     declare_fault_by f full ≡ None
-fit_where_memory (found.System meaning) full is = cc
-fit_where_memory (found.Declared meaning place) full is = cc
-fit_where_memory found.Used full is = refl
-fit_where_memory found.Unknown true is = cc
-fit_where_memory found.Unknown false is = refl
+fit_where_memory (Found.System meaning) full is = cc
+fit_where_memory (Found.Declared meaning place) full is = cc
+fit_where_memory Found.Used full is = refl
+fit_where_memory Found.Unknown true is = cc
+fit_where_memory Found.Unknown false is = refl
 
 -- nor with one that is to be used
-pub used_where_memory : {P : Type 0} (f : Found P) (full : Bool) → referring.Memory ≡ refer_refusal (refer_fault_by f full) →
+pub used_where_memory : {P : Type 0} (f : Found P) (full : Bool) → ReferFault.Memory ≡ refer_refusal (refer_fault_by f full) →
     refer_fault_by f full ≡ None
-used_where_memory (found.System meaning) full is = refl
-used_where_memory (found.Declared meaning place) full is = refl
-used_where_memory found.Used full is = refl
-used_where_memory found.Unknown true is = cc
-used_where_memory found.Unknown false is = refl
+used_where_memory (Found.System meaning) full is = refl
+used_where_memory (Found.Declared meaning place) full is = refl
+used_where_memory Found.Used full is = refl
+used_where_memory Found.Unknown true is = cc
+used_where_memory Found.Unknown false is = refl
 
 -- a key that a map lacks is that of no name
 pub absent_key : {P : Type 0} (key : List ℕ) (es : List (Key × Entry P)) → lookup (has key) es ≡ None →

@@ -1,11 +1,8 @@
 -- Names that are the same in any case have the same length and last letter; how they are compared byte by byte.
+use Rattle.std.proofs.{Math.ListN.get_or-map, lemmas.List.drop_all, lemmas.List.length-map, lemmas.Slice.Eq.bytes_eq-Decides}
 use Rattle.std.proofs.Common.{◌≡◌, ℕ, suc, ◌+◌, ◌-◌, ◌%◌, ◌<◌, ◌≤◌, ◌&&◌, List, [], ◌∷◌, Bool, true, false, cond, map, length, get_or, drop}
 use Rattle.std.proofs.Common.{refl, sym, ◌∙◌, ap, arith, drop-cons}
-use Rattle.std.specs.Char.{eq_ignore_ascii_case, to_ascii_lowercase}
-use Rattle.std.specs.Str.{str_eq_ignore_ascii_case}
-use Rattle.std.proofs.lemmas.List.{drop_all, length-map}
-use Rattle.std.proofs.lemmas.Slice.Eq.{bytes_eq-Decides}
-use Rattle.std.proofs.Math.ListN.{get_or-map}
+use Rattle.std.specs.{Char.eq_ignore_ascii_case, Char.to_ascii_lowercase, Str.str_eq_ignore_ascii_case}
 use Rattle.inf_names.specs.LocalList.{last_letter}
 
 in_any_case : (byte : ℕ) → to_ascii_lowercase byte % 32 ≡ byte % 32

@@ -1,12 +1,8 @@
 -- A name with another size or other ends is none of the language's own.
-use Rattle.std.proofs.Common.{◌≡◌, ℕ, ◌-◌, List, [], ◌∷◌, true, false, map, length, get_or, refl, sym, ◌∙◌, ap, None}
-use Rattle.std.specs.Prelude.{find}
-use Rattle.std.specs.List.{list_all}
-use Rattle.std.specs.Char.{to_ascii_lowercase}
+use Rattle.std.proofs.Common.{◌≡◌, ℕ, ◌-◌, List, [], ◌∷◌, true, false, map, length, get_or, refl, sym, ◌∙◌, ap, None, find}
+use Rattle.std.proofs.{Math.ListN.get_or-map, lemmas.List.length-map, lemmas.Slice.Eq.bytes_eq-Decides}
 use Rattle.std.proofs.lemmas.Bool.{and_parts, false_from_ne_true, both_ways}
-use Rattle.std.proofs.lemmas.List.{length-map}
-use Rattle.std.proofs.lemmas.Slice.Eq.{bytes_eq-Decides}
-use Rattle.std.proofs.Math.ListN.{get_or-map}
+use Rattle.std.specs.{Char.to_ascii_lowercase, List.list_all}
 use Rattle.inf_names.specs.SystemNames.{ends_of, has_ends, has_name, may_be_known, name_of, named, system_names}
 use Rattle.inf_names.specs.declared.system_names.SystemName.{SystemName}
 

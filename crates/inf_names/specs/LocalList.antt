@@ -1,11 +1,8 @@
 -- The list of locals that the code's locals stand for.
 use Rattle.std.specs.Prelude.{ℕ, ◌-◌, ◌%◌, List, get_or, length, map, option_map}
-use Rattle.inf_names.specs.Spellings.{as_name}
+use Rattle.inf_names.specs.{Spellings.as_name, declared.locals.Headed.Headed as CodeHeaded, declared.locals.Local.Local as CodeLocal}
+use Rattle.inf_names.specs.{declared.locals.Locals.Locals, declared.locals.Repeated.Repeated as CodeRepeated}
 use Rattle.inf_names.specs.Locals.{Local, Repeated, Headed}
-use Rattle.inf_names.specs.declared.locals.Local.{Local as CodeLocal}
-use Rattle.inf_names.specs.declared.locals.Locals.{Locals}
-use Rattle.inf_names.specs.declared.locals.Repeated.{Repeated as CodeRepeated}
-use Rattle.inf_names.specs.declared.locals.Headed.{Headed as CodeHeaded}
 
 abbrev pub local : CodeLocal → Local
 local l = record { name = l.name.items; place = l.place; is_named = l.is_named }

@@ -24,8 +24,8 @@ abbrev pub number_from : ℕ → List ℕ → List Local → Option ℕ
 number_from n name [] = None
 number_from n name (l ∷ locals) = if str_eq_ignore_ascii_case l.name name then Some n else number_from (n + 1) name locals
 
-abbrev pub number_of : List ℕ → List Local → Option ℕ
-number_of name locals = number_from 1 name locals
+abbrev pub local_number : List ℕ → List Local → Option ℕ
+local_number name locals = number_from 1 name locals
 
 -- the locals after a statement has named `name`, if it is one of them
 abbrev pub with_named : List ℕ → List Local → List Local

@@ -1,7 +1,6 @@
 -- Names of which nothing is known but that they were given: each without case, in the order in which they were first given.
+use Rattle.std.specs.{List.list_any, Str.bytes_eq}
 use Rattle.std.specs.Prelude.{ℕ, Bool, List, [], ◌∷◌, ◌++◌, if◌then◌else◌}
-use Rattle.std.specs.List.{list_any}
-use Rattle.std.specs.Str.{bytes_eq}
 use Rattle.inf_names.specs.Symbols.{folded}
 
 -- whether a name, in any case, is one of them

@@ -1,18 +1,10 @@
 -- The names of a source: those that it declares or uses, in the order in which they first came.
+use Rattle.std.specs.{Char.to_ascii_lowercase, Str.bytes_eq}
 use Rattle.std.specs.Prelude.{ℕ, ◌+◌, List, [], ◌∷◌, length, map, Bool, false, nat_lt, nat_le, slice_get, if◌then◌else◌, Option, Some, None}
 use Rattle.std.specs.Prelude.{is_some}
-use Rattle.std.specs.Char.{to_ascii_lowercase}
-use Rattle.std.specs.Str.{bytes_eq}
-use Rattle.inf_settings.specs.Bounds.{Limits}
-use Rattle.inf_settings.specs.declared.setting.Setting.TheVariants as setting
-use Rattle.inf_names.specs.SystemNames.{system_meaning}
-use Rattle.inf_names.specs.declared.meanings.Meaning.{Meaning}
-use Rattle.inf_names.specs.declared.symbols.Found.{Found}
-use Rattle.inf_names.specs.declared.symbols.Found.TheVariants as found
-use Rattle.inf_names.specs.declared.symbols.DeclareFault.{DeclareFault}
-use Rattle.inf_names.specs.declared.symbols.DeclareFault.TheVariants as declaring
-use Rattle.inf_names.specs.declared.symbols.ReferFault.{ReferFault}
-use Rattle.inf_names.specs.declared.symbols.ReferFault.TheVariants as referring
+use Rattle.inf_settings.specs.{Bounds.Limits, declared.setting.Setting.Setting}
+use Rattle.inf_names.specs.{SystemNames.system_meaning, declared.meanings.Meaning.Meaning, declared.symbols.DeclareFault.DeclareFault}
+use Rattle.inf_names.specs.{declared.symbols.Found.Found, declared.symbols.ReferFault.ReferFault}
 
 -- a name without case
 abbrev pub folded : List ℕ → List ℕ
@@ -59,35 +51,35 @@ number_among key names = if is_some (standing_of key names) then Some (index_of 
 
 -- the finding of a look-up of a name that was neither declared nor used
 abbrev pub found_from : {P : Type 0} → Option Meaning → Found P
-found_from None = found.Unknown
-found_from (Some meaning) = found.System meaning
+found_from None = Found.Unknown
+found_from (Some meaning) = Found.System meaning
 
 abbrev pub found_as : {P : Type 0} → Option Meaning → Option (Standing P) → Found P
 found_as system None = found_from system
-found_as system (Some (IsDeclared number meaning place)) = found.Declared meaning place
-found_as system (Some (IsUsed spelling place)) = found.Used
+found_as system (Some (IsDeclared number meaning place)) = Found.Declared meaning place
+found_as system (Some (IsUsed spelling place)) = Found.Used
 
 abbrev pub found_in : {P : Type 0} → List ℕ → Table P → Found P
 found_in name t = found_as (system_meaning t.is_debugging name) (standing_of (folded name) t.names)
 
 -- whether there are as many names as there may be
 abbrev pub is_full : {P : Type 0} → Limits → Table P → Bool
-is_full limits t = nat_le (limits setting.Symbols) (length t.names)
+is_full limits t = nat_le (limits Setting.Symbols) (length t.names)
 
 -- The reason for which a name cannot be declared: it is there already, and then its place is told where it was declared; or
 -- there would be more names than there may be.
 abbrev pub declare_fault_by : {P : Type 0} → Found P → Bool → Option (DeclareFault P)
-declare_fault_by (found.System meaning) full = Some (declaring.Present None)
-declare_fault_by (found.Declared meaning place) full = Some (declaring.Present (Some place))
-declare_fault_by found.Used full = None
-declare_fault_by found.Unknown full = if full then Some declaring.Full else None
+declare_fault_by (Found.System meaning) full = Some (DeclareFault.Present None)
+declare_fault_by (Found.Declared meaning place) full = Some (DeclareFault.Present (Some place))
+declare_fault_by Found.Used full = None
+declare_fault_by Found.Unknown full = if full then Some DeclareFault.Full else None
 
 abbrev pub declare_fault : {P : Type 0} → Limits → List ℕ → Table P → Option (DeclareFault P)
 declare_fault limits name t = declare_fault_by (found_in name t) (is_full limits t)
 
 -- the fault that is told: the one that was found, or else that memory ran out
 abbrev pub declare_refusal : {P : Type 0} → Option (DeclareFault P) → DeclareFault P
-declare_refusal None = declaring.Memory
+declare_refusal None = DeclareFault.Memory
 declare_refusal (Some fault) = fault
 
 -- the names after a name is declared
@@ -97,19 +89,19 @@ with_declared name place meaning t =
 
 -- the reason for which a name cannot be used: there would be more names than there may be
 abbrev pub refer_fault_by : {P : Type 0} → Found P → Bool → Option ReferFault
-refer_fault_by found.Unknown full = if full then Some referring.Full else None
+refer_fault_by Found.Unknown full = if full then Some ReferFault.Full else None
 refer_fault_by other full = None
 
 abbrev pub refer_fault : {P : Type 0} → Limits → List ℕ → Table P → Option ReferFault
 refer_fault limits name t = refer_fault_by (found_in name t) (is_full limits t)
 
 abbrev pub refer_refusal : Option ReferFault → ReferFault
-refer_refusal None = referring.Memory
+refer_refusal None = ReferFault.Memory
 refer_refusal (Some fault) = fault
 
 -- The names after a name is used: the first use of one that is neither declared nor the language's own is kept.
 abbrev pub with_used_by : {P : Type 0} → Found P → List ℕ → P → Table P → Table P
-with_used_by found.Unknown name place t = record t { names = put (folded name) (IsUsed name place) t.names }
+with_used_by Found.Unknown name place t = record t { names = put (folded name) (IsUsed name place) t.names }
 with_used_by other name place t = t
 
 abbrev pub with_used : {P : Type 0} → List ℕ → P → Table P → Table P
@@ -117,7 +109,7 @@ with_used name place t = with_used_by (found_in name t) name place t
 
 -- the number by which references name a name: how many names came before it; none where the language has it from the start
 abbrev pub number_by : {P : Type 0} → Found P → List ℕ → Table P → Option ℕ
-number_by (found.System meaning) name t = None
+number_by (Found.System meaning) name t = None
 number_by other name t = Some (index_of (folded name) t.names)
 
 abbrev pub number_of : {P : Type 0} → List ℕ → Table P → Option ℕ

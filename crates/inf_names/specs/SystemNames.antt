@@ -1,71 +1,68 @@
 -- The names that the language has from the start, and their meanings (Inform Designer's Manual, fourth edition).
+use Rattle.std.specs.{Char.to_ascii_lowercase, List.list_any, Str.str_eq_ignore_ascii_case}
 use Rattle.std.specs.Prelude.{ℕ, ◌-◌, Bool, true, ◌&&◌, List, [], ◌∷◌, Option, Some, None, find, codes, get_or, length, nat_eq}
 use Rattle.std.specs.Prelude.{if◌then◌else◌}
-use Rattle.std.specs.Char.{to_ascii_lowercase}
-use Rattle.std.specs.List.{list_any}
-use Rattle.std.specs.Str.{str_eq_ignore_ascii_case}
-use Rattle.inf_names.specs.declared.meanings.Function.TheVariants as function
-use Rattle.inf_names.specs.declared.meanings.Meaning.{Meaning}
-use Rattle.inf_names.specs.declared.meanings.Meaning.TheVariants as meaning
-use Rattle.inf_names.specs.declared.system_names.SystemName.{SystemName}
-use Rattle.inf_names.specs.declared.system_names.SystemName.TheVariants as name
+use Rattle.inf_names.specs.declared.{meanings.Function.Function, meanings.Meaning.Meaning, system_names.SystemName.SystemName}
 
 -- the spelling of each name
 abbrev pub name_of : SystemName → List ℕ
-name_of name.True = codes "true"
-name_of name.False = codes "false"
-name_of name.Nothing = codes "nothing"
-name_of name.Null = codes "null"
-name_of name.WordSize = codes "wordsize"
-name_of name.TargetZcode = codes "target_zcode"
-name_of name.Name = codes "name"
-name_of name.Class = codes "class"
-name_of name.Object = codes "object"
-name_of name.Routine = codes "routine"
-name_of name.String = codes "string"
-name_of name.Child = codes "child"
-name_of name.Parent = codes "parent"
-name_of name.Sibling = codes "sibling"
-name_of name.Children = codes "children"
-name_of name.Random = codes "random"
-name_of name.Indirect = codes "indirect"
-name_of name.OwnObject = codes "self"
-name_of name.Sender = codes "sender"
-name_of name.SwitchVariable = codes "sw__var"
-name_of name.TemporaryGlobal = codes "temp_global"
-name_of name.Debug = codes "debug"
+name_of SystemName.True = codes "true"
+name_of SystemName.False = codes "false"
+name_of SystemName.Nothing = codes "nothing"
+name_of SystemName.Null = codes "null"
+name_of SystemName.WordSize = codes "wordsize"
+name_of SystemName.TargetZcode = codes "target_zcode"
+name_of SystemName.Name = codes "name"
+name_of SystemName.Class = codes "class"
+name_of SystemName.Object = codes "object"
+name_of SystemName.Routine = codes "routine"
+name_of SystemName.String = codes "string"
+name_of SystemName.Child = codes "child"
+name_of SystemName.Parent = codes "parent"
+name_of SystemName.Sibling = codes "sibling"
+name_of SystemName.Children = codes "children"
+name_of SystemName.Random = codes "random"
+name_of SystemName.Indirect = codes "indirect"
+name_of SystemName.OwnObject = codes "self"
+name_of SystemName.Sender = codes "sender"
+name_of SystemName.SwitchVariable = codes "sw__var"
+name_of SystemName.TemporaryGlobal = codes "temp_global"
+name_of SystemName.Debug = codes "debug"
 
 -- The meaning of each name: numbers; the first property, which is additive; the first four objects, which are classes;
 -- functions; and variables.
 abbrev pub meaning_of : SystemName → Meaning
-meaning_of name.True = meaning.Number 1
-meaning_of name.False = meaning.Number 0
-meaning_of name.Nothing = meaning.Number 0
-meaning_of name.Null = meaning.Number 65535
-meaning_of name.WordSize = meaning.Number 2
-meaning_of name.TargetZcode = meaning.Number 0
-meaning_of name.Name = meaning.Property 1 true
-meaning_of name.Class = meaning.Object 1
-meaning_of name.Object = meaning.Object 2
-meaning_of name.Routine = meaning.Object 3
-meaning_of name.String = meaning.Object 4
-meaning_of name.Child = meaning.Function function.Child
-meaning_of name.Parent = meaning.Function function.Parent
-meaning_of name.Sibling = meaning.Function function.Sibling
-meaning_of name.Children = meaning.Function function.Children
-meaning_of name.Random = meaning.Function function.Random
-meaning_of name.Indirect = meaning.Function function.Indirect
-meaning_of name.OwnObject = meaning.Variable 253
-meaning_of name.Sender = meaning.Variable 252
-meaning_of name.SwitchVariable = meaning.Variable 251
-meaning_of name.TemporaryGlobal = meaning.Variable 255
-meaning_of name.Debug = meaning.Number 0
+meaning_of SystemName.True = Meaning.Number 1
+meaning_of SystemName.False = Meaning.Number 0
+meaning_of SystemName.Nothing = Meaning.Number 0
+meaning_of SystemName.Null = Meaning.Number 65535
+meaning_of SystemName.WordSize = Meaning.Number 2
+meaning_of SystemName.TargetZcode = Meaning.Number 0
+meaning_of SystemName.Name = Meaning.Property 1 true
+meaning_of SystemName.Class = Meaning.Object 1
+meaning_of SystemName.Object = Meaning.Object 2
+meaning_of SystemName.Routine = Meaning.Object 3
+meaning_of SystemName.String = Meaning.Object 4
+meaning_of SystemName.Child = Meaning.Function Function.Child
+meaning_of SystemName.Parent = Meaning.Function Function.Parent
+meaning_of SystemName.Sibling = Meaning.Function Function.Sibling
+meaning_of SystemName.Children = Meaning.Function Function.Children
+meaning_of SystemName.Random = Meaning.Function Function.Random
+meaning_of SystemName.Indirect = Meaning.Function Function.Indirect
+meaning_of SystemName.OwnObject = Meaning.Variable 253
+meaning_of SystemName.Sender = Meaning.Variable 252
+meaning_of SystemName.SwitchVariable = Meaning.Variable 251
+meaning_of SystemName.TemporaryGlobal = Meaning.Variable 255
+meaning_of SystemName.Debug = Meaning.Number 0
 
 unfoldable pub system_names : List SystemName
 system_names =
-    name.True ∷ name.False ∷ name.Nothing ∷ name.Null ∷ name.WordSize ∷ name.TargetZcode ∷ name.Name ∷ name.Class ∷
-    name.Object ∷ name.Routine ∷ name.String ∷ name.Child ∷ name.Parent ∷ name.Sibling ∷ name.Children ∷ name.Random ∷
-    name.Indirect ∷ name.OwnObject ∷ name.Sender ∷ name.SwitchVariable ∷ name.TemporaryGlobal ∷ name.Debug ∷ []
+    SystemName.True ∷ SystemName.False ∷ SystemName.Nothing ∷ SystemName.Null ∷ SystemName.WordSize ∷ SystemName.TargetZcode ∷
+    SystemName.Name ∷ SystemName.Class ∷
+    SystemName.Object ∷ SystemName.Routine ∷ SystemName.String ∷ SystemName.Child ∷ SystemName.Parent ∷ SystemName.Sibling ∷
+    SystemName.Children ∷ SystemName.Random ∷
+    SystemName.Indirect ∷ SystemName.OwnObject ∷ SystemName.Sender ∷ SystemName.SwitchVariable ∷ SystemName.TemporaryGlobal ∷
+    SystemName.Debug ∷ []
 
 -- whether a name is spelled `spelling`, in any case
 abbrev pub has_name : List ℕ → SystemName → Bool
@@ -97,7 +94,7 @@ may_be_known spelling =
 
 -- DEBUG is there only where debugging is on
 abbrev pub is_known : Bool → SystemName → Bool
-is_known debugging name.Debug = debugging
+is_known debugging SystemName.Debug = debugging
 is_known debugging known = true
 
 abbrev pub meaning_if : Bool → Option SystemName → Option Meaning

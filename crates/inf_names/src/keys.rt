@@ -1,13 +1,9 @@
 //! Names without case, the keys of the map in which the entries of names are.
+ghost use Rattle.std.specs.{Cmp.Lexicographic.nat_list_eq_equiv, Cmp.Rules.hashing, Cmp.on_equiv, Cmp.on_per, Cmp.partial_equiv_from_equiv};
+ghost use Rattle.std.specs.{Int.from_le_bytes, Int.to_le_bytes, Int.w64, Str.bytes_eq};
 ghost use Rattle.std.specs.Prelude.{◌≡◌, ◌+◌, ◌≤◌, ◌↔◌, IsTrue, drop, length, take};
-ghost use Rattle.std.specs.Int.{from_le_bytes, to_le_bytes, w64};
-ghost use Rattle.std.specs.Str.{bytes_eq};
-ghost use Rattle.std.specs.Cmp.{on_equiv, on_per, partial_equiv_from_equiv};
-ghost use Rattle.std.specs.Cmp.Lexicographic.{nat_list_eq_equiv};
-ghost use Rattle.std.specs.Cmp.Rules.{hashing};
 ghost use Rattle.std.proofs.Common.{rules};
-ghost use Rattle.inf_names.specs.Keys.{padded, words};
-ghost use Rattle.inf_names.specs.Symbols.{folded};
+ghost use Rattle.inf_names.specs.{Keys.padded, Keys.words, Symbols.folded};
 
 use std::hash::{Hash, Hasher};
 use std::marker::Model;

@@ -1,11 +1,9 @@
 //! The local variables of a routine.
+ghost use Rattle.std.specs.{Char.eq_ignore_ascii_case, Str.str_eq_ignore_ascii_case};
 ghost use Rattle.std.specs.Prelude.{◌≡◌, ◌≤◌, ◌<◌, [], IfSome, length, option_map, position};
-ghost use Rattle.std.specs.Char.{eq_ignore_ascii_case};
-ghost use Rattle.std.specs.Str.{str_eq_ignore_ascii_case};
 ghost use Rattle.arrayvec.specs.ArrayVec.{array_vec_len};
-ghost use Rattle.inf_names.specs.LocalList.{last_letter};
-ghost use Rattle.inf_names.specs.Locals.{number_of, local_of, with_named, with_local, no_locals};
-ghost use Rattle.inf_names.specs.Spellings.{as_name};
+ghost use Rattle.inf_names.specs.{LocalList.last_letter, Spellings.as_name};
+ghost use Rattle.inf_names.specs.Locals.{local_number, local_of, with_named, with_local, no_locals};
 
 use crate::spellings::{Name, Spelling, copy_of};
 use arrayvec::ArrayVec;
@@ -135,7 +133,7 @@ impl Locals {
 
     /// Returns the number of the local with the name `name`, in any case, from 1 on (Z-Machine Standard 1.1, section 4.2.2).
     pub fn number(&self, name: &[u8]) -> Option<u8>
-        ensures { result ≡ number_of name.now (listed self.now) }
+        ensures { result ≡ local_number name.now (listed self.now) }
     {
         let place = self.place(name)?;
         Some(place as u8 + 1)
@@ -152,8 +150,7 @@ impl Locals {
 }
 
 impl Headed {
-    ghost use Rattle.inf_names.specs.LocalList.{headed};
-    ghost use Rattle.inf_names.specs.Locals.{earlier};
+    ghost use Rattle.inf_names.specs.{LocalList.headed, Locals.earlier};
 
     /// Returns the headed locals of a routine before its header is read: none.
     pub fn new() -> Headed

@@ -1,6 +1,6 @@
 //! The names that a source declares or uses.
 ghost use Rattle.std.specs.Prelude.{◌≡◌, ◌≤◌, ◌+◌, IfErr, IfOk, OnOk, OnErr, MatchResult, None, Some, length, option_map};
-ghost use Rattle.inf_settings.specs.declared.setting.Setting.TheVariants as setting;
+ghost use Rattle.inf_settings.specs.declared.setting.Setting.{Setting};
 
 use crate::hashing::NameHashing;
 use crate::keys::Key;
@@ -88,13 +88,12 @@ pub struct Symbols<P: Copy, B: Bounds> {
     is_debugging: bool,
     hashing: NameHashing,
     of: PhantomData<B>,
-    ghost is_most: { limit ≡ B.most setting.Symbols },
+    ghost is_most: { limit ≡ B.most Setting.Symbols },
 }
 
 impl<P: Copy, B: Bounds> Model for Symbols<P, B> {
     ghost use Rattle.std.specs.Prelude.{◌≡◌, ◌≤◌, length, map};
-    ghost use Rattle.inf_names.specs.Symbols.{Table, declarations};
-    ghost use Rattle.inf_names.specs.Entries.{as_named};
+    ghost use Rattle.inf_names.specs.{Entries.as_named, Symbols.Table, Symbols.declarations};
 
     ghost Value = { Table P };
 
@@ -129,7 +128,7 @@ impl<P: Copy, B: Bounds> Symbols<P, B> {
     /// Returns a map of no names, which may come to have as many as `limit`, the bound of the type `B`. With debugging the language
     /// has the name `DEBUG` from the start. The map takes no memory.
     pub fn new(alloc: Global, limit: u32, is_debugging: bool, hashing: NameHashing) -> Symbols<P, B>
-        requires { limit ≡ B.most setting.Symbols }
+        requires { limit ≡ B.most Setting.Symbols }
         ensures { result ≡ no_names is_debugging }
     {
         Symbols {
@@ -157,7 +156,7 @@ impl<P: Copy, B: Bounds> Symbols<P, B> {
     /// Counts the names that were declared or used.
     pub fn len(&self) -> usize
         ensures count { result ≡ length self.now.names }
-        ensures within { result ≤ B.most setting.Symbols }
+        ensures within { result ≤ B.most Setting.Symbols }
     {
         self.entries.len()
     }

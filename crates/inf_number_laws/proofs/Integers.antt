@@ -1,9 +1,8 @@
 -- A product of numbers of 16 bits is that of integers.
-use Rattle.std.proofs.Common.{◌≡◌, ℕ, ◌*◌, ◌%◌, ◌<◌, ◌-◌, arith, ◌∙◌, ap, sym}
-use Rattle.std.specs.Prelude.{◌*ℤ◌, ℤ, pos, negsuc}
+use Rattle.std.proofs.Common.{◌≡◌, ℕ, ◌*◌, ◌%◌, ◌<◌, ◌-◌, arith, ◌∙◌, ap, sym, ◌*ℤ◌, ℤ, pos, negsuc}
+use Rattle.std.proofs.lemmas.Int.{ints, wrapping_mul-bits, of_z-to_z}
 use Rattle.std.specs.Int.{cast_signed, cast_unsigned, int_wrap}
 use mir.Syntax.{w16}
-use Rattle.std.proofs.lemmas.Int.{ints, wrapping_mul-bits, of_z-to_z}
 use Rattle.inf_number_laws.specs.Integers.{signed, word}
 
 word_is : (z : ℤ) → word z ≡ cast_unsigned w16 (int_wrap w16 z)

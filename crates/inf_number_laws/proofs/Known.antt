@@ -1,16 +1,8 @@
 -- Operators of known numbers: each number that takes the place of one is its meaning.
 use Rattle.std.proofs.Common.{◌≡◌, ℕ, zero, suc, List, [], ◌∷◌, Option, Some, None, Bool, true, false, refl, ◌∙◌, ap, sym, subst, arith}
-use Rattle.std.specs.Prelude.{◌+◌}
-use Rattle.std.specs.Prelude.{◌==◌, ◌||◌, ◌&&◌, not, cond, if◌then◌else◌, map, nat_lt, ◌/◌, ◌%◌, ◌-◌}
-use Rattle.inf_expressions.specs.declared.operators.Operand.TheVariants as operand
-use Rattle.inf_expressions.specs.declared.operators.Operation.{Operation}
-use Rattle.inf_expressions.specs.declared.operators.Operation.TheVariants as operation
-use Rattle.inf_expressions.specs.declared.operators.Single.TheVariants as single
-use Rattle.inf_expressions.specs.declared.operators.Test.{Test}
-use Rattle.inf_expressions.specs.declared.operators.Test.TheVariants as test
-use Rattle.inf_expressions.specs.declared.operators.Unary.{Unary}
-use Rattle.inf_expressions.specs.declared.operators.Unary.TheVariants as unary
-use Rattle.inf_expressions.specs.declared.operators.Binary.TheVariants as binary
+use Rattle.std.specs.Prelude.{◌+◌, ◌==◌, ◌||◌, ◌&&◌, not, cond, if◌then◌else◌, map, nat_lt, ◌/◌, ◌%◌, ◌-◌}
+use Rattle.inf_expressions.specs.declared.{operators.Binary.Binary, operators.Operand.Operand, operators.Operation.Operation}
+use Rattle.inf_expressions.specs.declared.{operators.Single.Single, operators.Test.Test, operators.Unary.Unary}
 use Rattle.inf_expressions.specs.Trees.{Tree, Leaf, One, Two}
 use Rattle.inf_expressions.specs.Numbers.{computed, computed_single, holds, magnitude, negated, quotient, remainder, same, truth}
 use Rattle.inf_expressions.specs.Folding.{any_holds, any_known, built, folded, folded_single, folded_two, function_of, holds_known, known}
@@ -25,19 +17,19 @@ some_same : {A : Type 0} {x y : A} → Some x ≡ Some y → x ≡ y
 some_same e = cc
 
 -- A right tree that is known is a number.
-is_leaf : (a : Tree) (n : ℕ) → IsProper a → known a ≡ Some n → a ≡ Leaf (operand.Known n)
-is_leaf (Leaf (operand.Known m)) n right e = ap (λ k. Leaf (operand.Known k)) (some_same e)
-is_leaf (Leaf (operand.Variable v)) n right e = cc
-is_leaf (Leaf (operand.Later t)) n right e = cc
-is_leaf (Leaf (operand.Function f)) n right e = elim right [ ]
-is_leaf (Leaf operand.Unknown) n right e = elim right [ ]
+is_leaf : (a : Tree) (n : ℕ) → IsProper a → known a ≡ Some n → a ≡ Leaf (Operand.Known n)
+is_leaf (Leaf (Operand.Known m)) n right e = ap (λ k. Leaf (Operand.Known k)) (some_same e)
+is_leaf (Leaf (Operand.Variable v)) n right e = cc
+is_leaf (Leaf (Operand.Later t)) n right e = cc
+is_leaf (Leaf (Operand.Function f)) n right e = elim right [ ]
+is_leaf (Leaf Operand.Unknown) n right e = elim right [ ]
 is_leaf (One op a) n right e = cc
 is_leaf (Two op a b) n right e = cc
 
 -- Operations
 
 abbrev leaf_of : World → ℕ → Sense
-leaf_of w n = leaf w (operand.Known n)
+leaf_of w n = leaf w (Operand.Known n)
 
 chosen : {A : Type 0} (z c : Bool) (o p q : A) → z ≡ false → cond z None (cond c (Some p) (Some q)) ≡ Some (cond z o (cond c p q))
 chosen true c o p q e = cc
@@ -77,22 +69,22 @@ not_zero : (b : ℕ) → (Some b ≡ Some 0 → ⊥) → (b == 0) ≡ false
 not_zero zero h = elim (h refl) [ ]
 not_zero (suc b) h = grind arith
 
-operation_is : (w : World) (o : Operation) (a b n : ℕ) → HasDivisor (binary.Operation o) (Leaf (operand.Known b)) → computed o a b ≡ Some n
-    → IsNumber n (two w (binary.Operation o) (leaf_of w a) (leaf_of w b))
-operation_is w operation.Add a b n d e = by_result (computed operation.Add a b) _ n e (λ take s. refl) (λ s. refl) (λ s. refl)
-operation_is w operation.Subtract a b n d e = by_result (computed operation.Subtract a b) _ n e (λ take s. refl) (λ s. refl) (λ s. refl)
-operation_is w operation.Multiply a b n d e = by_result (computed operation.Multiply a b) _ n e (λ take s. refl) (λ s. refl) (λ s. refl)
-operation_is w operation.BitAnd a b n d e = by_result (computed operation.BitAnd a b) _ n e (λ take s. refl) (λ s. refl) (λ s. refl)
-operation_is w operation.BitOr a b n d e = by_result (computed operation.BitOr a b) _ n e (λ take s. refl) (λ s. refl) (λ s. refl)
-operation_is w operation.Divide a b n d e =
-    by_result (divided a b) (two w (binary.Operation operation.Divide) (leaf_of w a) (leaf_of w b)) n (divided_is a b (not_zero b d) ∙ e)
+operation_is : (w : World) (o : Operation) (a b n : ℕ) → HasDivisor (Binary.Operation o) (Leaf (Operand.Known b)) → computed o a b ≡ Some n
+    → IsNumber n (two w (Binary.Operation o) (leaf_of w a) (leaf_of w b))
+operation_is w Operation.Add a b n d e = by_result (computed Operation.Add a b) _ n e (λ take s. refl) (λ s. refl) (λ s. refl)
+operation_is w Operation.Subtract a b n d e = by_result (computed Operation.Subtract a b) _ n e (λ take s. refl) (λ s. refl) (λ s. refl)
+operation_is w Operation.Multiply a b n d e = by_result (computed Operation.Multiply a b) _ n e (λ take s. refl) (λ s. refl) (λ s. refl)
+operation_is w Operation.BitAnd a b n d e = by_result (computed Operation.BitAnd a b) _ n e (λ take s. refl) (λ s. refl) (λ s. refl)
+operation_is w Operation.BitOr a b n d e = by_result (computed Operation.BitOr a b) _ n e (λ take s. refl) (λ s. refl) (λ s. refl)
+operation_is w Operation.Divide a b n d e =
+    by_result (divided a b) (two w (Binary.Operation Operation.Divide) (leaf_of w a) (leaf_of w b)) n (divided_is a b (not_zero b d) ∙ e)
     (λ take s. refl) (alone_of (divided a b)) (truth_of (divided a b))
-operation_is w operation.Remainder a b n d e =
-    by_result (left_over a b) (two w (binary.Operation operation.Remainder) (leaf_of w a) (leaf_of w b)) n
+operation_is w Operation.Remainder a b n d e =
+    by_result (left_over a b) (two w (Binary.Operation Operation.Remainder) (leaf_of w a) (leaf_of w b)) n
     (left_over_is a b (not_zero b d) ∙ e)
     (λ take s. refl) (alone_of (left_over a b)) (truth_of (left_over a b))
-operation_is w operation.Byte a b n d e = cc
-operation_is w operation.Word a b n d e = cc
+operation_is w Operation.Byte a b n d e = cc
+operation_is w Operation.Word a b n d e = cc
 
 -- Conditions
 
@@ -144,7 +136,7 @@ abbrev IsList : World → Test → ℕ → Bool → Tree → Bool → Type 0
 IsList w t x found b r = (m : ℕ) × (ms : List ℕ) × (args (sense w b) ≡ numbers (m ∷ ms)) × (any_of t x found (m ∷ ms) ≡ Some r)
 
 held : (t : Test) (x : ℕ) (a : Tree) (h : Bool) → IsProper a → (k : Option ℕ) → known a ≡ k → holds_known t x k ≡ Some h
-    → (m : ℕ) × (a ≡ Leaf (operand.Known m)) × (holds t x m ≡ Some h)
+    → (m : ℕ) × (a ≡ Leaf (Operand.Known m)) × (holds t x m ≡ Some h)
 held t x a h right None is e = cc
 held t x a h right (Some m) is e = (m, is_leaf a m right is, e)
 
@@ -163,22 +155,22 @@ last_by w t x found b r right (Some h) is e alone =
 never : (t : Test) (x : ℕ) (b : Tree) → any_holds None t x b ≡ None
 never t x (Leaf y) = refl
 never t x (One op a) = refl
-never t x (Two (binary.Operation o) a b) = refl
-never t x (Two (binary.Property p) a b) = refl
-never t x (Two (binary.Test u) a b) = refl
-never t x (Two (binary.Fails u) a b) = refl
-never t x (Two binary.Assign a b) = refl
-never t x (Two binary.Comma a b) = refl
-never t x (Two binary.And a b) = refl
-never t x (Two binary.Or a b) = refl
-never t x (Two binary.Call a b) = refl
-never t x (Two binary.Then a b) = never t x b
-never t x (Two binary.To a b) = refl
+never t x (Two (Binary.Operation o) a b) = refl
+never t x (Two (Binary.Property p) a b) = refl
+never t x (Two (Binary.Test u) a b) = refl
+never t x (Two (Binary.Fails u) a b) = refl
+never t x (Two Binary.Assign a b) = refl
+never t x (Two Binary.Comma a b) = refl
+never t x (Two Binary.And a b) = refl
+never t x (Two Binary.Or a b) = refl
+never t x (Two Binary.Call a b) = refl
+never t x (Two Binary.Then a b) = never t x b
+never t x (Two Binary.To a b) = refl
 
 more_by : (w : World) (t : Test) (x : ℕ) (found : Bool) (a others : Tree) (r : Bool) → IsProper a
     → ((f : Bool) → any_holds (Some f) t x others ≡ Some r → IsList w t x f others r)
     → (k : Option Bool) → holds_known t x (known a) ≡ k → any_holds (or_known (Some found) k) t x others ≡ Some r
-    → IsList w t x found (Two binary.Then a others) r
+    → IsList w t x found (Two Binary.Then a others) r
 more_by w t x found a others r right behind None is e = let n : any_holds None t x others ≡ None = never t x others in cc
 more_by w t x found a others r right behind (Some h) is e =
     let o = held t x a h right (known a) refl is in
@@ -192,19 +184,19 @@ more_by w t x found a others r right behind (Some h) is e =
 list_is : (w : World) (t : Test) (x : ℕ) (b : Tree) (found r : Bool) → IsProper b → any_holds (Some found) t x b ≡ Some r
     → IsList w t x found b r
 list_is w t x (Leaf y) found r right e = last_by w t x found (Leaf y) r right _ refl e refl
-list_is w t x (Two binary.Then a b) found r right e =
+list_is w t x (Two Binary.Then a b) found r right e =
     more_by w t x found a b r right.0 (λ f. list_is w t x b f r right.1) (holds_known t x (known a)) refl e
 list_is w t x (One op a) found r right e = cc
-list_is w t x (Two (binary.Operation o) a b) found r right e = cc
-list_is w t x (Two (binary.Property p) a b) found r right e = cc
-list_is w t x (Two (binary.Test u) a b) found r right e = cc
-list_is w t x (Two (binary.Fails u) a b) found r right e = cc
-list_is w t x (Two binary.Assign a b) found r right e = cc
-list_is w t x (Two binary.Comma a b) found r right e = cc
-list_is w t x (Two binary.And a b) found r right e = cc
-list_is w t x (Two binary.Or a b) found r right e = cc
-list_is w t x (Two binary.Call a b) found r right e = cc
-list_is w t x (Two binary.To a b) found r right e = cc
+list_is w t x (Two (Binary.Operation o) a b) found r right e = cc
+list_is w t x (Two (Binary.Property p) a b) found r right e = cc
+list_is w t x (Two (Binary.Test u) a b) found r right e = cc
+list_is w t x (Two (Binary.Fails u) a b) found r right e = cc
+list_is w t x (Two Binary.Assign a b) found r right e = cc
+list_is w t x (Two Binary.Comma a b) found r right e = cc
+list_is w t x (Two Binary.And a b) found r right e = cc
+list_is w t x (Two Binary.Or a b) found r right e = cc
+list_is w t x (Two Binary.Call a b) found r right e = cc
+list_is w t x (Two Binary.To a b) found r right e = cc
 
 -- Tests: as they are run
 
@@ -218,15 +210,15 @@ or_turned false b c = refl
 
 tests_is : (w : World) (t : Test) (x m : ℕ) (h : Bool) (s : Store) → holds t x m ≡ Some h
     → tested w t (number x ∷ number m ∷ []) s ≡ Some (h, s)
-tests_is w test.Equal x m h s e = ap (λ b. Some (b, s)) (or_nothing (x == m) ∙ some_same e)
-tests_is w test.Less x m h s e = ap (λ b. Some (b, s)) (some_same e)
-tests_is w test.Greater x m h s e = ap (λ b. Some (b, s)) (some_same e)
-tests_is w test.AtMost x m h s e = ap (λ b. Some (b, s)) (some_same e)
-tests_is w test.AtLeast x m h s e = ap (λ b. Some (b, s)) (some_same e)
-tests_is w test.Has x m h s e = cc
-tests_is w test.In x m h s e = cc
-tests_is w test.OfClass x m h s e = cc
-tests_is w test.Provides x m h s e = cc
+tests_is w Test.Equal x m h s e = ap (λ b. Some (b, s)) (or_nothing (x == m) ∙ some_same e)
+tests_is w Test.Less x m h s e = ap (λ b. Some (b, s)) (some_same e)
+tests_is w Test.Greater x m h s e = ap (λ b. Some (b, s)) (some_same e)
+tests_is w Test.AtMost x m h s e = ap (λ b. Some (b, s)) (some_same e)
+tests_is w Test.AtLeast x m h s e = ap (λ b. Some (b, s)) (some_same e)
+tests_is w Test.Has x m h s e = cc
+tests_is w Test.In x m h s e = cc
+tests_is w Test.OfClass x m h s e = cc
+tests_is w Test.Provides x m h s e = cc
 
 abbrev IsRun : World → Test → ℕ → ℕ → List ℕ → Bool → Bool → Store → Type 0
 IsRun w t x m ms found r s = (q : Bool) × (one_by_one w t (number x) (numbers (m ∷ ms)) s ≡ Some (q, s)) × (found || q ≡ r)
@@ -253,7 +245,7 @@ runs : (w : World) (t : Test) (x m : ℕ) (ms : List ℕ) (found r : Bool) (s : 
 runs w t x m [] found r s e = one_run w t x m found r s (holds t x m) refl e
 runs w t x m (n ∷ ms) found r s e = more_run w t x m n ms found r s (λ f. runs w t x n ms f r s) (holds t x m) refl e
 
-equal_is : (x : ℕ) (found : Bool) (ms : List ℕ) → any_of test.Equal x found ms ≡ Some (found || is_any x ms)
+equal_is : (x : ℕ) (found : Bool) (ms : List ℕ) → any_of Test.Equal x found ms ≡ Some (found || is_any x ms)
 equal_is x found [] = ap Some (sym (or_nothing found))
 equal_is x found (m ∷ ms) = equal_is x (found || (x == m)) ms ∙ ap Some (or_turned found (x == m) (is_any x ms))
 
@@ -274,16 +266,16 @@ threes w x m (n ∷ o ∷ p ∷ ms) s =
 
 grouped : (w : World) (t : Test) (x m : ℕ) (ms : List ℕ) (r : Bool) (s : Store) → any_of t x false (m ∷ ms) ≡ Some r
     → in_groups (compares_three t) w t (number x) (numbers (m ∷ ms)) s ≡ Some (r, s)
-grouped w test.Equal x m ms r s e =
+grouped w Test.Equal x m ms r s e =
     threes w x m ms s ∙ ap (λ b. Some (b, s)) (some_same (sym (equal_is x false (m ∷ ms)) ∙ e))
-grouped w test.Less x m ms r s e = let o = runs w test.Less x m ms false r s e in o.1 ∙ ap (λ b. Some (b, s)) o.2
-grouped w test.Greater x m ms r s e = let o = runs w test.Greater x m ms false r s e in o.1 ∙ ap (λ b. Some (b, s)) o.2
-grouped w test.AtMost x m ms r s e = let o = runs w test.AtMost x m ms false r s e in o.1 ∙ ap (λ b. Some (b, s)) o.2
-grouped w test.AtLeast x m ms r s e = let o = runs w test.AtLeast x m ms false r s e in o.1 ∙ ap (λ b. Some (b, s)) o.2
-grouped w test.Has x m ms r s e = let o = runs w test.Has x m ms false r s e in o.1 ∙ ap (λ b. Some (b, s)) o.2
-grouped w test.In x m ms r s e = let o = runs w test.In x m ms false r s e in o.1 ∙ ap (λ b. Some (b, s)) o.2
-grouped w test.OfClass x m ms r s e = let o = runs w test.OfClass x m ms false r s e in o.1 ∙ ap (λ b. Some (b, s)) o.2
-grouped w test.Provides x m ms r s e = let o = runs w test.Provides x m ms false r s e in o.1 ∙ ap (λ b. Some (b, s)) o.2
+grouped w Test.Less x m ms r s e = let o = runs w Test.Less x m ms false r s e in o.1 ∙ ap (λ b. Some (b, s)) o.2
+grouped w Test.Greater x m ms r s e = let o = runs w Test.Greater x m ms false r s e in o.1 ∙ ap (λ b. Some (b, s)) o.2
+grouped w Test.AtMost x m ms r s e = let o = runs w Test.AtMost x m ms false r s e in o.1 ∙ ap (λ b. Some (b, s)) o.2
+grouped w Test.AtLeast x m ms r s e = let o = runs w Test.AtLeast x m ms false r s e in o.1 ∙ ap (λ b. Some (b, s)) o.2
+grouped w Test.Has x m ms r s e = let o = runs w Test.Has x m ms false r s e in o.1 ∙ ap (λ b. Some (b, s)) o.2
+grouped w Test.In x m ms r s e = let o = runs w Test.In x m ms false r s e in o.1 ∙ ap (λ b. Some (b, s)) o.2
+grouped w Test.OfClass x m ms r s e = let o = runs w Test.OfClass x m ms false r s e in o.1 ∙ ap (λ b. Some (b, s)) o.2
+grouped w Test.Provides x m ms r s e = let o = runs w Test.Provides x m ms false r s e in o.1 ∙ ap (λ b. Some (b, s)) o.2
 
 -- what a list is compared with is a known number
 compares : (w : World) (t : Test) (x : ℕ) (b : Tree) (r : Bool) → IsProper b → any_holds (Some false) t x b ≡ Some r
@@ -301,14 +293,14 @@ same_false_is true = refl
 same_false_is false = refl
 
 test_is : (w : World) (t : Test) (x : ℕ) (b : Tree) (n : ℕ) → IsProper b → (k : Option Bool) → any_holds (Some false) t x b ≡ k
-    → sensed true k ≡ Some n → IsNumber n (two w (binary.Test t) (leaf_of w x) (sense w b))
+    → sensed true k ≡ Some n → IsNumber n (two w (Binary.Test t) (leaf_of w x) (sense w b))
 test_is w t x b n right None is e = cc
 test_is w t x b n right (Some r) is e =
     by_condition r (compared w t (leaf_of w x).leaf (leaf_of w x) (args (sense w b))) n (ap (λ b. Some (truth b)) (same_true_is r) ∙ e)
     (compares w t x b r right is)
 
 fails_is : (w : World) (t : Test) (x : ℕ) (b : Tree) (n : ℕ) → IsProper b → (k : Option Bool) → any_holds (Some false) t x b ≡ k
-    → sensed false k ≡ Some n → IsNumber n (two w (binary.Fails t) (leaf_of w x) (sense w b))
+    → sensed false k ≡ Some n → IsNumber n (two w (Binary.Fails t) (leaf_of w x) (sense w b))
 fails_is w t x b n right None is e = cc
 fails_is w t x b n right (Some r) is e =
     by_condition (not r) (opposite (compared w t (leaf_of w x).leaf (leaf_of w x) (args (sense w b)))) n
@@ -321,8 +313,8 @@ fails_is w t x b n right (Some r) is e =
 record AreTwo (f : Option ℕ → Option ℕ → Option ℕ) (a b : Tree) (n : ℕ) : Type 0 where
   x : ℕ
   y : ℕ
-  first : a ≡ Leaf (operand.Known x)
-  second : b ≡ Leaf (operand.Known y)
+  first : a ≡ Leaf (Operand.Known x)
+  second : b ≡ Leaf (Operand.Known y)
   gives : f (Some x) (Some y) ≡ Some n
 
 are_two : (f : Option ℕ → Option ℕ → Option ℕ) → ((k : Option ℕ) → f None k ≡ None) → ((x : ℕ) → f (Some x) None ≡ None)
@@ -332,70 +324,70 @@ are_two f left behind a b n ra rb (Some x) None ja kb e = let h : f (Some x) Non
 are_two f left behind a b n ra rb (Some x) (Some y) ja kb e =
     record { x = x; y = y; first = is_leaf a x ra ja; second = is_leaf b y rb kb; gives = e }
 
-operates : (w : World) (o : Operation) (a b : Tree) (n : ℕ) → HasDivisor (binary.Operation o) b
-    → AreTwo (folded_two (binary.Operation o)) a b n
-    → IsNumber n (two w (binary.Operation o) (sense w a) (sense w b))
+operates : (w : World) (o : Operation) (a b : Tree) (n : ℕ) → HasDivisor (Binary.Operation o) b
+    → AreTwo (folded_two (Binary.Operation o)) a b n
+    → IsNumber n (two w (Binary.Operation o) (sense w a) (sense w b))
 operates w o a b n d t =
-    subst (λ a. IsNumber n (two w (binary.Operation o) (sense w a) (sense w b))) (sym t.first)
-    (subst (λ b. IsNumber n (two w (binary.Operation o) (leaf_of w t.x) (sense w b))) (sym t.second)
-    (operation_is w o t.x t.y n (subst (λ b. HasDivisor (binary.Operation o) b) t.second d) t.gives))
+    subst (λ a. IsNumber n (two w (Binary.Operation o) (sense w a) (sense w b))) (sym t.first)
+    (subst (λ b. IsNumber n (two w (Binary.Operation o) (leaf_of w t.x) (sense w b))) (sym t.second)
+    (operation_is w o t.x t.y n (subst (λ b. HasDivisor (Binary.Operation o) b) t.second d) t.gives))
 
 tested_by : (w : World) (t : Test) (a b : Tree) (n : ℕ) → IsProper a → IsProper b → (k : Option ℕ) → known a ≡ k
-    → sensed true (any_known t k b) ≡ Some n → IsNumber n (two w (binary.Test t) (sense w a) (sense w b))
+    → sensed true (any_known t k b) ≡ Some n → IsNumber n (two w (Binary.Test t) (sense w a) (sense w b))
 tested_by w t a b n ra rb None is e = cc
 tested_by w t a b n ra rb (Some x) is e =
-    subst (λ a. IsNumber n (two w (binary.Test t) (sense w a) (sense w b))) (sym (is_leaf a x ra is)) (test_is w t x b n rb _ refl e)
+    subst (λ a. IsNumber n (two w (Binary.Test t) (sense w a) (sense w b))) (sym (is_leaf a x ra is)) (test_is w t x b n rb _ refl e)
 
 failed_by : (w : World) (t : Test) (a b : Tree) (n : ℕ) → IsProper a → IsProper b → (k : Option ℕ) → known a ≡ k
-    → sensed false (any_known t k b) ≡ Some n → IsNumber n (two w (binary.Fails t) (sense w a) (sense w b))
+    → sensed false (any_known t k b) ≡ Some n → IsNumber n (two w (Binary.Fails t) (sense w a) (sense w b))
 failed_by w t a b n ra rb None is e = cc
 failed_by w t a b n ra rb (Some x) is e =
-    subst (λ a. IsNumber n (two w (binary.Fails t) (sense w a) (sense w b))) (sym (is_leaf a x ra is)) (fails_is w t x b n rb _ refl e)
+    subst (λ a. IsNumber n (two w (Binary.Fails t) (sense w a) (sense w b))) (sym (is_leaf a x ra is)) (fails_is w t x b n rb _ refl e)
 
 conjoined : (w : World) (x y n : ℕ) → Some (truth (not (x == 0) && not (y == 0))) ≡ Some n
-    → IsNumber n (two w binary.And (leaf_of w x) (leaf_of w y))
+    → IsNumber n (two w Binary.And (leaf_of w x) (leaf_of w y))
 conjoined w x y n e = by_condition (not (x == 0) && not (y == 0)) _ n e (λ s. and_is (not (x == 0)) (not (y == 0)) s)
 
 disjoined : (w : World) (x y n : ℕ) → Some (truth (not (x == 0) || not (y == 0))) ≡ Some n
-    → IsNumber n (two w binary.Or (leaf_of w x) (leaf_of w y))
+    → IsNumber n (two w Binary.Or (leaf_of w x) (leaf_of w y))
 disjoined w x y n e = by_condition (not (x == 0) || not (y == 0)) _ n e (λ s. or_is (not (x == 0)) (not (y == 0)) s)
 
 pub known_is : TwoAreComputed
-known_is w (binary.Operation o) a b n ra rb d e =
-    operates w o a b n d (are_two (folded_two (binary.Operation o)) (λ k. refl) (λ x. refl) a b n ra rb (known a) (known b) refl refl e)
-known_is w (binary.Test t) a b n ra rb d e = tested_by w t a b n ra rb (known a) refl e
-known_is w (binary.Fails t) a b n ra rb d e = failed_by w t a b n ra rb (known a) refl e
-known_is w binary.And a b n ra rb d e =
-    let t = are_two (folded_two binary.And) (λ k. refl) (λ x. refl) a b n ra rb (known a) (known b) refl refl e in
-    subst (λ a. IsNumber n (two w binary.And (sense w a) (sense w b))) (sym t.first)
-    (subst (λ b. IsNumber n (two w binary.And (leaf_of w t.x) (sense w b))) (sym t.second) (conjoined w t.x t.y n t.gives))
-known_is w binary.Or a b n ra rb d e =
-    let t = are_two (folded_two binary.Or) (λ k. refl) (λ x. refl) a b n ra rb (known a) (known b) refl refl e in
-    subst (λ a. IsNumber n (two w binary.Or (sense w a) (sense w b))) (sym t.first)
-    (subst (λ b. IsNumber n (two w binary.Or (leaf_of w t.x) (sense w b))) (sym t.second) (disjoined w t.x t.y n t.gives))
-known_is w (binary.Property p) a b n ra rb d e = cc
-known_is w binary.Assign a b n ra rb d e = cc
-known_is w binary.Comma a b n ra rb d e = cc
-known_is w binary.Call a b n ra rb d e = cc
-known_is w binary.Then a b n ra rb d e = cc
-known_is w binary.To a b n ra rb d e = cc
+known_is w (Binary.Operation o) a b n ra rb d e =
+    operates w o a b n d (are_two (folded_two (Binary.Operation o)) (λ k. refl) (λ x. refl) a b n ra rb (known a) (known b) refl refl e)
+known_is w (Binary.Test t) a b n ra rb d e = tested_by w t a b n ra rb (known a) refl e
+known_is w (Binary.Fails t) a b n ra rb d e = failed_by w t a b n ra rb (known a) refl e
+known_is w Binary.And a b n ra rb d e =
+    let t = are_two (folded_two Binary.And) (λ k. refl) (λ x. refl) a b n ra rb (known a) (known b) refl refl e in
+    subst (λ a. IsNumber n (two w Binary.And (sense w a) (sense w b))) (sym t.first)
+    (subst (λ b. IsNumber n (two w Binary.And (leaf_of w t.x) (sense w b))) (sym t.second) (conjoined w t.x t.y n t.gives))
+known_is w Binary.Or a b n ra rb d e =
+    let t = are_two (folded_two Binary.Or) (λ k. refl) (λ x. refl) a b n ra rb (known a) (known b) refl refl e in
+    subst (λ a. IsNumber n (two w Binary.Or (sense w a) (sense w b))) (sym t.first)
+    (subst (λ b. IsNumber n (two w Binary.Or (leaf_of w t.x) (sense w b))) (sym t.second) (disjoined w t.x t.y n t.gives))
+known_is w (Binary.Property p) a b n ra rb d e = cc
+known_is w Binary.Assign a b n ra rb d e = cc
+known_is w Binary.Comma a b n ra rb d e = cc
+known_is w Binary.Call a b n ra rb d e = cc
+known_is w Binary.Then a b n ra rb d e = cc
+known_is w Binary.To a b n ra rb d e = cc
 
 one_is : (w : World) (op : Unary) (x n : ℕ) → computed_single op x ≡ Some n → IsNumber n (one w op (leaf_of w x))
-one_is w unary.Negate x n e =
+one_is w Unary.Negate x n e =
     let same_one : (0 + negated x) % 65536 ≡ negated x = omega arith in
-    by_result (Some ((0 + negated x) % 65536)) (one w unary.Negate (leaf_of w x)) n (ap Some same_one ∙ e)
+    by_result (Some ((0 + negated x) % 65536)) (one w Unary.Negate (leaf_of w x)) n (ap Some same_one ∙ e)
     (λ take s. refl) (λ s. refl) (λ s. refl)
-one_is w unary.Not x n e = by_condition (x == 0) _ n e (λ s. ap (λ b. Some (b, s)) (twice (x == 0)))
-one_is w (unary.Single single.Complement) x n e =
-    by_result (Some (65535 - x)) (one w (unary.Single single.Complement) (leaf_of w x)) n e (λ take s. refl) (λ s. refl) (λ s. refl)
-one_is w (unary.Single single.Parent) x n e = cc
-one_is w (unary.Single single.Random) x n e = cc
-one_is w (unary.Before how) x n e = cc
-one_is w (unary.Behind how) x n e = cc
-one_is w (unary.Relative how) x n e = cc
-one_is w unary.Children x n e = cc
-one_is w unary.Call x n e = cc
-one_is w unary.Indirect x n e = cc
+one_is w Unary.Not x n e = by_condition (x == 0) _ n e (λ s. ap (λ b. Some (b, s)) (twice (x == 0)))
+one_is w (Unary.Single Single.Complement) x n e =
+    by_result (Some (65535 - x)) (one w (Unary.Single Single.Complement) (leaf_of w x)) n e (λ take s. refl) (λ s. refl) (λ s. refl)
+one_is w (Unary.Single Single.Parent) x n e = cc
+one_is w (Unary.Single Single.Random) x n e = cc
+one_is w (Unary.Before how) x n e = cc
+one_is w (Unary.Behind how) x n e = cc
+one_is w (Unary.Relative how) x n e = cc
+one_is w Unary.Children x n e = cc
+one_is w Unary.Call x n e = cc
+one_is w Unary.Indirect x n e = cc
 
 one_by : (w : World) (op : Unary) (a : Tree) (n : ℕ) → IsProper a → (k : Option ℕ) → known a ≡ k → folded_single op k ≡ Some n
     → IsNumber n (one w op (sense w a))

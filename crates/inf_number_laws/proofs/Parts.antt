@@ -2,10 +2,7 @@
 -- other one is. Values of lists of such parts are the same.
 use Rattle.std.proofs.Common.{◌≡◌, ℕ, List, [], ◌∷◌, ◌++◌, Option, Some, None, Bool, true, false, refl, ◌∙◌, ap, sym, subst}
 use Rattle.std.specs.Prelude.{map, if◌then◌else◌}
-use Rattle.inf_expressions.specs.declared.operators.Operand.{Operand}
-use Rattle.inf_expressions.specs.declared.operators.Operand.TheVariants as operand
-use Rattle.inf_expressions.specs.declared.operators.Test.{Test}
-use Rattle.inf_expressions.specs.declared.operators.Test.TheVariants as test
+use Rattle.inf_expressions.specs.{declared.operators.Operand.Operand, declared.operators.Test.Test}
 use Rattle.inf_interpreter.specs.Machine.{World, Store, ◌then◌}
 use Rattle.inf_meaning_laws.specs.Values.{Arg, Worked, Is, Reads, by_threes, either, in_groups, one_by_one, read, settled, settled_all}
 use Rattle.inf_meaning_laws.specs.Values.{test_of, tested, values, worked_all, worked_by}
@@ -13,7 +10,7 @@ use Rattle.inf_meaning_laws.specs.Values.{test_of, tested, values, worked_all, w
 abbrev pub LeavesLike : Option Operand → (Store → Option (ℕ × Store)) → Option Operand → Type 0
 LeavesLike (Some x) f k = Some x ≡ k
 LeavesLike None f None = Unit {0}
-LeavesLike None f (Some y) = (n : ℕ) × (y ≡ operand.Known n) × ((s : Store) → f s ≡ Some (n, s))
+LeavesLike None f (Some y) = (n : ℕ) × (y ≡ Operand.Known n) × ((s : Store) → f s ≡ Some (n, s))
 
 pub record ArgLike (a b : Arg) : Type 0 where
   pub leaves : LeavesLike a.leaf a.value b.leaf
@@ -164,12 +161,12 @@ module _ (w : World) where
 
   threes_like : (a : Pair) (ps : List Pair) (s : Store) → by_threes w a.left (lefts ps) s ≡ by_threes w a.right (rights ps) s
   threes_like a [] s = refl
-  threes_like a (b ∷ []) s = tested_like test.Equal (a ∷ b ∷ []) s
-  threes_like a (b ∷ c ∷ []) s = tested_like test.Equal (a ∷ b ∷ c ∷ []) s
-  threes_like a (b ∷ c ∷ d ∷ []) s = tested_like test.Equal (a ∷ b ∷ c ∷ d ∷ []) s
+  threes_like a (b ∷ []) s = tested_like Test.Equal (a ∷ b ∷ []) s
+  threes_like a (b ∷ c ∷ []) s = tested_like Test.Equal (a ∷ b ∷ c ∷ []) s
+  threes_like a (b ∷ c ∷ d ∷ []) s = tested_like Test.Equal (a ∷ b ∷ c ∷ d ∷ []) s
   threes_like a (b ∷ c ∷ d ∷ e ∷ ps) s =
       either_like _ _ (by_threes w a.left (lefts (e ∷ ps))) (by_threes w a.right (rights (e ∷ ps)))
-      (tested_like test.Equal (a ∷ b ∷ c ∷ d ∷ [])) (threes_like a (e ∷ ps)) s
+      (tested_like Test.Equal (a ∷ b ∷ c ∷ d ∷ [])) (threes_like a (e ∷ ps)) s
 
   ones_like : (t : Test) (a : Pair) (ps : List Pair) (s : Store)
       → one_by_one w t a.left (lefts ps) s ≡ one_by_one w t a.right (rights ps) s

@@ -1,24 +1,13 @@
 -- Meanings that stand for each other in every use: each operator keeps that.
 use Rattle.std.proofs.Common.{◌≡◌, ℕ, List, [], ◌∷◌, ◌++◌, Option, Some, None, Bool, true, false, refl, ◌∙◌, ap, sym, subst, arith}
 use Rattle.std.specs.Prelude.{if◌then◌else◌, length, nat_lt, not}
-use Rattle.inf_expressions.specs.declared.operators.Direction.{Direction}
-use Rattle.inf_expressions.specs.declared.operators.Operand.{Operand}
-use Rattle.inf_expressions.specs.declared.operators.Operation.{Operation}
-use Rattle.inf_expressions.specs.declared.operators.Operation.TheVariants as operation
-use Rattle.inf_expressions.specs.declared.operators.PropertyPart.{PropertyPart}
-use Rattle.inf_expressions.specs.declared.operators.PropertyPart.TheVariants as property
-use Rattle.inf_expressions.specs.declared.operators.Single.TheVariants as single
-use Rattle.inf_expressions.specs.declared.operators.Test.{Test}
-use Rattle.inf_expressions.specs.declared.operators.Test.TheVariants as test
-use Rattle.inf_expressions.specs.declared.operators.Unary.{Unary}
-use Rattle.inf_expressions.specs.declared.operators.Unary.TheVariants as unary
-use Rattle.inf_expressions.specs.declared.operators.Binary.{Binary}
-use Rattle.inf_expressions.specs.declared.operators.Binary.TheVariants as binary
-use Rattle.inf_expressions.specs.Numbers.{truth}
+use Rattle.inf_expressions.specs.{Numbers.truth, declared.operators.Binary.Binary, declared.operators.Direction.Direction}
+use Rattle.inf_expressions.specs.{declared.operators.Operand.Operand, declared.operators.Operation.Operation}
+use Rattle.inf_expressions.specs.{declared.operators.PropertyPart.PropertyPart, declared.operators.Single.Single}
+use Rattle.inf_expressions.specs.{declared.operators.Test.Test, declared.operators.Unary.Unary}
 use Rattle.inf_interpreter.specs.Machine.{World, Store, ◌then◌, called, drawn, with_variable}
 use Rattle.inf_interpreter.specs.Supplied.{supplied}
 use Rattle.inf_output.specs.declared.veneer.Veneer.{Veneer}
-use Rattle.inf_output.specs.declared.veneer.Veneer.TheVariants as veneer
 use Rattle.inf_meaning_laws.specs.Values.{Aim, Arg, Bytes, Element, Named, Nowhere, Properties, Sense, Taker, Width, Words, answer, arg}
 use Rattle.inf_meaning_laws.specs.Values.{args, asked, assigned, called_as, calls, compared, compares_three, computed, condition, drawn_of}
 use Rattle.inf_meaning_laws.specs.Values.{both, either, element_assigned, element_of, in_groups, in_order, is_not_zero, made, no_value}
@@ -201,7 +190,7 @@ module _ (w : World) where
   element_called Words xs ys a b cs ds m l n =
       calls_like (arg a ∷ cs) (arg b ∷ ds) (args_with (arg a) (arg b) cs ds (arg_like a b l) n)
   element_called Properties xs ys a b cs ds m l n =
-      supplied_like veneer.CallProperty (xs ++ cs) (ys ++ ds) (args_both xs ys cs ds m n)
+      supplied_like Veneer.CallProperty (xs ++ cs) (ys ++ ds) (args_both xs ys cs ds m n)
 
   called_like : (x y : Aim) (a b : Sense) (cs ds : List Arg) → AimsLike x y → Like a b → ArgsLike cs ds
       → Like (called_as w x a cs) (called_as w y b ds)
@@ -222,7 +211,7 @@ module _ (w : World) where
   -- Tests
 
   few_threes : (a : Arg) (b : Arg) (ys : List Arg) (s : Store) → nat_lt 3 (length (b ∷ ys)) ≡ false
-      → tested w test.Equal (a ∷ b ∷ ys) s ≡ in_groups true w test.Equal a (b ∷ ys) s
+      → tested w Test.Equal (a ∷ b ∷ ys) s ≡ in_groups true w Test.Equal a (b ∷ ys) s
   few_threes a b [] s h = refl
   few_threes a b (c ∷ []) s h = refl
   few_threes a b (c ∷ d ∷ []) s h = refl
@@ -235,15 +224,15 @@ module _ (w : World) where
 
   few : (t : Test) (a : Arg) (b : Arg) (ys : List Arg) (s : Store) → nat_lt (together t) (length (b ∷ ys)) ≡ false
       → tested w t (a ∷ b ∷ ys) s ≡ in_groups (compares_three t) w t a (b ∷ ys) s
-  few test.Equal a b ys s h = few_threes a b ys s h
-  few test.Less a b ys s h = few_ones test.Less a b ys s h
-  few test.Greater a b ys s h = few_ones test.Greater a b ys s h
-  few test.AtMost a b ys s h = few_ones test.AtMost a b ys s h
-  few test.AtLeast a b ys s h = few_ones test.AtLeast a b ys s h
-  few test.Has a b ys s h = few_ones test.Has a b ys s h
-  few test.In a b ys s h = few_ones test.In a b ys s h
-  few test.OfClass a b ys s h = few_ones test.OfClass a b ys s h
-  few test.Provides a b ys s h = few_ones test.Provides a b ys s h
+  few Test.Equal a b ys s h = few_threes a b ys s h
+  few Test.Less a b ys s h = few_ones Test.Less a b ys s h
+  few Test.Greater a b ys s h = few_ones Test.Greater a b ys s h
+  few Test.AtMost a b ys s h = few_ones Test.AtMost a b ys s h
+  few Test.AtLeast a b ys s h = few_ones Test.AtLeast a b ys s h
+  few Test.Has a b ys s h = few_ones Test.Has a b ys s h
+  few Test.In a b ys s h = few_ones Test.In a b ys s h
+  few Test.OfClass a b ys s h = few_ones Test.OfClass a b ys s h
+  few Test.Provides a b ys s h = few_ones Test.Provides a b ys s h
 
   same_length : (ps : List Pair) → length (lefts ps) ≡ length (rights ps)
   same_length [] = refl
@@ -298,20 +287,20 @@ module _ (w : World) where
   -- Operators
 
   element_aim : (o : Operation) (xs ys : List Arg) → ArgsLike xs ys → AimsLike (element_of o xs) (element_of o ys)
-  element_aim operation.Add xs ys l = tt
-  element_aim operation.Subtract xs ys l = tt
-  element_aim operation.Multiply xs ys l = tt
-  element_aim operation.Divide xs ys l = tt
-  element_aim operation.Remainder xs ys l = tt
-  element_aim operation.BitAnd xs ys l = tt
-  element_aim operation.BitOr xs ys l = tt
-  element_aim operation.Byte xs ys l = (refl, l)
-  element_aim operation.Word xs ys l = (refl, l)
+  element_aim Operation.Add xs ys l = tt
+  element_aim Operation.Subtract xs ys l = tt
+  element_aim Operation.Multiply xs ys l = tt
+  element_aim Operation.Divide xs ys l = tt
+  element_aim Operation.Remainder xs ys l = tt
+  element_aim Operation.BitAnd xs ys l = tt
+  element_aim Operation.BitOr xs ys l = tt
+  element_aim Operation.Byte xs ys l = (refl, l)
+  element_aim Operation.Word xs ys l = (refl, l)
 
   part_aim : (p : PropertyPart) (xs ys : List Arg) → ArgsLike xs ys → AimsLike (property_aim p xs) (property_aim p ys)
-  part_aim property.Value xs ys l = (refl, l)
-  part_aim property.Address xs ys l = tt
-  part_aim property.Length xs ys l = tt
+  part_aim PropertyPart.Value xs ys l = (refl, l)
+  part_aim PropertyPart.Address xs ys l = tt
+  part_aim PropertyPart.Length xs ys l = tt
 
   in_order_like : (a b c d : Sense) → Like a b → Like c d → Like (in_order a c) (in_order b d)
   in_order_like a b c d l m =
@@ -328,7 +317,7 @@ module _ (w : World) where
       steps (a.truth s) (b.truth s) (λ p. if p.0 then Some (true, p.1) else c.truth p.1)
       (λ p. if p.0 then Some (true, p.1) else d.truth p.1) (l.truth s) (λ p. ap (λ o. if p.0 then Some (true, p.1) else o) (m.truth p.1))
 
-  list_like : (a b c d : Sense) → Like a b → Like c d → Like (two w binary.Then a c) (two w binary.Then b d)
+  list_like : (a b c d : Sense) → Like a b → Like c d → Like (two w Binary.Then a c) (two w Binary.Then b d)
   list_like a b c d l m =
       let v = valued_like a.value b.value l.value in record {
         leaves = v.leaves;
@@ -341,44 +330,44 @@ module _ (w : World) where
       }
 
   pub one_like : (op : Unary) (a b : Sense) → Like a b → Like (one w op a) (one w op b)
-  one_like unary.Negate a b l =
-      computed_like (operation_of operation.Subtract) (number 0 ∷ arg a ∷ []) (number 0 ∷ arg b ∷ [])
+  one_like Unary.Negate a b l =
+      computed_like (operation_of Operation.Subtract) (number 0 ∷ arg a ∷ []) (number 0 ∷ arg b ∷ [])
       (args_with (number 0) (number 0) (arg a ∷ []) (arg b ∷ []) (arg_same (number 0)) (one_part a b l))
-  one_like unary.Not a b l = condition_like (opposite a.truth) (opposite b.truth) (opposite_like a.truth b.truth l.truth)
-  one_like (unary.Single single.Random) a b l = drawn_like (arg a ∷ []) (arg b ∷ []) (one_part a b l)
-  one_like (unary.Single single.Complement) a b l =
-      computed_like (single_of w single.Complement) (arg a ∷ []) (arg b ∷ []) (one_part a b l)
-  one_like (unary.Single single.Parent) a b l =
-      computed_like (single_of w single.Parent) (arg a ∷ []) (arg b ∷ []) (one_part a b l)
-  one_like (unary.Relative how) a b l = computed_like (relative_of w how) (arg a ∷ []) (arg b ∷ []) (one_part a b l)
-  one_like (unary.Before how) a b l = before_like how a.aim b.aim l.aims
-  one_like (unary.Behind how) a b l = behind_like how a.aim b.aim l.aims
-  one_like unary.Children a b l = supplied_like veneer.Children (arg a ∷ []) (arg b ∷ []) (one_part a b l)
-  one_like unary.Call a b l = called_like a.aim b.aim a b [] [] l.aims l (args_same [])
-  one_like unary.Indirect a b l = calls_like (args a) (args b) (args_like a b l)
+  one_like Unary.Not a b l = condition_like (opposite a.truth) (opposite b.truth) (opposite_like a.truth b.truth l.truth)
+  one_like (Unary.Single Single.Random) a b l = drawn_like (arg a ∷ []) (arg b ∷ []) (one_part a b l)
+  one_like (Unary.Single Single.Complement) a b l =
+      computed_like (single_of w Single.Complement) (arg a ∷ []) (arg b ∷ []) (one_part a b l)
+  one_like (Unary.Single Single.Parent) a b l =
+      computed_like (single_of w Single.Parent) (arg a ∷ []) (arg b ∷ []) (one_part a b l)
+  one_like (Unary.Relative how) a b l = computed_like (relative_of w how) (arg a ∷ []) (arg b ∷ []) (one_part a b l)
+  one_like (Unary.Before how) a b l = before_like how a.aim b.aim l.aims
+  one_like (Unary.Behind how) a b l = behind_like how a.aim b.aim l.aims
+  one_like Unary.Children a b l = supplied_like Veneer.Children (arg a ∷ []) (arg b ∷ []) (one_part a b l)
+  one_like Unary.Call a b l = called_like a.aim b.aim a b [] [] l.aims l (args_same [])
+  one_like Unary.Indirect a b l = calls_like (args a) (args b) (args_like a b l)
 
   pub two_like : (op : Binary) (a b c d : Sense) → Like a b → Like c d → Like (two w op a c) (two w op b d)
-  two_like (binary.Operation o) a b c d l m =
+  two_like (Binary.Operation o) a b c d l m =
       let xs = arg a ∷ arg c ∷ [] in
       let ys = arg b ∷ arg d ∷ [] in
       let parts = two_parts a b c d l m in
       aimed (computed w (operation_of o) xs) (computed w (operation_of o) ys) (element_of o xs) (element_of o ys)
       (computed_like (operation_of o) xs ys parts) (element_aim o xs ys parts)
-  two_like (binary.Property p) a b c d l m =
+  two_like (Binary.Property p) a b c d l m =
       let xs = arg a ∷ arg c ∷ [] in
       let ys = arg b ∷ arg d ∷ [] in
       let parts = two_parts a b c d l m in
       aimed (supplied_by w (asked p) xs) (supplied_by w (asked p) ys) (property_aim p xs) (property_aim p ys)
       (supplied_like (asked p) xs ys parts) (part_aim p xs ys parts)
-  two_like (binary.Test t) a b c d l m =
+  two_like (Binary.Test t) a b c d l m =
       condition_like (compared w t a.leaf a (args c)) (compared w t b.leaf b (args d)) (compared_like t a b c d l m)
-  two_like (binary.Fails t) a b c d l m =
+  two_like (Binary.Fails t) a b c d l m =
       condition_like (opposite (compared w t a.leaf a (args c))) (opposite (compared w t b.leaf b (args d)))
       (opposite_like (compared w t a.leaf a (args c)) (compared w t b.leaf b (args d)) (compared_like t a b c d l m))
-  two_like binary.Assign a b c d l m = assigned_like a.aim b.aim c d l.aims m
-  two_like binary.Comma a b c d l m = in_order_like a b c d l m
-  two_like binary.And a b c d l m = condition_like (both a.truth c.truth) (both b.truth d.truth) (both_like a b c d l m)
-  two_like binary.Or a b c d l m = condition_like (either a.truth c.truth) (either b.truth d.truth) (some_like a b c d l m)
-  two_like binary.Call a b c d l m = called_like a.aim b.aim a b (args c) (args d) l.aims l (args_like c d m)
-  two_like binary.Then a b c d l m = list_like a b c d l m
-  two_like binary.To a b c d l m = like_same no_value
+  two_like Binary.Assign a b c d l m = assigned_like a.aim b.aim c d l.aims m
+  two_like Binary.Comma a b c d l m = in_order_like a b c d l m
+  two_like Binary.And a b c d l m = condition_like (both a.truth c.truth) (both b.truth d.truth) (both_like a b c d l m)
+  two_like Binary.Or a b c d l m = condition_like (either a.truth c.truth) (either b.truth d.truth) (some_like a b c d l m)
+  two_like Binary.Call a b c d l m = called_like a.aim b.aim a b (args c) (args d) l.aims l (args_like c d m)
+  two_like Binary.Then a b c d l m = list_like a b c d l m
+  two_like Binary.To a b c d l m = like_same no_value

@@ -1,30 +1,19 @@
 -- Where nothing is found wrong in an expression, it is sound: whatever a number takes the place of has proper operands and a divisor.
 use Rattle.std.proofs.Common.{◌≡◌, ℕ, List, Option, Some, None, Bool, true, false, refl, ◌∙◌, ap, sym, subst}
 use Rattle.std.specs.Prelude.{◌==◌, ◌&&◌, cond, if◌then◌else◌, nat_lt, suc}
-use Rattle.inf_expressions.specs.declared.findings.Finding.{Finding}
-use Rattle.inf_expressions.specs.declared.operators.Function.{Function}
-use Rattle.inf_expressions.specs.declared.operators.Operand.{Operand}
-use Rattle.inf_expressions.specs.declared.operators.Operand.TheVariants as operand
-use Rattle.inf_expressions.specs.declared.operators.Operation.{Operation}
-use Rattle.inf_expressions.specs.declared.operators.Operation.TheVariants as operation
-use Rattle.inf_expressions.specs.declared.operators.PropertyPart.TheVariants as property
-use Rattle.inf_expressions.specs.declared.operators.Unary.{Unary}
-use Rattle.inf_expressions.specs.declared.operators.Unary.TheVariants as unary
-use Rattle.inf_expressions.specs.declared.operators.Binary.{Binary}
-use Rattle.inf_expressions.specs.declared.operators.Binary.TheVariants as binary
+use Rattle.inf_expressions.specs.{Rooted.Rooted, Rooted.kind_of, Rooted.seen, Sources.found_in, Sources.meant, Sources.opened, Trees.Leaf}
+use Rattle.inf_expressions.specs.{Trees.One, Trees.Tree, Trees.Two, Units.operand_at, declared.findings.Finding.Finding}
+use Rattle.inf_expressions.specs.{declared.operators.Binary.Binary, declared.operators.Function.Function}
+use Rattle.inf_expressions.specs.{declared.operators.Operand.Operand, declared.operators.Operation.Operation}
+use Rattle.inf_expressions.specs.{declared.operators.PropertyPart.PropertyPart, declared.operators.Unary.Unary}
 use Rattle.inf_expressions.specs.Findings.{is_before, least, no_constant, out_of_range, too_many_arguments, wrong_kind}
 use Rattle.inf_expressions.specs.Folding.{built, folded, folded_single, folded_two, function_of, joined, joined_single, known, number_or}
 use Rattle.inf_expressions.specs.Judging.{constant_finding, division_finding, is_known, is_zero, leaf_finding, most_arguments}
 use Rattle.inf_expressions.specs.Judging.{target_finding_of, two_finding, unary_finding, value_finding_of, values_finding}
-use Rattle.inf_expressions.specs.Rooted.{Rooted, kind_of, seen}
-use Rattle.inf_expressions.specs.Sources.{found_in, meant, opened}
 use Rattle.inf_expressions.specs.Sources as source
-use Rattle.inf_expressions.specs.Trees.{Tree, Leaf, One, Two}
-use Rattle.inf_expressions.specs.Units.{operand_at}
 use Rattle.inf_meaning_laws.specs.Values.{sense}
-use Rattle.inf_number_laws.specs.Known.{AreAlike, HasDivisor, IsProper}
-use Rattle.inf_number_laws.specs.Whole.{IsSound, plain, with_numbers}
-use Rattle.inf_number_laws.specs.Written.{SourcesKeep, UntoldIsSound, written}
+use Rattle.inf_number_laws.specs.{Known.AreAlike, Known.HasDivisor, Known.IsProper, Whole.IsSound, Whole.plain, Whole.with_numbers}
+use Rattle.inf_number_laws.specs.{Written.SourcesKeep, Written.UntoldIsSound, Written.written}
 use Rattle.inf_number_laws.proofs.Whole.{numbers_written, trees_keep}
 
 -- A finding is not forgotten.
@@ -49,7 +38,7 @@ less f found e = elim (least_tells found f e) [ ]
 -- Findings about a tree, by its kind
 
 abbrev IsValue : Tree → Type 0
-IsValue (Leaf (operand.Function f)) = ⊥
+IsValue (Leaf (Operand.Function f)) = ⊥
 IsValue t = Unit {0}
 
 record Facts (t : Tree) : Type 0 where
@@ -65,64 +54,64 @@ unfit : (x : ℕ) → Tells (λ found. least found (no_constant x))
 unfit x = less (no_constant x)
 
 facts : (t : Tree) → Facts t
-facts (Leaf (operand.Known n)) = record { value = λ x. same; is_value = λ x f e. tt; target = wrong; constant = λ x. same }
-facts (Leaf (operand.Variable v)) = record { value = λ x. same; is_value = λ x f e. tt; target = λ x. same; constant = unfit }
-facts (Leaf (operand.Later t)) = record { value = λ x. same; is_value = λ x f e. tt; target = wrong; constant = λ x. same }
-facts (Leaf (operand.Function g)) =
+facts (Leaf (Operand.Known n)) = record { value = λ x. same; is_value = λ x f e. tt; target = wrong; constant = λ x. same }
+facts (Leaf (Operand.Variable v)) = record { value = λ x. same; is_value = λ x f e. tt; target = λ x. same; constant = unfit }
+facts (Leaf (Operand.Later t)) = record { value = λ x. same; is_value = λ x f e. tt; target = wrong; constant = λ x. same }
+facts (Leaf (Operand.Function g)) =
     record { value = wrong; is_value = λ x f e. least_tells f (wrong_kind x) e; target = wrong; constant = λ x. same }
-facts (Leaf operand.Unknown) = record { value = λ x. same; is_value = λ x f e. tt; target = wrong; constant = λ x. same }
+facts (Leaf Operand.Unknown) = record { value = λ x. same; is_value = λ x f e. tt; target = wrong; constant = λ x. same }
 facts (One op a) = record { value = λ x. same; is_value = λ x f e. tt; target = wrong; constant = unfit }
-facts (Two (binary.Operation operation.Byte) a b) =
+facts (Two (Binary.Operation Operation.Byte) a b) =
     record { value = λ x. same; is_value = λ x f e. tt; target = λ x. same; constant = unfit }
-facts (Two (binary.Operation operation.Word) a b) =
+facts (Two (Binary.Operation Operation.Word) a b) =
     record { value = λ x. same; is_value = λ x f e. tt; target = λ x. same; constant = unfit }
-facts (Two (binary.Operation operation.Add) a b) = record { value = λ x. same; is_value = λ x f e. tt; target = wrong; constant = unfit }
-facts (Two (binary.Operation operation.Subtract) a b) =
+facts (Two (Binary.Operation Operation.Add) a b) = record { value = λ x. same; is_value = λ x f e. tt; target = wrong; constant = unfit }
+facts (Two (Binary.Operation Operation.Subtract) a b) =
     record { value = λ x. same; is_value = λ x f e. tt; target = wrong; constant = unfit }
-facts (Two (binary.Operation operation.Multiply) a b) =
+facts (Two (Binary.Operation Operation.Multiply) a b) =
     record { value = λ x. same; is_value = λ x f e. tt; target = wrong; constant = unfit }
-facts (Two (binary.Operation operation.Divide) a b) =
+facts (Two (Binary.Operation Operation.Divide) a b) =
     record { value = λ x. same; is_value = λ x f e. tt; target = wrong; constant = unfit }
-facts (Two (binary.Operation operation.Remainder) a b) =
+facts (Two (Binary.Operation Operation.Remainder) a b) =
     record { value = λ x. same; is_value = λ x f e. tt; target = wrong; constant = unfit }
-facts (Two (binary.Operation operation.BitAnd) a b) =
+facts (Two (Binary.Operation Operation.BitAnd) a b) =
     record { value = λ x. same; is_value = λ x f e. tt; target = wrong; constant = unfit }
-facts (Two (binary.Operation operation.BitOr) a b) =
+facts (Two (Binary.Operation Operation.BitOr) a b) =
     record { value = λ x. same; is_value = λ x f e. tt; target = wrong; constant = unfit }
-facts (Two (binary.Property property.Value) a b) =
+facts (Two (Binary.Property PropertyPart.Value) a b) =
     record { value = λ x. same; is_value = λ x f e. tt; target = λ x. same; constant = unfit }
-facts (Two (binary.Property property.Address) a b) =
+facts (Two (Binary.Property PropertyPart.Address) a b) =
     record { value = λ x. same; is_value = λ x f e. tt; target = wrong; constant = unfit }
-facts (Two (binary.Property property.Length) a b) =
+facts (Two (Binary.Property PropertyPart.Length) a b) =
     record { value = λ x. same; is_value = λ x f e. tt; target = wrong; constant = unfit }
-facts (Two (binary.Test t) a b) = record { value = λ x. same; is_value = λ x f e. tt; target = wrong; constant = unfit }
-facts (Two (binary.Fails t) a b) = record { value = λ x. same; is_value = λ x f e. tt; target = wrong; constant = unfit }
-facts (Two binary.Assign a b) = record { value = λ x. same; is_value = λ x f e. tt; target = wrong; constant = unfit }
-facts (Two binary.Comma a b) = record { value = λ x. same; is_value = λ x f e. tt; target = wrong; constant = unfit }
-facts (Two binary.And a b) = record { value = λ x. same; is_value = λ x f e. tt; target = wrong; constant = unfit }
-facts (Two binary.Or a b) = record { value = λ x. same; is_value = λ x f e. tt; target = wrong; constant = unfit }
-facts (Two binary.Call a b) = record { value = λ x. same; is_value = λ x f e. tt; target = wrong; constant = unfit }
-facts (Two binary.Then a b) = record { value = λ x. same; is_value = λ x f e. tt; target = wrong; constant = unfit }
-facts (Two binary.To a b) = record { value = λ x. same; is_value = λ x f e. tt; target = wrong; constant = unfit }
+facts (Two (Binary.Test t) a b) = record { value = λ x. same; is_value = λ x f e. tt; target = wrong; constant = unfit }
+facts (Two (Binary.Fails t) a b) = record { value = λ x. same; is_value = λ x f e. tt; target = wrong; constant = unfit }
+facts (Two Binary.Assign a b) = record { value = λ x. same; is_value = λ x f e. tt; target = wrong; constant = unfit }
+facts (Two Binary.Comma a b) = record { value = λ x. same; is_value = λ x f e. tt; target = wrong; constant = unfit }
+facts (Two Binary.And a b) = record { value = λ x. same; is_value = λ x f e. tt; target = wrong; constant = unfit }
+facts (Two Binary.Or a b) = record { value = λ x. same; is_value = λ x f e. tt; target = wrong; constant = unfit }
+facts (Two Binary.Call a b) = record { value = λ x. same; is_value = λ x f e. tt; target = wrong; constant = unfit }
+facts (Two Binary.Then a b) = record { value = λ x. same; is_value = λ x f e. tt; target = wrong; constant = unfit }
+facts (Two Binary.To a b) = record { value = λ x. same; is_value = λ x f e. tt; target = wrong; constant = unfit }
 
 some_same : {A : Type 0} {x y : A} → Some x ≡ Some y → x ≡ y
 some_same e = cc
 
 known_kind : (t : Tree) (n : ℕ) → known t ≡ Some n → is_known (kind_of t) ≡ true
-known_kind (Leaf (operand.Known m)) n e = refl
-known_kind (Leaf (operand.Variable v)) n e = cc
-known_kind (Leaf (operand.Later t)) n e = cc
-known_kind (Leaf (operand.Function f)) n e = refl
-known_kind (Leaf operand.Unknown) n e = refl
+known_kind (Leaf (Operand.Known m)) n e = refl
+known_kind (Leaf (Operand.Variable v)) n e = cc
+known_kind (Leaf (Operand.Later t)) n e = cc
+known_kind (Leaf (Operand.Function f)) n e = refl
+known_kind (Leaf Operand.Unknown) n e = refl
 known_kind (One op a) n e = cc
 known_kind (Two op a b) n e = cc
 
 zero_kind : (t : Tree) → known t ≡ Some 0 → is_zero (kind_of t) ≡ true
-zero_kind (Leaf (operand.Known m)) e = ap (λ n. n == 0) (some_same e)
-zero_kind (Leaf (operand.Variable v)) e = cc
-zero_kind (Leaf (operand.Later t)) e = cc
-zero_kind (Leaf (operand.Function f)) e = refl
-zero_kind (Leaf operand.Unknown) e = refl
+zero_kind (Leaf (Operand.Known m)) e = ap (λ n. n == 0) (some_same e)
+zero_kind (Leaf (Operand.Variable v)) e = cc
+zero_kind (Leaf (Operand.Later t)) e = cc
+zero_kind (Leaf (Operand.Function f)) e = refl
+zero_kind (Leaf Operand.Unknown) e = refl
 zero_kind (One op a) e = cc
 zero_kind (Two op a b) e = cc
 
@@ -137,15 +126,15 @@ one_fine r found e =
     let f = facts r.tree in record { nothing = f.value r.origin.token found e; value = f.is_value r.origin.token found e }
 
 unary_fine : (op : Unary) (r : Rooted) (found : Option Finding) → unary_finding op (seen r) found ≡ None → OneIsFine r.tree found
-unary_fine (unary.Before how) r found e = one_fine r found ((facts r.tree).target r.origin.first _ e)
-unary_fine (unary.Behind how) r found e = one_fine r found ((facts r.tree).target r.origin.first _ e)
-unary_fine unary.Negate r found e = one_fine r found e
-unary_fine unary.Not r found e = one_fine r found e
-unary_fine (unary.Single how) r found e = one_fine r found e
-unary_fine (unary.Relative how) r found e = one_fine r found e
-unary_fine unary.Children r found e = one_fine r found e
-unary_fine unary.Call r found e = one_fine r found e
-unary_fine unary.Indirect r found e = one_fine r found e
+unary_fine (Unary.Before how) r found e = one_fine r found ((facts r.tree).target r.origin.first _ e)
+unary_fine (Unary.Behind how) r found e = one_fine r found ((facts r.tree).target r.origin.first _ e)
+unary_fine Unary.Negate r found e = one_fine r found e
+unary_fine Unary.Not r found e = one_fine r found e
+unary_fine (Unary.Single how) r found e = one_fine r found e
+unary_fine (Unary.Relative how) r found e = one_fine r found e
+unary_fine Unary.Children r found e = one_fine r found e
+unary_fine Unary.Call r found e = one_fine r found e
+unary_fine Unary.Indirect r found e = one_fine r found e
 
 -- Operators of two parts
 
@@ -181,39 +170,39 @@ no_zero false q f found e h g = cc
 
 divided_by : (o : Operation) (unit : ℕ) (a b : Tree) (found : Option Finding) (n : ℕ)
     → division_finding unit (kind_of a) (kind_of b) found ≡ None
-    → (k : Option ℕ) → known a ≡ k → folded_two (binary.Operation o) k (known b) ≡ Some n → known b ≡ Some 0 → ⊥
+    → (k : Option ℕ) → known a ≡ k → folded_two (Binary.Operation o) k (known b) ≡ Some n → known b ≡ Some 0 → ⊥
 divided_by o unit a b found n e None h g z = cc
 divided_by o unit a b found n e (Some x) h g z =
     no_zero (is_known (kind_of a)) (is_zero (kind_of b)) (out_of_range unit) found e (known_kind a x h) (zero_kind b z)
 
 two_fine : (op : Binary) (unit : ℕ) (r q : Rooted) (found : Option Finding) → two_finding op unit (seen r) (seen q) found ≡ None
     → TwoAreFine op r.tree q.tree found
-two_fine (binary.Operation operation.Divide) unit r q found e =
+two_fine (Binary.Operation Operation.Divide) unit r q found e =
     let tells = division_tells (is_known (kind_of r.tree)) (is_zero (kind_of q.tree)) (out_of_range unit) in
-    with_divisor (binary.Operation operation.Divide) r.tree q.tree found (values_fine r q found (tells _ e))
-    (λ n g. divided_by operation.Divide unit r.tree q.tree _ n e (known r.tree) refl g)
-two_fine (binary.Operation operation.Remainder) unit r q found e =
+    with_divisor (Binary.Operation Operation.Divide) r.tree q.tree found (values_fine r q found (tells _ e))
+    (λ n g. divided_by Operation.Divide unit r.tree q.tree _ n e (known r.tree) refl g)
+two_fine (Binary.Operation Operation.Remainder) unit r q found e =
     let tells = division_tells (is_known (kind_of r.tree)) (is_zero (kind_of q.tree)) (out_of_range unit) in
-    with_divisor (binary.Operation operation.Remainder) r.tree q.tree found (values_fine r q found (tells _ e))
-    (λ n g. divided_by operation.Remainder unit r.tree q.tree _ n e (known r.tree) refl g)
-two_fine (binary.Operation operation.Add) unit r q found e = with_divisor _ _ _ found (values_fine r q found e) (λ n g. tt)
-two_fine (binary.Operation operation.Subtract) unit r q found e = with_divisor _ _ _ found (values_fine r q found e) (λ n g. tt)
-two_fine (binary.Operation operation.Multiply) unit r q found e = with_divisor _ _ _ found (values_fine r q found e) (λ n g. tt)
-two_fine (binary.Operation operation.BitAnd) unit r q found e = with_divisor _ _ _ found (values_fine r q found e) (λ n g. tt)
-two_fine (binary.Operation operation.BitOr) unit r q found e = with_divisor _ _ _ found (values_fine r q found e) (λ n g. tt)
-two_fine (binary.Operation operation.Byte) unit r q found e = with_divisor _ _ _ found (values_fine r q found e) (λ n g. tt)
-two_fine (binary.Operation operation.Word) unit r q found e = with_divisor _ _ _ found (values_fine r q found e) (λ n g. tt)
-two_fine (binary.Property p) unit r q found e = with_divisor _ _ _ found (values_fine r q found e) (λ n g. tt)
-two_fine (binary.Test t) unit r q found e = with_divisor _ _ _ found (values_fine r q found e) (λ n g. tt)
-two_fine (binary.Fails t) unit r q found e = with_divisor _ _ _ found (values_fine r q found e) (λ n g. tt)
-two_fine binary.Assign unit r q found e =
+    with_divisor (Binary.Operation Operation.Remainder) r.tree q.tree found (values_fine r q found (tells _ e))
+    (λ n g. divided_by Operation.Remainder unit r.tree q.tree _ n e (known r.tree) refl g)
+two_fine (Binary.Operation Operation.Add) unit r q found e = with_divisor _ _ _ found (values_fine r q found e) (λ n g. tt)
+two_fine (Binary.Operation Operation.Subtract) unit r q found e = with_divisor _ _ _ found (values_fine r q found e) (λ n g. tt)
+two_fine (Binary.Operation Operation.Multiply) unit r q found e = with_divisor _ _ _ found (values_fine r q found e) (λ n g. tt)
+two_fine (Binary.Operation Operation.BitAnd) unit r q found e = with_divisor _ _ _ found (values_fine r q found e) (λ n g. tt)
+two_fine (Binary.Operation Operation.BitOr) unit r q found e = with_divisor _ _ _ found (values_fine r q found e) (λ n g. tt)
+two_fine (Binary.Operation Operation.Byte) unit r q found e = with_divisor _ _ _ found (values_fine r q found e) (λ n g. tt)
+two_fine (Binary.Operation Operation.Word) unit r q found e = with_divisor _ _ _ found (values_fine r q found e) (λ n g. tt)
+two_fine (Binary.Property p) unit r q found e = with_divisor _ _ _ found (values_fine r q found e) (λ n g. tt)
+two_fine (Binary.Test t) unit r q found e = with_divisor _ _ _ found (values_fine r q found e) (λ n g. tt)
+two_fine (Binary.Fails t) unit r q found e = with_divisor _ _ _ found (values_fine r q found e) (λ n g. tt)
+two_fine Binary.Assign unit r q found e =
     with_divisor _ _ _ found (values_fine r q found ((facts r.tree).target r.origin.first _ e)) (λ n g. tt)
-two_fine binary.Comma unit r q found e = with_divisor _ _ _ found (values_fine r q found e) (λ n g. tt)
-two_fine binary.And unit r q found e = with_divisor _ _ _ found (values_fine r q found e) (λ n g. tt)
-two_fine binary.Or unit r q found e = with_divisor _ _ _ found (values_fine r q found e) (λ n g. tt)
-two_fine binary.Call unit r q found e = with_divisor _ _ _ found (values_fine r q found e) (λ n g. tt)
-two_fine binary.Then unit r q found e = with_divisor _ _ _ found (values_fine r q found e) (λ n g. tt)
-two_fine binary.To unit r q found e =
+two_fine Binary.Comma unit r q found e = with_divisor _ _ _ found (values_fine r q found e) (λ n g. tt)
+two_fine Binary.And unit r q found e = with_divisor _ _ _ found (values_fine r q found e) (λ n g. tt)
+two_fine Binary.Or unit r q found e = with_divisor _ _ _ found (values_fine r q found e) (λ n g. tt)
+two_fine Binary.Call unit r q found e = with_divisor _ _ _ found (values_fine r q found e) (λ n g. tt)
+two_fine Binary.Then unit r q found e = with_divisor _ _ _ found (values_fine r q found e) (λ n g. tt)
+two_fine Binary.To unit r q found e =
     with_divisor _ _ _ found (values_fine r q found ((facts r.tree).constant unit _ ((facts q.tree).constant unit _ e))) (λ n g. tt)
 
 call_by : (b : Bool) (f : Finding) (r : Rooted) (found : Option Finding)
@@ -229,38 +218,38 @@ abbrev IsFit : Tree → Type 0
 IsFit t = IsValue t → IsProper t
 
 fit_leaf : (x : Operand) (token : ℕ) → leaf_finding x token None ≡ None → IsFit (Leaf x)
-fit_leaf (operand.Known n) token e v = tt
-fit_leaf (operand.Variable n) token e v = tt
-fit_leaf (operand.Later t) token e v = tt
-fit_leaf (operand.Function f) token e v = v
-fit_leaf operand.Unknown token e v = cc
+fit_leaf (Operand.Known n) token e v = tt
+fit_leaf (Operand.Variable n) token e v = tt
+fit_leaf (Operand.Later t) token e v = tt
+fit_leaf (Operand.Function f) token e v = v
+fit_leaf Operand.Unknown token e v = cc
 
 leaf_tells : (x : Operand) (token : ℕ) → Tells (λ found. leaf_finding x token found)
-leaf_tells (operand.Known n) token = same
-leaf_tells (operand.Variable n) token = same
-leaf_tells (operand.Later t) token = same
-leaf_tells (operand.Function f) token = same
-leaf_tells operand.Unknown token = wrong token
+leaf_tells (Operand.Known n) token = same
+leaf_tells (Operand.Variable n) token = same
+leaf_tells (Operand.Later t) token = same
+leaf_tells (Operand.Function f) token = same
+leaf_tells Operand.Unknown token = wrong token
 
 proper_number : (k : Option ℕ) (t : Tree) → IsProper t → IsProper (number_or k t)
 proper_number None t p = p
 proper_number (Some n) t p = tt
 
 proper_built : (op : Binary) (f : Option Function) (a b : Tree) → IsProper a → IsProper b → IsProper (built op f a b)
-proper_built (binary.Operation o) f a b p q = tt
-proper_built (binary.Property g) f a b p q = tt
-proper_built (binary.Test t) f a b p q = tt
-proper_built (binary.Fails t) f a b p q = tt
-proper_built binary.Assign f a b p q = tt
-proper_built binary.Comma f a b p q = tt
-proper_built binary.And f a b p q = tt
-proper_built binary.Or f a b p q = tt
-proper_built binary.Call None a b p q = tt
-proper_built binary.Call (Some g) a b p q = tt
-proper_built binary.Then f a b p q = (p, q)
-proper_built binary.To f a b p q = tt
+proper_built (Binary.Operation o) f a b p q = tt
+proper_built (Binary.Property g) f a b p q = tt
+proper_built (Binary.Test t) f a b p q = tt
+proper_built (Binary.Fails t) f a b p q = tt
+proper_built Binary.Assign f a b p q = tt
+proper_built Binary.Comma f a b p q = tt
+proper_built Binary.And f a b p q = tt
+proper_built Binary.Or f a b p q = tt
+proper_built Binary.Call None a b p q = tt
+proper_built Binary.Call (Some g) a b p q = tt
+proper_built Binary.Then f a b p q = (p, q)
+proper_built Binary.To f a b p q = tt
 
-proper_call : (f : Option Function) (a b : Tree) → IsProper (built binary.Call f a b)
+proper_call : (f : Option Function) (a b : Tree) → IsProper (built Binary.Call f a b)
 proper_call None a b = tt
 proper_call (Some g) a b = tt
 
@@ -282,7 +271,7 @@ module _ (unit : ℕ) (operands : List Operand) where
       tells a found (tells b (found_in unit operands a found) f.nothing)
   tells (source.Then a b) found e =
       let f =
-      two_fine binary.Then unit (meant operands a) (meant operands b) (found_in unit operands b (found_in unit operands a found)) e in
+      two_fine Binary.Then unit (meant operands a) (meant operands b) (found_in unit operands b (found_in unit operands a found)) e in
       tells a found (tells b (found_in unit operands a found) f.nothing)
   tells (source.Call f list) found e =
       let g =
@@ -290,7 +279,7 @@ module _ (unit : ℕ) (operands : List Operand) where
       (found_in unit operands list (found_in unit operands f found)) e in
       tells f found (tells list (found_in unit operands f found) g.nothing)
   tells (source.Alone f) found e =
-      tells f found (unary_fine unary.Call (meant operands f) (found_in unit operands f found) e).nothing
+      tells f found (unary_fine Unary.Call (meant operands f) (found_in unit operands f found) e).nothing
 
   abbrev IsGood : source.Source → Type 0
   IsGood a = IsSound (written operands a) × IsFit (tree_of a)
@@ -349,21 +338,21 @@ module _ (unit : ℕ) (operands : List Operand) where
   good (source.Suffix op a) e =
       let f = unary_fine op (meant operands a) (found_in unit operands a None) e in one_good op a (good a f.nothing) f.value
   good (source.Two op a b) e = pair_good op a b e (good a) (good b)
-  good (source.Then a b) e = pair_good binary.Then a b e (good a) (good b)
+  good (source.Then a b) e = pair_good Binary.Then a b e (good a) (good b)
   good (source.Call f list) e =
       let g =
       call_by (too_many f list) (too_many_arguments unit) (meant operands list)
       (found_in unit operands list (found_in unit operands f None)) e in
       let first : found_in unit operands f None ≡ None = tells list (found_in unit operands f None) g.nothing in
       let second : found_in unit operands list None ≡ None = ap (found_in unit operands list) (sym first) ∙ g.nothing in (
-        two_sound binary.Call f list (good f first).0 (good list second).0 (λ n e. cc),
+        two_sound Binary.Call f list (good f first).0 (good list second).0 (λ n e. cc),
         λ u.
-            proper_number (folded binary.Call (tree_of f) (tree_of list))
-            (built binary.Call (function_of (tree_of f)) (tree_of f) (tree_of list))
+            proper_number (folded Binary.Call (tree_of f) (tree_of list))
+            (built Binary.Call (function_of (tree_of f)) (tree_of f) (tree_of list))
             (proper_call (function_of (tree_of f)) (tree_of f) (tree_of list)),
       )
   good (source.Alone f) e =
-      let g = unary_fine unary.Call (meant operands f) (found_in unit operands f None) e in one_good unary.Call f (good f g.nothing) g.value
+      let g = unary_fine Unary.Call (meant operands f) (found_in unit operands f None) e in one_good Unary.Call f (good f g.nothing) g.value
 
 pub untold_is_sound : UntoldIsSound
 untold_is_sound unit operands a e = (good unit operands a e).0

@@ -1,28 +1,15 @@
 -- A tree with numbers in the place of operators of known numbers means what the tree of all operators means.
 use Rattle.std.proofs.Common.{◌≡◌, ℕ, List, [], Option, Some, None, refl, ◌∙◌, ap, sym, subst}
-use Rattle.inf_expressions.specs.declared.operators.Function.{Function}
-use Rattle.inf_expressions.specs.declared.operators.Operand.{Operand}
-use Rattle.inf_expressions.specs.declared.operators.Operand.TheVariants as operand
-use Rattle.inf_expressions.specs.declared.operators.Operation.{Operation}
-use Rattle.inf_expressions.specs.declared.operators.Operation.TheVariants as operation
-use Rattle.inf_expressions.specs.declared.operators.Single.TheVariants as single
-use Rattle.inf_expressions.specs.declared.operators.Unary.{Unary}
-use Rattle.inf_expressions.specs.declared.operators.Unary.TheVariants as unary
-use Rattle.inf_expressions.specs.declared.operators.Binary.{Binary}
-use Rattle.inf_expressions.specs.declared.operators.Binary.TheVariants as binary
-use Rattle.inf_expressions.specs.Sources.{meant}
-use Rattle.inf_expressions.specs.Sources as source
-use Rattle.inf_expressions.specs.Trees.{Tree, Leaf, One, Two}
+use Rattle.inf_expressions.specs.{Numbers.computed, Numbers.computed_single, Sources.meant, Trees.Leaf, Trees.One, Trees.Tree, Trees.Two}
+use Rattle.inf_expressions.specs.declared.{operators.Binary.Binary, operators.Function.Function, operators.Operand.Operand}
+use Rattle.inf_expressions.specs.declared.{operators.Operation.Operation, operators.Single.Single, operators.Unary.Unary}
 use Rattle.inf_expressions.specs.Folding.{built, folded, folded_single, folded_two, function_of, joined, joined_single, known, number_or}
 use Rattle.inf_expressions.specs.Folding.{operator_of}
-use Rattle.inf_expressions.specs.Numbers.{computed, computed_single}
+use Rattle.inf_expressions.specs.Sources as source
 use Rattle.inf_interpreter.specs.Machine.{World, Store}
 use Rattle.inf_meaning_laws.specs.Values.{Nowhere, Sense, leaf, nobody, sense}
-use Rattle.inf_number_laws.specs.Known.{IsNumber}
-use Rattle.inf_number_laws.specs.Whole.{IsSound, TreesKeep, plain, with_numbers}
-use Rattle.inf_number_laws.specs.Written.{written}
-use Rattle.inf_number_laws.proofs.Known.{known_is, known_one}
-use Rattle.inf_number_laws.proofs.Parts.{ArgsLike, LeavesLike}
+use Rattle.inf_number_laws.specs.{Known.IsNumber, Whole.IsSound, Whole.TreesKeep, Whole.plain, Whole.with_numbers, Written.written}
+use Rattle.inf_number_laws.proofs.{Known.known_is, Known.known_one, Parts.ArgsLike, Parts.LeavesLike}
 use Rattle.inf_number_laws.proofs.Senses.{AimsLike, Like, like_same, one_like, two_like}
 
 -- A meaning that is worked out, and is no list
@@ -41,57 +28,57 @@ made_by a l m f v o = record { no_leaf = l; no_aim = m; alone_first = f; value =
 -- Where a number takes the place of an operator, its meaning is such a one.
 
 no_number : (o : Operation) (n : ℕ) → ((x y : ℕ) → computed o x y ≡ None) → (j k : Option ℕ)
-    → folded_two (binary.Operation o) j k ≡ Some n → ⊥
+    → folded_two (Binary.Operation o) j k ≡ Some n → ⊥
 no_number o n h None k e = cc
 no_number o n h (Some x) None e = cc
 no_number o n h (Some x) (Some y) e = let g : computed o x y ≡ None = h x y in cc
 
 two_made : (w : World) (op : Binary) (f : Option Function) (a b : Tree) (n : ℕ) → folded op a b ≡ Some n → IsMade (sense w (built op f a b))
-two_made w (binary.Operation operation.Add) f a b n e = made_by _ refl refl refl (λ s. refl) refl
-two_made w (binary.Operation operation.Subtract) f a b n e = made_by _ refl refl refl (λ s. refl) refl
-two_made w (binary.Operation operation.Multiply) f a b n e = made_by _ refl refl refl (λ s. refl) refl
-two_made w (binary.Operation operation.Divide) f a b n e = made_by _ refl refl refl (λ s. refl) refl
-two_made w (binary.Operation operation.Remainder) f a b n e = made_by _ refl refl refl (λ s. refl) refl
-two_made w (binary.Operation operation.BitAnd) f a b n e = made_by _ refl refl refl (λ s. refl) refl
-two_made w (binary.Operation operation.BitOr) f a b n e = made_by _ refl refl refl (λ s. refl) refl
-two_made w (binary.Operation operation.Byte) f a b n e = elim (no_number operation.Byte n (λ x y. refl) (known a) (known b) e) [ ]
-two_made w (binary.Operation operation.Word) f a b n e = elim (no_number operation.Word n (λ x y. refl) (known a) (known b) e) [ ]
-two_made w (binary.Test t) f a b n e = made_by _ refl refl refl (λ s. refl) refl
-two_made w (binary.Fails t) f a b n e = made_by _ refl refl refl (λ s. refl) refl
-two_made w binary.And f a b n e = made_by _ refl refl refl (λ s. refl) refl
-two_made w binary.Or f a b n e = made_by _ refl refl refl (λ s. refl) refl
-two_made w (binary.Property p) f a b n e = cc
-two_made w binary.Assign f a b n e = cc
-two_made w binary.Comma f a b n e = cc
-two_made w binary.Call f a b n e = cc
-two_made w binary.Then f a b n e = cc
-two_made w binary.To f a b n e = cc
+two_made w (Binary.Operation Operation.Add) f a b n e = made_by _ refl refl refl (λ s. refl) refl
+two_made w (Binary.Operation Operation.Subtract) f a b n e = made_by _ refl refl refl (λ s. refl) refl
+two_made w (Binary.Operation Operation.Multiply) f a b n e = made_by _ refl refl refl (λ s. refl) refl
+two_made w (Binary.Operation Operation.Divide) f a b n e = made_by _ refl refl refl (λ s. refl) refl
+two_made w (Binary.Operation Operation.Remainder) f a b n e = made_by _ refl refl refl (λ s. refl) refl
+two_made w (Binary.Operation Operation.BitAnd) f a b n e = made_by _ refl refl refl (λ s. refl) refl
+two_made w (Binary.Operation Operation.BitOr) f a b n e = made_by _ refl refl refl (λ s. refl) refl
+two_made w (Binary.Operation Operation.Byte) f a b n e = elim (no_number Operation.Byte n (λ x y. refl) (known a) (known b) e) [ ]
+two_made w (Binary.Operation Operation.Word) f a b n e = elim (no_number Operation.Word n (λ x y. refl) (known a) (known b) e) [ ]
+two_made w (Binary.Test t) f a b n e = made_by _ refl refl refl (λ s. refl) refl
+two_made w (Binary.Fails t) f a b n e = made_by _ refl refl refl (λ s. refl) refl
+two_made w Binary.And f a b n e = made_by _ refl refl refl (λ s. refl) refl
+two_made w Binary.Or f a b n e = made_by _ refl refl refl (λ s. refl) refl
+two_made w (Binary.Property p) f a b n e = cc
+two_made w Binary.Assign f a b n e = cc
+two_made w Binary.Comma f a b n e = cc
+two_made w Binary.Call f a b n e = cc
+two_made w Binary.Then f a b n e = cc
+two_made w Binary.To f a b n e = cc
 
 no_single : (op : Unary) (n : ℕ) → ((x : ℕ) → computed_single op x ≡ None) → (k : Option ℕ) → folded_single op k ≡ Some n → ⊥
 no_single op n h None e = cc
 no_single op n h (Some x) e = let g : computed_single op x ≡ None = h x in cc
 
 one_made : (w : World) (op : Unary) (a : Tree) (n : ℕ) → folded_single op (known a) ≡ Some n → IsMade (sense w (One op a))
-one_made w unary.Negate a n e = made_by _ refl refl refl (λ s. refl) refl
-one_made w unary.Not a n e = made_by _ refl refl refl (λ s. refl) refl
-one_made w (unary.Single single.Complement) a n e = made_by _ refl refl refl (λ s. refl) refl
-one_made w (unary.Single single.Parent) a n e = elim (no_single (unary.Single single.Parent) n (λ x. refl) (known a) e) [ ]
-one_made w (unary.Single single.Random) a n e = elim (no_single (unary.Single single.Random) n (λ x. refl) (known a) e) [ ]
-one_made w (unary.Before how) a n e = elim (no_single (unary.Before how) n (λ x. refl) (known a) e) [ ]
-one_made w (unary.Behind how) a n e = elim (no_single (unary.Behind how) n (λ x. refl) (known a) e) [ ]
-one_made w (unary.Relative how) a n e = elim (no_single (unary.Relative how) n (λ x. refl) (known a) e) [ ]
-one_made w unary.Children a n e = elim (no_single unary.Children n (λ x. refl) (known a) e) [ ]
-one_made w unary.Call a n e = elim (no_single unary.Call n (λ x. refl) (known a) e) [ ]
-one_made w unary.Indirect a n e = elim (no_single unary.Indirect n (λ x. refl) (known a) e) [ ]
+one_made w Unary.Negate a n e = made_by _ refl refl refl (λ s. refl) refl
+one_made w Unary.Not a n e = made_by _ refl refl refl (λ s. refl) refl
+one_made w (Unary.Single Single.Complement) a n e = made_by _ refl refl refl (λ s. refl) refl
+one_made w (Unary.Single Single.Parent) a n e = elim (no_single (Unary.Single Single.Parent) n (λ x. refl) (known a) e) [ ]
+one_made w (Unary.Single Single.Random) a n e = elim (no_single (Unary.Single Single.Random) n (λ x. refl) (known a) e) [ ]
+one_made w (Unary.Before how) a n e = elim (no_single (Unary.Before how) n (λ x. refl) (known a) e) [ ]
+one_made w (Unary.Behind how) a n e = elim (no_single (Unary.Behind how) n (λ x. refl) (known a) e) [ ]
+one_made w (Unary.Relative how) a n e = elim (no_single (Unary.Relative how) n (λ x. refl) (known a) e) [ ]
+one_made w Unary.Children a n e = elim (no_single Unary.Children n (λ x. refl) (known a) e) [ ]
+one_made w Unary.Call a n e = elim (no_single Unary.Call n (λ x. refl) (known a) e) [ ]
+one_made w Unary.Indirect a n e = elim (no_single Unary.Indirect n (λ x. refl) (known a) e) [ ]
 
 -- A number stands for a meaning that it is.
 
 number_leaf : (n : ℕ) (j k : Option Operand) (f : Store → Option (ℕ × Store)) → LeavesLike j f k → k ≡ None
-    → ((s : Store) → f s ≡ Some (n, s)) → LeavesLike j f (Some (operand.Known n))
+    → ((s : Store) → f s ≡ Some (n, s)) → LeavesLike j f (Some (Operand.Known n))
 number_leaf n (Some x) k f l e h = let g : Some x ≡ None = l ∙ e in cc
 number_leaf n None k f l e h = (n, refl, h)
 
-number_like : (w : World) (n : ℕ) (a b : Sense) → Like a b → IsMade b → IsNumber n b → Like a (leaf w (operand.Known n))
+number_like : (w : World) (n : ℕ) (a b : Sense) → Like a b → IsMade b → IsNumber n b → Like a (leaf w (Operand.Known n))
 number_like w n a b l m i = record {
   leaves = number_leaf n a.leaf b.leaf (a.value nobody) l.leaves m.no_leaf (λ s. l.value nobody s ∙ i.value nobody s);
   aims = subst (λ x. AimsLike a.aim x) m.no_aim l.aims;
@@ -110,18 +97,18 @@ number_like w n a b l m i = record {
 -- Functions of the system are called in both trees.
 
 no_function_built : (op : Binary) (f : Option Function) (a b : Tree) → function_of (built op f a b) ≡ None
-no_function_built (binary.Operation o) f a b = refl
-no_function_built (binary.Property p) f a b = refl
-no_function_built (binary.Test t) f a b = refl
-no_function_built (binary.Fails t) f a b = refl
-no_function_built binary.Assign f a b = refl
-no_function_built binary.Comma f a b = refl
-no_function_built binary.And f a b = refl
-no_function_built binary.Or f a b = refl
-no_function_built binary.Call None a b = refl
-no_function_built binary.Call (Some f) a b = refl
-no_function_built binary.Then f a b = refl
-no_function_built binary.To f a b = refl
+no_function_built (Binary.Operation o) f a b = refl
+no_function_built (Binary.Property p) f a b = refl
+no_function_built (Binary.Test t) f a b = refl
+no_function_built (Binary.Fails t) f a b = refl
+no_function_built Binary.Assign f a b = refl
+no_function_built Binary.Comma f a b = refl
+no_function_built Binary.And f a b = refl
+no_function_built Binary.Or f a b = refl
+no_function_built Binary.Call None a b = refl
+no_function_built Binary.Call (Some f) a b = refl
+no_function_built Binary.Then f a b = refl
+no_function_built Binary.To f a b = refl
 
 no_function : (k : Option ℕ) (t : Tree) → function_of t ≡ None → function_of (number_or k t) ≡ None
 no_function None t e = e
@@ -138,18 +125,18 @@ same_function (Two op a b) =
 
 built_like : (w : World) (op : Binary) (f : Option Function) (a b c d : Tree) → Like (sense w a) (sense w b) → Like (sense w c) (sense w d)
     → Like (sense w (built op f a c)) (sense w (built op f b d))
-built_like w (binary.Operation o) f a b c d l m = two_like w (binary.Operation o) (sense w a) (sense w b) (sense w c) (sense w d) l m
-built_like w (binary.Property p) f a b c d l m = two_like w (binary.Property p) (sense w a) (sense w b) (sense w c) (sense w d) l m
-built_like w (binary.Test t) f a b c d l m = two_like w (binary.Test t) (sense w a) (sense w b) (sense w c) (sense w d) l m
-built_like w (binary.Fails t) f a b c d l m = two_like w (binary.Fails t) (sense w a) (sense w b) (sense w c) (sense w d) l m
-built_like w binary.Assign f a b c d l m = two_like w binary.Assign (sense w a) (sense w b) (sense w c) (sense w d) l m
-built_like w binary.Comma f a b c d l m = two_like w binary.Comma (sense w a) (sense w b) (sense w c) (sense w d) l m
-built_like w binary.And f a b c d l m = two_like w binary.And (sense w a) (sense w b) (sense w c) (sense w d) l m
-built_like w binary.Or f a b c d l m = two_like w binary.Or (sense w a) (sense w b) (sense w c) (sense w d) l m
-built_like w binary.Call None a b c d l m = two_like w binary.Call (sense w a) (sense w b) (sense w c) (sense w d) l m
-built_like w binary.Call (Some f) a b c d l m = one_like w (operator_of f) (sense w c) (sense w d) m
-built_like w binary.Then f a b c d l m = two_like w binary.Then (sense w a) (sense w b) (sense w c) (sense w d) l m
-built_like w binary.To f a b c d l m = two_like w binary.To (sense w a) (sense w b) (sense w c) (sense w d) l m
+built_like w (Binary.Operation o) f a b c d l m = two_like w (Binary.Operation o) (sense w a) (sense w b) (sense w c) (sense w d) l m
+built_like w (Binary.Property p) f a b c d l m = two_like w (Binary.Property p) (sense w a) (sense w b) (sense w c) (sense w d) l m
+built_like w (Binary.Test t) f a b c d l m = two_like w (Binary.Test t) (sense w a) (sense w b) (sense w c) (sense w d) l m
+built_like w (Binary.Fails t) f a b c d l m = two_like w (Binary.Fails t) (sense w a) (sense w b) (sense w c) (sense w d) l m
+built_like w Binary.Assign f a b c d l m = two_like w Binary.Assign (sense w a) (sense w b) (sense w c) (sense w d) l m
+built_like w Binary.Comma f a b c d l m = two_like w Binary.Comma (sense w a) (sense w b) (sense w c) (sense w d) l m
+built_like w Binary.And f a b c d l m = two_like w Binary.And (sense w a) (sense w b) (sense w c) (sense w d) l m
+built_like w Binary.Or f a b c d l m = two_like w Binary.Or (sense w a) (sense w b) (sense w c) (sense w d) l m
+built_like w Binary.Call None a b c d l m = two_like w Binary.Call (sense w a) (sense w b) (sense w c) (sense w d) l m
+built_like w Binary.Call (Some f) a b c d l m = one_like w (operator_of f) (sense w c) (sense w d) m
+built_like w Binary.Then f a b c d l m = two_like w Binary.Then (sense w a) (sense w b) (sense w c) (sense w d) l m
+built_like w Binary.To f a b c d l m = two_like w Binary.To (sense w a) (sense w b) (sense w c) (sense w d) l m
 
 -- Trees
 
@@ -187,9 +174,9 @@ numbers_written operands (source.Two op a b) =
     ap (λ t. joined op t (with_numbers (written operands b))) (numbers_written operands a)
     ∙ ap (joined op (meant operands a).tree) (numbers_written operands b)
 numbers_written operands (source.Then a b) =
-    ap (λ t. joined binary.Then t (with_numbers (written operands b))) (numbers_written operands a)
-    ∙ ap (joined binary.Then (meant operands a).tree) (numbers_written operands b)
+    ap (λ t. joined Binary.Then t (with_numbers (written operands b))) (numbers_written operands a)
+    ∙ ap (joined Binary.Then (meant operands a).tree) (numbers_written operands b)
 numbers_written operands (source.Call f list) =
-    ap (λ t. joined binary.Call t (with_numbers (written operands list))) (numbers_written operands f)
-    ∙ ap (joined binary.Call (meant operands f).tree) (numbers_written operands list)
-numbers_written operands (source.Alone f) = ap (joined_single unary.Call) (numbers_written operands f)
+    ap (λ t. joined Binary.Call t (with_numbers (written operands list))) (numbers_written operands f)
+    ∙ ap (joined Binary.Call (meant operands f).tree) (numbers_written operands list)
+numbers_written operands (source.Alone f) = ap (joined_single Unary.Call) (numbers_written operands f)

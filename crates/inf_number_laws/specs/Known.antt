@@ -1,10 +1,7 @@
 -- Operators of known numbers: the number that takes the place of one is its meaning on a machine.
 use Rattle.std.specs.Prelude.{◌≡◌, ℕ, ◌==◌, not, Some}
-use Rattle.inf_expressions.specs.declared.operators.Operand.TheVariants as operand
-use Rattle.inf_expressions.specs.declared.operators.Operation.TheVariants as operation
-use Rattle.inf_expressions.specs.declared.operators.Unary.{Unary}
-use Rattle.inf_expressions.specs.declared.operators.Binary.{Binary}
-use Rattle.inf_expressions.specs.declared.operators.Binary.TheVariants as binary
+use Rattle.inf_expressions.specs.{declared.operators.Binary.Binary, declared.operators.Operand.Operand}
+use Rattle.inf_expressions.specs.{declared.operators.Operation.Operation, declared.operators.Unary.Unary}
 use Rattle.inf_expressions.specs.Trees.{Tree, Leaf, One, Two}
 use Rattle.inf_expressions.specs.Folding.{built, folded, folded_single, function_of, joined, joined_single, known}
 use Rattle.inf_interpreter.specs.Machine.{World, Store}
@@ -13,15 +10,15 @@ use Rattle.inf_meaning_laws.specs.Values.{Sense, Taker, answer, sense}
 -- An operand is proper where it is no function and no wrong name, and so is each member of a list. An improper one counts as 0, and an
 -- error is told of it.
 abbrev pub IsProper : Tree → Type 0
-IsProper (Leaf (operand.Function f)) = ⊥
-IsProper (Leaf operand.Unknown) = ⊥
-IsProper (Two binary.Then a b) = IsProper a × IsProper b
+IsProper (Leaf (Operand.Function f)) = ⊥
+IsProper (Leaf Operand.Unknown) = ⊥
+IsProper (Two Binary.Then a b) = IsProper a × IsProper b
 IsProper t = Unit {0}
 
 -- Nothing is divided by a known 0. Where something is, an error is told.
 abbrev pub HasDivisor : Binary → Tree → Type 0
-HasDivisor (binary.Operation operation.Divide) b = known b ≡ Some 0 → ⊥
-HasDivisor (binary.Operation operation.Remainder) b = known b ≡ Some 0 → ⊥
+HasDivisor (Binary.Operation Operation.Divide) b = known b ≡ Some 0 → ⊥
+HasDivisor (Binary.Operation Operation.Remainder) b = known b ≡ Some 0 → ⊥
 HasDivisor op b = Unit {0}
 
 -- a meaning that is a number and changes nothing: with each taker of its value, as a statement, and as a condition, in each store

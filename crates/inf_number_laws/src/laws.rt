@@ -1,8 +1,6 @@
 //! Numbers that are known while a source is compiled are computed as they are in a story, and as integers are.
-ghost use Rattle.inf_number_laws.specs.Integers.{NumbersAreIntegers};
+ghost use Rattle.inf_number_laws.specs.{Integers.NumbersAreIntegers, Whole.TreesKeep, Written.SourcesKeep, Written.UntoldIsSound};
 ghost use Rattle.inf_number_laws.specs.Known.{FoldingKeeps, FoldingOneKeeps, OneIsComputed, TwoAreComputed};
-ghost use Rattle.inf_number_laws.specs.Whole.{TreesKeep};
-ghost use Rattle.inf_number_laws.specs.Written.{SourcesKeep, UntoldIsSound};
 
 /// States that the number by which an operator of known numbers is replaced is the meaning of this operator on a machine,
 /// as a value, as a statement and as a condition, and changes nothing. So an operator means what it meant, whether it is

@@ -1,17 +1,12 @@
 -- Sums over the rows of a property table.
 use Rattle.std.proofs.Common.{◌≡◌, ◌≤◌, ◌<◌, ◌+◌, ◌∷◌, ◌++◌, ◌==◌, [], ℕ, zero, suc, List, Bool, true, false, Some, None, inl, inr}
-use Rattle.std.proofs.Common.{append_assoc, refl, sym, ap, ◌∙◌, arith}
-use Rattle.std.specs.Prelude.{is_some, nat_lt, option_to_list, sum_by, if◌then◌else◌}
+use Rattle.std.proofs.Common.{append_assoc, refl, sym, ap, ◌∙◌, arith, is_some, nat_lt, option_to_list, sum_by, if◌then◌else◌}
 use Rattle.std.proofs.lemmas.Bool.{eqb-true, eqb-false, lt-ltb, le-ltb, cases_lt}
 use Rattle.std.proofs.lemmas.List.Sums.{sum_by-append, sum_by-cons}
-use Rattle.inf_area.specs.declared.targets.AreaName.TheVariants as area_name
-use Rattle.inf_area.specs.declared.targets.Target.TheVariants as target
-use Rattle.inf_area.specs.declared.targets.Value.TheVariants as value
-use Rattle.inf_properties.specs.declared.values.Property.{Property}
-use Rattle.inf_properties.specs.declared.sizes.Owner.TheVariants as owner
+use Rattle.inf_area.specs.{declared.targets.AreaName.AreaName, declared.targets.Target.Target, declared.targets.Value.Value}
+use Rattle.inf_properties.specs.{declared.sizes.Owner.Owner, declared.values.Property.Property}
 use Rattle.inf_properties.specs.Properties.{AreFree, AreNew, found, has}
-use Rattle.inf_properties.proofs.Having.{found-append, or_found}
-use Rattle.inf_properties.proofs.Inheriting.{absent_later, has-push_same}
+use Rattle.inf_properties.proofs.{Having.found-append, Having.or_found, Inheriting.absent_later, Inheriting.has-push_same}
 use Rattle.inf_objects.specs.declared.objects.Object.{Object}
 use Rattle.inf_objects.specs.Tables.{address_rows, class_rows, class_values, falling, has_individual, rows_by}
 use Rattle.inf_objects.proofs.Rows.{none-found, no_address}
@@ -80,7 +75,7 @@ sum_address : (f : Property → ℕ) (k part : ℕ) (qs ps : List Property) → 
 sum_address f k part qs ps h absent = go (has_individual qs)
   where
     row : Property
-    row = record { number = 3; is_additive = false; values = value.Later (target.Part area_name.IndividualTables part) ∷ [] }
+    row = record { number = 3; is_additive = false; values = Value.Later (Target.Part AreaName.IndividualTables part) ∷ [] }
 
     go : (b : Bool) →
         sum_by f (falling k ((if b then row ∷ [] else []) ++ ps)) ≡ sum_by f (if b then row ∷ [] else []) + sum_by f (falling k ps)
@@ -99,7 +94,7 @@ sum_classes f k (c ∷ cs) ps h absent =
 
 -- the sum over all that an object has: the list of its classes, the address of its individual table, and its declared properties
 pub sum_rows : (f : Property → ℕ) (k part : ℕ) (o : Object) → 3 < k → AreNew [] o.properties → AreFree o.properties
-    → sum_by f (falling k (rows_by owner.Object part o)) ≡ sum_by f (class_rows o.classes) + sum_by f (address_rows part o.properties) +
+    → sum_by f (falling k (rows_by Owner.Object part o)) ≡ sum_by f (class_rows o.classes) + sum_by f (address_rows part o.properties) +
     sum_by (below k f) o.properties
 sum_rows f k part o h new free =
     let ps = o.properties in

@@ -1,11 +1,9 @@
 -- Links made from the last object on are those of the tree.
 use Rattle.std.proofs.Common.{◌≡◌, ◌≤◌, ◌<◌, ◌+◌, ◌-◌, ◌∷◌, ◌++◌, ◌==◌, [], ℕ, zero, suc, List, Bool, true, false, length, replicate}
-use Rattle.std.proofs.Common.{get_or, refl, sym, ap, subst, ◌∙◌, arith, inl, inr}
-use Rattle.std.specs.Prelude.{slice_set, ◌⊎◌, if◌then◌else◌}
+use Rattle.std.proofs.Common.{get_or, refl, sym, ap, subst, ◌∙◌, arith, inl, inr, slice_set, ◌⊎◌, if◌then◌else◌}
 use Rattle.std.proofs.lemmas.Bool.{eqb-true, eqb-false, eq-eqb, ne_eqb, cases_eq}
-use Rattle.inf_objects.specs.declared.tree.Link.{Link}
-use Rattle.inf_objects.specs.Tree.{AreWithin, children_from, each_from, first_of, link_at, linked, links_of, next_below, no_link}
-use Rattle.inf_objects.specs.Tree.{sibling_from, with_child, with_sibling}
+use Rattle.inf_objects.specs.{Tree.AreWithin, Tree.children_from, Tree.each_from, Tree.first_of, Tree.link_at, Tree.linked, Tree.links_of}
+use Rattle.inf_objects.specs.{Tree.next_below, Tree.no_link, Tree.sibling_from, Tree.with_child, Tree.with_sibling, declared.tree.Link.Link}
 
 -- the links where the objects from `place` on are hung, the last one first
 abbrev pub made : ℕ → List ℕ → List Link → List Link

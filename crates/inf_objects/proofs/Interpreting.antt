@@ -1,23 +1,13 @@
 -- An interpreter reads back the properties that are written of an object.
 use Rattle.std.proofs.Common.{◌≡◌, ◌≤◌, ◌<◌, ◌+◌, ◌*◌, ◌/◌, ◌%◌, ◌∷◌, ◌++◌, ◌==◌, ◌&&◌, [], ℕ, zero, suc, List, Bool, true, false, Option}
 use Rattle.std.proofs.Common.{Some, None, inl, inr, length, length-append, map, take, drop, append_assoc, append-nil, refl, sym, ap, subst}
-use Rattle.std.proofs.Common.{◌∙◌, arith}
-use Rattle.std.specs.Prelude.{is_some, nat_le, nat_lt, option_to_list, ◌⊎◌, if◌then◌else◌}
+use Rattle.std.proofs.Common.{◌∙◌, arith, is_some, nat_le, nat_lt, option_to_list, ◌⊎◌, if◌then◌else◌}
 use Rattle.std.proofs.lemmas.Bool.{and_from, and_parts, cases_lt, eqb-true, eqb-false, eq-eqb, ne_eqb, le-leb, lt-leb, lt-ltb, le-ltb}
 use Rattle.std.proofs.lemmas.Bool.{leb-true}
 use Rattle.std.proofs.lemmas.List.Folds.{list_all-append}
-use Rattle.inf_area.specs.declared.targets.AreaName.TheVariants as area_name
-use Rattle.inf_area.specs.declared.targets.Target.{Target}
-use Rattle.inf_area.specs.declared.targets.Target.TheVariants as target
-use Rattle.inf_area.specs.declared.targets.Value.{Value}
-use Rattle.inf_area.specs.declared.targets.Value.TheVariants as value
+use Rattle.inf_area.specs.declared.{cells.Cell.Cell, targets.AreaName.AreaName, targets.Target.Target, targets.Value.Value}
 use Rattle.inf_area.specs.Cells.{value_cells, values_cells}
-use Rattle.inf_area.specs.declared.cells.Cell.{Cell}
-use Rattle.inf_area.specs.declared.cells.Cell.TheVariants as cell
-use Rattle.inf_properties.specs.declared.values.Property.{Property}
-use Rattle.inf_properties.specs.declared.sizes.Owner.{Owner}
-use Rattle.inf_properties.specs.declared.sizes.Owner.TheVariants as owner
-use Rattle.inf_properties.specs.Properties.{found}
+use Rattle.inf_properties.specs.{Properties.found, declared.sizes.Owner.Owner, declared.values.Property.Property}
 use Rattle.inf_properties.specs.Sizes.{are_short, is_short}
 use Rattle.inf_properties.proofs.Having.{found-append, found_one, or_found}
 use Rattle.inf_objects.specs.declared.objects.Object.{Object}
@@ -41,23 +31,23 @@ drop_front (suc n) (x ∷ xs) ys e = drop_front n xs ys (omega (arith, e))
 
 filled-append : (f : Target → ℕ) (xs ys : List Cell) → filled f (xs ++ ys) ≡ filled f xs ++ filled f ys
 filled-append f [] ys = refl
-filled-append f (cell.Byte b ∷ xs) ys = ap (λ bs. b ∷ bs) (filled-append f xs ys)
-filled-append f (cell.Later t ∷ xs) ys = ap (λ bs. (f t / 256) ∷ (f t % 256) ∷ bs) (filled-append f xs ys)
+filled-append f (Cell.Byte b ∷ xs) ys = ap (λ bs. b ∷ bs) (filled-append f xs ys)
+filled-append f (Cell.Later t ∷ xs) ys = ap (λ bs. (f t / 256) ∷ (f t % 256) ∷ bs) (filled-append f xs ys)
 
 whole : (n : ℕ) → 256 * (n / 256) + n % 256 ≡ n
 whole n = omega arith
 
 values_words : (f : Target → ℕ) (vs : List Value) → words_of (filled f (values_cells vs)) ≡ map (number_in f) vs
 values_words f [] = refl
-values_words f (value.Known n ∷ vs) =
+values_words f (Value.Known n ∷ vs) =
     ap (λ ws. (256 * (n / 256) + n % 256) ∷ ws) (values_words f vs) ∙ ap (λ w. w ∷ map (number_in f) vs) (whole n)
-values_words f (value.Later t ∷ vs) =
+values_words f (Value.Later t ∷ vs) =
     ap (λ ws. (256 * (f t / 256) + f t % 256) ∷ ws) (values_words f vs) ∙ ap (λ w. w ∷ map (number_in f) vs) (whole (f t))
 
 values_count : (f : Target → ℕ) (vs : List Value) → length (filled f (values_cells vs)) ≡ 2 * length vs
 values_count f [] = refl
-values_count f (value.Known n ∷ vs) = omega (arith, values_count f vs)
-values_count f (value.Later t ∷ vs) = omega (arith, values_count f vs)
+values_count f (Value.Known n ∷ vs) = omega (arith, values_count f vs)
+values_count f (Value.Later t ∷ vs) = omega (arith, values_count f vs)
 
 -- the properties that are read from a first size byte on: with one size byte, and with two
 abbrev short_read : ℕ → ℕ → List ℕ → List Row
@@ -138,7 +128,7 @@ row_by f most n [] rest h few = short_row f most n [] rest h refl
 row_by f most n (v ∷ []) rest h few = short_row f most n (v ∷ []) rest h refl
 row_by f most n (v ∷ w ∷ vs) rest h few =
     let more : 1 < length (v ∷ w ∷ vs) = omega arith in
-    ap (λ (b : Bool). rows_read (suc most) (filled f ((if b then cell.Byte (64 + n) ∷ [] else cell.Byte (128 + n) ∷ cell.Byte
+    ap (λ (b : Bool). rows_read (suc most) (filled f ((if b then Cell.Byte (64 + n) ∷ [] else Cell.Byte (128 + n) ∷ Cell.Byte
     (128 + 2 * length (v ∷ w ∷ vs) % 64) ∷ [])
     ++ values_cells (v ∷ w ∷ vs)) ++ rest)) (lt-leb (length (v ∷ w ∷ vs)) 1 more)
     ∙ long_row f most n (v ∷ w ∷ vs) rest h refl more few
@@ -163,7 +153,7 @@ rows_are_read f (suc most) (p ∷ ps) rest h few =
 row_some : (f : Target → ℕ) (p : Property) → 1 ≤ length (filled f (row_cells p))
 row_some f p = go (nat_le (length p.values) 1)
   where
-    go : (b : Bool) → 1 ≤ length (filled f ((if b then cell.Byte (64 + p.number) ∷ [] else cell.Byte (128 + p.number) ∷ cell.Byte
+    go : (b : Bool) → 1 ≤ length (filled f ((if b then Cell.Byte (64 + p.number) ∷ [] else Cell.Byte (128 + p.number) ∷ Cell.Byte
         (128 + 2 * length p.values % 64) ∷ []) ++ values_cells (shown p.values)))
     go true = omega arith
     go false = omega arith
@@ -186,11 +176,11 @@ filled-bytes f (b ∷ bs) = ap (λ cs. b ∷ cs) (filled-bytes f bs)
 
 pub table_is_read : (f : Target → ℕ) (name : List ℕ) (words : ℕ) (ps : List Property) (rest : List ℕ) → length name ≡ 2 * words →
     words < 256 → AreRows ps
-    → table_read (filled f (name_cells name ++ rows_cells ps ++ cell.Byte 0 ∷ []) ++ rest) ≡ map (told f) ps
+    → table_read (filled f (name_cells name ++ rows_cells ps ++ Cell.Byte 0 ∷ []) ++ rest) ≡ map (told f) ps
 table_is_read f name words ps rest e few h =
     let rows = filled f (rows_cells ps) in
     let count : 2 * (length name / 2 % 256) ≡ length name = omega (arith, e, few) in
-    let flat : filled f (name_cells name ++ rows_cells ps ++ cell.Byte 0 ∷ []) ++ rest ≡ (length name / 2 % 256) ∷
+    let flat : filled f (name_cells name ++ rows_cells ps ++ Cell.Byte 0 ∷ []) ++ rest ≡ (length name / 2 % 256) ∷
     (name ++ (rows ++ 0 ∷ rest)) = flatten in
     ap table_read flat
     ∙ ap (rows_read (length (name ++ (rows ++ 0 ∷ rest)))) (drop_front (2 * (length name / 2 % 256)) name (rows ++ 0 ∷ rest) (sym count))
@@ -200,10 +190,10 @@ table_is_read f name words ps rest e few h =
     count_byte : ℕ
     count_byte = length name / 2 % 256
 
-    flatten : filled f (name_cells name ++ rows_cells ps ++ cell.Byte 0 ∷ []) ++ rest ≡ count_byte ∷
+    flatten : filled f (name_cells name ++ rows_cells ps ++ Cell.Byte 0 ∷ []) ++ rest ≡ count_byte ∷
         (name ++ (filled f (rows_cells ps) ++ 0 ∷ rest))
     flatten =
-        ap (λ bs. bs ++ rest) (filled-append f (name_cells name ++ rows_cells ps) (cell.Byte 0 ∷ []) ∙ ap (λ bs. bs ++ 0 ∷ [])
+        ap (λ bs. bs ++ rest) (filled-append f (name_cells name ++ rows_cells ps) (Cell.Byte 0 ∷ []) ∙ ap (λ bs. bs ++ 0 ∷ [])
         (filled-append f (name_cells name) (rows_cells ps)))
         ∙ append_assoc (filled f (name_cells name) ++ filled f (rows_cells ps)) (0 ∷ []) rest
         ∙ append_assoc (filled f (name_cells name)) (filled f (rows_cells ps)) (0 ∷ rest)
@@ -282,7 +272,7 @@ short_address : (part : ℕ) (ps : List Property) → are_short (address_rows pa
 short_address part ps = go (has_individual ps)
   where
     row : Property
-    row = record { number = 3; is_additive = false; values = value.Later (target.Part area_name.IndividualTables part) ∷ [] }
+    row = record { number = 3; is_additive = false; values = Value.Later (Target.Part AreaName.IndividualTables part) ∷ [] }
 
     go : (b : Bool) → are_short (if b then row ∷ [] else []) ≡ true
     go true = refl
@@ -290,12 +280,12 @@ short_address part ps = go (has_individual ps)
 
 pub short_rows : (w : Owner) (part : ℕ) (o : Object) → length o.classes ≤ 32 → are_short o.properties ≡ true →
     are_short (rows_by w part o) ≡ true
-short_rows owner.Object part o few short =
+short_rows Owner.Object part o few short =
     list_all-append is_short (class_rows o.classes ++ address_rows part o.properties) o.properties
     ∙ and_from (are_short (class_rows o.classes ++ address_rows part o.properties)) (are_short o.properties)
     (list_all-append is_short (class_rows o.classes) (address_rows part o.properties)
     ∙ and_from (are_short (class_rows o.classes)) (are_short (address_rows part o.properties)) (short_classes o.classes few)
     (short_address part o.properties))
     short
-short_rows owner.Class part o few short = refl
-short_rows owner.Nothing part o few short = refl
+short_rows Owner.Class part o few short = refl
+short_rows Owner.Nothing part o few short = refl

@@ -1,14 +1,10 @@
 -- The properties in a property table, number by number.
 use Rattle.std.proofs.Common.{◌≡◌, ◌<◌, ◌+◌, ◌∷◌, ◌++◌, ◌==◌, [], ℕ, zero, suc, List, Bool, true, false, Option, Some, None, length}
-use Rattle.std.proofs.Common.{append_assoc, append-nil, refl, sym, ap, subst, ◌∙◌, arith}
-use Rattle.std.specs.Prelude.{is_some, option_to_list, if◌then◌else◌}
+use Rattle.std.proofs.Common.{append_assoc, append-nil, refl, sym, ap, subst, ◌∙◌, arith, is_some, option_to_list, if◌then◌else◌}
 use Rattle.std.proofs.lemmas.Bool.{eqb-true, eqb-false, ne_eqb}
-use Rattle.inf_area.specs.declared.targets.AreaName.TheVariants as area_name
-use Rattle.inf_area.specs.declared.targets.Target.TheVariants as target
-use Rattle.inf_area.specs.declared.targets.Value.TheVariants as value
-use Rattle.inf_area.specs.Cells.{values_cells}
-use Rattle.inf_properties.specs.declared.values.Property.{Property}
-use Rattle.inf_properties.specs.declared.sizes.Owner.TheVariants as owner
+use Rattle.inf_area.specs.{Cells.values_cells, declared.targets.AreaName.AreaName, declared.targets.Target.Target}
+use Rattle.inf_area.specs.{declared.targets.Value.Value}
+use Rattle.inf_properties.specs.{declared.sizes.Owner.Owner, declared.values.Property.Property}
 use Rattle.inf_properties.specs.Properties.{AreFree, found, has}
 use Rattle.inf_properties.proofs.Having.{found-append, or_found}
 use Rattle.inf_objects.specs.declared.objects.Object.{Object}
@@ -52,7 +48,7 @@ pub no_address : (n part : ℕ) (ps : List Property) → (3 == n) ≡ false → 
 no_address n part ps e = go (has_individual ps)
   where
     row : Property
-    row = record { number = 3; is_additive = false; values = value.Later (target.Part area_name.IndividualTables part) ∷ [] }
+    row = record { number = 3; is_additive = false; values = Value.Later (Target.Part AreaName.IndividualTables part) ∷ [] }
 
     go : (b : Bool) → found n (if b then row ∷ [] else []) ≡ None
     go true = ap (λ (c : Bool). if c then Some row else None) e
@@ -66,7 +62,7 @@ address_is : (part : ℕ) (ps : List Property) → option_to_list (found 3 (addr
 address_is part ps = go (has_individual ps)
   where
     row : Property
-    row = record { number = 3; is_additive = false; values = value.Later (target.Part area_name.IndividualTables part) ∷ [] }
+    row = record { number = 3; is_additive = false; values = Value.Later (Target.Part AreaName.IndividualTables part) ∷ [] }
 
     go : (b : Bool) → option_to_list (found 3 (if b then row ∷ [] else [])) ≡ (if b then row ∷ [] else [])
     go true = refl
@@ -84,14 +80,14 @@ second_alone (Some p) = refl
 abbrev three : Option Property → Option Property → Option Property → Option Property
 three a b c = or_found (or_found a b) c
 
-found-rows : (part n : ℕ) (o : Object) → found n (rows_by owner.Object part o) ≡ three (found n (class_rows o.classes))
+found-rows : (part n : ℕ) (o : Object) → found n (rows_by Owner.Object part o) ≡ three (found n (class_rows o.classes))
     (found n (address_rows part o.properties)) (found n o.properties)
 found-rows part n o =
     found-append n (class_rows o.classes ++ address_rows part o.properties) o.properties
     ∙ ap (λ x. or_found x (found n o.properties)) (found-append n (class_rows o.classes) (address_rows part o.properties))
 
 rows_for-object : (part n : ℕ) (o : Object) → AreFree o.properties →
-    rows_for part o n ≡ option_to_list (found n (rows_by owner.Object part o))
+    rows_for part o n ≡ option_to_list (found n (rows_by Owner.Object part o))
 rows_for-object part n o free = go (n == 2) (n == 3) refl refl
   where
     cs : List ℕ
@@ -100,22 +96,22 @@ rows_for-object part n o free = go (n == 2) (n == 3) refl refl
     ps : List Property
     ps = o.properties
 
-    one : (k : ℕ) → k ≡ 2 → class_rows cs ≡ option_to_list (found k (rows_by owner.Object part o))
+    one : (k : ℕ) → k ≡ 2 → class_rows cs ≡ option_to_list (found k (rows_by Owner.Object part o))
     one k is =
-        subst (λ m. class_rows cs ≡ option_to_list (found m (rows_by owner.Object part o))) (sym is)
+        subst (λ m. class_rows cs ≡ option_to_list (found m (rows_by Owner.Object part o))) (sym is)
         (sym (ap option_to_list (found-rows part 2 o ∙ ap (λ x. three (found 2 (class_rows cs)) x (found 2 ps)) (no_address 2 part ps refl)
         ∙ ap (λ x. three (found 2 (class_rows cs)) None x) (none-found 2 ps free.no_classes)
         ∙ first_alone (found 2 (class_rows cs))) ∙ classes_are cs))
 
-    two : (k : ℕ) → k ≡ 3 → address_rows part ps ≡ option_to_list (found k (rows_by owner.Object part o))
+    two : (k : ℕ) → k ≡ 3 → address_rows part ps ≡ option_to_list (found k (rows_by Owner.Object part o))
     two k is =
-        subst (λ m. address_rows part ps ≡ option_to_list (found m (rows_by owner.Object part o))) (sym is)
+        subst (λ m. address_rows part ps ≡ option_to_list (found m (rows_by Owner.Object part o))) (sym is)
         (sym (ap option_to_list (found-rows part 3 o ∙ ap (λ x. three x (found 3 (address_rows part ps)) (found 3 ps))
         (no_classes 3 cs refl)
         ∙ ap (λ x. three None (found 3 (address_rows part ps)) x) (none-found 3 ps free.no_address)
         ∙ second_alone (found 3 (address_rows part ps))) ∙ address_is part ps))
 
-    other : (n ≡ 2 → ⊥) → (n ≡ 3 → ⊥) → option_to_list (found n ps) ≡ option_to_list (found n (rows_by owner.Object part o))
+    other : (n ≡ 2 → ⊥) → (n ≡ 3 → ⊥) → option_to_list (found n ps) ≡ option_to_list (found n (rows_by Owner.Object part o))
     other e f =
         sym (ap option_to_list (found-rows part n o ∙ ap (λ x. three x (found n (address_rows part ps)) (found n ps))
         (no_classes n cs (ne_eqb 2 n (λ same. e (sym same))))
@@ -123,17 +119,17 @@ rows_for-object part n o free = go (n == 2) (n == 3) refl refl
 
     go : (a b : Bool) → (n == 2) ≡ a → (n == 3) ≡ b
         → (if a then class_rows cs else if b then address_rows part ps else option_to_list (found n ps)) ≡ option_to_list
-        (found n (rows_by owner.Object part o))
+        (found n (rows_by Owner.Object part o))
     go true b is at = one n (eqb-true n 2 is)
     go false true is at = two n (eqb-true n 3 at)
     go false false is at = other (eqb-false n 2 is) (eqb-false n 3 at)
 
-pub rows_for-found : (part n : ℕ) (o : Object) → o.owner ≡ owner.Object → AreFree o.properties →
+pub rows_for-found : (part n : ℕ) (o : Object) → o.owner ≡ Owner.Object → AreFree o.properties →
     rows_for part o n ≡ option_to_list (found n (rows_of part o))
 rows_for-found part n o e free = rows_for-object part n o free ∙ ap (λ w. option_to_list (found n (rows_by w part o))) (sym e)
 
 -- the rows below a number are its own and those below the next lower number
-pub falling-step : (part n left : ℕ) (o : Object) → left ≡ n + 1 → o.owner ≡ owner.Object → AreFree o.properties
+pub falling-step : (part n left : ℕ) (o : Object) → left ≡ n + 1 → o.owner ≡ Owner.Object → AreFree o.properties
     → rows_cells (falling left (rows_of part o)) ≡ rows_cells (rows_for part o n) ++ rows_cells (falling n (rows_of part o))
 falling-step part n left o is e free =
     let there : left ≡ suc n = omega (arith, is) in

@@ -1,9 +1,7 @@
 -- An interpreter finds below an object its children.
 use Rattle.std.proofs.Common.{◌≡◌, ◌≤◌, ◌<◌, ◌+◌, ◌-◌, ◌∷◌, ◌++◌, ◌==◌, [], ℕ, zero, suc, List, Bool, true, false, length, get_or, refl}
-use Rattle.std.proofs.Common.{sym, ap, subst, ◌∙◌, arith}
-use Rattle.std.specs.Prelude.{count_by, slice_index_or, if◌then◌else◌}
-use Rattle.std.proofs.lemmas.Bool.{eqb-true, eqb-false, eq-eqb, ne_eqb}
-use Rattle.std.proofs.lemmas.List.Sums.{sum_by-cons}
+use Rattle.std.proofs.Common.{sym, ap, subst, ◌∙◌, arith, count_by, slice_index_or, if◌then◌else◌}
+use Rattle.std.proofs.{lemmas.Bool.eq-eqb, lemmas.Bool.eqb-false, lemmas.Bool.eqb-true, lemmas.Bool.ne_eqb, lemmas.List.Sums.sum_by-cons}
 use Rattle.inf_objects.specs.declared.tree.Link.{Link}
 use Rattle.inf_objects.specs.Tree.{AreRisingFrom, child_of, children_from, children_of, first_of, link_at, link_of, links_of, next_below}
 use Rattle.inf_objects.specs.Tree.{no_link, sibling_from, sibling_of, walked}

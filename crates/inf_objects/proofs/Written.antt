@@ -1,26 +1,15 @@
 -- The number of bytes that are written of objects.
 use Rattle.std.proofs.Common.{◌≡◌, ◌≤◌, ◌<◌, ◌+◌, ◌*◌, ◌%◌, ◌∷◌, ◌++◌, ◌==◌, [], ℕ, List, Bool, true, false, inl, inr, length, refl, sym}
-use Rattle.std.proofs.Common.{ap, ◌∙◌, arith}
-use Rattle.std.specs.Prelude.{nat_le, sum_by, if◌then◌else◌}
+use Rattle.std.proofs.Common.{ap, ◌∙◌, arith, nat_le, sum_by, if◌then◌else◌}
 use Rattle.std.proofs.lemmas.Bool.{le-leb, lt-leb, lt-ltb, le-ltb, cases_lt, cases_eq, eq-eqb, ne_eqb}
 use Rattle.std.proofs.lemmas.List.Sums.{sum_by-cons}
-use Rattle.inf_area.specs.declared.targets.AreaName.TheVariants as area_name
-use Rattle.inf_area.specs.declared.targets.Target.TheVariants as target
-use Rattle.inf_area.specs.declared.targets.Value.{Value}
-use Rattle.inf_area.specs.declared.targets.Value.TheVariants as value
+use Rattle.inf_area.specs.declared.{cells.Cell.Cell, targets.AreaName.AreaName, targets.Target.Target, targets.Value.Value}
 use Rattle.inf_area.specs.Cells.{bytes_of, later_count, value_cells, values_cells, word_cells}
-use Rattle.inf_area.specs.declared.cells.Cell.{Cell}
-use Rattle.inf_area.specs.declared.cells.Cell.TheVariants as cell
-use Rattle.inf_properties.specs.declared.values.Property.{Property}
-use Rattle.inf_properties.specs.declared.sizes.Owner.{Owner}
-use Rattle.inf_properties.specs.declared.sizes.Owner.TheVariants as owner
-use Rattle.inf_properties.specs.declared.sizes.Size.{Size}
+use Rattle.inf_properties.specs.{declared.sizes.Owner.Owner, declared.sizes.Size.Size, declared.values.Property.Property}
 use Rattle.inf_properties.specs.Properties.{AreFree, AreNew}
 use Rattle.inf_properties.specs.Sizes.{common_bytes, individual_bytes, later_count as values_later, size_of}
-use Rattle.inf_objects.specs.declared.objects.Object.{Object}
+use Rattle.inf_objects.specs.{Objects.list_bytes, declared.objects.Object.Object, declared.sizes.Part.Part}
 use Rattle.inf_objects.specs.Measures.{kind_part, measure_by, measured, no_part, part_of, parts_of}
-use Rattle.inf_objects.specs.declared.sizes.Part.{Part}
-use Rattle.inf_objects.specs.Objects.{list_bytes}
 use Rattle.inf_objects.specs.Tables.{address_rows, all_falling, byte_cells, class_rows, class_values, falling, has_individual}
 use Rattle.inf_objects.specs.Tables.{individual_row_cells, individual_rows_cells, individual_table_by, individual_table_cells}
 use Rattle.inf_objects.specs.Tables.{is_individual, name_cells, row_cells, rows_by, rows_cells, shown, size_cells, table_cells}
@@ -33,25 +22,25 @@ size cells = length (bytes_of cells)
 
 pub size_joined : (xs ys : List Cell) → size (xs ++ ys) ≡ size xs + size ys
 size_joined [] ys = omega arith
-size_joined (cell.Byte b ∷ xs) ys = omega (arith, size_joined xs ys)
-size_joined (cell.Later t ∷ xs) ys = omega (arith, size_joined xs ys)
+size_joined (Cell.Byte b ∷ xs) ys = omega (arith, size_joined xs ys)
+size_joined (Cell.Later t ∷ xs) ys = omega (arith, size_joined xs ys)
 
 pub later_joined : (xs ys : List Cell) → later_count (xs ++ ys) ≡ later_count xs + later_count ys
 later_joined [] ys = omega arith
-later_joined (cell.Byte b ∷ xs) ys = later_joined xs ys
-later_joined (cell.Later t ∷ xs) ys = omega (arith, later_joined xs ys)
+later_joined (Cell.Byte b ∷ xs) ys = later_joined xs ys
+later_joined (Cell.Later t ∷ xs) ys = omega (arith, later_joined xs ys)
 
 value_size : (v : Value) → size (value_cells v) ≡ 2
-value_size (value.Known n) = refl
-value_size (value.Later t) = refl
+value_size (Value.Known n) = refl
+value_size (Value.Later t) = refl
 
 value_later : (v : Value) → later_count (value_cells v) ≡ values_later (v ∷ [])
-value_later (value.Known n) = refl
-value_later (value.Later t) = refl
+value_later (Value.Known n) = refl
+value_later (Value.Later t) = refl
 
 later_cons : (v : Value) (vs : List Value) → values_later (v ∷ vs) ≡ values_later (v ∷ []) + values_later vs
-later_cons (value.Known n) vs = omega arith
-later_cons (value.Later t) vs = omega arith
+later_cons (Value.Known n) vs = omega arith
+later_cons (Value.Later t) vs = omega arith
 
 pub values_size : (vs : List Value) → size (values_cells vs) ≡ 2 * length vs
 values_size [] = refl
@@ -67,17 +56,17 @@ shown_later (v ∷ vs) = refl
 
 -- A single property takes the bytes that it counts.
 few_size : (n count : ℕ) → count ≤ 1 → size (size_cells n count) ≡ 1
-few_size n count h = ap (λ (b : Bool). size (if b then cell.Byte (64 + n) ∷ [] else cell.Byte (128 + n) ∷ cell.Byte (128 + 2 * count % 64) ∷
+few_size n count h = ap (λ (b : Bool). size (if b then Cell.Byte (64 + n) ∷ [] else Cell.Byte (128 + n) ∷ Cell.Byte (128 + 2 * count % 64) ∷
     [])) (le-leb count 1 h)
 
 more_size : (n count : ℕ) → 1 < count → size (size_cells n count) ≡ 2
-more_size n count h = ap (λ (b : Bool). size (if b then cell.Byte (64 + n) ∷ [] else cell.Byte (128 + n) ∷ cell.Byte
+more_size n count h = ap (λ (b : Bool). size (if b then Cell.Byte (64 + n) ∷ [] else Cell.Byte (128 + n) ∷ Cell.Byte
     (128 + 2 * count % 64) ∷ [])) (lt-leb count 1 h)
 
 size_later : (n count : ℕ) → later_count (size_cells n count) ≡ 0
 size_later n count = go (nat_le count 1)
   where
-    go : (b : Bool) → later_count (if b then cell.Byte (64 + n) ∷ [] else cell.Byte (128 + n) ∷ cell.Byte (128 + 2 * count % 64) ∷ []) ≡ 0
+    go : (b : Bool) → later_count (if b then Cell.Byte (64 + n) ∷ [] else Cell.Byte (128 + n) ∷ Cell.Byte (128 + 2 * count % 64) ∷ []) ≡ 0
     go true = refl
     go false = refl
 
@@ -160,7 +149,7 @@ address_size : (part : ℕ) (ps : List Property) → sum_by row_size (address_ro
 address_size part ps = go (has_individual ps)
   where
     row : Property
-    row = record { number = 3; is_additive = false; values = value.Later (target.Part area_name.IndividualTables part) ∷ [] }
+    row = record { number = 3; is_additive = false; values = Value.Later (Target.Part AreaName.IndividualTables part) ∷ [] }
 
     go : (b : Bool) → sum_by row_size (if b then row ∷ [] else []) ≡ (if b then 3 else 0)
     go true = refl
@@ -170,7 +159,7 @@ address_later : (part : ℕ) (ps : List Property) → sum_by row_laters (address
 address_later part ps = go (has_individual ps)
   where
     row : Property
-    row = record { number = 3; is_additive = false; values = value.Later (target.Part area_name.IndividualTables part) ∷ [] }
+    row = record { number = 3; is_additive = false; values = Value.Later (Target.Part AreaName.IndividualTables part) ∷ [] }
 
     go : (b : Bool) → sum_by row_laters (if b then row ∷ [] else []) ≡ (if b then 1 else 0)
     go true = refl
@@ -183,10 +172,10 @@ common_of p = record { bytes = row_size p; fixups = row_laters p; individuals = 
 abbrev individual_of : Property → Size
 individual_of p = record { bytes = individual_bytes (length p.values); fixups = row_laters p; individuals = 1 }
 
-size_common : (p : Property) → p.number < 64 → size_of owner.Object p ≡ common_of p
+size_common : (p : Property) → p.number < 64 → size_of Owner.Object p ≡ common_of p
 size_common p h = ap (λ (b : Bool). if b then common_of p else individual_of p) (lt-ltb p.number 64 h)
 
-size_individual : (p : Property) → 64 ≤ p.number → size_of owner.Object p ≡ individual_of p
+size_individual : (p : Property) → 64 ≤ p.number → size_of Owner.Object p ≡ individual_of p
 size_individual p h = ap (λ (b : Bool). if b then common_of p else individual_of p) (le-ltb p.number 64 h)
 
 declared : (p : Property) → p.number < 64 → is_individual p ≡ false
@@ -257,23 +246,23 @@ bytes_size [] = (refl, refl)
 bytes_size (b ∷ bs) = let later = bytes_size bs in (omega (arith, later.0), later.1)
 
 table_parts : (part : ℕ) (o : Object) (rows : List Cell)
-    → (size (name_cells o.name ++ rows ++ cell.Byte 0 ∷ []) ≡ 2 + length o.name + size rows) ×
-    (later_count (name_cells o.name ++ rows ++ cell.Byte 0 ∷ []) ≡ later_count rows)
+    → (size (name_cells o.name ++ rows ++ Cell.Byte 0 ∷ []) ≡ 2 + length o.name + size rows) ×
+    (later_count (name_cells o.name ++ rows ++ Cell.Byte 0 ∷ []) ≡ later_count rows)
 table_parts part o rows =
     let name = bytes_size o.name in (
-      omega (arith, size_joined (name_cells o.name ++ rows) (cell.Byte 0 ∷ []), size_joined (name_cells o.name) rows, name.0),
-      omega (arith, later_joined (name_cells o.name ++ rows) (cell.Byte 0 ∷ []), later_joined (name_cells o.name) rows, name.1),
+      omega (arith, size_joined (name_cells o.name ++ rows) (Cell.Byte 0 ∷ []), size_joined (name_cells o.name) rows, name.0),
+      omega (arith, later_joined (name_cells o.name ++ rows) (Cell.Byte 0 ∷ []), later_joined (name_cells o.name) rows, name.1),
     )
 
 object_rows : (part : ℕ) (o : Object) → AreNew [] o.properties → AreFree o.properties
-    → (size (rows_cells (all_falling (rows_by owner.Object part o))) ≡ list_bytes (length o.classes) +
+    → (size (rows_cells (all_falling (rows_by Owner.Object part o))) ≡ list_bytes (length o.classes) +
     (if has_individual o.properties then 3 else 0) + (parts_of false o.properties).bytes)
-    × (later_count (rows_cells (all_falling (rows_by owner.Object part o))) ≡ (if has_individual o.properties then 1 else 0) +
+    × (later_count (rows_cells (all_falling (rows_by Owner.Object part o))) ≡ (if has_individual o.properties then 1 else 0) +
     (parts_of false o.properties).later)
 unfolding all_falling
 object_rows part o new free =
     let ps = o.properties in
-    let rows = rows_by owner.Object part o in
+    let rows = rows_by Owner.Object part o in
     let bytes = same_sums (λ p. (kind_part false p).bytes) (below 64 row_size) ps (λ p. (common_kind p).0) in
     let laters = same_sums (λ p. (kind_part false p).later) (below 64 row_laters) ps (λ p. (common_kind p).1) in (
       rows_size (falling 64 rows) ∙ sum_rows row_size 64 part o (omega arith) new free
@@ -289,19 +278,19 @@ bare_rows part o = (ap (λ ps. size (rows_cells ps)) (nothing_falls 64), ap (λ 
 -- tells whether the cells of a property table have the bytes and the later numbers that were measured
 abbrev pub IsMeasured : Owner → ℕ → Object → Type 0
 IsMeasured w part o =
-    (size (name_cells o.name ++ rows_cells (all_falling (rows_by w part o)) ++ cell.Byte 0 ∷ []) ≡ (measure_by w o).table.bytes)
-    × (later_count (name_cells o.name ++ rows_cells (all_falling (rows_by w part o)) ++ cell.Byte 0 ∷ []) ≡ (measure_by w o).table.later)
+    (size (name_cells o.name ++ rows_cells (all_falling (rows_by w part o)) ++ Cell.Byte 0 ∷ []) ≡ (measure_by w o).table.bytes)
+    × (later_count (name_cells o.name ++ rows_cells (all_falling (rows_by w part o)) ++ Cell.Byte 0 ∷ []) ≡ (measure_by w o).table.later)
 
 measured_by : (w : Owner) (part : ℕ) (o : Object) → AreNew [] o.properties → AreFree o.properties → IsMeasured w part o
-measured_by owner.Object part o new free =
+measured_by Owner.Object part o new free =
     let rows = object_rows part o new free in
-    let parts = table_parts part o (rows_cells (all_falling (rows_by owner.Object part o))) in
+    let parts = table_parts part o (rows_cells (all_falling (rows_by Owner.Object part o))) in
     (omega (arith, rows.0, parts.0), omega (arith, rows.1, parts.1))
-measured_by owner.Class part o new free =
+measured_by Owner.Class part o new free =
     let rows = bare_rows part o in
     let parts = table_parts part o (rows_cells (all_falling [])) in
     (omega (arith, rows.0, parts.0), omega (arith, rows.1, parts.1))
-measured_by owner.Nothing part o new free =
+measured_by Owner.Nothing part o new free =
     let rows = bare_rows part o in
     let parts = table_parts part o (rows_cells (all_falling [])) in
     (omega (arith, rows.0, parts.0), omega (arith, rows.1, parts.1))
@@ -329,7 +318,7 @@ individual_row : (p : Property) →
     (size (individual_row_cells p) ≡ individual_size p) × (later_count (individual_row_cells p) ≡ row_laters p)
 individual_row p =
     let number = word_cells (p.number % 65536) in
-    let count = cell.Byte (2 * length (shown p.values) % 256) ∷ [] in
+    let count = Cell.Byte (2 * length (shown p.values) % 256) ∷ [] in
     let values = values_cells (shown p.values) in (
       omega (arith, size_joined (number ++ count) values, size_joined number count, values_size (shown p.values), shown_bytes p.values),
       omega (arith, later_joined (number ++ count) values, later_joined number count, values_laters (shown p.values), shown_later p.values),
@@ -379,9 +368,9 @@ individual_table ps false = (refl, refl)
 individual_by : (w : Owner) (o : Object)
     → (size (individual_table_by w o.properties) ≡ (measure_by w o).individual_table.bytes) ×
     (later_count (individual_table_by w o.properties) ≡ (measure_by w o).individual_table.later)
-individual_by owner.Object o = individual_table o.properties (has_individual o.properties)
-individual_by owner.Class o = (refl, refl)
-individual_by owner.Nothing o = (refl, refl)
+individual_by Owner.Object o = individual_table o.properties (has_individual o.properties)
+individual_by Owner.Class o = (refl, refl)
+individual_by Owner.Nothing o = (refl, refl)
 
 pub individual_table_measured : (o : Object)
     → (size (individual_table_cells o) ≡ (measured o).individual_table.bytes) ×

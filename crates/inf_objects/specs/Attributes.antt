@@ -1,7 +1,6 @@
 -- The attributes of an object: for each of the 48, in their order, whether it has it (Designer's Manual, fourth edition, section 3.4).
 use Rattle.std.specs.Prelude.{ℕ, ◌+◌, List, [], ◌∷◌, Bool, false, ◌||◌, Option, Some, None, replicate, slice_index_or, if◌then◌else◌}
 use Rattle.inf_area.specs.declared.cells.Cell.{Cell}
-use Rattle.inf_area.specs.declared.cells.Cell.TheVariants as cell
 
 -- a function of each attribute and the entry at the same place in the other list
 abbrev pub merged : {A : Type 0} → (Bool → A → Bool) → List Bool → List A → List Bool
@@ -39,5 +38,5 @@ flag_byte attributes first =
 
 unfoldable pub attribute_cells : List Bool → List Cell
 attribute_cells attributes =
-    cell.Byte (flag_byte attributes 0) ∷ cell.Byte (flag_byte attributes 8) ∷ cell.Byte (flag_byte attributes 16)
-    ∷ cell.Byte (flag_byte attributes 24) ∷ cell.Byte (flag_byte attributes 32) ∷ cell.Byte (flag_byte attributes 40) ∷ []
+    Cell.Byte (flag_byte attributes 0) ∷ Cell.Byte (flag_byte attributes 8) ∷ Cell.Byte (flag_byte attributes 16)
+    ∷ Cell.Byte (flag_byte attributes 24) ∷ Cell.Byte (flag_byte attributes 32) ∷ Cell.Byte (flag_byte attributes 40) ∷ []

@@ -1,17 +1,11 @@
 -- The bytes that an object needs in the areas of tables.
 use Rattle.std.specs.Prelude.{◌+◌, ◌*◌, ◌≡◌, List, Bool, true, false, length, sum_by, if◌then◌else◌}
-use Rattle.inf_properties.specs.declared.values.Property.{Property}
-use Rattle.inf_properties.specs.declared.sizes.Owner.{Owner}
-use Rattle.inf_properties.specs.declared.sizes.Owner.TheVariants as owner
-use Rattle.inf_properties.specs.Sizes.{size_of}
-use Rattle.inf_objects.specs.declared.objects.Object.{Object}
-use Rattle.inf_objects.specs.declared.sizes.Part.{Part}
-use Rattle.inf_objects.specs.declared.sizes.Measure.{Measure}
-use Rattle.inf_objects.specs.Objects.{list_bytes, object_bytes, object_fixups}
-use Rattle.inf_objects.specs.Tables.{has_individual, is_individual}
+use Rattle.inf_properties.specs.{Sizes.size_of, declared.sizes.Owner.Owner, declared.values.Property.Property}
+use Rattle.inf_objects.specs.{Objects.list_bytes, Objects.object_bytes, Objects.object_fixups, Tables.has_individual, Tables.is_individual}
+use Rattle.inf_objects.specs.{declared.objects.Object.Object, declared.sizes.Measure.Measure, declared.sizes.Part.Part}
 
 abbrev pub part_of : Property → Part
-part_of p = record { bytes = (size_of owner.Object p).bytes; later = (size_of owner.Object p).fixups }
+part_of p = record { bytes = (size_of Owner.Object p).bytes; later = (size_of Owner.Object p).fixups }
 
 abbrev pub no_part : Part
 no_part = record { bytes = 0; later = 0 }
@@ -50,9 +44,9 @@ bare_part o = record { bytes = 2 + length o.name; later = 0 }
 
 -- the parts of an object; of a class only the short name is written
 abbrev pub measure_by : Owner → Object → Measure
-measure_by owner.Object o = record { table = table_part o; individual_table = individual_table_part o }
-measure_by owner.Class o = record { table = bare_part o; individual_table = no_part }
-measure_by owner.Nothing o = record { table = bare_part o; individual_table = no_part }
+measure_by Owner.Object o = record { table = table_part o; individual_table = individual_table_part o }
+measure_by Owner.Class o = record { table = bare_part o; individual_table = no_part }
+measure_by Owner.Nothing o = record { table = bare_part o; individual_table = no_part }
 
 abbrev pub measured : Object → Measure
 measured o = measure_by o.owner o
@@ -60,9 +54,9 @@ measured o = measure_by o.owner o
 -- The parts of an object have as many bytes as it counts; its numbers that are known later are those of the parts and the address
 -- of its table. A class counts besides two bytes for each value that it holds.
 abbrev pub CountedBy : Owner → Object → Measure → Type 0
-CountedBy owner.Object o m =
+CountedBy Owner.Object o m =
     (m.table.bytes + m.individual_table.bytes ≡ object_bytes o) × (m.table.later + m.individual_table.later + 1 ≡ object_fixups o)
-CountedBy owner.Class o m =
+CountedBy Owner.Class o m =
     (m.table.bytes + m.individual_table.bytes + 2 * sum_by (λ (p : Property). length p.values) o.properties ≡ object_bytes o)
     × (m.table.later + m.individual_table.later + 1 ≡ object_fixups o)
-CountedBy owner.Nothing o m = Unit {0}
+CountedBy Owner.Nothing o m = Unit {0}

@@ -1,16 +1,10 @@
 -- Objects and classes, and the part that was read of one whose body is open (Designer's Manual, fourth edition, section 3).
 use Rattle.std.specs.Prelude.{ℕ, ◌+◌, ◌*◌, List, [], ◌∷◌, ◌++◌, ◌==◌, ◌||◌, Bool, true, false, Option, Some, None, length, nat_lt}
 use Rattle.std.specs.Prelude.{slice_set, if◌then◌else◌}
-use Rattle.inf_properties.specs.declared.sizes.Owner.{Owner}
-use Rattle.inf_properties.specs.declared.sizes.Owner.TheVariants as owner
-use Rattle.inf_properties.specs.declared.sizes.Room.{Room}
-use Rattle.inf_properties.specs.declared.open.GiveFault.{GiveFault}
-use Rattle.inf_properties.specs.declared.open.GiveFault.TheVariants as fault
-use Rattle.inf_properties.specs.Open.{all, class_fault, opened, with_class}
-use Rattle.inf_properties.specs.Sizes.{table_bytes, total, with_table}
+use Rattle.inf_properties.specs.{Open.all, Open.class_fault, Open.opened, Open.with_class, Sizes.table_bytes, Sizes.total, Sizes.with_table}
+use Rattle.inf_properties.specs.{declared.open.GiveFault.GiveFault, declared.sizes.Owner.Owner, declared.sizes.Room.Room}
+use Rattle.inf_objects.specs.{declared.body.Body.Body, declared.objects.Object.Object}
 use Rattle.inf_objects.specs.Attributes.{attributes_by, no_attributes, nothing_said, together}
-use Rattle.inf_objects.specs.declared.body.Body.{Body}
-use Rattle.inf_objects.specs.declared.objects.Object.{Object}
 
 -- Classes
 
@@ -46,7 +40,7 @@ begun owner parent arrows name =
 
 -- the body where none is open
 abbrev pub nothing_read : Body
-nothing_read = begun owner.Nothing 0 0 []
+nothing_read = begun Owner.Nothing 0 0 []
 
 -- the body where `has` gives an attribute, or takes it away
 abbrev pub with_said : ℕ → Bool → Body → Body
@@ -63,9 +57,9 @@ with_joined_class number class body =
     }
 
 abbrev pub is_lost : Owner → Bool
-is_lost owner.Object = false
-is_lost owner.Class = false
-is_lost owner.Nothing = true
+is_lost Owner.Object = false
+is_lost Owner.Class = false
+is_lost Owner.Nothing = true
 
 -- tells whether a class is passed over: the body has it already, or belongs to nothing
 abbrev pub is_passed : ℕ → Body → Bool
@@ -94,9 +88,9 @@ list_bytes count = if count == 0 then 0 else if count == 1 then 3 else 2 + 2 * c
 
 -- the number of bytes beside the properties: the short name with a byte before it, a 0 behind the properties, and the list of classes
 abbrev pub head_bytes : Owner → ℕ → ℕ → ℕ
-head_bytes owner.Object name classes = 2 + name + list_bytes classes
-head_bytes owner.Class name classes = 2 + name
-head_bytes owner.Nothing name classes = 0
+head_bytes Owner.Object name classes = 2 + name + list_bytes classes
+head_bytes Owner.Class name classes = 2 + name
+head_bytes Owner.Nothing name classes = 0
 
 -- the number of bytes with all properties; a class counts two bytes for each value that it holds
 abbrev pub object_bytes : Object → ℕ
@@ -104,9 +98,9 @@ object_bytes o = head_bytes o.owner (length o.name) (length o.classes) + table_b
 
 -- the number of values that are known later: the address of the table, and those among the values of properties
 abbrev pub head_fixups : Owner → ℕ
-head_fixups owner.Object = 1
-head_fixups owner.Class = 1
-head_fixups owner.Nothing = 0
+head_fixups Owner.Object = 1
+head_fixups Owner.Class = 1
+head_fixups Owner.Nothing = 0
 
 abbrev pub object_fixups : Object → ℕ
 object_fixups o = head_fixups o.owner + (with_table (total o.owner o.properties)).fixups
@@ -120,5 +114,5 @@ room_with classes room body = record room { others = room.others + head_bytes bo
 abbrev pub join_fault : ℕ → Object → Room → Body → Option GiveFault
 join_fault number class room body =
     if is_passed number body then None
-    else if nat_lt 32 (length (joined_classes body.classes number class.classes)) then Some fault.TooLong
+    else if nat_lt 32 (length (joined_classes body.classes number class.classes)) then Some GiveFault.TooLong
     else class_fault class.properties (room_with (length (joined_classes body.classes number class.classes)) room body) body.properties

@@ -1,11 +1,7 @@
 -- The property table as an interpreter reads it (Z-Machine Standard 1.1, section 12.4).
 use Rattle.std.specs.Prelude.{ℕ, zero, suc, ◌+◌, ◌*◌, ◌/◌, ◌%◌, ◌<◌, List, [], ◌∷◌, ◌++◌, ◌==◌, drop, length, map, nat_lt, take}
 use Rattle.std.specs.Prelude.{if◌then◌else◌}
-use Rattle.inf_area.specs.declared.targets.Target.{Target}
-use Rattle.inf_area.specs.declared.targets.Value.{Value}
-use Rattle.inf_area.specs.declared.targets.Value.TheVariants as value
-use Rattle.inf_area.specs.declared.cells.Cell.{Cell}
-use Rattle.inf_area.specs.declared.cells.Cell.TheVariants as cell
+use Rattle.inf_area.specs.{declared.cells.Cell.Cell, declared.targets.Target.Target, declared.targets.Value.Value}
 use Rattle.inf_properties.specs.declared.values.Property.{Property}
 use Rattle.inf_objects.specs.Tables.{shown}
 
@@ -50,12 +46,12 @@ table_read (count ∷ bytes) = rows_read (length bytes) (drop (2 * count) bytes)
 -- the bytes of cells, where each value that is known later is put in
 abbrev pub filled : (Target → ℕ) → List Cell → List ℕ
 filled number_of [] = []
-filled number_of (cell.Byte b ∷ cells) = b ∷ filled number_of cells
-filled number_of (cell.Later t ∷ cells) = (number_of t / 256) ∷ (number_of t % 256) ∷ filled number_of cells
+filled number_of (Cell.Byte b ∷ cells) = b ∷ filled number_of cells
+filled number_of (Cell.Later t ∷ cells) = (number_of t / 256) ∷ (number_of t % 256) ∷ filled number_of cells
 
 abbrev pub number_in : (Target → ℕ) → Value → ℕ
-number_in number_of (value.Known n) = n
-number_in number_of (value.Later t) = number_of t
+number_in number_of (Value.Known n) = n
+number_in number_of (Value.Later t) = number_of t
 
 -- a property with its values as numbers; one without values has a single 0
 abbrev pub told : (Target → ℕ) → Property → Row

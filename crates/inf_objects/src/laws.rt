@@ -3,9 +3,8 @@ ghost use Rattle.std.specs.Prelude.{◌≡◌, ◌+◌, ◌-◌, ◌*◌, ◌<�
 ghost use Rattle.std.specs.Prelude.{slice_set, Some, if◌then◌else◌};
 ghost use Rattle.inf_area.specs.declared.targets.Target.{Target};
 ghost use Rattle.inf_properties.specs.Properties.{found};
-ghost use Rattle.inf_objects.specs.Attributes.{attributes_by, nothing_said};
-ghost use Rattle.inf_objects.specs.Reading.{AreFallingBelow, filled, table_read, told};
-ghost use Rattle.inf_objects.specs.Tables.{all_falling, rows_of, table_cells};
+ghost use Rattle.inf_objects.specs.{Attributes.attributes_by, Attributes.nothing_said, Reading.AreFallingBelow, Reading.filled};
+ghost use Rattle.inf_objects.specs.{Reading.table_read, Reading.told, Tables.all_falling, Tables.rows_of, Tables.table_cells};
 ghost use Rattle.inf_objects.specs.Tree.{AreRisingFrom, children_of, link_at, links_of, walked};
 
 use crate::objects::Object;

@@ -1,12 +1,10 @@
 //! The bytes that an object needs in the areas of tables.
 ghost use Rattle.std.specs.Prelude.{◌≡◌, ℕ, ◌+◌, ◌<◌, ◌≤◌, ◌^◌, length, true, false};
 ghost use Rattle.inf_area.specs.Cells.{bytes_of, later_count};
-ghost use Rattle.inf_properties.specs.Sizes.{are_short, bytes_of as property_bytes};
-ghost use Rattle.inf_properties.specs.declared.sizes.Owner.TheVariants as owner;
+ghost use Rattle.inf_properties.specs.{Sizes.are_short, Sizes.bytes_of as property_bytes, declared.sizes.Owner.Owner};
+ghost use Rattle.inf_objects.specs.{Objects.object_bytes, Tables.has_individual, Tables.individual_table_cells, Tables.table_cells};
 ghost use Rattle.inf_objects.specs.Measures.{CountedBy, bare_part, individual_table_part, kind_part, measured, no_part, parts_of};
 ghost use Rattle.inf_objects.specs.Measures.{table_part};
-ghost use Rattle.inf_objects.specs.Objects.{object_bytes};
-ghost use Rattle.inf_objects.specs.Tables.{has_individual, individual_table_cells, table_cells};
 
 use crate::body::list_bytes;
 use crate::objects::Object;
@@ -65,7 +63,7 @@ fn kind_part(property: &Property, individual: bool) -> Part
 /// Returns the part that those of `properties` need that are of one kind: individual, or else declared.
 fn parts_of(properties: &[Property], individual: bool) -> Part
     requires short { are_short properties.now ≡ true }
-    requires small { property_bytes owner.Object properties.now < 2 ^ 34 }
+    requires small { property_bytes Owner.Object properties.now < 2 ^ 34 }
     ensures value { result ≡ parts_of individual properties.now }
     ensures small { result.bytes < 2 ^ 34 }
     ensures few { result.later < 2 ^ 34 }

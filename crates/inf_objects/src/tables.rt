@@ -1,9 +1,7 @@
 //! Property tables and individual tables, as cells.
 ghost use Rattle.std.specs.Prelude.{◌≡◌, ◌+◌, ◌<◌, ◌≤◌, ◌++◌, OnOk, length, true};
 ghost use Rattle.inf_area.specs.Cells.{values_cells};
-ghost use Rattle.inf_properties.specs.Places.{AreAt};
-ghost use Rattle.inf_properties.specs.Properties.{AreFree, found};
-ghost use Rattle.inf_properties.specs.Sizes.{are_short};
+ghost use Rattle.inf_properties.specs.{Places.AreAt, Properties.AreFree, Properties.found, Sizes.are_short};
 ghost use Rattle.inf_objects.specs.Tables.{address_rows, all_falling, byte_cells, class_rows, class_values, falling, has_individual};
 ghost use Rattle.inf_objects.specs.Tables.{individual_row_cells, individual_rows_cells, individual_table_cells, is_individual, name_cells};
 ghost use Rattle.inf_objects.specs.Tables.{row_cells, rows_cells, rows_for, rows_of, shown, size_cells, table_cells};

@@ -1,12 +1,9 @@
 -- Counts of cells.
+use Rattle.std.proofs.{lemmas.List.Concat.flat_map-append, lemmas.List.take_more}
 use Rattle.std.proofs.Common.{◌≡◌, ℕ, ◌+◌, ◌<◌, List, [], ◌∷◌, ◌++◌, length, get_or, take, refl, ◌∙◌, ap, arith, append-nil, length-append}
-use Rattle.std.proofs.lemmas.List.{take_more}
-use Rattle.std.proofs.lemmas.List.Concat.{flat_map-append}
 use Rattle.std.specs.List.{flat_map}
-use Rattle.inf_opcode.specs.declared.instructions.Operand.{Operand}
-use Rattle.inf_opcode.specs.declared.cells.Special.TheVariants.{Marks, Branches, Jumps, Refers}
+use Rattle.inf_opcode.specs.{Instructions.operand_cells, declared.cells.Special.Special, declared.instructions.Operand.Operand}
 use Rattle.inf_opcode.specs.Cells.{Cell, Plain, Of, plain, long_bytes, label_count, fixup_count}
-use Rattle.inf_opcode.specs.Instructions.{operand_cells}
 use Rattle.inf_opcode.proofs.Growing.{long-append}
 
 pub length-long : (xs ys : List Cell) → length (long_bytes (xs ++ ys)) ≡ length (long_bytes xs) + length (long_bytes ys)
@@ -15,18 +12,18 @@ length-long xs ys = ap length (long-append xs ys) ∙ length-append (long_bytes 
 pub labels-append : (xs ys : List Cell) → label_count (xs ++ ys) ≡ label_count xs + label_count ys
 labels-append [] ys = omega arith
 labels-append ((Plain byte) ∷ xs) ys = labels-append xs ys
-labels-append ((Of (Marks label)) ∷ xs) ys = omega (arith, labels-append xs ys)
-labels-append ((Of (Branches branch)) ∷ xs) ys = omega (arith, labels-append xs ys)
-labels-append ((Of (Jumps label)) ∷ xs) ys = omega (arith, labels-append xs ys)
-labels-append ((Of (Refers target)) ∷ xs) ys = labels-append xs ys
+labels-append ((Of (Special.Marks label)) ∷ xs) ys = omega (arith, labels-append xs ys)
+labels-append ((Of (Special.Branches branch)) ∷ xs) ys = omega (arith, labels-append xs ys)
+labels-append ((Of (Special.Jumps label)) ∷ xs) ys = omega (arith, labels-append xs ys)
+labels-append ((Of (Special.Refers target)) ∷ xs) ys = labels-append xs ys
 
 pub fixups-append : (xs ys : List Cell) → fixup_count (xs ++ ys) ≡ fixup_count xs + fixup_count ys
 fixups-append [] ys = omega arith
 fixups-append ((Plain byte) ∷ xs) ys = fixups-append xs ys
-fixups-append ((Of (Marks label)) ∷ xs) ys = fixups-append xs ys
-fixups-append ((Of (Branches branch)) ∷ xs) ys = fixups-append xs ys
-fixups-append ((Of (Jumps label)) ∷ xs) ys = fixups-append xs ys
-fixups-append ((Of (Refers target)) ∷ xs) ys = omega (arith, fixups-append xs ys)
+fixups-append ((Of (Special.Marks label)) ∷ xs) ys = fixups-append xs ys
+fixups-append ((Of (Special.Branches branch)) ∷ xs) ys = fixups-append xs ys
+fixups-append ((Of (Special.Jumps label)) ∷ xs) ys = fixups-append xs ys
+fixups-append ((Of (Special.Refers target)) ∷ xs) ys = omega (arith, fixups-append xs ys)
 
 pub labels-plain : (bytes : List ℕ) → label_count (plain bytes) ≡ 0
 labels-plain [] = refl

@@ -1,10 +1,8 @@
 -- An instruction without its text: its bytes, and what is kept of it.
 use Rattle.std.proofs.Common.{◌≡◌, ℕ, ◌+◌, ◌<◌, ◌≤◌, List, [], ◌++◌, length, get_or, take, drop, take-append-drop, Option, Some, None, refl}
-use Rattle.std.proofs.Common.{sym, ◌∙◌, ap, arith, append-nil, append_assoc}
-use Rattle.std.specs.List.{flat_map}
+use Rattle.std.proofs.Common.{sym, ◌∙◌, ap, arith, append-nil, append_assoc, flat_map}
 use Rattle.std.proofs.lemmas.List.Concat.{flat_map-append}
-use Rattle.inf_opcode.specs.declared.instructions.Branch.{Branch}
-use Rattle.inf_opcode.specs.declared.instructions.Operand.{Operand}
+use Rattle.inf_opcode.specs.{declared.instructions.Branch.Branch, declared.instructions.Operand.Operand}
 use Rattle.inf_opcode.specs.Cells.{Cell, plain, long_bytes, kept_from}
 use Rattle.inf_opcode.specs.Instructions.{operand_cells, store_cells, branch_cells}
 use Rattle.inf_opcode.proofs.Growing.{long-append, long-plain, kept-append, kept-plain}

@@ -2,17 +2,14 @@
 use Rattle.std.specs.Prelude.{Result, Ok, Err, OnErr}
 use Rattle.std.proofs.Common.{◌≡◌, ℕ, ◌+◌, List, [], ◌∷◌, ◌++◌, length, refl, sym, ◌∙◌, ap, arith, append-nil, append_assoc, length-append}
 use Rattle.std.proofs.lemmas.List.Concat.{flat_map-append}
-use Rattle.inf_opcode.specs.declared.cells.Kept.{Kept}
-use Rattle.inf_opcode.specs.declared.cells.Special.{Special}
-use Rattle.inf_opcode.specs.declared.cells.Special.TheVariants.{Marks, Branches, Jumps, Refers}
+use Rattle.inf_opcode.specs.{Grown.Grew, Grown.Longer, declared.cells.Kept.Kept, declared.cells.Special.Special}
 use Rattle.inf_opcode.specs.Cells.{Cell, Plain, Of, plain, special_size, special_bytes, cell_bytes, long_bytes, kept_from}
-use Rattle.inf_opcode.specs.Grown.{Grew, Longer}
 
 pub length-special : (what : Special) → length (special_bytes what) ≡ special_size what
-length-special (Marks label) = refl
-length-special (Branches branch) = refl
-length-special (Jumps label) = refl
-length-special (Refers target) = refl
+length-special (Special.Marks label) = refl
+length-special (Special.Branches branch) = refl
+length-special (Special.Jumps label) = refl
+length-special (Special.Refers target) = refl
 
 pub long-append : (xs ys : List Cell) → long_bytes (xs ++ ys) ≡ long_bytes xs ++ long_bytes ys
 long-append xs ys = flat_map-append cell_bytes xs ys

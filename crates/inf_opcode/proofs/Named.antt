@@ -1,15 +1,11 @@
 -- An opcode is found by the slot of its name.
 use Rattle.std.proofs.Common.{◌≡◌, ℕ, zero, suc, ◌+◌, ◌-◌, ◌/◌, ◌<◌, List, [], ◌∷◌, Bool, true, false, ◌&&◌, nat_eq, map, length, get_or}
-use Rattle.std.proofs.Common.{None, Some, refl, sym, ◌∙◌, ap, arith, if◌then◌else◌, cond}
-use Rattle.std.specs.Prelude.{find, slice_get}
-use Rattle.std.specs.Char.{to_ascii_lowercase}
+use Rattle.std.proofs.Common.{None, Some, refl, sym, ◌∙◌, ap, arith, if◌then◌else◌, cond, find, slice_get}
+use Rattle.std.proofs.{Math.ListN.get_or-map, lemmas.List.length-map, lemmas.Slice.Eq.bytes_eq-Decides}
 use Rattle.std.proofs.lemmas.Bool.{and_parts, false_from_ne_true, eqb-true}
-use Rattle.std.proofs.lemmas.List.{length-map}
-use Rattle.std.proofs.lemmas.Slice.Eq.{bytes_eq-Decides}
-use Rattle.std.proofs.Math.ListN.{get_or-map}
-use Rattle.inf_opcode.specs.declared.opcodes.Opcode.{Opcode}
-use Rattle.inf_opcode.specs.Names.{has_name, name_of, opcode_named, opcodes}
-use Rattle.inf_opcode.specs.Slots.{all_places, if_named, letter, slot}
+use Rattle.std.specs.Char.{to_ascii_lowercase}
+use Rattle.inf_opcode.specs.{Names.has_name, Names.name_of, Names.opcode_named, Names.opcodes, Slots.all_places, Slots.if_named}
+use Rattle.inf_opcode.specs.{Slots.letter, Slots.slot, declared.opcodes.Opcode.Opcode}
 
 -- The slot of a name in any case
 

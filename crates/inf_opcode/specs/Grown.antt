@@ -1,7 +1,6 @@
 -- Writing while a routine is open.
 use Rattle.std.specs.Prelude.{◌≡◌, ℕ, List, ◌++◌, length}
-use Rattle.inf_opcode.specs.declared.cells.Kept.{Kept}
-use Rattle.inf_opcode.specs.Cells.{Cell, long_bytes, kept_from}
+use Rattle.inf_opcode.specs.{Cells.Cell, Cells.kept_from, Cells.long_bytes, declared.cells.Kept.Kept}
 
 -- Cells were written behind bytes, and their special parts were kept behind those kept before.
 pub record Grew (old_bytes : List ℕ) (old_kept : List Kept) (cells : List Cell) (new_bytes : List ℕ) (new_kept : List Kept) : Type 0 where

@@ -1,18 +1,10 @@
 -- Instructions, their sizes and their bytes (Z-Machine Standard 1.1, section 4).
+use Rattle.std.specs.{List.flat_map, Option.option_map_or}
 use Rattle.std.specs.Prelude.{◌≡◌, ◌≤◌, ℕ, ◌+◌, ◌*◌, Bool, true, false, nat_lt, nat_le, ◌&&◌, List, [], ◌∷◌, ◌++◌, length, slice_get}
 use Rattle.std.specs.Prelude.{Option, Some, None, is_some, IsTrue, if◌then◌else◌}
-use Rattle.std.specs.List.{flat_map}
-use Rattle.std.specs.Option.{option_map_or}
-use Rattle.inf_opcode.specs.declared.opcodes.Opcode.{Opcode}
-use Rattle.inf_opcode.specs.declared.opcodes.OpcodeRow.{OpcodeRow}
-use Rattle.inf_opcode.specs.declared.opcodes.OperandCount.{OperandCount}
-use Rattle.inf_opcode.specs.declared.opcodes.OperandCount.TheVariants.{Zero, One, Two, Several, Extended}
-use Rattle.inf_opcode.specs.declared.instructions.Branch.{Branch}
-use Rattle.inf_opcode.specs.declared.instructions.Operand.{Operand}
-use Rattle.inf_opcode.specs.declared.instructions.Operand.TheVariants.{Large, Small, Variable, Later, Offset}
-use Rattle.inf_opcode.specs.Opcodes.{row_of}
-use Rattle.inf_opcode.specs.declared.cells.Special.TheVariants.{Branches, Jumps, Refers}
-use Rattle.inf_opcode.specs.Cells.{Cell, Plain, Of, plain}
+use Rattle.inf_opcode.specs.{Cells.Cell, Cells.Of, Cells.Plain, Cells.plain, Opcodes.row_of, declared.cells.Special.Special}
+use Rattle.inf_opcode.specs.{declared.instructions.Branch.Branch, declared.instructions.Operand.Operand, declared.opcodes.Opcode.Opcode}
+use Rattle.inf_opcode.specs.{declared.opcodes.OpcodeRow.OpcodeRow, declared.opcodes.OperandCount.OperandCount}
 use Rattle.inf_area.specs.Words.{word}
 
 -- Parts of an instruction.
@@ -29,25 +21,25 @@ bare opcode = record { opcode = opcode; operands = []; store = None; branch = No
 
 -- Bits of the type of an operand (section 4.2). A number that is known later is a large constant.
 abbrev pub type_code : Operand → ℕ
-type_code (Large word) = 0
-type_code (Small byte) = 1
-type_code (Variable number) = 2
-type_code (Later target) = 0
-type_code (Offset label) = 0
+type_code (Operand.Large word) = 0
+type_code (Operand.Small byte) = 1
+type_code (Operand.Variable number) = 2
+type_code (Operand.Later target) = 0
+type_code (Operand.Offset label) = 0
 
 abbrev pub is_byte : Operand → Bool
-is_byte (Large word) = false
-is_byte (Small byte) = true
-is_byte (Variable number) = true
-is_byte (Later target) = false
-is_byte (Offset label) = false
+is_byte (Operand.Large word) = false
+is_byte (Operand.Small byte) = true
+is_byte (Operand.Variable number) = true
+is_byte (Operand.Later target) = false
+is_byte (Operand.Offset label) = false
 
 abbrev pub is_variable : Operand → Bool
-is_variable (Large word) = false
-is_variable (Small byte) = false
-is_variable (Variable number) = true
-is_variable (Later target) = false
-is_variable (Offset label) = false
+is_variable (Operand.Large word) = false
+is_variable (Operand.Small byte) = false
+is_variable (Operand.Variable number) = true
+is_variable (Operand.Later target) = false
+is_variable (Operand.Offset label) = false
 
 -- the type of the operand at a place, or 3 where there is none (section 4.4.3)
 abbrev pub type_slot : List Operand → ℕ → ℕ
@@ -76,23 +68,23 @@ variable_bit operands k = if option_map_or is_variable (slice_get operands k) fa
 
 -- The opcode and the types of the operands (sections 4.3 and 4.4): by its count, its number, the bytes of the types, and the operands.
 abbrev pub heading_by : OperandCount → ℕ → List ℕ → List Operand → List ℕ
-heading_by Zero number types operands = (176 + number) ∷ []
-heading_by One number types operands = (128 + 16 * type_slot operands 0 + number) ∷ []
-heading_by Two number types operands =
+heading_by OperandCount.Zero number types operands = (176 + number) ∷ []
+heading_by OperandCount.One number types operands = (128 + 16 * type_slot operands 0 + number) ∷ []
+heading_by OperandCount.Two number types operands =
     if is_long operands then (64 * variable_bit operands 0 + 32 * variable_bit operands 1 + number) ∷ [] else (192 + number) ∷ types
-heading_by Several number types operands = (224 + number) ∷ types
-heading_by Extended number types operands = 190 ∷ number ∷ types
+heading_by OperandCount.Several number types operands = (224 + number) ∷ types
+heading_by OperandCount.Extended number types operands = 190 ∷ number ∷ types
 
 abbrev pub heading : OpcodeRow → List Operand → List ℕ
 heading row operands = heading_by row.count row.number (types_bytes row.most operands) operands
 
 -- An operand: bytes, or a number that is known later.
 abbrev pub operand_cells : Operand → List Cell
-operand_cells (Large number) = plain (word number)
-operand_cells (Small byte) = Plain byte ∷ []
-operand_cells (Variable number) = Plain number ∷ []
-operand_cells (Later target) = Of (Refers target) ∷ []
-operand_cells (Offset label) = Of (Jumps label) ∷ []
+operand_cells (Operand.Large number) = plain (word number)
+operand_cells (Operand.Small byte) = Plain byte ∷ []
+operand_cells (Operand.Variable number) = Plain number ∷ []
+operand_cells (Operand.Later target) = Of (Special.Refers target) ∷ []
+operand_cells (Operand.Offset label) = Of (Special.Jumps label) ∷ []
 
 -- a store variable in a byte (section 4.6)
 abbrev pub store_cells : Option ℕ → List Cell
@@ -102,7 +94,7 @@ store_cells (Some number) = Plain number ∷ []
 -- a branch
 abbrev pub branch_cells : Option Branch → List Cell
 branch_cells None = []
-branch_cells (Some branch) = Of (Branches branch) ∷ []
+branch_cells (Some branch) = Of (Special.Branches branch) ∷ []
 
 -- an instruction without its text, and with it
 abbrev pub front_cells : Parts → List Cell
@@ -129,18 +121,18 @@ fits_text false (byte ∷ others) = false
 -- it does not.
 abbrev pub has_no_offset : List Operand → Bool
 has_no_offset [] = true
-has_no_offset ((Offset label) ∷ others) = false
+has_no_offset ((Operand.Offset label) ∷ others) = false
 has_no_offset (operand ∷ others) = has_no_offset others
 
 abbrev pub fits_jump : Bool → List Operand → Bool
 fits_jump false operands = has_no_offset operands
-fits_jump true ((Offset label) ∷ []) = true
+fits_jump true ((Operand.Offset label) ∷ []) = true
 fits_jump true operands = false
 
 -- Tells whether the first operand is a small constant, where it names a variable.
 abbrev pub fits_variable : Bool → List Operand → Bool
 fits_variable false operands = true
-fits_variable true ((Small number) ∷ others) = true
+fits_variable true ((Operand.Small number) ∷ others) = true
 fits_variable true operands = false
 
 -- The parts are those that the instruction set gives the opcode (section 14).

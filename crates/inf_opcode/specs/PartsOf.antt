@@ -1,6 +1,5 @@
 -- The parts of an instruction as the code keeps it.
-use Rattle.inf_opcode.specs.declared.instructions.Instruction.{Instruction}
-use Rattle.inf_opcode.specs.Instructions.{Parts}
+use Rattle.inf_opcode.specs.{Instructions.Parts, declared.instructions.Instruction.Instruction}
 
 abbrev pub parts_of : Instruction → Parts
 parts_of instruction =

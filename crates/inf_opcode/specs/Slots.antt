@@ -1,7 +1,6 @@
 -- Slots of names, by which the opcode of a name is found.
 use Rattle.std.specs.Prelude.{ℕ, ◌+◌, ◌*◌, ◌/◌, ◌%◌, ◌-◌, List, [], ◌∷◌, Option, Some, None, length, if◌then◌else◌, get_or}
-use Rattle.inf_opcode.specs.declared.opcodes.Opcode.{Opcode}
-use Rattle.inf_opcode.specs.Names.{has_name}
+use Rattle.inf_opcode.specs.{Names.has_name, declared.opcodes.Opcode.Opcode}
 
 -- A letter as a number that is the same in either case.
 abbrev pub letter : ℕ → ℕ

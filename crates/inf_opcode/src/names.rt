@@ -1,7 +1,6 @@
 //! The names of the opcodes (Z-Machine Standard 1.1, section 14).
 ghost use Rattle.std.specs.Prelude.{◌≡◌, slice_get};
-ghost use Rattle.inf_opcode.specs.Names.{name_of, has_name, opcodes, opcode_named};
-ghost use Rattle.inf_opcode.specs.Slots.{if_named};
+ghost use Rattle.inf_opcode.specs.{Names.has_name, Names.name_of, Names.opcode_named, Names.opcodes, Slots.if_named};
 
 use crate::opcodes::Opcode;
 use crate::places::place_of;

@@ -1,6 +1,7 @@
 //! The instruction set: each opcode with its number, its operands and the parts behind them.
 ghost use Rattle.std.specs.Prelude.{◌≡◌, IsTrue};
-ghost use Rattle.inf_opcode.specs.Opcodes.{row_of, is_encodable, plain, naming, jumping, storing, branching, with_most, with_text, last};
+ghost use Rattle.inf_opcode.specs.Opcodes.{row_of, is_encodable, plain_row, naming, jumping, storing, branching, with_most, with_text};
+ghost use Rattle.inf_opcode.specs.Opcodes.{last};
 
 /// Class of an opcode by its count of operands; opcodes are numbered within their class (Z-Machine Standard 1.1, section 4.3).
 #[derive(Clone, Copy, Debug, PartialEq, Eq)]
@@ -253,7 +254,7 @@ impl Opcode {
 
 // A row with the operands that its count allows, and nothing behind them.
 const fn plain(count: OperandCount, number: u8) -> OpcodeRow
-    ensures { result ≡ plain count number }
+    ensures { result ≡ plain_row count number }
 {
     let (least, most) = match count {
         OperandCount::Zero => (0, 0),

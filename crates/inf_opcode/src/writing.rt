@@ -1,15 +1,10 @@
 //! Instructions, written to an area (Z-Machine Standard 1.1, section 4).
-ghost use Rattle.std.specs.Prelude.{◌≡◌, ◌+◌, ◌*◌, ◌<◌, ◌≤◌, ◌^◌, ◌++◌, List, IsTrue, OnOk, OnErr, length};
-ghost use Rattle.std.specs.List.{flat_map};
-ghost use Rattle.inf_opcode.specs.declared.cells.Kept.{Kept};
-ghost use Rattle.inf_opcode.specs.declared.instructions.Operand.{Operand};
+ghost use Rattle.std.specs.Prelude.{◌≡◌, ◌+◌, ◌*◌, ◌<◌, ◌≤◌, ◌^◌, ◌++◌, List, IsTrue, OnOk, OnErr, length, flat_map};
+ghost use Rattle.inf_opcode.specs.{Counts.counts_of, Grown.Grew, Grown.Longer, Opcodes.is_encodable, PartsOf.parts_of};
+ghost use Rattle.inf_opcode.specs.{declared.cells.Kept.Kept, declared.instructions.Operand.Operand};
 ghost use Rattle.inf_opcode.specs.Cells.{sense_bit, long_bytes, label_count, fixup_count, kept_from};
-ghost use Rattle.inf_opcode.specs.Grown.{Grew, Longer};
-ghost use Rattle.inf_opcode.specs.Opcodes.{is_encodable};
 ghost use Rattle.inf_opcode.specs.Instructions.{type_slot, types_byte, types_bytes, variable_bit, is_long, heading, operand_cells};
 ghost use Rattle.inf_opcode.specs.Instructions.{store_cells, branch_cells, front_cells, instruction_cells};
-ghost use Rattle.inf_opcode.specs.Counts.{counts_of};
-ghost use Rattle.inf_opcode.specs.PartsOf.{parts_of};
 
 use crate::cells::{Kept, Special};
 use crate::instructions::{Branch, Instruction, Operand};

@@ -2,27 +2,21 @@
 use Rattle.std.proofs.Common.{◌≡◌, ◌<◌, ◌≤◌, ℕ, ◌+◌, List, [], ◌∷◌, ◌++◌, length, map, Bool, true, false, cond, ltb, Option, Some, None}
 use Rattle.std.proofs.Common.{refl, ap, ◌∙◌, arith}
 use Rattle.std.proofs.lemmas.Bool.Decides.{nat_tests}
-use Rattle.std.specs.List.{position_or_len}
-use Rattle.std.specs.Str.{str_eq_ignore_ascii_case}
+use Rattle.std.specs.{List.position_or_len, Str.str_eq_ignore_ascii_case}
 use Rattle.inf_area.specs.declared.scale.Scale.{Scale}
 use Rattle.inf_expressions.specs.declared.operators.Operand.{Operand}
-use Rattle.inf_expressions.specs.declared.operators.Operand.TheVariants as operand
 use Rattle.inf_gathering.specs.declared.gathering.Leaf.{Leaf}
-use Rattle.inf_gathering.specs.declared.gathering.Leaf.TheVariants as leaf
 use Rattle.inf_names.proofs.LocalLemmas.{has, number_from-absent, number_from-found}
-use Rattle.inf_names.specs.LocalList.{local}
-use Rattle.inf_names.specs.Locals.{Local, number_from, number_of, with_named}
-use Rattle.inf_names.specs.Symbols.{Table}
-use Rattle.inf_names.specs.declared.locals.Local.{Local as CodeLocal}
+use Rattle.inf_names.specs.{LocalList.local, Symbols.Table, declared.locals.Local.Local as CodeLocal}
+use Rattle.inf_names.specs.Locals.{Local, number_from, local_number, with_named}
 use Rattle.inf_output.specs.Output.{Out}
 use Rattle.inf_scanner.specs.declared.tokens.Place.{Place}
 use Rattle.inf_operands.proofs.Staying.{Alike, alike_leaf}
 use Rattle.inf_operands.specs.Operands.{is_stack, leaf_named, looked, looked_alone, looked_by, looked_from, looked_leaf, looked_name}
-use Rattle.inf_unit.specs.Tokens.{SourceToken}
-use Rattle.inf_unit.specs.Units.{bytes_at}
+use Rattle.inf_unit.specs.{Tokens.SourceToken, Units.bytes_at}
 
 -- the place of the local that has a number
-pub found : (name : List ℕ) (ls : List CodeLocal) (n : ℕ) → Some n ≡ number_of name (map local ls)
+pub found : (name : List ℕ) (ls : List CodeLocal) (n : ℕ) → Some n ≡ local_number name (map local ls)
     → (n ≡ 1 + position_or_len (has name) ls) × (position_or_len (has name) ls < length ls)
 found name ls n e = go (ltb (position_or_len (has name) ls) (length ls)) refl
   where
@@ -46,7 +40,7 @@ unnamed_from n name (l ∷ locals) e = go (str_eq_ignore_ascii_case l.name name)
     go true e later = absurd (cc e)
     go false e later = ap (λ (ls : List Local). l ∷ ls) (later e)
 
-pub unnamed : (name : List ℕ) (locals : List Local) → None ≡ number_of name locals → with_named name locals ≡ locals
+pub unnamed : (name : List ℕ) (locals : List Local) → None ≡ local_number name locals → with_named name locals ≡ locals
 unnamed name locals e = unnamed_from 1 name locals e
 
 pub alike_self : (locals : List Local) → Alike locals locals
@@ -57,7 +51,7 @@ pub alike_on : (tokens : List SourceToken) (l : Leaf) (locals others new : List 
     → new ≡ leaf_named tokens l locals → Alike new others
 alike_on tokens l locals others new alike e = record {
   number =
-      λ name. ap (λ (ls : List Local). number_of name ls) e ∙ (alike_leaf tokens l locals).number name ∙ alike.number name;
+      λ name. ap (λ (ls : List Local). local_number name ls) e ∙ (alike_leaf tokens l locals).number name ∙ alike.number name;
 }
 
 -- That statements name locals does not matter for leaves that are looked up.
@@ -69,31 +63,31 @@ name_looked locals others names name alike = ap (λ (number : Option ℕ). looke
 alone_looked : (locals others : List Local) (names : Table Place) (name : List ℕ) → Alike locals others
     → looked_alone locals names name ≡ looked_alone others names name
 alone_looked locals others names name alike =
-    ap (λ (number : Option ℕ). cond (is_stack name number) (operand.Variable 0) (looked_by number name names)) (alike.number name)
+    ap (λ (number : Option ℕ). cond (is_stack name number) (Operand.Variable 0) (looked_by number name names)) (alike.number name)
 
 pub leaf_looked : (locals others : List Local) (names : Table Place) (scale : Scale) (tokens : List SourceToken) (l : Leaf)
     → Alike locals others → looked locals names scale tokens l ≡ looked others names scale tokens l
-leaf_looked locals others names scale tokens (leaf.Name at) alike = name_looked locals others names (bytes_at tokens at) alike
-leaf_looked locals others names scale tokens (leaf.Alone at) alike = alone_looked locals others names (bytes_at tokens at) alike
-leaf_looked locals others names scale tokens (leaf.Number number) alike = refl
-leaf_looked locals others names scale tokens (leaf.Char zscii) alike = refl
-leaf_looked locals others names scale tokens (leaf.Word word) alike = refl
-leaf_looked locals others names scale tokens (leaf.Text at) alike = refl
-leaf_looked locals others names scale tokens (leaf.Action at) alike = refl
-leaf_looked locals others names scale tokens (leaf.System at) alike = refl
+leaf_looked locals others names scale tokens (Leaf.Name at) alike = name_looked locals others names (bytes_at tokens at) alike
+leaf_looked locals others names scale tokens (Leaf.Alone at) alike = alone_looked locals others names (bytes_at tokens at) alike
+leaf_looked locals others names scale tokens (Leaf.Number number) alike = refl
+leaf_looked locals others names scale tokens (Leaf.Char zscii) alike = refl
+leaf_looked locals others names scale tokens (Leaf.Word word) alike = refl
+leaf_looked locals others names scale tokens (Leaf.Text at) alike = refl
+leaf_looked locals others names scale tokens (Leaf.Action at) alike = refl
+leaf_looked locals others names scale tokens (Leaf.System at) alike = refl
 
 leaf_looked_ahead : (locals others : List Local) (o : Out) (tokens : List SourceToken) (l : Leaf) (ahead : Table Place)
     → Alike locals others → looked_leaf locals o tokens l ahead ≡ looked_leaf others o tokens l ahead
-leaf_looked_ahead locals others o tokens (leaf.Name at) ahead alike =
+leaf_looked_ahead locals others o tokens (Leaf.Name at) ahead alike =
     ap (λ (x : Operand). (ahead, x)) (name_looked locals others o.names (bytes_at tokens at) alike)
-leaf_looked_ahead locals others o tokens (leaf.Alone at) ahead alike =
+leaf_looked_ahead locals others o tokens (Leaf.Alone at) ahead alike =
     ap (λ (x : Operand). (ahead, x)) (alone_looked locals others o.names (bytes_at tokens at) alike)
-leaf_looked_ahead locals others o tokens (leaf.Number number) ahead alike = refl
-leaf_looked_ahead locals others o tokens (leaf.Char zscii) ahead alike = refl
-leaf_looked_ahead locals others o tokens (leaf.Word word) ahead alike = refl
-leaf_looked_ahead locals others o tokens (leaf.Text at) ahead alike = refl
-leaf_looked_ahead locals others o tokens (leaf.Action at) ahead alike = refl
-leaf_looked_ahead locals others o tokens (leaf.System at) ahead alike = refl
+leaf_looked_ahead locals others o tokens (Leaf.Number number) ahead alike = refl
+leaf_looked_ahead locals others o tokens (Leaf.Char zscii) ahead alike = refl
+leaf_looked_ahead locals others o tokens (Leaf.Word word) ahead alike = refl
+leaf_looked_ahead locals others o tokens (Leaf.Text at) ahead alike = refl
+leaf_looked_ahead locals others o tokens (Leaf.Action at) ahead alike = refl
+leaf_looked_ahead locals others o tokens (Leaf.System at) ahead alike = refl
 
 pub all_looked_ahead : (locals others : List Local) (o : Out) (tokens : List SourceToken) (leaves : List Leaf) (ahead : Table Place)
     (operands : List Operand) → Alike locals others

@@ -6,19 +6,11 @@ use Rattle.inf_settings.specs.Bounds.{Limits}
 use Rattle.inf_scanner.specs.declared.tokens.Place.{Place}
 use Rattle.inf_characters.specs.declared.characters.CharSet.{CharSet}
 use Rattle.inf_expressions.specs.declared.operators.Operand.{Operand}
-use Rattle.inf_expressions.specs.declared.operators.Operand.TheVariants as operand
 use Rattle.inf_gathering.specs.declared.gathering.Leaf.{Leaf}
-use Rattle.inf_gathering.specs.declared.gathering.Leaf.TheVariants as leaf
-use Rattle.inf_names.specs.Symbols.{found_in}
-use Rattle.inf_names.specs.declared.symbols.Found.{Found}
-use Rattle.inf_names.specs.declared.symbols.Found.TheVariants as found
-use Rattle.inf_names.specs.Locals.{Local, number_from, number_of, with_named}
-use Rattle.inf_names.specs.Spellings.{Name}
+use Rattle.inf_names.specs.{Spellings.Name, Symbols.found_in, declared.symbols.Found.Found}
+use Rattle.inf_names.specs.Locals.{Local, number_from, local_number, with_named}
 use Rattle.inf_unit.proofs.Cases.{of_both}
-use Rattle.inf_unit.specs.Tokens.{SourceToken}
-use Rattle.inf_unit.specs.Units.{bytes_at, bytes_of, name_at}
-use Rattle.inf_unit.specs.declared.items.Item.{Item}
-use Rattle.inf_unit.specs.declared.items.Item.TheVariants as item
+use Rattle.inf_unit.specs.{Tokens.SourceToken, Units.bytes_at, Units.bytes_of, Units.name_at, declared.items.Item.Item}
 use Rattle.inf_output.specs.Output.{Out}
 use Rattle.inf_operands.specs.Operands.{Settled, found_operand, is_stack, leaf_named, leaves_named, looked, looked_by, looked_name}
 use Rattle.inf_operands.specs.Operands.{operand_by, referring, settled, settled_by, settled_leaf, settled_name, standing}
@@ -38,20 +30,20 @@ known_stays None number op e plain = no_reference None op e plain
 -- the operand of a name with this finding, once it is used
 found_stays : (f : Found Place) (number : Option ℕ) (op : Operand) → op ≡ found_operand f None → is_plain op ≡ true
     → found_operand f number ≡ op
-found_stays (found.System m) number op e plain = known_stays (standing m) number op e plain
-found_stays (found.Declared m place) number op e plain = known_stays (standing m) number op e plain
-found_stays found.Used number op e plain = no_reference None op e plain
-found_stays found.Unknown number op e plain = no_reference None op e plain
+found_stays (Found.System m) number op e plain = known_stays (standing m) number op e plain
+found_stays (Found.Declared m place) number op e plain = known_stays (standing m) number op e plain
+found_stays Found.Used number op e plain = no_reference None op e plain
+found_stays Found.Unknown number op e plain = no_reference None op e plain
 
 -- a name that is no local
 used_stays : (limits : Limits) (name : List ℕ) (place : Place) (o : Out) (op : Operand) (f : Found Place) → found_in name o.names ≡ f
     → op ≡ found_operand f None → is_plain op ≡ true → settled_by limits None name place o ≡ (o, op)
-used_stays limits name place o op (found.System m) is e plain =
-    rw (is, is) (ap (λ (x : Operand). (o, x)) (found_stays (found.System m) None op e plain))
-used_stays limits name place o op (found.Declared m first) is e plain =
-    rw (is, is) (ap (λ (x : Operand). (o, x)) (found_stays (found.Declared m first) _ op e plain))
-used_stays limits name place o op found.Used is e plain = no_reference None op e plain
-used_stays limits name place o op found.Unknown is e plain = no_reference None op e plain
+used_stays limits name place o op (Found.System m) is e plain =
+    rw (is, is) (ap (λ (x : Operand). (o, x)) (found_stays (Found.System m) None op e plain))
+used_stays limits name place o op (Found.Declared m first) is e plain =
+    rw (is, is) (ap (λ (x : Operand). (o, x)) (found_stays (Found.Declared m first) _ op e plain))
+used_stays limits name place o op Found.Used is e plain = no_reference None op e plain
+used_stays limits name place o op Found.Unknown is e plain = no_reference None op e plain
 
 name_stays : (limits : Limits) (locals : List Local) (name : List ℕ) (place : Place) (o : Out) (op : Operand) (local : Option ℕ)
     → op ≡ looked_by local name o.names → is_plain op ≡ true → settled_by limits local name place o ≡ (o, op)
@@ -62,30 +54,30 @@ at_name : (limits : Limits) (locals : List Local) (o : Out) (op : Operand) (name
     → op ≡ looked_name locals o.names (bytes_of name) → is_plain op ≡ true → is_some name ≡ true
     → settled_name limits locals name o ≡ (o, op)
 at_name limits locals o op None e plain there = absurd (cc there)
-at_name limits locals o op (Some n) e plain there = name_stays limits locals n.bytes n.place o op (number_of n.bytes locals) e plain
+at_name limits locals o op (Some n) e plain there = name_stays limits locals n.bytes n.place o op (local_number n.bytes locals) e plain
 
 pub named_stays : (tokens : List SourceToken) (at : ℕ) (op : Operand) → is_plain op ≡ true → is_some (name_at tokens at) ≡ true
-    → LeafStays tokens (leaf.Name at) op
+    → LeafStays tokens (Leaf.Name at) op
 named_stays tokens at op plain there limits set locals o e = at_name limits locals o op (name_at tokens at) e plain there
 
 by_stack : (limits : Limits) (locals : List Local) (tokens : List SourceToken) (at : ℕ) (o : Out) (op : Operand) (b : Bool)
-    → op ≡ cond b (operand.Variable 0) (looked_name locals o.names (bytes_at tokens at)) → is_plain op ≡ true
-    → is_some (name_at tokens at) ≡ true → cond b (o, operand.Variable 0) (settled_name limits locals (name_at tokens at) o) ≡ (o, op)
+    → op ≡ cond b (Operand.Variable 0) (looked_name locals o.names (bytes_at tokens at)) → is_plain op ≡ true
+    → is_some (name_at tokens at) ≡ true → cond b (o, Operand.Variable 0) (settled_name limits locals (name_at tokens at) o) ≡ (o, op)
 by_stack limits locals tokens at o op true e plain there = ap (λ (x : Operand). (o, x)) (sym e)
 by_stack limits locals tokens at o op false e plain there = at_name limits locals o op (name_at tokens at) e plain there
 
 pub alone_stays : (tokens : List SourceToken) (at : ℕ) (op : Operand) → is_plain op ≡ true → is_some (name_at tokens at) ≡ true
-    → LeafStays tokens (leaf.Alone at) op
+    → LeafStays tokens (Leaf.Alone at) op
 alone_stays tokens at op plain there limits set locals o e =
-    by_stack limits locals tokens at o op (is_stack (bytes_at tokens at) (number_of (bytes_at tokens at) locals)) e plain there
+    by_stack limits locals tokens at o op (is_stack (bytes_at tokens at) (local_number (bytes_at tokens at) locals)) e plain there
 
-pub number_stays : (tokens : List SourceToken) (number : ℕ) (op : Operand) → LeafStays tokens (leaf.Number number) op
+pub number_stays : (tokens : List SourceToken) (number : ℕ) (op : Operand) → LeafStays tokens (Leaf.Number number) op
 number_stays tokens number op limits set locals o e = ap (λ (x : Operand). (o, x)) (sym e)
 
-pub char_stays : (tokens : List SourceToken) (zscii : ℕ) (op : Operand) → LeafStays tokens (leaf.Char zscii) op
+pub char_stays : (tokens : List SourceToken) (zscii : ℕ) (op : Operand) → LeafStays tokens (Leaf.Char zscii) op
 char_stays tokens zscii op limits set locals o e = ap (λ (x : Operand). (o, x)) (sym e)
 
-pub system_stays : (tokens : List SourceToken) (at : ℕ) (op : Operand) → LeafStays tokens (leaf.System at) op
+pub system_stays : (tokens : List SourceToken) (at : ℕ) (op : Operand) → LeafStays tokens (Leaf.System at) op
 system_stays tokens at op limits set locals o e = ap (λ (x : Operand). (o, x)) (sym e)
 
 -- one leaf more, whose use changes nothing
@@ -107,17 +99,17 @@ named_number n name key (l ∷ locals) =
 
 -- Some locals have the numbers of others.
 pub record Alike (locals others : List Local) : Type 0 where
-  pub number : (name : List ℕ) → number_of name locals ≡ number_of name others
+  pub number : (name : List ℕ) → local_number name locals ≡ local_number name others
 
 pub alike_leaf : (tokens : List SourceToken) (l : Leaf) (locals : List Local) → Alike (leaf_named tokens l locals) locals
-alike_leaf tokens (leaf.Name at) locals = record { number = λ name. named_number 1 name (bytes_at tokens at) locals }
-alike_leaf tokens (leaf.Alone at) locals = record { number = λ name. named_number 1 name (bytes_at tokens at) locals }
-alike_leaf tokens (leaf.Number number) locals = record { number = λ name. refl }
-alike_leaf tokens (leaf.Char zscii) locals = record { number = λ name. refl }
-alike_leaf tokens (leaf.Word word) locals = record { number = λ name. refl }
-alike_leaf tokens (leaf.Text at) locals = record { number = λ name. refl }
-alike_leaf tokens (leaf.Action at) locals = record { number = λ name. refl }
-alike_leaf tokens (leaf.System at) locals = record { number = λ name. refl }
+alike_leaf tokens (Leaf.Name at) locals = record { number = λ name. named_number 1 name (bytes_at tokens at) locals }
+alike_leaf tokens (Leaf.Alone at) locals = record { number = λ name. named_number 1 name (bytes_at tokens at) locals }
+alike_leaf tokens (Leaf.Number number) locals = record { number = λ name. refl }
+alike_leaf tokens (Leaf.Char zscii) locals = record { number = λ name. refl }
+alike_leaf tokens (Leaf.Word word) locals = record { number = λ name. refl }
+alike_leaf tokens (Leaf.Text at) locals = record { number = λ name. refl }
+alike_leaf tokens (Leaf.Action at) locals = record { number = λ name. refl }
+alike_leaf tokens (Leaf.System at) locals = record { number = λ name. refl }
 
 pub alike_leaves : (tokens : List SourceToken) (leaves : List Leaf) (locals : List Local) → Alike (leaves_named tokens leaves locals) locals
 alike_leaves tokens [] locals = record { number = λ name. refl }
@@ -127,15 +119,15 @@ alike_leaves tokens (l ∷ leaves) locals = record {
 }
 
 pub alike_store : (tokens : List SourceToken) (i : Item) (locals : List Local) → Alike (store_named tokens i locals) locals
-alike_store tokens (item.Store at) locals = record { number = λ name. named_number 1 name (bytes_at tokens at) locals }
-alike_store tokens (item.Text at) locals = record { number = λ name. refl }
-alike_store tokens item.Value locals = record { number = λ name. refl }
-alike_store tokens (item.Ruled rule) locals = record { number = λ name. refl }
-alike_store tokens item.Set locals = record { number = λ name. refl }
-alike_store tokens item.Clear locals = record { number = λ name. refl }
-alike_store tokens item.Default locals = record { number = λ name. refl }
-alike_store tokens (item.Branch at holds) locals = record { number = λ name. refl }
-alike_store tokens (item.Jump at) locals = record { number = λ name. refl }
+alike_store tokens (Item.Store at) locals = record { number = λ name. named_number 1 name (bytes_at tokens at) locals }
+alike_store tokens (Item.Text at) locals = record { number = λ name. refl }
+alike_store tokens Item.Value locals = record { number = λ name. refl }
+alike_store tokens (Item.Ruled rule) locals = record { number = λ name. refl }
+alike_store tokens Item.Set locals = record { number = λ name. refl }
+alike_store tokens Item.Clear locals = record { number = λ name. refl }
+alike_store tokens Item.Default locals = record { number = λ name. refl }
+alike_store tokens (Item.Branch at holds) locals = record { number = λ name. refl }
+alike_store tokens (Item.Jump at) locals = record { number = λ name. refl }
 
 pub alike_stores : (tokens : List SourceToken) (items : List Item) (locals : List Local) → Alike (stores_named tokens items locals) locals
 alike_stores tokens [] locals = record { number = λ name. refl }
@@ -152,18 +144,18 @@ name_alike limits locals others (Some n) o alike =
 
 leaf_alike : (limits : Limits) (set : CharSet) (locals others : List Local) (tokens : List SourceToken) (l : Leaf) (o : Out)
     → Alike locals others → settled_leaf limits set locals tokens l o ≡ settled_leaf limits set others tokens l o
-leaf_alike limits set locals others tokens (leaf.Name at) o alike = name_alike limits locals others (name_at tokens at) o alike
-leaf_alike limits set locals others tokens (leaf.Alone at) o alike =
-    ap (λ (number : Option ℕ). cond (is_stack (bytes_at tokens at) number) (o, operand.Variable 0)
+leaf_alike limits set locals others tokens (Leaf.Name at) o alike = name_alike limits locals others (name_at tokens at) o alike
+leaf_alike limits set locals others tokens (Leaf.Alone at) o alike =
+    ap (λ (number : Option ℕ). cond (is_stack (bytes_at tokens at) number) (o, Operand.Variable 0)
     (settled_name limits locals (name_at tokens at) o)) (alike.number (bytes_at tokens at))
-    ∙ ap (λ (s : Out × Operand). cond (is_stack (bytes_at tokens at) (number_of (bytes_at tokens at) others)) (o, operand.Variable 0) s)
+    ∙ ap (λ (s : Out × Operand). cond (is_stack (bytes_at tokens at) (local_number (bytes_at tokens at) others)) (o, Operand.Variable 0) s)
     (name_alike limits locals others (name_at tokens at) o alike)
-leaf_alike limits set locals others tokens (leaf.Number number) o alike = refl
-leaf_alike limits set locals others tokens (leaf.Char zscii) o alike = refl
-leaf_alike limits set locals others tokens (leaf.Word word) o alike = refl
-leaf_alike limits set locals others tokens (leaf.Text at) o alike = refl
-leaf_alike limits set locals others tokens (leaf.Action at) o alike = refl
-leaf_alike limits set locals others tokens (leaf.System at) o alike = refl
+leaf_alike limits set locals others tokens (Leaf.Number number) o alike = refl
+leaf_alike limits set locals others tokens (Leaf.Char zscii) o alike = refl
+leaf_alike limits set locals others tokens (Leaf.Word word) o alike = refl
+leaf_alike limits set locals others tokens (Leaf.Text at) o alike = refl
+leaf_alike limits set locals others tokens (Leaf.Action at) o alike = refl
+leaf_alike limits set locals others tokens (Leaf.System at) o alike = refl
 
 settled_alike : (limits : Limits) (set : CharSet) (locals others : List Local) (tokens : List SourceToken) (leaves : List Leaf)
     (s : Settled) → Alike locals others → settled limits set locals tokens leaves s ≡ settled limits set others tokens leaves s

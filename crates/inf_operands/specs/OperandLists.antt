@@ -2,8 +2,7 @@
 use Rattle.std.specs.Prelude.{List}
 use Rattle.inf_expressions.specs.declared.operators.Operand.{Operand}
 use Rattle.inf_operands.specs.declared.operand_lists.OperandList.{OperandList}
-use Rattle.inf_operands.specs.declared.operand_lists.OperandList.TheVariants as listing
 
 abbrev pub operands_in : OperandList → List Operand
-operands_in (listing.One one) = one
-operands_in (listing.Many many) = many.items
+operands_in (OperandList.One one) = one
+operands_in (OperandList.Many many) = many.items

@@ -1,11 +1,8 @@
 -- The texts of a unit, and the place that a packed one takes.
 use Rattle.std.specs.Prelude.{ℕ, List, slice_get, Option, Some, None}
-use Rattle.inf_characters.specs.declared.characters.CharSet.{CharSet}
-use Rattle.inf_characters.specs.declared.texts.TextItem.{TextItem}
-use Rattle.inf_unit.specs.Texts.{read_of}
-use Rattle.inf_unit.specs.Tokens.{SourceToken}
-use Rattle.inf_output.specs.Output.{Code}
-use Rattle.inf_output.specs.Texts.{late}
+use Rattle.inf_characters.specs.{declared.characters.CharSet.CharSet, declared.texts.TextItem.TextItem}
+use Rattle.inf_unit.specs.{Texts.read_of, Tokens.SourceToken}
+use Rattle.inf_output.specs.{Output.Code, Texts.late}
 
 abbrev pub text_by : CharSet → Option SourceToken → Option (List TextItem)
 text_by set None = None

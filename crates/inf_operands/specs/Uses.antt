@@ -3,7 +3,6 @@ use Rattle.std.specs.Prelude.{◌≡◌, List, [], Bool, true, false}
 use Rattle.inf_settings.specs.Bounds.{Limits}
 use Rattle.inf_characters.specs.declared.characters.CharSet.{CharSet}
 use Rattle.inf_expressions.specs.declared.operators.Operand.{Operand}
-use Rattle.inf_expressions.specs.declared.operators.Operand.TheVariants as operand
 use Rattle.inf_gathering.specs.declared.gathering.Leaf.{Leaf}
 use Rattle.inf_names.specs.Locals.{Local}
 use Rattle.inf_unit.specs.Tokens.{SourceToken}
@@ -12,11 +11,11 @@ use Rattle.inf_operands.specs.Operands.{looked, settled, settled_leaf}
 
 -- Tells whether an operand is a known number, a variable or a function.
 abbrev pub is_plain : Operand → Bool
-is_plain (operand.Known number) = true
-is_plain (operand.Variable number) = true
-is_plain (operand.Function f) = true
-is_plain (operand.Later target) = false
-is_plain operand.Unknown = false
+is_plain (Operand.Known number) = true
+is_plain (Operand.Variable number) = true
+is_plain (Operand.Function f) = true
+is_plain (Operand.Later target) = false
+is_plain Operand.Unknown = false
 
 -- Tells that the use of a leaf changes nothing and gives an operand, wherever looking the leaf up gives this operand.
 abbrev pub LeafStays : List SourceToken → Leaf → Operand → Type 0

@@ -1,12 +1,10 @@
 //! The operands of a unit's leaves, where their names are only looked up.
 ghost use Rattle.std.specs.Prelude.{◌≡◌, IfOk, IfSome, OnOk, false, true};
-ghost use Rattle.inf_gathering.specs.declared.gathering.Leaf.TheVariants as variant;
-ghost use Rattle.inf_names.specs.LocalList.{listed};
-ghost use Rattle.inf_names.specs.Symbols.{Table, no_names};
+ghost use Rattle.inf_gathering.specs.declared.gathering.Leaf.{Leaf};
+ghost use Rattle.inf_names.specs.{LocalList.listed, Symbols.Table, Symbols.no_names};
 ghost use Rattle.inf_scanner.specs.declared.tokens.Place.{Place as SourcePlace};
-ghost use Rattle.inf_operands.specs.OperandLists.{operands_in};
+ghost use Rattle.inf_operands.specs.{OperandLists.operands_in, Uses.LeafStays, Uses.LeavesStay, Uses.is_plain};
 ghost use Rattle.inf_operands.specs.Operands.{all_looked, looked, looked_from, looked_leaf};
-ghost use Rattle.inf_operands.specs.Uses.{LeafStays, LeavesStay, is_plain};
 
 use crate::operand_lists::OperandList;
 use crate::operands::{looked, looked_leaf};
@@ -34,8 +32,8 @@ fn is_plain(operand: Operand) -> bool
 /// stands for a known number, a variable or a function.
 #[tactic(auto, using(crate::proofs::Staying::named_stays, crate::proofs::Staying::alone_stays))]
 fn name_stays(tokens: &UnitTokens, at: usize, operand: Operand) -> bool
-    ensures name { result ≡ true → LeafStays tokens.now (variant.Name at) operand }
-    ensures alone { result ≡ true → LeafStays tokens.now (variant.Alone at) operand }
+    ensures name { result ≡ true → LeafStays tokens.now (Leaf.Name at) operand }
+    ensures alone { result ≡ true → LeafStays tokens.now (Leaf.Alone at) operand }
 {
     is_plain(operand) && tokens.name_at(at).is_some()
 }

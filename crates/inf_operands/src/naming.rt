@@ -1,8 +1,6 @@
 //! The operands of leaves whose names are only looked up: each local that a leaf names is noted as it is found.
 ghost use Rattle.std.specs.Prelude.{◌≡◌, ◌≤◌, IfOk, IfSome, None, OnOk, false, length, true};
-ghost use Rattle.inf_names.specs.LocalList.{listed};
-ghost use Rattle.inf_names.specs.Locals.{number_of, with_named};
-ghost use Rattle.inf_names.specs.Symbols.{Table, no_names};
+ghost use Rattle.inf_names.specs.{LocalList.listed, Locals.local_number, Locals.with_named, Symbols.Table, Symbols.no_names};
 ghost use Rattle.inf_scanner.specs.declared.tokens.Place.{Place as SourcePlace};
 ghost use Rattle.inf_operands.specs.Operands.{all_looked, leaf_named, leaves_named, looked, looked_alone, looked_from};
 ghost use Rattle.inf_operands.specs.Operands.{looked_leaf, looked_name};
@@ -23,7 +21,7 @@ use std::alloc::{AllocError, Global};
 /// Notes that a statement names `name`, if it is one of `locals`, and returns its number then.
 #[inline(always)]
 fn note(locals: &mut Locals, name: &[u8]) -> Option<u8>
-    ensures number { result ≡ number_of name.now (listed locals.old) }
+    ensures number { result ≡ local_number name.now (listed locals.old) }
     ensures named { listed locals.new ≡ with_named name.now (listed locals.old) }
 {
     let number = locals.number(name)?;

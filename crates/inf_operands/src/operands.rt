@@ -2,13 +2,12 @@
 ghost use Rattle.std.specs.Prelude.{◌≡◌, ◌≤◌, [], ◌∷◌, ◌++◌, List, IfOk, IfSome, OnOk, length, option_map};
 ghost use Rattle.inf_names.specs.LocalList.{listed};
 ghost use Rattle.inf_unit.specs.NameTokens.{named};
-ghost use Rattle.inf_operands.specs.Operands.{Settled, found_operand, function_of, is_stack, leaf_added, leaf_named};
-ghost use Rattle.inf_operands.specs.Operands.{leaves_named, looked, looked_action, looked_alone, looked_leaf, looked_name, new_action};
-ghost use Rattle.inf_operands.specs.Operands.{one_added, operand_by, referring, settled, settled_action, settled_alone, settled_as};
-ghost use Rattle.inf_operands.specs.Operands.{settled_leaf, settled_name, settled_text, settled_word, standing, stores_named};
-ghost use Rattle.inf_operands.specs.Operands.{system_constant, system_operand, word_operand, word_sum};
-ghost use Rattle.inf_operands.specs.OperandLists.{operands_in};
-ghost use Rattle.inf_operands.specs.Texts.{text_at};
+ghost use Rattle.inf_operands.specs.{OperandLists.operands_in, Texts.text_at};
+ghost use Rattle.inf_operands.specs.Operands.{Settled, found_operand, function_of, is_stack, leaf_added, leaf_named, leaves_named, looked};
+ghost use Rattle.inf_operands.specs.Operands.{looked_action, looked_alone, looked_leaf, looked_name, new_action, one_added, operand_by};
+ghost use Rattle.inf_operands.specs.Operands.{referring, settled, settled_action, settled_alone, settled_as, settled_leaf, settled_name};
+ghost use Rattle.inf_operands.specs.Operands.{settled_text, settled_word, standing, stores_named, system_constant, system_operand};
+ghost use Rattle.inf_operands.specs.Operands.{word_operand, word_sum};
 
 use crate::operand_lists::OperandList;
 use inf_area::{AreaName, Scale, SystemConstant, Target};

@@ -1,16 +1,10 @@
 -- Actions, as a source names them. Designer's Manual, fourth edition, section 6.
 use Rattle.std.specs.Prelude.{ℕ, ◌+◌, ◌%◌, List, ◌++◌, codes, length, Option, Some, None}
-use Rattle.inf_settings.specs.Bounds.{Limits, unbounded}
+use Rattle.inf_settings.specs.{Bounds.Limits, Bounds.unbounded, declared.setting.Setting.Setting}
 use Rattle.inf_scanner.specs.declared.tokens.Place.{Place}
-use Rattle.inf_names.specs.declared.meanings.Meaning.{Meaning}
-use Rattle.inf_names.specs.declared.meanings.Meaning.TheVariants as meaning
-use Rattle.inf_names.specs.declared.symbols.DeclareFault.{DeclareFault}
-use Rattle.inf_names.specs.declared.symbols.DeclareFault.TheVariants as declaring
-use Rattle.inf_names.specs.declared.symbols.Found.{Found}
-use Rattle.inf_names.specs.declared.symbols.Found.TheVariants as found
+use Rattle.inf_names.specs.{declared.meanings.Meaning.Meaning, declared.symbols.DeclareFault.DeclareFault, declared.symbols.Found.Found}
 use Rattle.inf_names.specs.Symbols.{declare_fault, found_in, with_declared}
 use Rattle.inf_output.specs.Output.{Code, Out, declared, passed_table, referred, referred_as}
-use Rattle.inf_settings.specs.declared.setting.Setting.TheVariants as setting
 use Rattle.inf_verbs.specs.declared.routines.ActionFault.{ActionFault}
 use Rattle.inf_verbs.specs.Routines.{AllActions, action_fault, number_of, with_action, with_fake}
 
@@ -29,11 +23,11 @@ routine_name name = name ++ codes "Sub"
 -- Number that a key stands for: a fake action is declared under its key among the names of the source, and any other that appeared
 -- among those that did.
 abbrev pub number_of_meaning : Meaning → Option ℕ
-number_of_meaning (meaning.FakeAction number) = Some number
+number_of_meaning (Meaning.FakeAction number) = Some number
 number_of_meaning _ = None
 
 abbrev pub number_in : Found Place → Option ℕ
-number_in (found.Declared m first) = number_of_meaning m
+number_in (Found.Declared m first) = number_of_meaning m
 number_in _ = None
 
 abbrev pub fake_number : List ℕ → Out → Option ℕ
@@ -53,7 +47,7 @@ abbrev pub next_seen : Out → ℕ
 next_seen o = length o.seen.names % 65536
 
 abbrev pub seen_by : Option (DeclareFault Place) → List ℕ → Place → Code
-seen_by None key place o = record o { seen = with_declared key place (meaning.FakeAction (next_seen o)) o.seen }
+seen_by None key place o = record o { seen = with_declared key place (Meaning.FakeAction (next_seen o)) o.seen }
 seen_by (Some fault) key place o = o
 
 abbrev pub appeared : List ℕ → Place → Code
@@ -65,7 +59,7 @@ with_actions actions o = record o { tables = record o.tables { actions = actions
 
 abbrev pub numbered_by : Limits → Option ActionFault → ℕ → Out → Out × ℕ
 numbered_by limits None routine o = (with_actions (with_action routine o.tables.actions) o, number_of routine o.tables.actions.routines)
-numbered_by limits (Some fault) routine o = (passed_table limits setting.Actions o, 0)
+numbered_by limits (Some fault) routine o = (passed_table limits Setting.Actions o, 0)
 
 abbrev pub numbered : Limits → ℕ → Out → Out × ℕ
 numbered limits routine o = numbered_by limits (action_fault limits routine o.tables.actions) routine o
@@ -99,7 +93,7 @@ action_of limits name place o = action_by limits (fake_number (key_of name) o) n
 
 -- First place of an action, as a fake one or not.
 abbrev pub place_in : Found Place → Option Place
-place_in (found.Declared m first) = Some first
+place_in (Found.Declared m first) = Some first
 place_in _ = None
 
 abbrev pub first_by : Option Place → Option Place → Option Place
@@ -117,9 +111,9 @@ abbrev pub one_fake : Code
 one_fake o = with_actions (with_fake o.tables.actions) o
 
 abbrev pub faked_by : Limits → Option Place → List ℕ → Place → Out → Out × Option (DeclareFault Place)
-faked_by limits (Some first) key place o = (o, Some (declaring.Present (Some first)))
+faked_by limits (Some first) key place o = (o, Some (DeclareFault.Present (Some first)))
 faked_by limits None key place o =
-    (declared limits key place (meaning.FakeAction (next_fake o)) (one_fake o), declare_fault limits key o.names)
+    (declared limits key place (Meaning.FakeAction (next_fake o)) (one_fake o), declare_fault limits key o.names)
 
 abbrev pub faked : Limits → List ℕ → Place → Out → Out × Option (DeclareFault Place)
 faked limits name place o = faked_by limits (first_seen (key_of name) o) (key_of name) place o

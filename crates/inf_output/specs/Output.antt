@@ -1,60 +1,25 @@
 -- Code, as a change of an output, and the words by which pieces of code are put together.
 use Rattle.std.specs.Prelude.{◌≡◌, ℕ, ◌+◌, ◌-◌, ◌≤◌, min, Bool, true, false, nat_lt, if◌then◌else◌, List, [], ◌∷◌, ◌++◌, length, map}
 use Rattle.std.specs.Prelude.{Option, Some, None}
-use Rattle.inf_settings.specs.Bounds.{Limits}
+use Rattle.inf_settings.specs.{Bounds.Limits, Settings.place_of, declared.setting.Setting.Setting}
 use Rattle.inf_scanner.specs.declared.tokens.Place.{Place}
-use Rattle.inf_area.specs.declared.targets.AreaName.TheVariants as area
-use Rattle.inf_area.specs.declared.targets.Target.{Target}
-use Rattle.inf_area.specs.declared.targets.Target.TheVariants as target
-use Rattle.inf_area.specs.declared.scale.Scale.{Scale}
-use Rattle.inf_opcode.specs.declared.instructions.Branch.{Branch}
-use Rattle.inf_opcode.specs.declared.instructions.Destination.TheVariants.{To}
-use Rattle.inf_opcode.specs.declared.instructions.Label.{Label}
-use Rattle.inf_opcode.specs.declared.instructions.Operand.TheVariants.{Small, Offset}
-use Rattle.inf_opcode.specs.declared.opcodes.Opcode.{Opcode}
-use Rattle.inf_opcode.specs.declared.opcodes.Opcode.TheVariants as opcode
-use Rattle.inf_opcode.specs.declared.cells.Special.TheVariants.{Marks}
-use Rattle.inf_opcode.specs.declared.writing.Counts.{Counts}
-use Rattle.inf_opcode.specs.Cells.{Of}
-use Rattle.inf_opcode.specs.Counts.{counts_of}
-use Rattle.inf_opcode.specs.Instructions.{front_cells}
-use Rattle.inf_opcode.specs.Opcodes.{row_of}
-use Rattle.inf_assembler.specs.declared.routines.CloseFault.{CloseFault}
-use Rattle.inf_assembler.specs.declared.routines.CloseFault.TheVariants as close_fault
-use Rattle.inf_assembler.specs.declared.routines.RoutineKind.{RoutineKind}
-use Rattle.inf_assembler.specs.declared.routines.Limit.{Limit as CodeLimit}
-use Rattle.inf_assembler.specs.declared.routines.Limit.TheVariants as code_setting
+use Rattle.inf_area.specs.{declared.scale.Scale.Scale, declared.targets.AreaName.AreaName, declared.targets.Target.Target}
+use Rattle.inf_opcode.specs.{Cells.Of, Counts.counts_of, Instructions.front_cells, Opcodes.row_of}
+use Rattle.inf_opcode.specs.declared.{cells.Special.Special, instructions.Branch.Branch, instructions.Destination.Destination}
+use Rattle.inf_opcode.specs.declared.{instructions.Label.Label, instructions.Operand.Operand, opcodes.Opcode.Opcode, writing.Counts.Counts}
+use Rattle.inf_assembler.specs.{declared.routines.CloseFault.CloseFault, declared.routines.Limit.Limit as CodeLimit}
+use Rattle.inf_assembler.specs.{declared.routines.RoutineKind.RoutineKind}
 use Rattle.inf_code.specs.Code.{Routines, begun as code_begun, code_left, fault_closed, full_begun, full_label, full_opened, full_with}
 use Rattle.inf_code.specs.Code.{is_lost_in}
 use Rattle.inf_code.specs.Code.{labels_left, references_left, with_item, with_closed, with_label as with_mark, with_none_open, with_opened}
-use Rattle.inf_names.specs.declared.meanings.Meaning.{Meaning}
-use Rattle.inf_names.specs.declared.meanings.Meaning.TheVariants as meaning
-use Rattle.inf_names.specs.declared.symbols.Found.{Found}
-use Rattle.inf_names.specs.declared.symbols.Found.TheVariants as found
-use Rattle.inf_names.specs.declared.symbols.ReferFault.{ReferFault}
-use Rattle.inf_names.specs.declared.symbols.DeclareFault.{DeclareFault}
-use Rattle.inf_names.specs.declared.symbols.DeclareFault.TheVariants as declaring
+use Rattle.inf_names.specs.{declared.meanings.Meaning.Meaning, declared.symbols.DeclareFault.DeclareFault, declared.symbols.Found.Found}
+use Rattle.inf_names.specs.{declared.symbols.ReferFault.ReferFault}
 use Rattle.inf_names.specs.Symbols.{Table, declare_fault, found_in, number_of, refer_fault, with_declared, with_used}
-use Rattle.inf_settings.specs.declared.setting.Setting.{Setting}
-use Rattle.inf_settings.specs.declared.setting.Setting.TheVariants as setting
-use Rattle.inf_output.specs.declared.items.Item.{Item}
-use Rattle.inf_output.specs.declared.items.Item.TheVariants.{Instruction, Mark}
-use Rattle.inf_output.specs.declared.operands.Simple.{Simple}
-use Rattle.inf_output.specs.declared.operands.Simple.TheVariants.{Known, Variable, Later}
-use Rattle.inf_output.specs.declared.past.Past.{Past}
-use Rattle.inf_output.specs.declared.veneer.Veneer.{Veneer}
-use Rattle.inf_output.specs.Operands.{written}
-use Rattle.inf_output.specs.Strings.{StringArea, fits, with_string}
-use Rattle.inf_output.specs.Texts.{Packing}
-use Rattle.inf_dictionary.specs.declared.dictionary.AddFault.{AddFault as WordFault}
-use Rattle.inf_dictionary.specs.declared.dictionary.AddFault.TheVariants as word_fault
-use Rattle.inf_dictionary.specs.declared.uses.WordUse.{WordUse}
-use Rattle.inf_dictionary.specs.Texts.{Text}
+use Rattle.inf_output.specs.{Operands.written, Strings.StringArea, Strings.fits, Strings.with_string, Texts.Packing, Veneer.name_of}
+use Rattle.inf_output.specs.declared.{items.Item.Item, operands.Simple.Simple, past.Past.Past, veneer.Veneer.Veneer}
+use Rattle.inf_dictionary.specs.{Texts.Text, declared.dictionary.AddFault.AddFault as WordFault, declared.uses.WordUse.WordUse}
 use Rattle.inf_dictionary.specs.Words.{add_fault, with_use, word_of}
-use Rattle.inf_settings.specs.Settings.{place_of}
-use Rattle.inf_tables.specs.LowStrings.{low_fits, low_size, with_low}
-use Rattle.inf_tables.specs.Tables.{AllTables, references}
-use Rattle.inf_output.specs.Veneer.{name_of}
+use Rattle.inf_tables.specs.{LowStrings.low_fits, LowStrings.low_size, LowStrings.with_low, Tables.AllTables, Tables.references}
 
 -- Output of the units of a source: the routines of the story, its strings, its tables, the names, how texts are packed, the actions
 -- that appeared, the place of the first token of the unit at hand, the number of the next label of the routine, the room left of
@@ -110,16 +75,16 @@ abbrev pub without_bytes : ℕ → Past → Past
 without_bytes bytes past = record past { code = less past.code bytes }
 
 abbrev pub without : Item → Past → Past
-without (Instruction parts) past = without_bytes (length parts.text) (taken (counts_of (front_cells parts)) past)
-without (Mark label) past = taken (counts_of (Of (Marks label) ∷ [])) past
+without (Item.Instruction parts) past = without_bytes (length parts.text) (taken (counts_of (front_cells parts)) past)
+without (Item.Mark label) past = taken (counts_of (Of (Special.Marks label) ∷ [])) past
 
 -- Room left behind an item in a routine that is lost, of which the labels count alone.
 abbrev pub without_labels : ℕ → Past → Past
 without_labels labels past = record past { labels = less past.labels labels }
 
 abbrev pub without_lost : Item → Past → Past
-without_lost (Instruction parts) past = without_labels (counts_of (front_cells parts)).labels past
-without_lost (Mark label) past = without (Mark label) past
+without_lost (Item.Instruction parts) past = without_labels (counts_of (front_cells parts)).labels past
+without_lost (Item.Mark label) past = without (Item.Mark label) past
 
 -- An item that is not laid any more is counted all the same.
 abbrev pub without_item : Routines → Item → Past → Past
@@ -139,9 +104,9 @@ or_full (Some limit) others = Some limit
 
 abbrev pub full_past : Past → Option Setting
 full_past past =
-    if past.symbols then Some setting.Symbols else
-    full_of past.labels setting.Labels (or_full past.tables (full_of past.code setting.Code (
-    if past.strings then Some setting.Strings else full_of past.refs setting.References None)))
+    if past.symbols then Some Setting.Symbols else
+    full_of past.labels Setting.Labels (or_full past.tables (full_of past.code Setting.Code (
+    if past.strings then Some Setting.Strings else full_of past.refs Setting.References None)))
 
 -- Room left where tables have `references` more references.
 abbrev pub counted : ℕ → Past → Past
@@ -163,12 +128,12 @@ table_passed limit past = record past { tables = Some (first_table past.tables l
 
 -- First limit that an item in the open routine would pass, and the routines with the item.
 abbrev pub full_item : Item → Routines → Option CodeLimit
-full_item (Instruction parts) routines = full_with parts routines
-full_item (Mark label) routines = full_label routines
+full_item (Item.Instruction parts) routines = full_with parts routines
+full_item (Item.Mark label) routines = full_label routines
 
 abbrev pub grown : Item → Routines → Routines
-grown (Instruction parts) routines = record routines { opened = with_item parts routines.opened }
-grown (Mark label) routines = record routines { opened = with_mark label routines.opened }
+grown (Item.Instruction parts) routines = record routines { opened = with_item parts routines.opened }
+grown (Item.Mark label) routines = record routines { opened = with_mark label routines.opened }
 
 -- An item is laid: into the code that is kept apart, if there is such code, and else into the open routine. From the first item on
 -- that would pass a limit nothing is laid any more.
@@ -207,9 +172,9 @@ items_of (Some items) = items
 
 -- Another routine is opened, unless that passes a limit; its labels are counted from 0.
 abbrev pub passed_limit : CodeLimit → Past → Past
-passed_limit code_setting.Labels past = record past { labels = None }
-passed_limit code_setting.Code past = record past { code = None }
-passed_limit code_setting.Refs past = record past { refs = None }
+passed_limit CodeLimit.Labels past = record past { labels = None }
+passed_limit CodeLimit.Code past = record past { code = None }
+passed_limit CodeLimit.Refs past = record past { refs = None }
 
 abbrev pub opened_by : Limits → Option CodeLimit → ℕ → Bool → Code
 opened_by limits None locals is_lost o = record o { code = with_opened locals is_lost o.code; next = 0 }
@@ -232,7 +197,7 @@ begun limits o = begun_by limits (full_begun limits o.code) o
 -- The open routine is closed, if there is one. Where something is wrong with it, it is given up.
 abbrev pub closed_by : Limits → Option CloseFault → RoutineKind → Code
 closed_by limits None kind o = record o { code = with_closed kind o.code }
-closed_by limits (Some (close_fault.Full limit)) kind o =
+closed_by limits (Some (CloseFault.Full limit)) kind o =
     record o { code = with_none_open o.code; past = Some (passed_limit limit (past_by limits o.past (with_none_open o.code))) }
 closed_by limits (Some fault) kind o = record o { code = with_none_open o.code }
 
@@ -241,7 +206,7 @@ code_closed limits kind o = closed_by limits (fault_closed limits kind o.code) k
 
 -- Where the routine had too many labels, their limit is passed.
 abbrev pub with_labels_left : Limits → Option ℕ → Code
-with_labels_left limits None o = record o { past = Some (passed_limit code_setting.Labels (past_of limits o)) }
+with_labels_left limits None o = record o { past = Some (passed_limit CodeLimit.Labels (past_of limits o)) }
 with_labels_left limits (Some rest) o = o
 
 abbrev pub closed : Limits → RoutineKind → Code
@@ -257,7 +222,7 @@ with_scale scale o = record o { code = record o.code { scale = scale }; strings 
 
 -- Place of the next string.
 abbrev pub string_at : Out → Target
-string_at o = target.Place area.Strings (length o.strings.bytes)
+string_at o = Target.Place AreaName.Strings (length o.strings.bytes)
 
 -- A string with some bytes is added. Where it would pass the limit, nothing is added and the limit is passed.
 abbrev pub with_text_by : Limits → Bool → List ℕ → Code
@@ -275,14 +240,14 @@ passed_table limits limit o = record o { past = Some (table_passed limit (past_o
 
 -- Place of the next low string, and one more: where it would pass the limit it is not added, and the limit is passed.
 abbrev pub low_string_at : Out → Target
-low_string_at o = target.Place area.LowStrings (low_size o.tables.low_strings)
+low_string_at o = Target.Place AreaName.LowStrings (low_size o.tables.low_strings)
 
 abbrev pub with_low_strings : List ℕ → AllTables → AllTables
 with_low_strings text tables = record tables { low_strings = with_low text tables.low_strings }
 
 abbrev pub with_low_text_by : Limits → Bool → List ℕ → Code
 with_low_text_by limits true text o = record o { tables = with_low_strings text o.tables }
-with_low_text_by limits false text o = passed_table limits setting.LowStrings o
+with_low_text_by limits false text o = passed_table limits Setting.LowStrings o
 
 abbrev pub with_low_text : Limits → List ℕ → Code
 with_low_text limits text o = with_low_text_by limits (low_fits limits text o.tables.low_strings) text o
@@ -294,9 +259,9 @@ with_dictionary text how is_plural tables = record tables { dictionary = with_us
 -- another verb.
 abbrev pub with_word_by : Limits → Option WordFault → Text → WordUse → Bool → Code
 with_word_by limits None text how is_plural o = record o { tables = with_dictionary text how is_plural o.tables }
-with_word_by limits (Some word_fault.Full) text how is_plural o = passed_table limits setting.DictionaryEntries o
-with_word_by limits (Some word_fault.OtherVerb) text how is_plural o = o
-with_word_by limits (Some word_fault.Memory) text how is_plural o = o
+with_word_by limits (Some WordFault.Full) text how is_plural o = passed_table limits Setting.DictionaryEntries o
+with_word_by limits (Some WordFault.OtherVerb) text how is_plural o = o
+with_word_by limits (Some WordFault.Memory) text how is_plural o = o
 
 abbrev pub with_word : Limits → Text → WordUse → Bool → Code
 with_word limits text how is_plural o =
@@ -310,7 +275,7 @@ symbols_passed limits o = record o { past = Some (record (past_of limits o) { sy
 -- A name is declared, unless something is wrong with that.
 abbrev pub declared_by : Limits → Option (DeclareFault Place) → List ℕ → Place → Meaning → Code
 declared_by limits None name place m o = record o { names = with_declared name place m o.names }
-declared_by limits (Some declaring.Full) name place m o = symbols_passed limits o
+declared_by limits (Some DeclareFault.Full) name place m o = symbols_passed limits o
 declared_by limits (Some fault) name place m o = o
 
 abbrev pub declared : Limits → List ℕ → Place → Meaning → Code
@@ -356,13 +321,19 @@ with_label body o = body (next_label o) (record o { next = behind o.next })
 -- An instruction of simple operands, and one whose first operand names a variable.
 unfoldable pub instruction : Limits → Opcode → List Simple → Option ℕ → Option Branch → Code
 instruction limits opcode operands store branch o =
-    laid limits (Instruction (record { opcode = opcode; operands = map written operands; store = store; branch = branch; text = [] })) o
+    laid limits (Item.Instruction (record {
+      opcode = opcode;
+      operands = map written operands;
+      store = store;
+      branch = branch;
+      text = [];
+    })) o
 
 unfoldable pub naming : Limits → Opcode → ℕ → List Simple → Option ℕ → Option Branch → Code
 naming limits opcode variable operands store branch o =
-    laid limits (Instruction (record {
+    laid limits (Item.Instruction (record {
       opcode = opcode;
-      operands = Small variable ∷ map written operands;
+      operands = Operand.Small variable ∷ map written operands;
       store = store;
       branch = branch;
       text = [];
@@ -370,14 +341,20 @@ naming limits opcode variable operands store branch o =
 
 -- Place of a label, a jump to it, and a branch to it that is taken where the test is `sense`.
 unfoldable pub marked : Limits → Label → Code
-marked limits label o = laid limits (Mark label) o
+marked limits label o = laid limits (Item.Mark label) o
 
 unfoldable pub jumped : Limits → Label → Code
 jumped limits label o =
-    laid limits (Instruction (record { opcode = opcode.Jump; operands = Offset label ∷ []; store = None; branch = None; text = [] })) o
+    laid limits (Item.Instruction (record {
+      opcode = Opcode.Jump;
+      operands = Operand.Offset label ∷ [];
+      store = None;
+      branch = None;
+      text = [];
+    })) o
 
 abbrev pub to : Bool → Label → Option Branch
-to sense label = Some (record { sense = sense; target = To label })
+to sense label = Some (record { sense = sense; target = Destination.To label })
 
 -- The opcode takes `operands` operands of which none names a variable, with a store and a branch or without (Z-Machine Standard
 -- 1.1, section 14).
@@ -403,39 +380,39 @@ pub record TakesVariable (opcode : Opcode) (operands : ℕ) (with_store with_bra
 
 -- Operand of a name whose number is known, or that is a variable.
 abbrev pub standing_simple : Meaning → Option Simple
-standing_simple (meaning.Number number) = Some (Known number)
-standing_simple (meaning.Variable number) = Some (Variable number)
-standing_simple (meaning.Attribute number) = Some (Known number)
-standing_simple (meaning.Property number is_additive) = Some (Known number)
-standing_simple (meaning.IndividualProperty number) = Some (Known number)
-standing_simple (meaning.Object number) = Some (Known number)
-standing_simple (meaning.Class number) = Some (Known number)
-standing_simple (meaning.FakeAction number) = Some (Known number)
-standing_simple (meaning.Text place) = None
-standing_simple (meaning.Word place) = None
-standing_simple (meaning.LowString place) = None
-standing_simple (meaning.Array place) = None
-standing_simple (meaning.Routine place) = None
-standing_simple (meaning.PackedAddress place) = None
-standing_simple (meaning.Function function) = None
+standing_simple (Meaning.Number number) = Some (Simple.Known number)
+standing_simple (Meaning.Variable number) = Some (Simple.Variable number)
+standing_simple (Meaning.Attribute number) = Some (Simple.Known number)
+standing_simple (Meaning.Property number is_additive) = Some (Simple.Known number)
+standing_simple (Meaning.IndividualProperty number) = Some (Simple.Known number)
+standing_simple (Meaning.Object number) = Some (Simple.Known number)
+standing_simple (Meaning.Class number) = Some (Simple.Known number)
+standing_simple (Meaning.FakeAction number) = Some (Simple.Known number)
+standing_simple (Meaning.Text place) = None
+standing_simple (Meaning.Word place) = None
+standing_simple (Meaning.LowString place) = None
+standing_simple (Meaning.Array place) = None
+standing_simple (Meaning.Routine place) = None
+standing_simple (Meaning.PackedAddress place) = None
+standing_simple (Meaning.Function function) = None
 
 -- A name with a number among the names is a reference by that, unless it has an operand of its own.
 abbrev pub simple_by : Option Simple → Option ℕ → Simple
 simple_by (Some simple) number = simple
-simple_by None None = Known 0
-simple_by None (Some number) = Later (target.Name number)
+simple_by None None = Simple.Known 0
+simple_by None (Some number) = Simple.Later (Target.Name number)
 
 abbrev pub found_simple : Found Place → Option ℕ → Simple
-found_simple (found.System meaning) number = simple_by (standing_simple meaning) number
-found_simple (found.Declared meaning place) number = simple_by (standing_simple meaning) number
-found_simple found.Used number = simple_by None number
-found_simple found.Unknown number = simple_by None number
+found_simple (Found.System meaning) number = simple_by (standing_simple meaning) number
+found_simple (Found.Declared meaning place) number = simple_by (standing_simple meaning) number
+found_simple Found.Used number = simple_by None number
+found_simple Found.Unknown number = simple_by None number
 
 -- Operand by which a routine is called: its name is looked up where it is called, and no local hides it. A name that is one too
 -- many refers to nothing, since nothing is laid any more.
 abbrev pub routine_by : Option ReferFault → List ℕ → Table Place → Simple
 routine_by None name names = found_simple (found_in name names) (number_of name names)
-routine_by (Some fault) name names = Later (target.Name 0)
+routine_by (Some fault) name names = Simple.Later (Target.Name 0)
 
 unfoldable pub routine : Limits → Veneer → Out → Simple
 routine limits veneer o = routine_by (refer_fault limits (name_of veneer) o.names) (name_of veneer) o.names

@@ -1,7 +1,6 @@
 -- The strings of a story.
 use Rattle.std.specs.Prelude.{ℕ, List, [], ◌++◌, length, Bool, nat_le}
-use Rattle.inf_settings.specs.Bounds.{Limits}
-use Rattle.inf_settings.specs.declared.setting.Setting.TheVariants as setting
+use Rattle.inf_settings.specs.{Bounds.Limits, declared.setting.Setting.Setting}
 use Rattle.inf_area.specs.declared.scale.Scale.{Scale}
 use Rattle.inf_code.specs.Code.{zeros_behind}
 
@@ -19,4 +18,4 @@ with_string text strings = record strings { bytes = strings.bytes ++ (text ++ ze
 
 -- Tells whether there is room for a string.
 abbrev pub fits : Limits → List ℕ → StringArea → Bool
-fits limits text strings = nat_le (length (with_string text strings).bytes) (limits setting.Strings)
+fits limits text strings = nat_le (length (with_string text strings).bytes) (limits Setting.Strings)

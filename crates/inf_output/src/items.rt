@@ -1,7 +1,6 @@
 //! Items that are kept apart and come later.
 ghost use Rattle.std.specs.Prelude.{◌≡◌, ◌≤◌, ◌++◌, ◌∷◌, [], IfOk, OnErr, OnOk, length};
-ghost use Rattle.inf_opcode.specs.Instructions.{IsProper};
-ghost use Rattle.inf_opcode.specs.PartsOf.{parts_of};
+ghost use Rattle.inf_opcode.specs.{Instructions.IsProper, PartsOf.parts_of};
 
 use arrayvec::ArrayVec;
 use inf_opcode::{Branch, Instruction, Label, MOST_OPERANDS, Opcode, Operand};

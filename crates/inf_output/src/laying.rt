@@ -1,10 +1,8 @@
 //! The code that is laid into an output: instructions, labels, and items that were kept apart.
 ghost use Rattle.std.specs.Prelude.{◌≡◌, IsErr, IsNone, None, OnErr, OnOk, is_some, length};
 ghost use Rattle.inf_code.specs.Code.{full_label, full_with};
-ghost use Rattle.inf_opcode.specs.Counts.{counts_of};
-ghost use Rattle.inf_opcode.specs.Instructions.{IsProper, front_cells};
-ghost use Rattle.inf_opcode.specs.PartsOf.{parts_of};
-ghost use Rattle.inf_output.specs.declared.items.Item.TheVariants as item;
+ghost use Rattle.inf_opcode.specs.{Counts.counts_of, Instructions.IsProper, Instructions.front_cells, PartsOf.parts_of};
+ghost use Rattle.inf_output.specs.declared.items.Item.{Item};
 ghost use Rattle.inf_output.specs.Output.{Takes, TakesVariable, apart, behind, in_routine, instruction, items_of, jumped, laid, laid_all};
 ghost use Rattle.inf_output.specs.Output.{marked, naming, next_label, passed, together};
 
@@ -33,7 +31,7 @@ impl<B: Bounds> Output<B> {
     /// Counts `instruction`, which is not laid any more. In a routine that is lost only its labels count.
     fn pass(&mut self, instruction: &Instruction<'_>)
         requires { IsProper (parts_of instruction.now) }
-        ensures { self.new ≡ passed B.most (item.Instruction (parts_of instruction.now)) self.old }
+        ensures { self.new ≡ passed B.most (Item.Instruction (parts_of instruction.now)) self.old }
     {
         let counts = proper_counts(instruction);
         let past = self.rest();
@@ -46,7 +44,7 @@ impl<B: Bounds> Output<B> {
 
     /// Counts the place of `label`, which is not laid any more.
     fn pass_mark(&mut self, label: Label)
-        ensures { self.new ≡ passed B.most (item.Mark label) self.old }
+        ensures { self.new ≡ passed B.most (Item.Mark label) self.old }
     {
         self.past = Some(
             self.rest().taken(Counts {
@@ -72,7 +70,7 @@ impl<B: Bounds> Output<B> {
     #[tactic(auto, unfolding(crate::specs::Output::laid))]
     pub fn emit(&mut self, instruction: &Instruction<'_>) -> Result<(), AllocError>
         requires { IsProper (parts_of instruction.now) }
-        ensures ok { OnOk result (self.new ≡ laid B.most (item.Instruction (parts_of instruction.now)) self.old) }
+        ensures ok { OnOk result (self.new ≡ laid B.most (Item.Instruction (parts_of instruction.now)) self.old) }
         ensures err { OnErr result (self.new ≡ self.old) }
         ensures memory { IsErr result → IsNone self.old.kept → IsNone self.old.past
             × (full_with (parts_of instruction.now) self.old.code ≡ None) }
@@ -87,7 +85,7 @@ impl<B: Bounds> Output<B> {
     #[tactic(auto, using(crate::proofs::Limits::is_passed, crate::proofs::Limits::none_where_memory))]
     fn emit_in_routine(&mut self, instruction: &Instruction<'_>) -> Result<(), AllocError>
         requires { IsProper (parts_of instruction.now) }
-        ensures ok { OnOk result (self.new ≡ in_routine B.most self.old.past (item.Instruction (parts_of instruction.now)) self.old) }
+        ensures ok { OnOk result (self.new ≡ in_routine B.most self.old.past (Item.Instruction (parts_of instruction.now)) self.old) }
         ensures err { OnErr result (self.new ≡ self.old) }
         ensures memory { IsErr result → IsNone self.old.past × (full_with (parts_of instruction.now) self.old.code ≡ None) }
     {
@@ -121,7 +119,7 @@ impl<B: Bounds> Output<B> {
     /// Lays the place of `label` in the open routine; it is counted alone where a limit is or would be passed.
     #[tactic(auto, using(crate::proofs::Limits::is_passed, crate::proofs::Limits::none_where_memory))]
     fn mark_in_routine(&mut self, label: Label) -> Result<(), AllocError>
-        ensures ok { OnOk result (self.new ≡ in_routine B.most self.old.past (item.Mark label) self.old) }
+        ensures ok { OnOk result (self.new ≡ in_routine B.most self.old.past (Item.Mark label) self.old) }
         ensures err { OnErr result (self.new ≡ self.old) }
         ensures memory { IsErr result → IsNone self.old.past × (full_label self.old.code ≡ None) }
     {

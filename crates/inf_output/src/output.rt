@@ -2,13 +2,11 @@
 ghost use Rattle.std.specs.Prelude.{◌≡◌, ◌≤◌, [], IfOk, None, OnErr, OnOk, length, true};
 ghost use Rattle.inf_code.specs.Code.{fault_closed, full_opened};
 ghost use Rattle.inf_dictionary.specs.Words.{add_fault, word_of};
-ghost use Rattle.inf_names.specs.Symbols.{declare_fault, refer_fault};
-ghost use Rattle.inf_names.specs.declared.meanings.Meaning.{Meaning as Standing};
+ghost use Rattle.inf_names.specs.{Symbols.declare_fault, Symbols.refer_fault, declared.meanings.Meaning.Meaning as Standing};
+ghost use Rattle.inf_output.specs.{Strings.fits, Veneer.name_of};
 ghost use Rattle.inf_output.specs.Output.{begun, closed, code_closed, declared, found_simple, full, low_string_at, opened, passed_table};
 ghost use Rattle.inf_output.specs.Output.{past_of, referred, referred_as, routine, simple_by, standing_simple, string_at, symbols_passed};
 ghost use Rattle.inf_output.specs.Output.{used, with_low_text, with_scale, with_text, with_word};
-ghost use Rattle.inf_output.specs.Strings.{fits};
-ghost use Rattle.inf_output.specs.Veneer.{name_of};
 ghost use Rattle.inf_tables.specs.LowStrings.{low_fits};
 
 use crate::items::Items;

@@ -1,8 +1,7 @@
 //! Room left of the limits of a story.
 ghost use Rattle.std.specs.Prelude.{◌≡◌};
 ghost use Rattle.inf_output.specs.Output.{counted, first_table, full_of, full_past, less, or_full, passed_limit, table_passed, taken};
-ghost use Rattle.inf_output.specs.Output.{whole};
-ghost use Rattle.inf_output.specs.Output.{without_bytes, without_labels};
+ghost use Rattle.inf_output.specs.Output.{whole, without_bytes, without_labels};
 
 use inf_assembler::Limit as CodeLimit;
 use inf_code::code::Code;

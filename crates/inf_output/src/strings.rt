@@ -1,7 +1,7 @@
 //! The strings of a story.
 ghost use Rattle.std.specs.Prelude.{◌≡◌, ◌≤◌, IfOk, OnErr, if◌then◌else◌, length, true};
 ghost use Rattle.inf_output.specs.Strings.{fits, with_string};
-ghost use Rattle.inf_settings.specs.declared.setting.Setting.TheVariants as setting;
+ghost use Rattle.inf_settings.specs.declared.setting.Setting.{Setting};
 
 use inf_area::{Area, PagedArea, Scale};
 use inf_settings::bounds::Bounds;
@@ -16,7 +16,7 @@ pub struct Strings<B: Bounds> {
     limit: usize,
     scale: Scale,
     of: PhantomData<B>,
-    ghost is_most: { limit ≡ B.most setting.Strings },
+    ghost is_most: { limit ≡ B.most Setting.Strings },
 }
 
 impl<B: Bounds> Model for Strings<B> {
@@ -36,7 +36,7 @@ impl<B: Bounds> Strings<B> {
     /// Returns no strings, of at most `limit` bytes, in a story whose packed addresses are multiplied by `scale`. They take no
     /// memory until the first one comes.
     pub fn new(alloc: Global, limit: usize, scale: Scale) -> Strings<B>
-        requires { limit ≡ B.most setting.Strings }
+        requires { limit ≡ B.most Setting.Strings }
         ensures { result ≡ no_strings scale }
     {
         Strings {
@@ -57,7 +57,7 @@ impl<B: Bounds> Strings<B> {
     /// Returns the number of bytes of the strings: the place of the next one.
     pub fn len(&self) -> usize
         ensures value { result ≡ length self.now.bytes }
-        ensures few { result ≤ B.most setting.Strings }
+        ensures few { result ≤ B.most Setting.Strings }
     {
         self.area.len()
     }

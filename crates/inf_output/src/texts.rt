@@ -1,9 +1,6 @@
 //! Packing of the texts of a story.
-ghost use Rattle.std.specs.Prelude.{◌≡◌, IfOk, IsTrue, OnErr, OnOk, []};
-ghost use Rattle.std.specs.Option.{option_copied};
-ghost use Rattle.inf_text.specs.Declaring.{Declares};
-ghost use Rattle.inf_text.specs.Packing.{in_use, packed};
-ghost use Rattle.inf_text.specs.Words.{are_words};
+ghost use Rattle.std.specs.Prelude.{◌≡◌, IfOk, IsTrue, OnErr, OnOk, [], option_copied};
+ghost use Rattle.inf_text.specs.{Declaring.Declares, Packing.in_use, Packing.packed, Words.are_words};
 ghost use Rattle.inf_output.specs.Texts.{late, no_texts, used_in};
 
 use inf_text::{AbbrevFault, Abbreviations, Text, pack};

@@ -1,23 +1,16 @@
 -- The trees of a unit whose names are only looked up are those of its names in use, where the use changes nothing.
 use Rattle.std.proofs.Common.{◌≡◌, ℕ, List, [], false, Option, None, sym, ap, ◌∙◌}
 use Rattle.inf_settings.specs.Bounds.{Limits}
-use Rattle.inf_expressions.specs.Rooted.{Rooted}
-use Rattle.inf_expressions.specs.declared.findings.Finding.{Finding}
+use Rattle.inf_expressions.specs.{Rooted.Rooted, Units.trees_of, declared.findings.Finding.Finding, declared.operators.Operand.Operand}
+use Rattle.inf_expressions.specs.{declared.units.Wanted.Wanted}
 use Rattle.inf_output.specs.Output.{Out}
 use Rattle.inf_scanner.specs.declared.tokens.Place.{Place}
-use Rattle.inf_expressions.specs.Units.{trees_of}
-use Rattle.inf_expressions.specs.declared.operators.Operand.{Operand}
-use Rattle.inf_expressions.specs.declared.units.Wanted.{Wanted}
 use Rattle.inf_operands.proofs.Staying.{settled_named}
-use Rattle.inf_operands.specs.Operands.{Settled}
-use Rattle.inf_operands.specs.Uses.{LeavesStay}
+use Rattle.inf_operands.specs.{Operands.Settled, Uses.LeavesStay}
+use Rattle.inf_compilation.specs.{Context.Context, Findings.nothing_found}
 use Rattle.inf_compilation.specs.Actions.{Compilation, named, operands_of, settled_of, trees_at, unit_ended}
-use Rattle.inf_compilation.specs.Findings.{nothing_found}
-use Rattle.inf_compilation.specs.Context.{Context}
-use Rattle.inf_parts.specs.Parts.{found_in, has_last, is_case, order_of, part_begun, part_carried, part_effect, part_finished}
-use Rattle.inf_parts.specs.Parts.{part_laid, wanted_of}
-use Rattle.inf_parts.specs.declared.parts.Part.{Part}
-use Rattle.inf_parts.specs.declared.parts.Part.TheVariants as part
+use Rattle.inf_parts.specs.{Parts.found_in, Parts.has_last, Parts.is_case, Parts.order_of, Parts.part_begun, Parts.part_carried}
+use Rattle.inf_parts.specs.{Parts.part_effect, Parts.part_finished, Parts.part_laid, Parts.wanted_of, declared.parts.Part.Part}
 
 -- the operands of a unit, where its names are used, once it has named its locals
 used : (limits : Limits) (context : Context) (w : Compilation) (operands : List Operand)
@@ -46,19 +39,19 @@ stays_used : (limits : Limits) (context : Context) (p : Part) (w : Compilation) 
     → is_case p ≡ false → LeavesStay w.locals w.output w.unit.tokens w.unit.gathering.leaves operands
     → trees ≡ trees_of (wanted_of p) (order_of p w) operands w.unit.gathering.symbols
     → StayUsed limits context p trees (named (part_begun limits p w))
-stays_used limits context (part.Statement s) w operands trees other stay e =
-    same_trees limits context w operands trees (order_of (part.Statement s) w) (wanted_of (part.Statement s)) stay e
-stays_used limits context part.Condition w operands trees other stay e =
-    same_trees limits context w operands trees (order_of part.Condition w) (wanted_of part.Condition) stay e
-stays_used limits context part.Start w operands trees other stay e =
-    same_trees limits context w operands trees (order_of part.Start w) (wanted_of part.Start) stay e
-stays_used limits context part.Step w operands trees other stay e =
-    same_trees limits context w operands trees (order_of part.Step w) (wanted_of part.Step) stay e
-stays_used limits context part.Loop w operands trees other stay e =
-    same_trees limits context w operands trees (order_of part.Loop w) (wanted_of part.Loop) stay e
-stays_used limits context part.Switched w operands trees other stay e =
-    same_trees limits context w operands trees (order_of part.Switched w) (wanted_of part.Switched) stay e
-stays_used limits context part.Case w operands trees other stay e = absurd (cc other)
+stays_used limits context (Part.Statement s) w operands trees other stay e =
+    same_trees limits context w operands trees (order_of (Part.Statement s) w) (wanted_of (Part.Statement s)) stay e
+stays_used limits context Part.Condition w operands trees other stay e =
+    same_trees limits context w operands trees (order_of Part.Condition w) (wanted_of Part.Condition) stay e
+stays_used limits context Part.Start w operands trees other stay e =
+    same_trees limits context w operands trees (order_of Part.Start w) (wanted_of Part.Start) stay e
+stays_used limits context Part.Step w operands trees other stay e =
+    same_trees limits context w operands trees (order_of Part.Step w) (wanted_of Part.Step) stay e
+stays_used limits context Part.Loop w operands trees other stay e =
+    same_trees limits context w operands trees (order_of Part.Loop w) (wanted_of Part.Loop) stay e
+stays_used limits context Part.Switched w operands trees other stay e =
+    same_trees limits context w operands trees (order_of Part.Switched w) (wanted_of Part.Switched) stay e
+stays_used limits context Part.Case w operands trees other stay e = absurd (cc other)
 
 -- what is laid with such trees
 carried : (limits : Limits) (context : Context) (first : Place) (p : Part) (trees : List Rooted) (w : Compilation)

@@ -1,18 +1,16 @@
 //! The units of a routine that have expressions, and the statements that hold others.
-ghost use Rattle.inf_compilation.specs.Context.{handed};
+ghost use Rattle.inf_compilation.specs.{Context.handed, Works.work};
+ghost use Rattle.inf_compilation.specs.Actions.{finding_at, named, operands_of, settled_of, trees_at};
 ghost use Rattle.std.specs.Prelude.{IfOk, OnOk, true, ◌≡◌};
 ghost use Rattle.inf_expressions.specs.Forests.{trees_in as rooted_in};
 ghost use Rattle.inf_statements.specs.Sites.{site};
 ghost use Rattle.inf_operands.specs.Uses.{LeavesStay};
 ghost use Rattle.inf_unit.specs.Units.{line_opcode, order};
-ghost use Rattle.inf_parts.specs.Parts.{has_last, is_case, is_default, is_line, line_finding_of, site_of, wanted_of};
-ghost use Rattle.inf_constructs.specs.Constructs.{are_own};
-ghost use Rattle.inf_compilation.specs.Actions.{finding_at, named, operands_of, settled_of, trees_at};
-ghost use Rattle.inf_parts.specs.Parts.{actions_named, case_prepared, found_in, leaves_noted, order_of};
-ghost use Rattle.inf_parts.specs.Parts.{KnowsOpcode, own_case_prepared, part_prepared};
+ghost use Rattle.inf_parts.specs.Parts.{has_last, is_case, is_default, is_line, line_finding_of, site_of, wanted_of, actions_named};
+ghost use Rattle.inf_parts.specs.Parts.{case_prepared, found_in, leaves_noted, order_of, KnowsOpcode, own_case_prepared, part_prepared};
 ghost use Rattle.inf_parts.specs.Parts.{own_finding, part_begun, part_carried, part_effect, part_ended, place_of, statement_at};
 ghost use Rattle.inf_parts.specs.Parts.{part_finished, part_laid, statement_laid_in, stores_noted};
-ghost use Rattle.inf_compilation.specs.Works.{work};
+ghost use Rattle.inf_constructs.specs.Constructs.{are_own};
 
 use inf_compilation::compilation::Compilation;
 use inf_compilation::context::Context;

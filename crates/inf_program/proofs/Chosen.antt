@@ -3,28 +3,24 @@
 use Rattle.std.proofs.Common.{◌≡◌, ℕ, zero, suc, ◌≤◌, List, [], ◌∷◌, ◌++◌, Bool, true, false, ◌&&◌, Some, refl, sym, ◌∙◌, ap, subst, arith}
 use Rattle.std.proofs.Common.{append-nil, if◌then◌else◌, inl, inr, ◌⊎◌, true≢false}
 use Rattle.std.proofs.lemmas.Bool.{and_from, and_parts, both_ways, cond-true, false_from_ne_true, or_cases, or_left, or_right}
-use Rattle.inf_machine.specs.declared.symbols.Symbol.{Symbol}
-use Rattle.inf_machine.specs.declared.symbols.Symbol.TheVariants.{Rule}
+use Rattle.inf_machine.specs.{Laws.IsSpaced, Pieces.all_rows, Pieces.closes, Pieces.last_symbol, declared.symbols.Symbol.Symbol}
 use Rattle.inf_machine.specs.Grammar.{Event, IsOneOf, Leads, Row, action, first, has, here, later, row}
-use Rattle.inf_machine.specs.Laws.{IsSpaced}
 use Rattle.inf_machine.specs.Machine.{can_end, chosen, empty_row, fits}
-use Rattle.inf_machine.specs.Pieces.{all_rows, closes, last_symbol}
 use Rattle.inf_machine.proofs.Deciding.{Decided, Sound, decided_parts, sound_parts, unless_of_both}
 use Rattle.inf_machine.proofs.Rows.{begins_all, begun_is_chosen, empty_counts, empty_is_chosen, fits_append, none_chooses_other}
 use Rattle.inf_machine.proofs.SourcePieces.{Closed}
 use Rattle.inf_syntax.specs.declared.actions.Action.{Action}
-use Rattle.inf_grammar.specs.Evaluated.{language_is_decided}
-use Rattle.inf_grammar.specs.Language.{grammar, known}
+use Rattle.inf_grammar.specs.{Evaluated.language_is_decided, Language.grammar, Language.known}
 use Rattle.inf_reader.specs.Reading.{piece_rule}
 
 -- The row that is chosen
 
 pub record Only (atom rule : ℕ) (r : Row Action) (symbols : List (Symbol Action)) : Type 0 where
-  pub fits_here : fits grammar known atom (Rule rule ∷ symbols) ≡ true
+  pub fits_here : fits grammar known atom (Symbol.Rule rule ∷ symbols) ≡ true
   pub is : chosen grammar known atom rule ≡ r.parts
 
 pub only : (atom rule : ℕ) (r : Row Action) (symbols : List (Symbol Action)) → IsOneOf r (grammar.rows_of rule)
-    → has r.unless atom ≡ false → IsSpaced grammar known (Rule rule ∷ symbols) → fits grammar known atom (r.parts ++ symbols) ≡ true
+    → has r.unless atom ≡ false → IsSpaced grammar known (Symbol.Rule rule ∷ symbols) → fits grammar known atom (r.parts ++ symbols) ≡ true
     → Only atom rule r symbols
 only atom rule r symbols m free spaced f = by_begun (fits grammar known atom r.parts) refl
   where
@@ -89,7 +85,7 @@ last_behind (x ∷ []) y ys = refl
 last_behind (x ∷ z ∷ xs) y ys = last_behind (z ∷ xs) y ys
 
 row_closed : (rule : ℕ) (r : Row Action) (symbols : List (Symbol Action)) → IsOneOf r (grammar.rows_of rule) → (n : ℕ)
-    → closes grammar (last_symbol (Rule rule ∷ symbols)) n ≡ true → Closed grammar (r.parts ++ symbols)
+    → closes grammar (last_symbol (Symbol.Rule rule ∷ symbols)) n ≡ true → Closed grammar (r.parts ++ symbols)
 row_closed rule r [] m zero c = absurd (true≢false (sym c))
 row_closed rule r [] m (suc n) c = (
   n,
@@ -102,8 +98,8 @@ not_none : (x : Symbol Action) (symbols : List (Symbol Action)) → x ∷ symbol
 not_none x symbols none = cc
 
 pub row_ends : (rule : ℕ) (r : Row Action) (symbols : List (Symbol Action)) → IsOneOf r (grammar.rows_of rule)
-    → EndWithToken (Rule rule ∷ symbols) → EndWithToken (r.parts ++ symbols)
-row_ends rule r symbols m (inl none) = absurd (not_none (Rule rule) symbols none)
+    → EndWithToken (Symbol.Rule rule ∷ symbols) → EndWithToken (r.parts ++ symbols)
+row_ends rule r symbols m (inl none) = absurd (not_none (Symbol.Rule rule) symbols none)
 row_ends rule r symbols m (inr c) = inr (row_closed rule r symbols m c.0 c.1)
 
 pub ends_behind : (x : Symbol Action) (symbols : List (Symbol Action)) → EndWithToken (x ∷ symbols) → EndWithToken symbols
@@ -126,9 +122,9 @@ pub none_left : {symbols : List (Symbol Action)} {events : List (Event Action)} 
 none_left leads (inl none) = none
 none_left leads (inr c) = absurd (some_needed leads c.0 c.1)
 
-pieces_close : closes grammar (Some (Rule piece_rule)) 3 ≡ true
+pieces_close : closes grammar (Some (Symbol.Rule piece_rule)) 3 ≡ true
 unfolding grammar
 pieces_close = refl
 
-pub pieces_end : EndWithToken (Rule piece_rule ∷ [])
+pub pieces_end : EndWithToken (Symbol.Rule piece_rule ∷ [])
 pieces_end = inr (3, pieces_close)

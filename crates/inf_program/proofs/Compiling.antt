@@ -1,16 +1,11 @@
 -- A compilation leaves in its devices the bytes of the outcome that the program of its source gives, since the outcome of the turns is the
 -- same.
-use Rattle.std.proofs.Common.{ℕ, List, Option}
-use Rattle.std.specs.Prelude.{IfErr, IfOk, OnErr, Result}
+use Rattle.std.proofs.Common.{ℕ, List, Option, IfErr, IfOk, OnErr, Result}
 use Rattle.std.proofs.lemmas.Result.{IfErr-weaker, IfOk-weaker, on_err_weaker}
 use Rattle.inf_devices.specs.Files.{Sources}
 use Rattle.inf_session.specs.Choices.{Choices}
-use Rattle.inf_ending.specs.Faults.{IfStory}
-use Rattle.inf_ending.specs.declared.compiled.Status.{Status}
-use Rattle.inf_ending.specs.declared.faults.Fault.{Fault}
-use Rattle.inf_ending.specs.declared.faults.Fault.TheVariants as fault
-use Rattle.inf_compile.specs.Comes.{Begins as TurnsBegin}
-use Rattle.inf_compile.specs.Compiling.{Compiles as TurnsCompile, DeliversPart as TurnsDeliverPart}
+use Rattle.inf_ending.specs.{Faults.IfStory, declared.compiled.Status.Status, declared.faults.Fault.Fault}
+use Rattle.inf_compile.specs.{Comes.Begins as TurnsBegin, Compiling.Compiles as TurnsCompile, Compiling.DeliversPart as TurnsDeliverPart}
 use Rattle.inf_program.specs.Compiling.{Begins, Compiles, DeliversPart}
 use Rattle.inf_program.proofs.Written.{same_outcomes}
 
@@ -44,10 +39,10 @@ delivers sources o serial name n before after was now d = record {
 if_delivers : (sources : Sources) (o : Choices) (serial name : List ℕ) (before after was now : Option (List ℕ)) (f : Fault)
     → IfStory f (λ n. TurnsDeliverPart sources o serial name n before after was now)
     → IfStory f (λ n. DeliversPart sources o serial name n before after was now)
-if_delivers sources o serial name before after was now (fault.Story n) d = delivers sources o serial name n before after was now d
-if_delivers sources o serial name before after was now fault.Memory d = d
-if_delivers sources o serial name before after was now (fault.Read file) d = d
-if_delivers sources o serial name before after was now fault.Messages d = d
+if_delivers sources o serial name before after was now (Fault.Story n) d = delivers sources o serial name n before after was now d
+if_delivers sources o serial name before after was now Fault.Memory d = d
+if_delivers sources o serial name before after was now (Fault.Read file) d = d
+if_delivers sources o serial name before after was now Fault.Messages d = d
 
 -- The clauses of a call
 

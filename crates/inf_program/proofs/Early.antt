@@ -1,26 +1,21 @@
 -- Reading that ends before the first token: the report is over, and its lines are all messages of the outcome, whether they were written or
 -- are still to be.
 use Rattle.std.proofs.Common.{◌≡◌, ℕ, zero, suc, ◌+◌, ◌-◌, List, [], ◌∷◌, ◌++◌, ◌&&◌, ◌||◌, ◌==◌, Bool, true, false, Option, Some, None}
-use Rattle.std.proofs.Common.{refl, sym, ◌∙◌, ap, append-nil}
-use Rattle.std.specs.Prelude.{if◌then◌else◌, not}
-use Rattle.inf_settings.specs.Bounds.{Limits}
-use Rattle.inf_settings.specs.declared.setting.Setting.{Setting}
+use Rattle.std.proofs.Common.{refl, sym, ◌∙◌, ap, append-nil, if◌then◌else◌, not}
+use Rattle.inf_settings.specs.{Bounds.Limits, declared.setting.Setting.Setting}
 use Rattle.inf_scanner.specs.declared.tokens.Place.{Place}
 use Rattle.inf_devices.specs.Files.{Sources}
 use Rattle.inf_names.specs.Symbols.{IsDeclared, IsUsed, Named, Standing}
 use Rattle.inf_output.specs.Output.{Out, begun, full}
+use Rattle.inf_report.specs.{Reports.Counts, Reports.closing, Reports.is_last, declared.messages.Kind.Kind}
 use Rattle.inf_report.specs.Messages.{Exceeded, Location, Message, NoMain, TooManyErrors, Undeclared, line_of}
-use Rattle.inf_report.specs.Reports.{Counts, closing, is_last}
-use Rattle.inf_report.specs.declared.messages.Kind.TheVariants as kind
 use Rattle.inf_unit.specs.Messages.{FileNames, Reported, location, with_error, with_full}
 use Rattle.inf_unit.specs.Names.{main_of, with_all_undeclared, with_undeclared}
 use Rattle.inf_compilation.specs.Actions.{Compilation, begun_at}
-use Rattle.inf_session.specs.Choices.{Choices}
-use Rattle.inf_ending.specs.Ending.{Outcome, begun as outcome_begun, finished, first_line, laid, refused, told_of}
-use Rattle.inf_session.specs.Session.{State, has_ended, start, told_out}
-use Rattle.inf_ending.specs.Ending.{first_place}
-use Rattle.inf_session.specs.Veneer.{is_wanted, most_texts, supplied_by, text_read}
-use Rattle.inf_ending.specs.declared.compiled.Status.TheVariants as status
+use Rattle.inf_session.specs.{Choices.Choices, Session.State, Session.has_ended, Session.start, Session.told_out, Veneer.is_wanted}
+use Rattle.inf_session.specs.{Veneer.most_texts, Veneer.supplied_by, Veneer.text_read}
+use Rattle.inf_ending.specs.Ending.{Outcome, begun as outcome_begun, finished, first_line, laid, refused, told_of, first_place}
+use Rattle.inf_ending.specs.declared.compiled.Status.{Status}
 use Rattle.inf_compile.specs.Outcome.{ending_of}
 
 -- A report that is over
@@ -41,13 +36,13 @@ over_stays more counted r over =
 
 error_stays : (at unit : Location) (m : Message) (r : Reported) → IsOver r → with_error at unit m r ≡ r
 error_stays at unit m r over =
-    over_stays (if is_last r.counts then line_of kind.Error at m ++ line_of kind.Fatal unit TooManyErrors else line_of kind.Error at m)
+    over_stays (if is_last r.counts then line_of Kind.Error at m ++ line_of Kind.Fatal unit TooManyErrors else line_of Kind.Error at m)
     (record r.counts { errors = r.counts.errors + 1; is_over = is_last r.counts }) r over
 
 full_stays : (files : FileNames) (unit : Place) (limit : Option Setting) (r : Reported) → IsOver r → with_full files unit limit r ≡ r
 full_stays files unit None r over = refl
 full_stays files unit (Some s) r over =
-    over_stays (line_of kind.Fatal (location files unit) (Exceeded s)) (record r.counts { is_over = true }) r over
+    over_stays (line_of Kind.Fatal (location files unit) (Exceeded s)) (record r.counts { is_over = true }) r over
 
 undeclared_stays : (files : FileNames) (x : Standing Place) (r : Reported) → IsOver r → with_undeclared files x r ≡ r
 undeclared_stays files (IsDeclared number m place) r over = refl
@@ -63,7 +58,7 @@ all_undeclared_stay files (n ∷ names) r over =
 
 -- the outcome with lines alone
 abbrev with_messages : List ℕ → Outcome
-with_messages lines = record { messages = lines; story = None; status = status.Errors }
+with_messages lines = record { messages = lines; story = None; status = Status.Errors }
 
 refused_over : (r : Reported) → IsOver r → refused r ≡ with_messages r.lines
 refused_over r over =

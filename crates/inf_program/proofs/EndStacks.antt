@@ -2,29 +2,21 @@
 use Rattle.std.proofs.Common.{◌≡◌, ℕ, List, [], ◌∷◌, ◌++◌, Bool, true, false, not, ◌&&◌, ◌||◌, ◌==◌, nat_le, refl, sym, ◌∙◌, ap, subst, arith}
 use Rattle.std.proofs.Common.{inl, inr, if◌then◌else◌, true≢false, append-nil}
 use Rattle.std.proofs.lemmas.Bool.{agree_below, agree_below_at, and_parts, and_from, cases_lt, eqb-true}
-use Rattle.inf_scanner.specs.declared.tokens.Mark.TheVariants as mark
-use Rattle.inf_machine.specs.declared.symbols.Symbol.{Symbol}
-use Rattle.inf_machine.specs.declared.symbols.Symbol.TheVariants.{Act, Rule, Token}
+use Rattle.inf_scanner.specs.declared.tokens.Mark.{Mark}
+use Rattle.inf_machine.specs.{Laws.IsSpaced, Pieces.all_rows, declared.symbols.Symbol.Symbol}
 use Rattle.inf_machine.specs.Grammar.{Event, IsOneOf, Leads, Row, action, first, has, here, later, row, token}
-use Rattle.inf_machine.specs.Laws.{IsSpaced}
 use Rattle.inf_machine.specs.Machine.{Taken, fits, taken, work}
-use Rattle.inf_machine.specs.Pieces.{all_rows}
 use Rattle.inf_machine.proofs.Taking.{leads_on, spaced_choice, taken_row}
-use Rattle.inf_syntax.specs.Atoms.{mark_atom}
-use Rattle.inf_syntax.specs.declared.actions.Action.{Action}
-use Rattle.inf_grammar.specs.Evaluated.{language_is_decided, rows_past}
-use Rattle.inf_grammar.specs.Language.{grammar, known}
-use Rattle.inf_unit.specs.Roles.{role_of}
-use Rattle.inf_unit.specs.declared.roles.Ending.TheVariants as ending
-use Rattle.inf_unit.specs.declared.roles.Role.{Role}
-use Rattle.inf_unit.specs.declared.roles.Role.TheVariants as role
+use Rattle.inf_syntax.specs.{Atoms.mark_atom, declared.actions.Action.Action}
+use Rattle.inf_grammar.specs.{Evaluated.language_is_decided, Evaluated.rows_past, Language.grammar, Language.known}
+use Rattle.inf_unit.specs.{Roles.role_of, declared.roles.Ending.Ending, declared.roles.Role.Role}
 use Rattle.inf_reader.specs.Handing.{is_empty}
 use Rattle.inf_program.proofs.Chosen.{only}
 
 -- Ends of directives
 
 abbrev pub is_directive_end : Role → Bool
-is_directive_end (role.End ending.Directive) = true
+is_directive_end (Role.End Ending.Directive) = true
 is_directive_end _ = false
 
 abbrev pub ends_directive : Action → Bool
@@ -42,20 +34,20 @@ outer rule = nat_le rule 2
 -- Tells whether symbols have no end of a directive, by their rules.
 abbrev are_clear : List (Symbol Action) → Bool
 are_clear [] = true
-are_clear (Token class ∷ symbols) = are_clear symbols
-are_clear (Act a ∷ symbols) = not (ends_directive a) && are_clear symbols
-are_clear (Rule rule ∷ symbols) = not (outer rule) && are_clear symbols
+are_clear (Symbol.Token class ∷ symbols) = are_clear symbols
+are_clear (Symbol.Act a ∷ symbols) = not (ends_directive a) && are_clear symbols
+are_clear (Symbol.Rule rule ∷ symbols) = not (outer rule) && are_clear symbols
 
 abbrev is_semicolon : List (Symbol Action) → Bool
-is_semicolon (Token class ∷ []) = class == 0
+is_semicolon (Symbol.Token class ∷ []) = class == 0
 is_semicolon _ = false
 
 -- Tells whether the end of a directive comes in the symbols before a last semicolon alone.
 abbrev pub ends_last : List (Symbol Action) → Bool
 ends_last [] = true
-ends_last (Token class ∷ symbols) = ends_last symbols
-ends_last (Act a ∷ symbols) = if ends_directive a then is_semicolon symbols else ends_last symbols
-ends_last (Rule rule ∷ symbols) = if outer rule then nat_le 1 rule && is_empty symbols else ends_last symbols
+ends_last (Symbol.Token class ∷ symbols) = ends_last symbols
+ends_last (Symbol.Act a ∷ symbols) = if ends_directive a then is_semicolon symbols else ends_last symbols
+ends_last (Symbol.Rule rule ∷ symbols) = if outer rule then nat_le 1 rule && is_empty symbols else ends_last symbols
 
 -- By evaluation over the table
 
@@ -73,7 +65,7 @@ pieces_are_last : agree_below pieces_last (λ rule. true) 251 ≡ true
 unfolding grammar
 pieces_are_last = refl
 
-pub no_semicolon : has (grammar.atoms_of 0) (mark_atom mark.Hash) ≡ false
+pub no_semicolon : has (grammar.atoms_of 0) (mark_atom Mark.Hash) ≡ false
 unfolding grammar
 no_semicolon = refl
 
@@ -125,11 +117,11 @@ act_before false symbols is_one clear last = last
 
 last_behind : (xs ys : List (Symbol Action)) → are_clear xs ≡ true → ends_last ys ≡ true → ends_last (xs ++ ys) ≡ true
 last_behind [] ys clear last = last
-last_behind (Token class ∷ xs) ys clear last = last_behind xs ys clear last
-last_behind (Act a ∷ xs) ys clear last =
+last_behind (Symbol.Token class ∷ xs) ys clear last = last_behind xs ys clear last
+last_behind (Symbol.Act a ∷ xs) ys clear last =
     let both = and_parts (not (ends_directive a)) (are_clear xs) clear in
     act_before (ends_directive a) (xs ++ ys) (is_semicolon (xs ++ ys)) both.0 (last_behind xs ys both.1 last)
-last_behind (Rule rule ∷ xs) ys clear last =
+last_behind (Symbol.Rule rule ∷ xs) ys clear last =
     let both = and_parts (not (outer rule)) (are_clear xs) clear in
     act_before (outer rule) (xs ++ ys) (nat_le 1 rule && is_empty (xs ++ ys)) both.0 (last_behind xs ys both.1 last)
 
@@ -153,20 +145,21 @@ pub record Lasts (atom : ℕ) (now : Taken Action) : Type 0 where
 
 -- the end of a directive before a semicolon
 end_lasts : (a : Action) (atom : ℕ) (symbols : List (Symbol Action)) → is_semicolon symbols ≡ true
-    → fits grammar known atom symbols ≡ true → Lasts atom (taken grammar known atom (Act a ∷ symbols))
-end_lasts a atom (Token class ∷ []) one fit = record {
+    → fits grammar known atom symbols ≡ true → Lasts atom (taken grammar known atom (Symbol.Act a ∷ symbols))
+end_lasts a atom (Symbol.Token class ∷ []) one fit = record {
   still = refl;
   at_end = λ _. refl;
   semicolon = λ _. subst (λ (c : ℕ). has (grammar.atoms_of c) atom ≡ true) (eqb-true class 0 one) fit;
 }
-end_lasts a atom (Token class ∷ s ∷ symbols) one fit = absurd (true≢false (sym one))
+end_lasts a atom (Symbol.Token class ∷ s ∷ symbols) one fit = absurd (true≢false (sym one))
 end_lasts a atom [] one fit = absurd (true≢false (sym one))
-end_lasts a atom (Act b ∷ symbols) one fit = absurd (true≢false (sym one))
-end_lasts a atom (Rule rule ∷ symbols) one fit = absurd (true≢false (sym one))
+end_lasts a atom (Symbol.Act b ∷ symbols) one fit = absurd (true≢false (sym one))
+end_lasts a atom (Symbol.Rule rule ∷ symbols) one fit = absurd (true≢false (sym one))
 
 act_lasts : (a : Action) (atom : ℕ) (symbols : List (Symbol Action)) (b : Bool) → ends_directive a ≡ b
     → (if b then is_semicolon symbols else ends_last symbols) ≡ true → fits grammar known atom symbols ≡ true
-    → (ends_last symbols ≡ true → Lasts atom (taken grammar known atom symbols)) → Lasts atom (taken grammar known atom (Act a ∷ symbols))
+    → (ends_last symbols ≡ true → Lasts atom (taken grammar known atom symbols)) → Lasts atom
+    (taken grammar known atom (Symbol.Act a ∷ symbols))
 act_lasts a atom symbols true e last fit on = end_lasts a atom symbols last fit
 act_lasts a atom symbols false e last fit on =
     let l : Lasts atom (taken grammar known atom symbols) = on last in
@@ -193,7 +186,7 @@ taking {atom} (action {a} {symbols} l) spaced =
 taking {atom} (row {rule} {r} {symbols} m free l) spaced =
     let on : Taking atom (r.parts ++ symbols) = taking l (spaced_choice grammar known language_is_decided rule r symbols m spaced) in
     let one = only atom rule r symbols m free spaced on.fits_here in
-    let same : taken grammar known atom (r.parts ++ symbols) ≡ taken grammar known atom (Rule rule ∷ symbols) =
+    let same : taken grammar known atom (r.parts ++ symbols) ≡ taken grammar known atom (Symbol.Rule rule ∷ symbols) =
     sym (taken_row grammar known language_is_decided atom rule symbols one.fits_here
     ∙ ap (λ parts. taken grammar known atom (parts ++ symbols)) one.is) in
     record {

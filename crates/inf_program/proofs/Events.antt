@@ -1,34 +1,22 @@
 -- The events of a text, and steps that are taken by them.
 use Rattle.std.proofs.Common.{◌≡◌, ℕ, ◌-◌, max, List, [], ◌∷◌, ◌++◌, true, refl, sym, ◌∙◌, ap, subst, arith}
 use Rattle.inf_settings.specs.Bounds.{Limits}
-use Rattle.inf_machine.specs.Grammar.{Did, Event, Leads, action, row, token}
-use Rattle.inf_machine.specs.Laws.{IsSpaced}
-use Rattle.inf_machine.specs.Machine.{Taken, events_of, fits, taken, work}
-use Rattle.inf_machine.specs.declared.symbols.Symbol.{Symbol}
-use Rattle.inf_machine.specs.declared.symbols.Symbol.TheVariants.{Rule}
+use Rattle.inf_machine.specs.{Grammar.Did, Grammar.Event, Grammar.Leads, Grammar.action, Grammar.row, Grammar.token, Laws.IsSpaced}
+use Rattle.inf_machine.specs.{Machine.Taken, Machine.events_of, Machine.fits, Machine.taken, Machine.work, declared.symbols.Symbol.Symbol}
 use Rattle.inf_machine.proofs.Taking.{spaced_choice, spaced_left, taken_row}
 use Rattle.inf_syntax.specs.declared.actions.Action.{Action}
-use Rattle.inf_grammar.specs.Evaluated.{language_is_decided}
-use Rattle.inf_grammar.specs.Language.{grammar, known}
-use Rattle.inf_grammar.specs.Routines.{closings}
+use Rattle.inf_grammar.specs.{Evaluated.language_is_decided, Language.grammar, Language.known, Routines.closings}
 use Rattle.inf_unit.specs.Tokens.{SourceToken, atom_of}
-use Rattle.inf_compilation.specs.Actions.{Compilation, took as work_took}
-use Rattle.inf_compilation.specs.Context.{Context}
-use Rattle.inf_compilation.specs.Nesting.{closed_ahead}
-use Rattle.inf_reader.specs.Acting.{all_acted}
-use Rattle.inf_reader.specs.Reading.{Reading, ReaderState, took}
+use Rattle.inf_compilation.specs.{Actions.Compilation, Actions.took as work_took, Context.Context, Nesting.closed_ahead}
+use Rattle.inf_reader.specs.{Acting.all_acted, Reading.ReaderState, Reading.Reading, Reading.took}
 use Rattle.inf_laws.specs.KeptTokens.{Kept, Unfit}
 use Rattle.inf_laws.proofs.KeptTokens.{At, goes}
 use Rattle.inf_statement_laws.specs.Laid.{passed}
-use Rattle.inf_program.specs.definition.Steps.{AllKept}
-use Rattle.inf_program.specs.definition.Steps.{Ends, Passes, Reads, Step}
+use Rattle.inf_program.specs.definition.Steps.{AllKept, Ends, Passes, Reads, Step}
 use Rattle.inf_program.specs.Turns.{IsFit, step_by, steps_by}
-use Rattle.inf_program.proofs.Chosen.{only}
-use Rattle.inf_program.proofs.Grouping.{closed_once, step_fit}
 use Rattle.inf_program.specs.definition.Fronts.{Course, Derives, Progress, actions_first, done_by, ends_in, events_behind, first_ends}
-use Rattle.inf_program.specs.definition.Fronts.{kept_atoms}
-use Rattle.inf_program.specs.definition.Fronts.{later_ends, taken_by}
-use Rattle.inf_program.proofs.Stacks.{IsRest, fits_some, rest_left}
+use Rattle.inf_program.specs.definition.Fronts.{kept_atoms, later_ends, taken_by}
+use Rattle.inf_program.proofs.{Chosen.only, Grouping.closed_once, Grouping.step_fit, Stacks.IsRest, Stacks.fits_some, Stacks.rest_left}
 
 -- Events token by token
 
@@ -96,7 +84,7 @@ first_by {atom} {left} {atoms} (row {rule} {r} {symbols} m free l) spaced =
     let on : First atom (r.parts ++ symbols) atoms (course_of l) left =
     first_by l (spaced_choice grammar known language_is_decided rule r symbols m spaced) in
     let one = only atom rule r symbols m free spaced on.fits_here in
-    let same : taken grammar known atom (r.parts ++ symbols) ≡ taken grammar known atom (Rule rule ∷ symbols) =
+    let same : taken grammar known atom (r.parts ++ symbols) ≡ taken grammar known atom (Symbol.Rule rule ∷ symbols) =
     sym (taken_row grammar known language_is_decided atom rule symbols one.fits_here
     ∙ ap (λ parts. taken grammar known atom (parts ++ symbols)) one.is) in
     record { fits_here = one.fits_here; ahead = subst (λ (n : Taken Action). Ahead atom n atoms (course_of l) left) same on.ahead }

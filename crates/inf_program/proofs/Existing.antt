@@ -1,27 +1,18 @@
 -- Sources have programs, since their reading ends and each of its turns is regular, and their outcomes are those of their programs.
-use Rattle.std.proofs.Common.{◌≡◌, ℕ, List, [], true, false, Option, Some, refl, sym, ◌∙◌, ap, subst}
-use Rattle.std.specs.Prelude.{◌↔◌}
+use Rattle.std.proofs.Common.{◌≡◌, ℕ, List, [], true, false, Option, Some, refl, sym, ◌∙◌, ap, subst, ◌↔◌}
 use Rattle.inf_settings.specs.Bounds.{Limits, limits_of}
 use Rattle.inf_devices.specs.Files.{Sources}
-use Rattle.inf_session.specs.Choices.{Choices}
+use Rattle.inf_session.specs.{Choices.Choices, Session.State as TurnState, Session.has_ended, Session.run, Session.start}
 use Rattle.inf_ending.specs.Ending.{Outcome}
-use Rattle.inf_session.specs.Session.{State as TurnState, has_ended, run, start}
 use Rattle.inf_compile.specs.Outcome.{IsCompiled, IsOutcome, IsOutcomeOf}
-use Rattle.inf_compile.proofs.OutcomeLaws.{outcomes_are_unique}
-use Rattle.inf_compile.proofs.Reaching.{outcomes_exist}
-use Rattle.inf_program.specs.SideTurns.{silent_run}
-use Rattle.inf_program.specs.Writing.{silent_run as turn_run, unwritten}
-use Rattle.inf_program.proofs.Turns.{lines_are_written_at_any_time}
-use Rattle.inf_program.specs.BySides.{with_conditions}
+use Rattle.inf_compile.proofs.{OutcomeLaws.outcomes_are_unique, Reaching.outcomes_exist}
+use Rattle.inf_program.specs.{BySides.with_conditions, SideTurns.side_run, Writing.silent_run as turn_run, Writing.unwritten}
+use Rattle.inf_program.specs.{definition.Supplied.AreSupplied, definition.Written.IsOutcomeOfProgram, definition.Written.ending}
 use Rattle.inf_program.specs.definition.States.{State, has_ended as has_ended_by, start as start_by}
-use Rattle.inf_program.specs.definition.Supplied.{AreSupplied}
-use Rattle.inf_program.specs.definition.Written.{IsOutcomeOfProgram, ending}
 use Rattle.inf_program.specs.Readings.{ProgramOf, SourcesAreRegular, SourcesHavePrograms}
-use Rattle.inf_program.proofs.Outcomes.{programs_have_their_outcome, unwritten_same}
-use Rattle.inf_program.proofs.Readings.{regular_readings_are_programs}
-use Rattle.inf_program.proofs.RegularTurns.{sources_regular}
-use Rattle.inf_program.proofs.SideTurns.{Ran, source_ran}
-use Rattle.inf_program.proofs.Supplied.{texts_are_programs}
+use Rattle.inf_program.proofs.{Outcomes.programs_have_their_outcome, Outcomes.unwritten_same, Readings.regular_readings_are_programs}
+use Rattle.inf_program.proofs.{RegularTurns.sources_regular, SideTurns.Ran, SideTurns.source_ran, Supplied.texts_are_programs}
+use Rattle.inf_program.proofs.{Turns.lines_are_written_at_any_time}
 
 pub sources_are_regular : SourcesAreRegular
 sources_are_regular sources o name n = sources_regular (limits_of o.settings) sources o name n
@@ -34,7 +25,7 @@ sources_have_programs sources o name source there =
     let c : IsCompiled sources o [] name out.0 = subst (λ (x : Option (List ℕ)). IsOutcomeOf x sources o [] name out.0) there out.1 in
     let n : ℕ = c.is_read.turns in
     let first : State = start_by sources o name in
-    let x : State = silent_run limits sources o n first in
+    let x : State = side_run limits sources o n first in
     let a : Ran (turn_run limits sources o n s) x = source_ran limits sources o name n in
     let silent : unwritten (run limits sources o n s) ≡ with_conditions a.conditions a.quoted x =
     (lines_are_written_at_any_time limits).all sources o n s

@@ -1,15 +1,12 @@
 -- Steps behind a token move lines: an inclusion, the end of a file, and the end of a piece.
-use Rattle.std.proofs.Common.{ℕ, List, [], ◌∷◌, reverse, refl}
-use Rattle.std.specs.Prelude.{if◌then◌else◌}
+use Rattle.std.proofs.Common.{ℕ, List, [], ◌∷◌, reverse, refl, if◌then◌else◌}
 use Rattle.inf_scanner.specs.declared.tokens.Place.{Place}
 use Rattle.inf_devices.specs.Files.{Sources}
 use Rattle.inf_report.specs.Messages.{Message, NoInclude, TooManyFiles}
 use Rattle.inf_unit.specs.Directives.{Characters, End, Include, Nothing, Request}
 use Rattle.inf_unit.specs.Messages.{FileNames, location, with_fatal}
+use Rattle.inf_sources.specs.{declared.open_file.Conditional.Conditional, declared.open_files.Included.Included}
 use Rattle.inf_sources.specs.Inclusions.{Inclusion, Opens, OpensNone, Waiting, inclusion}
-use Rattle.inf_sources.specs.declared.open_file.Conditional.{Conditional}
-use Rattle.inf_sources.specs.declared.open_files.Included.{Included}
-use Rattle.inf_sources.specs.declared.open_files.Included.TheVariants as answer
 use Rattle.inf_conditionals.specs.Ends.{file_ended, file_told, piece_ended, piece_told, with_all_lone, with_lone}
 use Rattle.inf_conditionals.specs.Open.{Conditions}
 use Rattle.inf_reader.specs.Reading.{is_mode_ended}
@@ -72,9 +69,9 @@ refused_moves unit m =
     (λ s. fatal_adds (location s.nesting.names unit) m)
 
 none_moves : (unit : Place) (text : List ℕ) (why : Included) → Moves (none_included unit text why)
-none_moves unit text answer.Entered = nothing_moves
-none_moves unit text answer.NotThere = refused_moves unit (NoInclude text)
-none_moves unit text answer.TooDeep = refused_moves unit TooManyFiles
+none_moves unit text Included.Entered = nothing_moves
+none_moves unit text Included.NotThere = refused_moves unit (NoInclude text)
+none_moves unit text Included.TooDeep = refused_moves unit TooManyFiles
 
 included_by_moves : (sources : Sources) (o : Choices) (unit : Place) (text : List ℕ) (i : Inclusion)
     → Moves (included_by sources o unit text i)

@@ -1,34 +1,26 @@
 -- Turns that read tokens which fit are the front of a piece.
-use Rattle.std.proofs.Common.{◌≡◌, ℕ, zero, suc, List, [], ◌∷◌, ◌++◌, ◌&&◌, Bool, true, false, refl, sym, ◌∙◌, ap, subst, arith}
-use Rattle.std.proofs.Common.{true≢false}
+use Rattle.std.proofs.Common.{◌≡◌, ℕ, zero, suc, List, [], ◌∷◌, ◌++◌, ◌&&◌, Bool, true, false, refl, sym, ◌∙◌, ap, subst, arith, true≢false}
 use Rattle.inf_settings.specs.Bounds.{Limits}
 use Rattle.inf_devices.specs.Files.{Sources}
+use Rattle.inf_machine.specs.{Machine.Taken, Machine.events_of, Machine.taken, Machine.work, declared.symbols.Symbol.Symbol}
 use Rattle.inf_machine.specs.Grammar.{Event, IsText, Leads, here, row}
-use Rattle.inf_machine.specs.Machine.{Taken, events_of, taken, work}
-use Rattle.inf_machine.specs.declared.symbols.Symbol.{Symbol}
 use Rattle.inf_machine.proofs.Taking.{leads_on}
 use Rattle.inf_syntax.specs.declared.actions.Action.{Action}
-use Rattle.inf_grammar.specs.Evaluated.{language_is_decided}
-use Rattle.inf_grammar.specs.Language.{grammar, known}
+use Rattle.inf_grammar.specs.{Evaluated.language_is_decided, Language.grammar, Language.known}
 use Rattle.inf_unit.specs.Tokens.{atom_of}
 use Rattle.inf_compilation.specs.Context.{Context}
+use Rattle.inf_reader.specs.{Reading.ReaderState, Reading.Reading, declared.recovery.Recovery.Recovery}
 use Rattle.inf_reader.specs.Handing.{is_between, is_empty, reads}
-use Rattle.inf_reader.specs.Reading.{Reading, ReaderState}
-use Rattle.inf_reader.specs.declared.recovery.Recovery.{Recovery}
-use Rattle.inf_reader.specs.declared.recovery.Recovery.TheVariants as mode
 use Rattle.inf_session.specs.Choices.{Choices}
 use Rattle.inf_laws.specs.KeptTokens.{Kept, Unfit}
-use Rattle.inf_program.specs.definition.Steps.{AllKept}
-use Rattle.inf_program.specs.definition.Steps.{Ends, Passes, Reads, Step}
+use Rattle.inf_program.specs.definition.Steps.{AllKept, Ends, Passes, Reads, Step}
 use Rattle.inf_program.specs.Turns.{AllFit, step_by, steps_by}
-use Rattle.inf_program.proofs.Grouping.{step_fit}
 use Rattle.inf_program.specs.definition.NextToken.{Position, afresh, steps_at, within}
 use Rattle.inf_program.specs.definition.Fronts.{AllGoOn, IsOpen, PieceState, are_over, atoms_from, is_whole, kept_atoms, moved, walked}
-use Rattle.inf_program.proofs.Stacks.{IsRest, none_left}
-use Rattle.inf_program.proofs.Stepping.{followed_plainly, position_within}
-use Rattle.inf_program.proofs.Walking.{IsAt, next_is_at}
 use Rattle.inf_program.specs.definition.States.{AsksNothing, State, context_of}
-use Rattle.inf_program.specs.SideTurns.{IsQuiet, silent_turn, silent_turned, stand_of, stepped, steps_of}
+use Rattle.inf_program.specs.SideTurns.{IsQuietBySide, side_turn, side_turned, stand_of, stepped, side_steps}
+use Rattle.inf_program.proofs.{Grouping.step_fit, Stacks.IsRest, Stacks.none_left, Stepping.followed_plainly, Stepping.position_within}
+use Rattle.inf_program.proofs.{Walking.IsAt, Walking.next_is_at}
 
 -- Tokens that fit lead on.
 
@@ -83,35 +75,35 @@ atoms_joined (Ends m ∷ a) b atoms = atoms_joined a b atoms
 
 -- Behind a turn nothing else happens, a piece is at hand, and the tokens of the next turn fit.
 pub record FitTurn (limits : Limits) (sources : Sources) (o : Choices) (q : State) : Type 0 where
-  pub is_quiet : IsQuiet (stepped limits o q)
+  pub is_quiet : IsQuietBySide (stepped limits o q)
   pub is_within : is_between (stepped limits o q).reading ≡ false
-  pub are_fit : AllFit limits (context_of o (silent_turn limits sources o q)) (steps_of limits o (silent_turn limits sources o q))
-      (stand_of (silent_turn limits sources o q))
+  pub are_fit : AllFit limits (context_of o (side_turn limits sources o q)) (side_steps limits o (side_turn limits sources o q))
+      (stand_of (side_turn limits sources o q))
 
 abbrev pub FitTurns : Limits → Sources → Choices → ℕ → State → Type 0
 FitTurns limits sources o zero q = Unit {0}
-FitTurns limits sources o (suc n) q = FitTurn limits sources o q × FitTurns limits sources o n (silent_turn limits sources o q)
+FitTurns limits sources o (suc n) q = FitTurn limits sources o q × FitTurns limits sources o n (side_turn limits sources o q)
 
 -- the steps of `n` turns behind the first
 abbrev pub later_steps : Limits → Sources → Choices → ℕ → State → List Step
 later_steps limits sources o zero q = []
 later_steps limits sources o (suc n) q =
-    steps_of limits o (silent_turn limits sources o q) ++ later_steps limits sources o n (silent_turn limits sources o q)
+    side_steps limits o (side_turn limits sources o q) ++ later_steps limits sources o n (side_turn limits sources o q)
 
 plain_turn : (limits : Limits) (sources : Sources) (o : Choices) (q : State) → FitTurn limits sources o q
-    → silent_turn limits sources o q ≡ stepped limits o q
+    → side_turn limits sources o q ≡ stepped limits o q
 plain_turn limits sources o q f = followed_plainly sources o (stepped limits o q) f.is_quiet
 
 pub turns_lead : (limits : Limits) (sources : Sources) (o : Choices) (n : ℕ) (q : State) (atoms : List ℕ) (events : List (Event Action))
     (left : List (Symbol Action))
     → FitTurns limits sources o n q
-    → Leads grammar (stepped limits o (silent_turned limits sources o n q)).reading.stack atoms events left
+    → Leads grammar (stepped limits o (side_turned limits sources o n q)).reading.stack atoms events left
     → Led (later_steps limits sources o n q) atoms (stepped limits o q).reading.stack left
 turns_lead limits sources o zero q atoms events left all l = record { events = events; leads = l }
 turns_lead limits sources o (suc n) q atoms events left all l =
-    let q2 : State = silent_turn limits sources o q in
+    let q2 : State = side_turn limits sources o q in
     let c : Context = context_of o q2 in
-    let a : List Step = steps_of limits o q2 in
+    let a : List Step = side_steps limits o q2 in
     let b : List Step = later_steps limits sources o n q2 in
     let r : Led b atoms (stepped limits o q2).reading.stack left = turns_lead limits sources o n q2 atoms events left all.1 l in
     let there : Leads grammar (steps_by limits c a (stand_of q2)).reading.stack (kept_atoms b ++ atoms) r.events left = r.leads in
@@ -148,11 +140,11 @@ pub more_left : (symbols : List (Symbol Action)) (atoms : List ℕ) (events : Li
 more_left symbols atoms events [] l rest some = ap (λ b. b && true) (more_events symbols atoms events l rest some)
 more_left symbols atoms events (x ∷ left) l rest some = and_false (are_over events)
 
-pub some_at_hand : (r : Reading) → r.mode ≡ mode.Reads → is_between r ≡ false → is_empty r.stack ≡ false
+pub some_at_hand : (r : Reading) → r.mode ≡ Recovery.Reads → is_between r ≡ false → is_empty r.stack ≡ false
 some_at_hand r reading inside = ap (λ (m : Recovery). reads m && is_empty r.stack) (sym reading) ∙ inside
 
 -- a piece of which something is left is open
-pub is_open_at : (m : PieceState) (x : State) (atoms : List ℕ) (left : List (Symbol Action)) → IsAt atoms left m x → IsQuiet x
+pub is_open_at : (m : PieceState) (x : State) (atoms : List ℕ) (left : List (Symbol Action)) → IsAt atoms left m x → IsQuietBySide x
     → x.is_over ≡ false → is_empty x.reading.stack ≡ false → IsOpen left m
 is_open_at m x atoms left s quiet going some = record {
   is_going = ap (λ (y : State). y.is_over) s.same ∙ going;
@@ -163,7 +155,7 @@ is_open_at m x atoms left s quiet going some = record {
 
 -- the steps of a turn within a piece are those at its state
 pub same_steps : (limits : Limits) (o : Choices) (m : PieceState) (x : State) (atoms : List ℕ) (left : List (Symbol Action))
-    → IsAt atoms left m x → is_empty x.reading.stack ≡ false → steps_of limits o x ≡ steps_at limits o within m.state
+    → IsAt atoms left m x → is_empty x.reading.stack ≡ false → side_steps limits o x ≡ steps_at limits o within m.state
 same_steps limits o m x atoms left s some =
     ap (λ (p : Position). steps_at limits o p (afresh x)) (position_within x.reading s.inside.at.reads some)
     ∙ ap (steps_at limits o within) (sym s.same)
@@ -174,7 +166,7 @@ pub record Forward (limits : Limits) (sources : Sources) (o : Choices) (n : ℕ)
   where
     pub go_on : AllGoOn limits o left n m
     pub atoms : atoms_from limits o n m further ≡ kept_atoms (later_steps limits sources o n q) ++ further
-    pub at_end : IsAt further left (walked limits o n m) (stepped limits o (silent_turned limits sources o n q))
+    pub at_end : IsAt further left (walked limits o n m) (stepped limits o (side_turned limits sources o n q))
 
 pub forward : (limits : Limits) (sources : Sources) (o : Choices) (n : ℕ) (m : PieceState) (q : State) (further : List ℕ)
     (left : List (Symbol Action))
@@ -183,15 +175,15 @@ pub forward : (limits : Limits) (sources : Sources) (o : Choices) (n : ℕ) (m :
 forward limits sources o zero m q further left all s going = record { go_on = tt; atoms = refl; at_end = s }
 forward limits sources o (suc n) m q further left all s going =
     let x : State = stepped limits o q in
-    let q2 : State = silent_turn limits sources o q in
+    let q2 : State = side_turn limits sources o q in
     let m2 : PieceState = moved limits o m in
     let plain : q2 ≡ x = plain_turn limits sources o q all.0 in
-    let a : List Step = steps_of limits o q2 in
+    let a : List Step = side_steps limits o q2 in
     let b : List Step = later_steps limits sources o n q2 in
     let rest : List ℕ = kept_atoms b ++ further in
     let some : is_empty x.reading.stack ≡ false = some_at_hand x.reading s.inside.at.reads all.0.is_within in
     let same : a ≡ steps_at limits o within m.state =
-    ap (steps_of limits o) plain ∙ same_steps limits o m x (kept_atoms (a ++ b) ++ further) left s some in
+    ap (side_steps limits o) plain ∙ same_steps limits o m x (kept_atoms (a ++ b) ++ further) left s some in
     let at : IsAt (kept_atoms (steps_at limits o within m.state) ++ rest) left m x =
     subst (λ (steps : List Step). IsAt (kept_atoms steps ++ rest) left m x) same
     (subst (λ (atoms : List ℕ). IsAt atoms left m x) (atoms_joined a b further) s) in

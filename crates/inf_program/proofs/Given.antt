@@ -1,17 +1,11 @@
 -- The things that sides give of a token: at most two tokens, of which the first of two is a `#`, and behind them ends of directives.
 use Rattle.std.proofs.Common.{◌≡◌, ℕ, List, [], ◌∷◌, ◌++◌, Bool, true, false, Option, Some, None, refl, ◌∙◌, ap}
-use Rattle.inf_scanner.specs.declared.tokens.Mark.TheVariants as mark
-use Rattle.inf_scanner.specs.declared.tokens.Place.{Place}
-use Rattle.inf_scanner.specs.declared.tokens.TokenKind.TheVariants as kind
+use Rattle.inf_scanner.specs.{declared.tokens.Mark.Mark, declared.tokens.Place.Place, declared.tokens.TokenKind.TokenKind}
 use Rattle.inf_settings.specs.Bounds.{Limits}
 use Rattle.inf_output.specs.Output.{Out}
-use Rattle.inf_unit.specs.Messages.{FileNames}
-use Rattle.inf_unit.specs.Tokens.{SourceToken, is_end, is_mark, keyword}
+use Rattle.inf_unit.specs.{Messages.FileNames, Tokens.SourceToken, Tokens.is_end, Tokens.is_mark, Tokens.keyword}
 use Rattle.inf_unit.proofs.Cases.{of_both}
-use Rattle.inf_conditionals.specs.Said.{Said}
-use Rattle.inf_conditionals.specs.Words.{word_of}
-use Rattle.inf_conditionals.specs.declared.words.ConditionalWord.{ConditionalWord}
-use Rattle.inf_conditionals.specs.declared.words.ConditionalWord.TheVariants as word
+use Rattle.inf_conditionals.specs.{Said.Said, Words.word_of, declared.words.ConditionalWord.ConditionalWord}
 use Rattle.inf_conditional_sides.specs.Sides as by_sides
 use Rattle.inf_conditional_sides.specs.Sides.{Asked, Directive, Ended, Form, Front, Given as GivenBySides}
 use Rattle.inf_conditional_sides.specs.Sides.{Misfit, Sides, Sign, Step as SideStep, Text, Whole}
@@ -20,10 +14,9 @@ use Rattle.inf_conditional_sides.specs.Sides.{giving, goes_on, has_any, has_firs
 use Rattle.inf_conditional_sides.specs.Sides.{offered, offered_in, offered_to, passed_over, read_as, step, turned, unfit}
 use Rattle.inf_session.specs.Choices.{Choices}
 use Rattle.inf_laws.specs.KeptTokens.{Given, Kept, Unfit, token_in}
+use Rattle.inf_program.specs.{definition.Program.NoneGiven, definition.States.State}
 use Rattle.inf_program.specs.definition.Steps.{Passes, Reads, Step, said_between, steps_of_all, token_steps}
 use Rattle.inf_program.specs.definition.NextToken.{Position, coming, step_at, steps_at, told_at}
-use Rattle.inf_program.specs.definition.Program.{NoneGiven}
-use Rattle.inf_program.specs.definition.States.{State}
 use Rattle.inf_program.proofs.Shapes.{AllMild, NoToken, OneToken, Shape, TwoTokens}
 
 -- no token is given
@@ -42,22 +35,22 @@ data Handed (all : List GivenBySides) : Type 0 where
   NoneHanded : NoneIn all → Handed all
   OneHanded : (given : Given) (rest : List GivenBySides) → all ≡ as_given given ∷ rest → NoneIn rest → Handed all
   TwoHanded : (given next : Given) (rest : List GivenBySides) → all ≡ as_given given ∷ as_given next ∷ rest
-      → (token_in given).kind ≡ kind.Mark mark.Hash → NoneIn rest → Handed all
+      → (token_in given).kind ≡ TokenKind.Mark Mark.Hash → NoneIn rest → Handed all
 
 -- A token that is offered
 
 acts_handed : (w : ConditionalWord) (declared : ℕ) (o : Out) (place : Place) (is_inner : Bool) (first : SourceToken) (others : List Asked)
     (s : Sides) → Handed (acts w declared o place is_inner first others s).given
-acts_handed word.Ifnot declared o place is_inner first others s =
+acts_handed ConditionalWord.Ifnot declared o place is_inner first others s =
     of_both (λ (n : SideStep). Handed n.given) (has_first s.sides) (giving (record s { sides = turned s.sides }) (by_sides.Ends place ∷ []))
     (giving s (by_sides.Lone place ∷ by_sides.Ends place ∷ [])) (λ _. NoneHanded tt) (λ _. NoneHanded tt)
-acts_handed word.Endif declared o place is_inner first others s =
+acts_handed ConditionalWord.Endif declared o place is_inner first others s =
     of_both (λ (n : SideStep). Handed n.given) (has_any s.sides) (giving (record s { sides = closed s.sides }) (by_sides.Ends place ∷ []))
     (giving s (by_sides.Lone place ∷ by_sides.Ends place ∷ [])) (λ _. NoneHanded tt) (λ _. NoneHanded tt)
-acts_handed word.Ifdef declared o place is_inner first others s = NoneHanded tt
-acts_handed word.Ifndef declared o place is_inner first others s = NoneHanded tt
-acts_handed word.Iftrue declared o place is_inner first others s = NoneHanded tt
-acts_handed word.Iffalse declared o place is_inner first others s = NoneHanded tt
+acts_handed ConditionalWord.Ifdef declared o place is_inner first others s = NoneHanded tt
+acts_handed ConditionalWord.Ifndef declared o place is_inner first others s = NoneHanded tt
+acts_handed ConditionalWord.Iftrue declared o place is_inner first others s = NoneHanded tt
+acts_handed ConditionalWord.Iffalse declared o place is_inner first others s = NoneHanded tt
 
 goes_handed : (form : Form) (t : SourceToken) (x : Text) (s : Sides) → Handed (goes_on form t x s).given
 goes_handed Misfit t x s = OneHanded (Unfit t) [] refl tt
@@ -86,7 +79,7 @@ at_front_handed (Some w) t s = begun_handed w t t.place false s
 text_handed : (declared : ℕ) (o : Out) (t : SourceToken) (x : Text) (s : Sides) → Handed (offered_to declared o t x s).given
 text_handed declared o t (Sign place) s = front_handed (word_of (keyword t)) t place s
 text_handed declared o t (Ended place) s =
-    of_both (λ (n : SideStep). Handed n.given) (is_mark mark.Semicolon t.kind) (giving s (by_sides.Ends place ∷ [])) (unfit t s)
+    of_both (λ (n : SideStep). Handed n.given) (is_mark Mark.Semicolon t.kind) (giving s (by_sides.Ends place ∷ [])) (unfit t s)
     (λ _. NoneHanded tt) (λ _. OneHanded (Unfit t) [] refl tt)
 text_handed declared o t (Directive place is_inner w first others) s =
     let more = others ++ asked declared o t ∷ [] in read_handed (form_of w first more) w declared o t place is_inner first more s
@@ -99,16 +92,16 @@ in_handed (x ∷ texts) is_front declared o t s = text_handed declared o t x (re
 
 offered_handed : (is_front : Bool) (declared : ℕ) (o : Out) (t : SourceToken) (s : Sides) → Handed (offered is_front declared o t s).given
 offered_handed is_front declared o t s =
-    of_both (λ (n : SideStep). Handed n.given) (is_mark mark.Hash t.kind) (giving (held is_front t.place s) [])
+    of_both (λ (n : SideStep). Handed n.given) (is_mark Mark.Hash t.kind) (giving (held is_front t.place s) [])
     (offered_in s.texts is_front declared o t s) (λ _. NoneHanded tt) (λ _. in_handed s.texts is_front declared o t s)
 
 -- A token behind a `#` that was given, where no directive is being read
 
-alone_handed : (given : Given) (declared : ℕ) (o : Out) (t : SourceToken) (s : Sides) → (token_in given).kind ≡ kind.Mark mark.Hash
+alone_handed : (given : Given) (declared : ℕ) (o : Out) (t : SourceToken) (s : Sides) → (token_in given).kind ≡ TokenKind.Mark Mark.Hash
     → Handed (as_given given ∷ (offered false declared o t (record s { texts = [] })).given)
 alone_handed given declared o t s is_hash =
     let none = record s { texts = [] } in
-    of_both (λ (n : SideStep). Handed (as_given given ∷ n.given)) (is_mark mark.Hash t.kind) (giving (held false t.place none) [])
+    of_both (λ (n : SideStep). Handed (as_given given ∷ n.given)) (is_mark Mark.Hash t.kind) (giving (held false t.place none) [])
     (offered_in [] false declared o t none) (λ _. OneHanded given [] refl tt) (λ _. TwoHanded given (Kept t) [] refl is_hash tt)
 
 -- a token behind a `#` that a directive was asked for

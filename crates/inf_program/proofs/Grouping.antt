@@ -3,31 +3,21 @@ use Rattle.std.proofs.Common.{◌≡◌, ℕ, ◌-◌, max, List, [], ◌∷◌,
 use Rattle.std.specs.Prelude.{if◌then◌else◌}
 use Rattle.inf_settings.specs.Bounds.{Limits}
 use Rattle.inf_devices.specs.Files.{Sources}
-use Rattle.inf_machine.specs.Machine.{fits}
-use Rattle.inf_machine.specs.declared.symbols.Symbol.{Symbol}
-use Rattle.inf_machine.specs.declared.symbols.Symbol.TheVariants.{Rule}
+use Rattle.inf_machine.specs.{Machine.fits, declared.symbols.Symbol.Symbol}
 use Rattle.inf_syntax.specs.declared.actions.Action.{Action}
-use Rattle.inf_grammar.specs.Language.{grammar, known}
-use Rattle.inf_grammar.specs.Routines.{closings}
+use Rattle.inf_grammar.specs.{Language.grammar, Language.known, Routines.closings}
 use Rattle.inf_unit.specs.Tokens.{SourceToken, atom_of, is_end}
-use Rattle.inf_compilation.specs.Context.{Context}
-use Rattle.inf_compilation.specs.Actions.{Compilation, piece_begun as work_begun}
-use Rattle.inf_compilation.specs.Nesting.{closed_ahead, constructs_laid}
+use Rattle.inf_compilation.specs.{Actions.Compilation, Actions.piece_begun as work_begun, Context.Context, Nesting.closed_ahead}
+use Rattle.inf_compilation.specs.{Nesting.constructs_laid}
 use Rattle.inf_constructs.specs.Constructs.{all_ended}
-use Rattle.inf_reader.specs.Handing.{is_empty, skips, unfit_in}
+use Rattle.inf_reader.specs.{Handing.is_empty, Handing.skips, Handing.unfit_in, declared.recovery.Recovery.Recovery}
 use Rattle.inf_reader.specs.Reading.{Reading, ReaderState, bad, between, judged, piece_begun, piece_rule, read_at, step, step_in, took}
-use Rattle.inf_reader.specs.declared.recovery.Recovery.{Recovery}
-use Rattle.inf_reader.specs.declared.recovery.Recovery.TheVariants as mode
-use Rattle.inf_session.specs.Choices.{Choices}
-use Rattle.inf_session.specs.Session.{State, context_of, stand_of, stepped}
+use Rattle.inf_session.specs.{Choices.Choices, Session.State, Session.context_of, Session.stand_of, Session.stepped}
 use Rattle.inf_laws.specs.KeptTokens.{Given, Kept, Unfit}
-use Rattle.inf_statement_laws.specs.Happenings.{Between}
-use Rattle.inf_statement_laws.specs.Laid.{passed}
-use Rattle.inf_statement_laws.specs.Readings.{all_taken, directed}
-use Rattle.inf_program.specs.definition.Steps.{Ends, Passes, Reads, Step}
-use Rattle.inf_program.specs.Turns.{AllFit, AreQuiet, IsFit, IsUnfit, TurnsTakeTokens, all_steps}
-use Rattle.inf_program.specs.Turns.{directive_with, grouped, piece_first, step_by, steps_by}
-use Rattle.inf_program.specs.Writing.{silent_turned}
+use Rattle.inf_statement_laws.specs.{Happenings.Between, Laid.passed, Readings.all_taken, Readings.directed}
+use Rattle.inf_program.specs.{Turns.AllFit, Turns.AreQuiet, Turns.IsFit, Turns.IsUnfit, Turns.TurnsTakeTokens, Turns.all_steps}
+use Rattle.inf_program.specs.{Turns.directive_with, Turns.grouped, Turns.piece_first, Turns.step_by, Turns.steps_by, Writing.silent_turned}
+use Rattle.inf_program.specs.{definition.Steps.Ends, definition.Steps.Passes, definition.Steps.Reads, definition.Steps.Step}
 use Rattle.inf_program.proofs.TurnSteps.{turns_are_steps}
 
 -- Statements that are closed ahead once are closed.
@@ -71,7 +61,7 @@ read_inside : (limits : Limits) (context : Context) (t : SourceToken) (stack : L
 read_inside limits context t [] r w inside = absurd (true≢false inside)
 read_inside limits context t (symbol ∷ symbols) r w inside = refl
 
-step_inside : (limits : Limits) (context : Context) (t : SourceToken) (r : Reading) (w : Compilation) → r.mode ≡ mode.Reads
+step_inside : (limits : Limits) (context : Context) (t : SourceToken) (r : Reading) (w : Compilation) → r.mode ≡ Recovery.Reads
     → is_empty r.stack ≡ false → step limits context t r w ≡ judged limits context t r w
 step_inside limits context t r w reads inside =
     ap (λ m. step_in limits m context t r w) reads ∙ read_inside limits context t r.stack r w inside
@@ -91,17 +81,17 @@ step_bad limits context t s unfit =
 
 kept_skipped : (limits : Limits) (m : Recovery) (context : Context) (t : SourceToken) (r : Reading) (w : Compilation) → skips m ≡ true
     → (step_in limits m context t r w).work ≡ w
-kept_skipped limits mode.SkipsRoutine context t r w skip = refl
-kept_skipped limits mode.SkipsDirective context t r w skip = refl
-kept_skipped limits mode.Reads context t r w skip = absurd (true≢false (sym skip))
-kept_skipped limits mode.Ended context t r w skip = absurd (true≢false (sym skip))
+kept_skipped limits Recovery.SkipsRoutine context t r w skip = refl
+kept_skipped limits Recovery.SkipsDirective context t r w skip = refl
+kept_skipped limits Recovery.Reads context t r w skip = absurd (true≢false (sym skip))
+kept_skipped limits Recovery.Ended context t r w skip = absurd (true≢false (sym skip))
 
 unfit_skipped : (limits : Limits) (m : Recovery) (context : Context) (t : SourceToken) (s : ReaderState) → skips m ≡ true
     → unfit_in limits m context t s ≡ step limits context t s.reading s.work
-unfit_skipped limits mode.SkipsRoutine context t s skip = refl
-unfit_skipped limits mode.SkipsDirective context t s skip = refl
-unfit_skipped limits mode.Reads context t s skip = absurd (true≢false (sym skip))
-unfit_skipped limits mode.Ended context t s skip = absurd (true≢false (sym skip))
+unfit_skipped limits Recovery.SkipsRoutine context t s skip = refl
+unfit_skipped limits Recovery.SkipsDirective context t s skip = refl
+unfit_skipped limits Recovery.Reads context t s skip = absurd (true≢false (sym skip))
+unfit_skipped limits Recovery.Ended context t s skip = absurd (true≢false (sym skip))
 
 step_skipped : (limits : Limits) (context : Context) (g : Given) (s : ReaderState) → skips s.reading.mode ≡ true
     → (step_by limits context (Reads g) s).work ≡ s.work
@@ -136,18 +126,18 @@ steps_are_taken limits context (Reads (Kept t) ∷ steps) s fit =
 
 -- the first token of a piece comes to a piece that has begun
 step_first : (limits : Limits) (context : Context) (t : SourceToken) (m : Between) (w : Compilation) → is_end t.kind ≡ false
-    → step limits context t (between mode.Reads) (passed m w) ≡ step_by limits context (Reads (Kept t)) (piece_first m w)
+    → step limits context t (between Recovery.Reads) (passed m w) ≡ step_by limits context (Reads (Kept t)) (piece_first m w)
 step_first limits context t m w is_no_end =
-    let ended : ReaderState = record { reading = between mode.Ended; work = passed m w } in
-    ap (λ b. if b then ended else judged limits context t (piece_begun (between mode.Reads)) (work_begun (passed m w))) is_no_end
+    let ended : ReaderState = record { reading = between Recovery.Ended; work = passed m w } in
+    ap (λ b. if b then ended else judged limits context t (piece_begun (between Recovery.Reads)) (work_begun (passed m w))) is_no_end
 
 pub whole_piece : (limits : Limits) (sources : Sources) (o : Choices) (n : ℕ) (s : State) (m : Between) (t : SourceToken)
     (steps : List Step)
-    → s.reading ≡ between mode.Reads → is_end t.kind ≡ false → AreQuiet limits sources o n s
+    → s.reading ≡ between Recovery.Reads → is_end t.kind ≡ false → AreQuiet limits sources o n s
     → all_steps limits sources o n s ≡ Passes m ∷ Reads (Kept t) ∷ steps
     → AllFit limits (context_of o s) (Reads (Kept t) ∷ steps) (piece_first m s.work)
     → (stepped limits o (silent_turned limits sources o n s)).work
-    ≡ all_taken limits (context_of o s) (grouped (Reads (Kept t) ∷ steps)).seen (Rule piece_rule ∷ []) (work_begun (passed m s.work))
+    ≡ all_taken limits (context_of o s) (grouped (Reads (Kept t) ∷ steps)).seen (Symbol.Rule piece_rule ∷ []) (work_begun (passed m s.work))
 whole_piece limits sources o n s m t steps fresh is_no_end quiet all fit =
     let context = context_of o s in
     ap (λ (x : ReaderState). x.work) (turns_are_steps limits sources o n s quiet)

@@ -1,34 +1,19 @@
 -- Messages grow where the tokens that conditionals hand on are read, with the messages about conditions and conditional directives.
-use Rattle.std.proofs.Common.{◌≡◌, ℕ, List, Bool, Option, Some, None, refl, ◌∙◌, ap}
-use Rattle.std.specs.Prelude.{◌&&◌, max}
-use Rattle.inf_settings.specs.Bounds.{Limits}
-use Rattle.inf_scanner.specs.declared.tokens.Place.{Place}
-use Rattle.inf_scanner.specs.declared.tokens.TokenKind.{TokenKind}
-use Rattle.inf_scanner.specs.declared.tokens.TokenKind.TheVariants as kind
-use Rattle.inf_settings.specs.declared.setting.Setting.{Setting}
-use Rattle.inf_settings.specs.declared.setting.Setting.TheVariants.{ExpressionNodes}
+use Rattle.std.proofs.Common.{◌≡◌, ℕ, List, Bool, Option, Some, None, refl, ◌∙◌, ap, ◌&&◌, max}
+use Rattle.inf_settings.specs.{Bounds.Limits, declared.setting.Setting.Setting}
+use Rattle.inf_scanner.specs.{declared.tokens.Place.Place, declared.tokens.TokenKind.TokenKind}
 use Rattle.inf_grammar.specs.Routines.{closings}
 use Rattle.inf_code.specs.Code.{labels}
 use Rattle.inf_output.specs.Output.{begun, full}
 use Rattle.inf_report.specs.Messages.{DeepNesting, Exceeded, LoneConditional}
-use Rattle.inf_unit.specs.Messages.{FileNames, location, with_full}
-use Rattle.inf_unit.specs.Tokens.{SourceToken}
-use Rattle.inf_compilation.specs.Context.{Context}
-use Rattle.inf_compilation.specs.Actions.{Compilation, begun_at, is_class}
-use Rattle.inf_compilation.specs.Nesting.{closed_ahead}
-use Rattle.inf_conditionals.specs.Judging.{judged}
-use Rattle.inf_conditionals.specs.Open.{Conditions}
+use Rattle.inf_unit.specs.{Messages.FileNames, Messages.location, Messages.with_full, Tokens.SourceToken}
+use Rattle.inf_compilation.specs.{Actions.Compilation, Actions.begun_at, Actions.is_class, Context.Context, Nesting.closed_ahead}
+use Rattle.inf_conditionals.specs.{Ends.with_lone, Judging.judged, Open.Conditions, declared.filtered.Filtered.Filtered}
+use Rattle.inf_conditionals.specs.{declared.filtered.Forwarded.Forwarded, declared.filtered.Sign.Sign}
 use Rattle.inf_conditionals.specs.Said.{Deep, Long, Right, Said, Wrong, with_right, with_said}
-use Rattle.inf_conditionals.specs.Ends.{with_lone}
-use Rattle.inf_conditionals.specs.declared.filtered.Filtered.{Filtered}
-use Rattle.inf_conditionals.specs.declared.filtered.Forwarded.{Forwarded}
-use Rattle.inf_conditionals.specs.declared.filtered.Forwarded.TheVariants as handed
-use Rattle.inf_conditionals.specs.declared.filtered.Sign.{Sign}
+use Rattle.inf_reader.specs.{Reading.ReaderState, declared.recovery.Recovery.Recovery}
 use Rattle.inf_reader.specs.Handing.{handed_as, hash, judged_taken, lone_told, said_told, sign_taken, site_of, token_taken, unfit_in}
 use Rattle.inf_reader.specs.Handing.{unit_ended}
-use Rattle.inf_reader.specs.Reading.{ReaderState}
-use Rattle.inf_reader.specs.declared.recovery.Recovery.{Recovery}
-use Rattle.inf_reader.specs.declared.recovery.Recovery.TheVariants as mode
 use Rattle.inf_session.specs.Taking.{Taken, token_at, token_taken as all_taken}
 use Rattle.inf_message_laws.specs.Growing.{Grows}
 use Rattle.inf_message_laws.proofs.Combined.{Stays, then_grows, with_grows}
@@ -52,15 +37,15 @@ work_lead g grow = record { leads = λ lines s. ap (λ (w : Compilation). record
 -- Tokens that are handed on
 
 unfit_lead : (limits : Limits) (m : Recovery) (context : Context) (t : SourceToken) → Leads (unfit_in limits m context t)
-unfit_lead limits mode.Reads context t = record { leads = λ lines s. (bad_reads limits context t s.reading).reads lines s.work }
+unfit_lead limits Recovery.Reads context t = record { leads = λ lines s. (bad_reads limits context t s.reading).reads lines s.work }
 unfit_lead limits _ context t = record { leads = λ lines s. (step_reads limits context t s.reading).reads lines s.work }
 
 handed_lead : (limits : Limits) (h : Forwarded) (context : Context) (t : SourceToken) → Leads (handed_as limits h context t)
-handed_lead limits handed.Kept context t = record { leads = λ lines s. (step_reads limits context t s.reading).reads lines s.work }
-handed_lead limits handed.Unfit context t = record {
+handed_lead limits Forwarded.Kept context t = record { leads = λ lines s. (step_reads limits context t s.reading).reads lines s.work }
+handed_lead limits Forwarded.Unfit context t = record {
   leads = λ lines s. (unfit_lead limits s.reading.mode context t).leads lines s;
 }
-handed_lead limits handed.Condition context t = nothing_lead
+handed_lead limits Forwarded.Condition context t = nothing_lead
 
 sign_lead : (limits : Limits) (sign : Option Sign) (context : Context) → Leads (sign_taken limits sign context)
 sign_lead limits None context = nothing_lead
@@ -76,7 +61,7 @@ said_adds : (files : FileNames) (said : Option Said) → Adds (with_said files s
 said_adds files None = nothing_adds
 said_adds files (Some (Right tokens leaves)) = nothing_adds
 said_adds files (Some (Wrong directive b)) = error_adds (location files b.place) (location files directive) b.message
-said_adds files (Some (Long place)) = fatal_adds (location files place) (Exceeded ExpressionNodes)
+said_adds files (Some (Long place)) = fatal_adds (location files place) (Exceeded Setting.ExpressionNodes)
 said_adds files (Some (Deep place)) = fatal_adds (location files place) DeepNesting
 
 -- the actions of a condition appear
@@ -187,7 +172,7 @@ taken_lead limits context t c quoted lines s =
 -- The token that comes does not depend on what was reported.
 
 class_stays : (k : TokenKind) (bytes : List ℕ) → Stays (is_class k bytes)
-class_stays kind.Name bytes lines w = refl
+class_stays TokenKind.Name bytes lines w = refl
 class_stays _ bytes lines w = refl
 
 pub token_stays : (is_between : Bool) (k : TokenKind) (bytes : List ℕ) (place : Place) → Stays (token_at is_between k bytes place)

@@ -1,31 +1,26 @@
 -- Turns do what comes next in a file.
-use Rattle.std.proofs.Common.{◌≡◌, ◌⊎◌, inl, inr, ℕ, List, [], ◌∷◌, true, false, refl, sym, ◌∙◌, ap, subst}
-use Rattle.std.specs.Prelude.{if◌then◌else◌}
+use Rattle.std.proofs.Common.{◌≡◌, ◌⊎◌, inl, inr, ℕ, List, [], ◌∷◌, true, false, refl, sym, ◌∙◌, ap, subst, if◌then◌else◌}
 use Rattle.inf_settings.specs.Bounds.{Limits}
 use Rattle.inf_devices.specs.Files.{Sources}
 use Rattle.inf_machine.specs.declared.symbols.Symbol.{Symbol}
 use Rattle.inf_syntax.specs.declared.actions.Action.{Action}
 use Rattle.inf_unit.specs.Tokens.{SourceToken, is_end}
-use Rattle.inf_compilation.specs.Actions.{Compilation, piece_begun as work_begun}
-use Rattle.inf_compilation.specs.Context.{Context}
+use Rattle.inf_compilation.specs.{Actions.Compilation, Actions.piece_begun as work_begun, Context.Context}
 use Rattle.inf_reader.specs.Reading.{ReaderState, between, judged, piece_begun, step}
 use Rattle.inf_reader.specs.declared.recovery.Recovery.{Recovery}
-use Rattle.inf_reader.specs.declared.recovery.Recovery.TheVariants as mode
 use Rattle.inf_session.specs.Choices.{Choices}
 use Rattle.inf_laws.specs.KeptTokens.{Kept}
 use Rattle.inf_statement_laws.specs.Laid.{passed}
+use Rattle.inf_program.specs.{SideTurns.position_of, SideTurns.stepped, Turns.steps_by}
 use Rattle.inf_program.specs.definition.Steps.{Ends, Passes, Reads, Step}
-use Rattle.inf_program.specs.Turns.{steps_by}
 use Rattle.inf_program.specs.definition.NextToken.{afresh, at_front, behind_at, steps_at}
 use Rattle.inf_program.specs.definition.Fronts.{Front, PieceState, reached}
 use Rattle.inf_program.specs.definition.BadPieces.{all_passed, all_skipped, cut_of, lands}
 use Rattle.inf_program.specs.definition.Program.{Bad, BrokenOff, Conditional, FileEnd, FileEnds, Next, NoneGiven, Piece, front_passed}
-use Rattle.inf_program.proofs.Events.{not_ahead}
-use Rattle.inf_program.proofs.Skipping.{bad_walked, skip_walked}
+use Rattle.inf_program.specs.definition.States.{State, context_of, followed, has_ended}
+use Rattle.inf_program.proofs.{Events.not_ahead, Skipping.bad_walked, Skipping.skip_walked}
 use Rattle.inf_program.proofs.Stepping.{Comes, comes_next, comes_same, comes_then, followed_over, stand, turn_lands}
 use Rattle.inf_program.proofs.Walking.{IsAt, Walked, afresh_same, front_steps, front_walked, whole_is}
-use Rattle.inf_program.specs.definition.States.{State, context_of, followed, has_ended}
-use Rattle.inf_program.specs.SideTurns.{position_of, stepped}
 
 -- Turns lead from one state to another; or a fatal message ends reading there, but for the rest of a piece that is broken off.
 pub record Done (limits : Limits) (sources : Sources) (o : Choices) (s t : State) : Type 0 where
@@ -53,39 +48,40 @@ given_none limits context (Ends b ∷ steps) m w free =
     ∙ given_none limits context steps m (passed b w) free
 given_none limits context (Reads given ∷ steps) m w free = absurd free
 
-pub conditional_is : (limits : Limits) (sources : Sources) (o : Choices) (s : State) → s.reading ≡ between mode.Reads
+pub conditional_is : (limits : Limits) (sources : Sources) (o : Choices) (s : State) → s.reading ≡ between Recovery.Reads
     → NoneGiven (steps_at limits o at_front s) → stepped limits o s ≡ front_passed limits o s
 conditional_is limits sources o s fresh free =
     let c : Context = context_of o s in
     let w : Compilation = all_passed (steps_at limits o at_front s) s.work in
-    turn_lands limits o s at_front (between mode.Reads) w (ap position_of fresh)
-    (front_steps limits sources o s fresh ∙ given_none limits c (steps_at limits o at_front s) mode.Reads s.work free)
+    turn_lands limits o s at_front (between Recovery.Reads) w (ap position_of fresh)
+    (front_steps limits sources o s fresh ∙ given_none limits c (steps_at limits o at_front s) Recovery.Reads s.work free)
     ∙ ap (λ (q : State). behind_at o at_front w q) (afresh_same s fresh)
 
 -- The end of a file
 
 end_step : (limits : Limits) (context : Context) (t : SourceToken) (w : Compilation) → is_end t.kind ≡ true
-    → step limits context t (between mode.Reads) w ≡ stand (between mode.Ended) w
+    → step limits context t (between Recovery.Reads) w ≡ stand (between Recovery.Ended) w
 end_step limits context t w is_the_end =
-    ap (λ b. if b then stand (between mode.Ended) w else judged limits context t (piece_begun (between mode.Reads)) (work_begun w))
+    ap (λ b. if b then stand (between Recovery.Ended) w else judged limits context t (piece_begun (between Recovery.Reads)) (work_begun w))
     is_the_end
 
-pub file_end_is : (limits : Limits) (sources : Sources) (o : Choices) (s : State) → s.reading ≡ between mode.Reads → FileEnds limits o s
-    → stepped limits o s ≡ record (front_passed limits o s) { reading = between mode.Ended }
+pub file_end_is : (limits : Limits) (sources : Sources) (o : Choices) (s : State) → s.reading ≡ between Recovery.Reads → FileEnds limits o s
+    → stepped limits o s ≡ record (front_passed limits o s) { reading = between Recovery.Ended }
 file_end_is limits sources o s fresh e =
     let c : Context = context_of o s in
-    let x : ReaderState = stand (between mode.Reads) s.work in
+    let x : ReaderState = stand (between Recovery.Reads) s.work in
     let last : steps_by limits c (Passes e.effect ∷ Reads (Kept e.token) ∷ e.rest) x
-    ≡ stand (between mode.Ended) (all_passed (Passes e.effect ∷ Reads (Kept e.token) ∷ e.rest) s.work) =
+    ≡ stand (between Recovery.Ended) (all_passed (Passes e.effect ∷ Reads (Kept e.token) ∷ e.rest) s.work) =
     ap (steps_by limits c e.rest) (end_step limits c e.token (passed e.effect s.work) e.is_the_end)
-    ∙ given_none limits c e.rest mode.Ended (passed e.effect s.work) e.is_last in
-    turn_lands limits o s at_front (between mode.Ended) (all_passed (steps_at limits o at_front s) s.work) (ap position_of fresh)
+    ∙ given_none limits c e.rest Recovery.Ended (passed e.effect s.work) e.is_last in
+    turn_lands limits o s at_front (between Recovery.Ended) (all_passed (steps_at limits o at_front s) s.work) (ap position_of fresh)
     (front_steps limits sources o s fresh
-    ∙ subst (λ (steps : List Step). steps_by limits c steps x ≡ stand (between mode.Ended) (all_passed steps s.work)) (sym e.steps) last)
+    ∙ subst (λ (steps : List Step). steps_by limits c steps x ≡ stand (between Recovery.Ended) (all_passed steps s.work))
+    (sym e.steps) last)
 
 -- Pieces
 
-piece_done : (limits : Limits) (sources : Sources) (o : Choices) (s t : State) → s.reading ≡ between mode.Reads → has_ended s ≡ false
+piece_done : (limits : Limits) (sources : Sources) (o : Choices) (s t : State) → s.reading ≡ between Recovery.Reads → has_ended s ≡ false
     → (f : Front limits o s) → f.further ≡ [] → f.left ≡ [] → t ≡ followed sources o (reached f).state → Done limits sources o s t
 piece_done limits sources o s t fresh going f whole empty leads =
     let m : PieceState = reached f in
@@ -95,7 +91,7 @@ piece_done limits sources o s t fresh going f whole empty leads =
     (subst (λ (atoms : List ℕ). IsAt atoms f.left m w.now) whole w.is_at)) in
     record { now = followed sources o w.now; comes = w.comes; is = inl (ap (followed sources o) same ∙ sym leads) }
 
-broken_done : (limits : Limits) (sources : Sources) (o : Choices) (s t : State) → s.reading ≡ between mode.Reads → has_ended s ≡ false
+broken_done : (limits : Limits) (sources : Sources) (o : Choices) (s t : State) → s.reading ≡ between Recovery.Reads → has_ended s ≡ false
     → (f : Front limits o s) → (reached f).state.work.report.counts.is_over ≡ true → t ≡ (reached f).state → Done limits sources o s t
 broken_done limits sources o s t fresh going f over leads =
     let m : PieceState = reached f in
@@ -111,14 +107,14 @@ broken_done limits sources o s t fresh going f over leads =
 
 -- Anything
 
-pub next_done : (limits : Limits) (sources : Sources) (o : Choices) (s t : State) → s.reading ≡ between mode.Reads → has_ended s ≡ false
+pub next_done : (limits : Limits) (sources : Sources) (o : Choices) (s t : State) → s.reading ≡ between Recovery.Reads → has_ended s ≡ false
     → Next limits sources o s t → Done limits sources o s t
 next_done limits sources o s t fresh going (Conditional free leads) =
     next_turn limits sources o s (front_passed limits o s) t going (conditional_is limits sources o s fresh free) leads
 next_done limits sources o s t fresh going (Piece f whole empty leads) = piece_done limits sources o s t fresh going f whole empty leads
 next_done limits sources o s t fresh going (BrokenOff f over leads) = broken_done limits sources o s t fresh going f over leads
 next_done limits sources o s t fresh going (FileEnd e leads) =
-    next_turn limits sources o s (record (front_passed limits o s) { reading = between mode.Ended }) t going
+    next_turn limits sources o s (record (front_passed limits o s) { reading = between Recovery.Ended }) t going
     (file_end_is limits sources o s fresh e) leads
 next_done limits sources o s t fresh going (Bad b n all leads) = record {
   now = followed sources o (lands (all_skipped limits o n (cut_of b)));

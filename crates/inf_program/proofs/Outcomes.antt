@@ -10,18 +10,12 @@ use Rattle.inf_session.specs.Choices.{Choices}
 use Rattle.inf_session.specs.Session.{State as TurnState, has_ended, run, start, told_out, turn}
 use Rattle.inf_session.proofs.Leadings.{run_going}
 use Rattle.inf_compile.specs.Outcome.{IsCompiled, IsOutcomeOf, ending_of}
-use Rattle.inf_program.specs.BySides.{with_conditions}
+use Rattle.inf_program.specs.{BySides.with_conditions, Programs.EndsAs, Programs.ProgramsHaveTheirOutcome, SideTurns.side_run}
+use Rattle.inf_program.specs.{definition.NextToken.afresh, definition.Supplied.AreSupplied, definition.Written.ending}
 use Rattle.inf_program.specs.Writing.{silent_run as turn_run, unwritten, with_lines}
-use Rattle.inf_program.proofs.Turns.{lines_are_written_at_any_time}
-use Rattle.inf_program.specs.Programs.{EndsAs, ProgramsHaveTheirOutcome}
-use Rattle.inf_program.specs.SideTurns.{silent_run}
-use Rattle.inf_program.specs.definition.NextToken.{afresh}
 use Rattle.inf_program.specs.definition.States.{State, has_ended as has_ended_by, start as start_by}
-use Rattle.inf_program.specs.definition.Supplied.{AreSupplied}
-use Rattle.inf_program.specs.definition.Written.{ending}
-use Rattle.inf_program.proofs.Programs.{turns_do_programs}
-use Rattle.inf_program.proofs.SideTurns.{Ran, source_ran}
-use Rattle.inf_program.proofs.Supplied.{Speaks, supplied_ending}
+use Rattle.inf_program.proofs.{Programs.turns_do_programs, SideTurns.Ran, SideTurns.source_ran, Supplied.Speaks, Supplied.supplied_ending}
+use Rattle.inf_program.proofs.{Turns.lines_are_written_at_any_time}
 
 -- The messages
 
@@ -73,7 +67,7 @@ compiled_by : (sources : Sources) (o : Choices) (serial name : List ℕ) (final 
 compiled_by sources o serial name final end going r supplied =
     let limits : Limits = limits_of o.settings in
     let s : TurnState = start sources o name in
-    let x : State = silent_run limits sources o r.turns (start_by sources o name) in
+    let x : State = side_run limits sources o r.turns (start_by sources o name) in
     let y : TurnState = run limits sources o r.turns s in
     let a : Ran (turn_run limits sources o r.turns s) x = source_ran limits sources o name r.turns in
     let silent : unwritten y ≡ with_conditions a.conditions a.quoted x =

@@ -1,30 +1,20 @@
 -- Messages grow where a token is read: where it fits, where it is the bad one, and where it is passed over.
-use Rattle.std.proofs.Common.{◌≡◌, ℕ, List, [], ◌∷◌, Bool, true, false, None, refl, ap}
-use Rattle.std.specs.Prelude.{if◌then◌else◌}
+use Rattle.std.proofs.Common.{◌≡◌, ℕ, List, [], ◌∷◌, Bool, true, false, None, refl, ap, if◌then◌else◌}
 use Rattle.inf_settings.specs.Bounds.{Limits}
 use Rattle.inf_scanner.specs.declared.tokens.Place.{Place}
-use Rattle.inf_machine.specs.Machine.{fits, taken}
-use Rattle.inf_machine.specs.declared.symbols.Symbol.{Symbol}
+use Rattle.inf_machine.specs.{Machine.fits, Machine.taken, declared.symbols.Symbol.Symbol}
 use Rattle.inf_syntax.specs.declared.actions.Action.{Action}
 use Rattle.inf_grammar.specs.Language.{grammar, known}
-use Rattle.inf_report.specs.Messages.{Location, Message, kind_of}
-use Rattle.inf_report.specs.declared.messages.Kind.{Kind}
-use Rattle.inf_report.specs.declared.messages.Kind.TheVariants as weight
-use Rattle.inf_unit.specs.Messages.{location}
-use Rattle.inf_unit.specs.Tokens.{SourceToken, atom_of, is_end}
-use Rattle.inf_compilation.specs.Context.{Context}
-use Rattle.inf_compilation.specs.Actions.{Compilation, piece_begun as work_begun, took as work_took}
+use Rattle.inf_report.specs.{Messages.Location, Messages.Message, Messages.kind_of, declared.messages.Kind.Kind}
+use Rattle.inf_unit.specs.{Messages.location, Tokens.SourceToken, Tokens.atom_of, Tokens.is_end}
+use Rattle.inf_compilation.specs.{Actions.Compilation, Actions.piece_begun as work_begun, Actions.took as work_took, Context.Context}
+use Rattle.inf_reader.specs.{Tests.complaint_of, declared.recovery.Recovery.Recovery}
 use Rattle.inf_reader.specs.Acting.{act, acted, all_acted, cut_at}
 use Rattle.inf_reader.specs.Reading.{Reading, ReaderState, bad, between, judged, passed, piece_begun, read_at, skip_of, step, step_in, took}
 use Rattle.inf_reader.specs.Reading.{with_complaint, with_complaint_of}
-use Rattle.inf_reader.specs.Tests.{complaint_of}
-use Rattle.inf_reader.specs.declared.recovery.Recovery.{Recovery}
-use Rattle.inf_reader.specs.declared.recovery.Recovery.TheVariants as mode
 use Rattle.inf_message_laws.specs.Growing.{Grows, with_lines_before}
-use Rattle.inf_message_laws.proofs.Actions.{act_grows, cut_at_grows}
-use Rattle.inf_message_laws.proofs.Combined.{nothing_grows, then_grows}
+use Rattle.inf_message_laws.proofs.{Actions.act_grows, Actions.cut_at_grows, Combined.nothing_grows, Combined.then_grows, Tokens.took_grows}
 use Rattle.inf_message_laws.proofs.Told.{Adds, error_adds, fatal_adds, told_grows}
-use Rattle.inf_message_laws.proofs.Tokens.{took_grows}
 
 -- the reading with lines before those of its compilation
 abbrev pub state_behind : List ℕ → ReaderState → ReaderState
@@ -48,7 +38,7 @@ either_reads false f g first second = second
 -- Bad tokens
 
 complaint_of_adds : (k : Kind) (at : Location) (m : Message) → Adds (with_complaint_of k at m)
-complaint_of_adds weight.Fatal at m = fatal_adds at m
+complaint_of_adds Kind.Fatal at m = fatal_adds at m
 complaint_of_adds _ at m = error_adds at at m
 
 complaint_adds : (at : Location) (m : Message) → Adds (with_complaint at m)
@@ -125,19 +115,19 @@ new_reads limits context t r = record {
 read_at_reads : (limits : Limits) (context : Context) (t : SourceToken) (stack : List (Symbol Action)) (r : Reading)
     → Reads (read_at limits context t stack r)
 read_at_reads limits context t [] r =
-    either_reads (is_end t.kind) (standing (record r { mode = mode.Ended }))
+    either_reads (is_end t.kind) (standing (record r { mode = Recovery.Ended }))
     (λ (w : Compilation). judged limits context t (piece_begun r) (work_begun w))
-    (stands (record r { mode = mode.Ended }) (λ w. w) nothing_grows) (new_reads limits context t r)
+    (stands (record r { mode = Recovery.Ended }) (λ w. w) nothing_grows) (new_reads limits context t r)
 read_at_reads limits context t (symbol ∷ symbols) r = judged_reads limits context t r
 
 step_in_reads : (limits : Limits) (m : Recovery) (context : Context) (t : SourceToken) (r : Reading)
     → Reads (step_in limits m context t r)
-step_in_reads limits mode.Reads context t r = read_at_reads limits context t r.stack r
-step_in_reads limits mode.SkipsRoutine context t r =
-    stands (record r { mode = passed mode.SkipsRoutine t.kind }) (λ w. w) nothing_grows
-step_in_reads limits mode.SkipsDirective context t r =
-    stands (record r { mode = passed mode.SkipsDirective t.kind }) (λ w. w) nothing_grows
-step_in_reads limits mode.Ended context t r = stands r (λ w. w) nothing_grows
+step_in_reads limits Recovery.Reads context t r = read_at_reads limits context t r.stack r
+step_in_reads limits Recovery.SkipsRoutine context t r =
+    stands (record r { mode = passed Recovery.SkipsRoutine t.kind }) (λ w. w) nothing_grows
+step_in_reads limits Recovery.SkipsDirective context t r =
+    stands (record r { mode = passed Recovery.SkipsDirective t.kind }) (λ w. w) nothing_grows
+step_in_reads limits Recovery.Ended context t r = stands r (λ w. w) nothing_grows
 
 pub step_reads : (limits : Limits) (context : Context) (t : SourceToken) (r : Reading) → Reads (step limits context t r)
 step_reads limits context t r = step_in_reads limits r.mode context t r

@@ -1,35 +1,26 @@
 -- Regular readings are programs: by the number of turns up to the end.
 use Rattle.std.proofs.Common.{◌≡◌, ℕ, zero, suc, List, [], ◌∷◌, Bool, true, false, refl, sym, ◌∙◌, ap, subst}
 use Rattle.inf_settings.specs.Bounds.{Limits}
-use Rattle.inf_scanner.specs.declared.tokens.Mark.TheVariants as mark
-use Rattle.inf_scanner.specs.declared.tokens.TokenKind.TheVariants as kind
+use Rattle.inf_scanner.specs.{declared.tokens.Mark.Mark, declared.tokens.TokenKind.TokenKind}
 use Rattle.inf_devices.specs.Files.{Sources}
 use Rattle.inf_unit.specs.Tokens.{SourceToken, is_end}
 use Rattle.inf_compilation.specs.Context.{Context}
-use Rattle.inf_reader.specs.Reading.{between}
-use Rattle.inf_reader.specs.declared.recovery.Recovery.TheVariants as mode
+use Rattle.inf_reader.specs.{Reading.between, declared.recovery.Recovery.Recovery}
 use Rattle.inf_session.specs.Choices.{Choices}
 use Rattle.inf_laws.specs.KeptTokens.{Given, Kept, Unfit, token_in}
 use Rattle.inf_laws.proofs.KeptTokens.{no_token}
 use Rattle.inf_statement_laws.specs.Happenings.{Between}
-use Rattle.inf_program.specs.definition.Steps.{AllKept}
-use Rattle.inf_program.specs.definition.Steps.{Passes, Reads, Step}
-use Rattle.inf_program.specs.Turns.{AllFit}
-use Rattle.inf_program.specs.definition.NextToken.{afresh, at_front, steps_at}
-use Rattle.inf_program.specs.definition.BadPieces.{IsNoEnd}
-use Rattle.inf_program.specs.Programs.{EndsAs}
+use Rattle.inf_program.specs.{Programs.EndsAs, Readings.RegularReadingsArePrograms, Regular.AreRegular, SideTurns.side_run}
+use Rattle.inf_program.specs.{SideTurns.side_turned, SideTurns.stepped, Turns.AllFit, definition.BadPieces.IsNoEnd}
+use Rattle.inf_program.specs.{definition.NextToken.afresh, definition.NextToken.at_front, definition.NextToken.steps_at}
+use Rattle.inf_program.specs.definition.Steps.{AllKept, Passes, Reads, Step}
 use Rattle.inf_program.specs.definition.Program.{Conditional, Continues, FileEnd, FileEnds, IsOver, NoneGiven}
-use Rattle.inf_program.specs.Readings.{RegularReadingsArePrograms}
-use Rattle.inf_program.specs.Regular.{AreRegular}
+use Rattle.inf_program.specs.definition.States.{State, context_of, followed, has_ended}
+use Rattle.inf_program.proofs.{Given.shape_at, Nexts.conditional_is, Nexts.file_end_is, Programs.same_end, Programs.turns_do_programs}
 use Rattle.inf_program.proofs.FrontTurns.{FirstFit, alone_bad, first_bad, not_over, piece_start}
-use Rattle.inf_program.proofs.Given.{shape_at}
-use Rattle.inf_program.proofs.Nexts.{conditional_is, file_end_is}
-use Rattle.inf_program.proofs.Programs.{same_end, turns_do_programs}
 use Rattle.inf_program.proofs.Shapes.{CutFirst, CutSecond, Fit, NoToken, OneToken, Shape, Sorted, TwoTokens, sorted}
 use Rattle.inf_program.proofs.Soundness.{All, HasProgram, Main, Regular, Search, Skip, bad_on, behind_end, ended_on, followed_reads}
 use Rattle.inf_program.proofs.Soundness.{never_ends, open_on, quiet_within, run_on, search_by, skip_all, skip_more}
-use Rattle.inf_program.specs.definition.States.{State, context_of, followed, has_ended}
-use Rattle.inf_program.specs.SideTurns.{silent_run, silent_turned, stepped}
 
 -- The first turn
 
@@ -40,7 +31,7 @@ FirstIsNoEnd _ = Unit {0}
 
 -- what is known of a state between two pieces, and of the turn behind it
 record Begun (limits : Limits) (sources : Sources) (o : Choices) (k : ℕ) (s : State) : Type 0 where
-  is_fresh : s.reading ≡ between mode.Reads
+  is_fresh : s.reading ≡ between Recovery.Reads
   is_going : has_ended s ≡ false
   next : Regular limits sources o k (stepped limits o s)
 
@@ -84,7 +75,7 @@ pass_on : (limits : Limits) (sources : Sources) (o : Choices) (k : ℕ) → Main
 pass_on limits sources o k main s g free =
     let x : State = stepped limits o s in
     let same = conditional_is limits sources o s g.is_fresh free in
-    let reading : x.reading ≡ between mode.Reads = ap (λ (y : State). y.reading) same ∙ g.is_fresh in
+    let reading : x.reading ≡ between Recovery.Reads = ap (λ (y : State). y.reading) same ∙ g.is_fresh in
     let p : HasProgram limits sources o (followed sources o x) =
     main (followed sources o x) (followed_reads sources o x reading) g.next.turns g.next.ends in
     (p.0, Continues g.is_going g.is_fresh (Conditional free (ap (followed sources o) same)) p.1)
@@ -95,7 +86,7 @@ end_on : (limits : Limits) (sources : Sources) (o : Choices) (k : ℕ) → Main 
 end_on limits sources o k main s g e =
     let x : State = stepped limits o s in
     let same = file_end_is limits sources o s g.is_fresh e in
-    let reading : x.reading ≡ between mode.Ended = ap (λ (y : State). y.reading) same in
+    let reading : x.reading ≡ between Recovery.Ended = ap (λ (y : State). y.reading) same in
     let p : HasProgram limits sources o (followed sources o x) =
     behind_end limits sources o k main x (ended_on sources o x reading x.work.report.counts.is_over refl) g.next in
     (p.0, Continues g.is_going g.is_fresh (FileEnd e (ap (followed sources o) same)) p.1)
@@ -111,7 +102,7 @@ one_on limits sources o k all s g m t rest steps free sort true is_the_end =
 one_on limits sources o k all s g m t rest steps free sort false no_end =
     sort_on limits sources o k all.skip all.search s g m (Kept t) rest steps no_end sort
 
-hash_no_end : (given : Given) → (token_in given).kind ≡ kind.Mark mark.Hash → IsNoEnd given
+hash_no_end : (given : Given) → (token_in given).kind ≡ TokenKind.Mark Mark.Hash → IsNoEnd given
 hash_no_end (Kept t) is_hash = ap is_end is_hash
 hash_no_end (Unfit t) is_hash = tt
 
@@ -129,7 +120,7 @@ begun_on limits sources o k all s g sort (TwoTokens m given next rest steps is_h
 -- By the number of turns
 
 main_more : (limits : Limits) (sources : Sources) (o : Choices) (k : ℕ) → All limits sources o k → (s : State)
-    → s.reading ≡ between mode.Reads → AreRegular limits sources o (suc k) s → has_ended (silent_run limits sources o (suc k) s) ≡ true
+    → s.reading ≡ between Recovery.Reads → AreRegular limits sources o (suc k) s → has_ended (side_run limits sources o (suc k) s) ≡ true
     → (b : Bool) → has_ended s ≡ b → HasProgram limits sources o s
 main_more limits sources o k all s fresh regular ends true over = (s, IsOver over refl)
 main_more limits sources o k all s fresh regular ends false going =
@@ -156,10 +147,10 @@ none_with limits sources o main = record {
   skip = λ from x same r. skip_all limits sources o zero main
       (λ from2 y same2 skips2 quiet r2. absurd (never_ends limits sources o y quiet r2)) from x same r x.work.report.counts.is_over refl;
   search = λ s i first all r. search_by limits sources o zero main s i first all
-      (λ tokens at some over. absurd (never_ends limits sources o (stepped limits o (silent_turned limits sources o i s))
-      (quiet_within (stepped limits o (silent_turned limits sources o i s)) at.reads some over r.asks) r)) r
-      (stepped limits o (silent_turned limits sources o i s)).work.report.counts.is_over refl
-      (stepped limits o (silent_turned limits sources o i s)).reading.stack refl;
+      (λ tokens at some over. absurd (never_ends limits sources o (stepped limits o (side_turned limits sources o i s))
+      (quiet_within (stepped limits o (side_turned limits sources o i s)) at.reads some over r.asks) r)) r
+      (stepped limits o (side_turned limits sources o i s)).work.report.counts.is_over refl
+      (stepped limits o (side_turned limits sources o i s)).reading.stack refl;
 }
 
 more_with : (limits : Limits) (sources : Sources) (o : Choices) (k : ℕ) → All limits sources o k → Main limits sources o (suc k)
@@ -170,8 +161,8 @@ more_with limits sources o k before main = record {
       x.work.report.counts.is_over refl;
   search = λ s i first all r. search_by limits sources o (suc k) main s i first all
       (λ tokens at some over. open_on limits sources o k before.skip before.search s i first all tokens at some over r) r
-      (stepped limits o (silent_turned limits sources o i s)).work.report.counts.is_over refl
-      (stepped limits o (silent_turned limits sources o i s)).reading.stack refl;
+      (stepped limits o (side_turned limits sources o i s)).work.report.counts.is_over refl
+      (stepped limits o (side_turned limits sources o i s)).reading.stack refl;
 }
 
 all_of : (limits : Limits) (sources : Sources) (o : Choices) (k : ℕ) → All limits sources o k

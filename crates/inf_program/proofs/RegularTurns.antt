@@ -1,6 +1,5 @@
 -- Each turn of a reading is regular: a directive asks for something at the end of its piece alone.
-use Rattle.std.proofs.Common.{◌≡◌, ℕ, zero, suc, List, [], ◌∷◌, ◌&&◌, ◌||◌, Bool, true, false, refl}
-use Rattle.std.proofs.Common.{sym, ◌∙◌, ap, cond, subst, true≢false}
+use Rattle.std.proofs.Common.{◌≡◌, ℕ, zero, suc, List, [], ◌∷◌, ◌&&◌, ◌||◌, Bool, true, false, refl, sym, ◌∙◌, ap, cond, subst, true≢false}
 use Rattle.std.specs.Prelude.{if◌then◌else◌}
 use Rattle.inf_settings.specs.Bounds.{Limits}
 use Rattle.inf_scanner.specs.declared.tokens.Place.{Place}
@@ -8,29 +7,22 @@ use Rattle.inf_devices.specs.Files.{Sources}
 use Rattle.inf_machine.specs.Laws.{IsSpaced}
 use Rattle.inf_sources.specs.Inclusions.{Inclusion, Opens, OpensNone, Waiting, inclusion}
 use Rattle.inf_sources.specs.declared.open_files.Included.{Included}
-use Rattle.inf_sources.specs.declared.open_files.Included.TheVariants as answer
 use Rattle.inf_grammar.specs.Language.{grammar, known}
 use Rattle.inf_unit.specs.Directives.{Characters, End, Include, Nothing, Request}
 use Rattle.inf_unit.proofs.Cases.{of_both}
 use Rattle.inf_compilation.specs.Context.{Context}
-use Rattle.inf_reader.specs.Handing.{is_between, is_empty, reads}
-use Rattle.inf_reader.specs.Reading.{Reading, ReaderState, is_mode_ended}
-use Rattle.inf_reader.specs.declared.recovery.Recovery.{Recovery}
-use Rattle.inf_reader.specs.declared.recovery.Recovery.TheVariants as mode
+use Rattle.inf_reader.specs.{Handing.is_between, Handing.is_empty, Handing.reads, Reading.ReaderState, Reading.Reading}
+use Rattle.inf_reader.specs.{Reading.is_mode_ended, declared.recovery.Recovery.Recovery}
 use Rattle.inf_session.specs.Choices.{Choices}
 use Rattle.inf_statement_laws.specs.Happenings.{Between}
+use Rattle.inf_program.specs.{Regular.AreRegular, Turns.step_by, Turns.steps_by, definition.Program.NoneGiven}
 use Rattle.inf_program.specs.definition.Steps.{Ends, Passes, Reads, Step}
-use Rattle.inf_program.specs.Turns.{step_by, steps_by}
-use Rattle.inf_program.specs.definition.Program.{NoneGiven}
-use Rattle.inf_program.proofs.Stepping.{followed_over, followed_supplied, over_ends}
-use Rattle.inf_program.specs.Regular.{AreRegular}
-use Rattle.inf_program.proofs.Asking.{Calm, given_settled}
-use Rattle.inf_program.proofs.EndStacks.{ends_last}
-use Rattle.inf_program.proofs.Given.{mild_at, shape_at}
-use Rattle.inf_program.proofs.Shapes.{AllMild, NoToken, OneToken, Shape, TwoTokens}
 use Rattle.inf_program.specs.definition.States.{State, answered, asked_nothing, carried_out, context_of, file_closed, followed, has_ended}
 use Rattle.inf_program.specs.definition.States.{included_by, is_resting, left, left_by, none_included, piece_closed, rested, start}
-use Rattle.inf_program.specs.SideTurns.{position_of, stand_of, stepped, steps_of}
+use Rattle.inf_program.specs.SideTurns.{position_of, stand_of, stepped, side_steps}
+use Rattle.inf_program.proofs.{Asking.Calm, Asking.given_settled, EndStacks.ends_last, Given.mild_at, Given.shape_at}
+use Rattle.inf_program.proofs.Stepping.{followed_over, followed_supplied, over_ends}
+use Rattle.inf_program.proofs.Shapes.{AllMild, NoToken, OneToken, Shape, TwoTokens}
 
 -- Steps
 
@@ -96,7 +88,7 @@ turn_by limits context steps x mild (TwoTokens m given next rest is is_hash free
 
 pub turn_rests : (limits : Limits) (sources : Sources) (o : Choices) (s : State) → Calm (stand_of s) → Rests (stand_of (stepped limits o s))
 turn_rests limits sources o s c =
-    turn_by limits (context_of o s) (steps_of limits o s) (stand_of s) (mild_at limits o (position_of s.reading) s)
+    turn_by limits (context_of o s) (side_steps limits o s) (stand_of s) (mild_at limits o (position_of s.reading) s)
     (shape_at limits o (position_of s.reading) s) c
 
 -- Behind a turn
@@ -105,10 +97,10 @@ not_between : (r : Reading) → is_mode_ended r.mode ≡ true → is_between r �
 not_between r e = by_mode r.mode e
   where
     by_mode : (m : Recovery) → is_mode_ended m ≡ true → (reads m && is_empty r.stack) ≡ false
-    by_mode mode.Ended q = refl
-    by_mode mode.Reads q = absurd (true≢false (sym q))
-    by_mode mode.SkipsRoutine q = absurd (true≢false (sym q))
-    by_mode mode.SkipsDirective q = absurd (true≢false (sym q))
+    by_mode Recovery.Ended q = refl
+    by_mode Recovery.Reads q = absurd (true≢false (sym q))
+    by_mode Recovery.SkipsRoutine q = absurd (true≢false (sym q))
+    by_mode Recovery.SkipsDirective q = absurd (true≢false (sym q))
 
 rested_calm : (y : State) → Calm (stand_of y) → Calm (stand_of (rested y))
 rested_calm y c =
@@ -122,9 +114,9 @@ left_calm (w ∷ waiting) y c = record { asks = c.asks; last = c.last; spaced = 
 
 none_calm : (unit : Place) (text : List ℕ) (why : Included) (y : State) → Calm (stand_of y)
     → Calm (stand_of (none_included unit text why y))
-none_calm unit text answer.Entered y c = c
-none_calm unit text answer.NotThere y c = record { asks = c.asks; last = c.last; spaced = c.spaced }
-none_calm unit text answer.TooDeep y c = record { asks = c.asks; last = c.last; spaced = c.spaced }
+none_calm unit text Included.Entered y c = c
+none_calm unit text Included.NotThere y c = record { asks = c.asks; last = c.last; spaced = c.spaced }
+none_calm unit text Included.TooDeep y c = record { asks = c.asks; last = c.last; spaced = c.spaced }
 
 included_calm : (sources : Sources) (o : Choices) (unit : Place) (text : List ℕ) (i : Inclusion) (y : State) → Calm (stand_of y)
     → Calm (stand_of (included_by sources o unit text i y))

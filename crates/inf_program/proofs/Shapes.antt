@@ -1,41 +1,23 @@
 -- The steps of a turn: at most two tokens are handed on, of which the first of two is a `#`. Within a piece they all fit, or one is the
 -- bad token.
-use Rattle.std.proofs.Common.{◌≡◌, ℕ, List, [], ◌∷◌, ◌++◌, map, Bool, true, false, refl, sym, ◌∙◌, ap, subst, cond}
-use Rattle.std.proofs.Common.{true≢false}
+use Rattle.std.proofs.Common.{◌≡◌, ℕ, List, [], ◌∷◌, ◌++◌, map, Bool, true, false, refl, sym, ◌∙◌, ap, subst, cond, true≢false}
 use Rattle.std.proofs.lemmas.List.{map-append}
 use Rattle.inf_settings.specs.Bounds.{Limits}
-use Rattle.inf_scanner.specs.declared.tokens.Mark.TheVariants as mark
-use Rattle.inf_scanner.specs.declared.tokens.TokenKind.{TokenKind}
-use Rattle.inf_scanner.specs.declared.tokens.TokenKind.TheVariants as kind
-use Rattle.inf_machine.specs.Grammar.{IsText, here}
-use Rattle.inf_machine.specs.Machine.{Read, fits}
-use Rattle.inf_machine.specs.declared.symbols.Symbol.{Symbol}
-use Rattle.inf_machine.specs.declared.symbols.Symbol.TheVariants.{Rule}
+use Rattle.inf_scanner.specs.{declared.tokens.Mark.Mark, declared.tokens.TokenKind.TokenKind}
+use Rattle.inf_machine.specs.{Grammar.IsText, Grammar.here, Machine.Read, Machine.fits, declared.symbols.Symbol.Symbol}
 use Rattle.inf_machine.proofs.TokenLaws.{texts_are_taken}
-use Rattle.inf_syntax.specs.Atoms.{mark_atom}
-use Rattle.inf_syntax.specs.declared.actions.Action.{Action}
-use Rattle.inf_grammar.specs.Evaluated.{language_is_decided}
-use Rattle.inf_grammar.specs.Language.{grammar, known}
-use Rattle.inf_grammar.specs.Routines.{is_in_routine}
-use Rattle.inf_unit.specs.Atoms.{atom_of_kind}
-use Rattle.inf_unit.specs.Directives.{Request}
-use Rattle.inf_unit.specs.Tokens.{SourceToken, atom_of}
+use Rattle.inf_syntax.specs.{Atoms.mark_atom, declared.actions.Action.Action}
+use Rattle.inf_grammar.specs.{Evaluated.language_is_decided, Language.grammar, Language.known, Routines.is_in_routine}
+use Rattle.inf_unit.specs.{Atoms.atom_of_kind, Directives.Request, Tokens.SourceToken, Tokens.atom_of}
 use Rattle.inf_compilation.specs.Context.{Context}
-use Rattle.inf_reader.specs.Handing.{is_empty, skips}
-use Rattle.inf_reader.specs.Pieces.{IsPiece}
+use Rattle.inf_reader.specs.{Handing.is_empty, Handing.skips, Pieces.IsPiece, declared.recovery.Recovery.Recovery}
 use Rattle.inf_reader.specs.Reading.{Reading, ReaderState, passed as mode_behind, piece_rule, skip_of}
-use Rattle.inf_reader.specs.declared.recovery.Recovery.{Recovery}
-use Rattle.inf_reader.specs.declared.recovery.Recovery.TheVariants as mode
 use Rattle.inf_laws.specs.KeptTokens.{Given, Kept, Unfit, token_in}
-use Rattle.inf_laws.proofs.Hashes.{no_piece_ends_with_a_hash}
-use Rattle.inf_laws.proofs.KeptTokens.{At, goes}
+use Rattle.inf_laws.proofs.{Hashes.no_piece_ends_with_a_hash, KeptTokens.At, KeptTokens.goes}
 use Rattle.inf_statement_laws.specs.Happenings.{Between}
-use Rattle.inf_program.specs.definition.Steps.{AllKept}
-use Rattle.inf_program.specs.definition.Steps.{Ends, Passes, Reads, Step}
-use Rattle.inf_program.specs.Turns.{AllFit, IsFit, step_by}
+use Rattle.inf_program.specs.{Turns.AllFit, Turns.IsFit, Turns.step_by, definition.BadPieces.AllSkipped, definition.Program.NoneGiven}
+use Rattle.inf_program.specs.definition.Steps.{AllKept, Ends, Passes, Reads, Step}
 use Rattle.inf_program.proofs.Grouping.{step_fit}
-use Rattle.inf_program.specs.definition.BadPieces.{AllSkipped}
-use Rattle.inf_program.specs.definition.Program.{NoneGiven}
 
 -- Shapes
 
@@ -43,7 +25,7 @@ pub data Shape (all : List Step) : Type 0 where
   NoToken : NoneGiven all → Shape all
   OneToken : (m : Between) (given : Given) (rest : List Step) → all ≡ Passes m ∷ Reads given ∷ rest → NoneGiven rest → Shape all
   TwoTokens : (m : Between) (given next : Given) (rest : List Step) → all ≡ Passes m ∷ Reads given ∷ Reads next ∷ rest
-      → (token_in given).kind ≡ kind.Mark mark.Hash → NoneGiven rest → Shape all
+      → (token_in given).kind ≡ TokenKind.Mark Mark.Hash → NoneGiven rest → Shape all
 
 -- Conditional directives ask for nothing.
 abbrev pub AllMild : List Step → Type 0
@@ -74,19 +56,20 @@ none_skipped (Reads given ∷ steps) skip free = absurd free
 
 -- Hashes
 
-by_routine : (b : Bool) → skips (mode_behind (cond b mode.SkipsRoutine mode.SkipsDirective) (kind.Mark mark.Hash)) ≡ true
+by_routine : (b : Bool) → skips (mode_behind (cond b Recovery.SkipsRoutine Recovery.SkipsDirective) (TokenKind.Mark Mark.Hash)) ≡ true
 by_routine true = refl
 by_routine false = refl
 
 -- behind a `#` tokens are still passed over
-pub hash_skips : (symbols : List (Symbol Action)) (k : TokenKind) → k ≡ kind.Mark mark.Hash → skips (mode_behind (skip_of symbols) k) ≡ true
+pub hash_skips : (symbols : List (Symbol Action)) (k : TokenKind) → k ≡ TokenKind.Mark Mark.Hash →
+    skips (mode_behind (skip_of symbols) k) ≡ true
 hash_skips symbols k e = ap (λ (x : TokenKind). skips (mode_behind (skip_of symbols) x)) e ∙ by_routine (is_in_routine symbols)
 
-still_skips : (skip : Recovery) → skips skip ≡ true → skips (mode_behind skip (kind.Mark mark.Hash)) ≡ true
-still_skips mode.SkipsRoutine e = refl
-still_skips mode.SkipsDirective e = refl
-still_skips mode.Reads e = absurd (true≢false (sym e))
-still_skips mode.Ended e = absurd (true≢false (sym e))
+still_skips : (skip : Recovery) → skips skip ≡ true → skips (mode_behind skip (TokenKind.Mark Mark.Hash)) ≡ true
+still_skips Recovery.SkipsRoutine e = refl
+still_skips Recovery.SkipsDirective e = refl
+still_skips Recovery.Reads e = absurd (true≢false (sym e))
+still_skips Recovery.Ended e = absurd (true≢false (sym e))
 
 -- all tokens of a turn are passed over
 pub shape_skipped : (all : List Step) (skip : Recovery) → Shape all → skips skip ≡ true → AllSkipped all skip
@@ -116,10 +99,10 @@ whole_tokens tokens r at empty =
     }
 
 pub some_behind_hash : (tokens : List SourceToken) (h : SourceToken) (r : Reading) → At (tokens ++ h ∷ []) r
-    → h.kind ≡ kind.Mark mark.Hash → is_empty r.stack ≡ false
+    → h.kind ≡ TokenKind.Mark Mark.Hash → is_empty r.stack ≡ false
 some_behind_hash tokens h r at is_hash = by_stack r.stack refl
   where
-    atoms : map atom_of (tokens ++ h ∷ []) ≡ map atom_of tokens ++ mark_atom mark.Hash ∷ []
+    atoms : map atom_of (tokens ++ h ∷ []) ≡ map atom_of tokens ++ mark_atom Mark.Hash ∷ []
     atoms =
         map-append atom_of tokens (h ∷ [])
         ∙ ap (λ (k : TokenKind). map atom_of tokens ++ atom_of_kind h.is_class k h.bytes ∷ []) is_hash
@@ -128,7 +111,7 @@ some_behind_hash tokens h r at is_hash = by_stack r.stack refl
     by_stack [] empty =
         let p : IsPiece (map atom_of (tokens ++ h ∷ [])) = whole_tokens (tokens ++ h ∷ []) r at empty in
         absurd (no_piece_ends_with_a_hash (map atom_of tokens) p.events
-        (subst (λ (xs : List ℕ). IsText grammar (Rule piece_rule ∷ []) xs p.events) atoms p.is_text))
+        (subst (λ (xs : List ℕ). IsText grammar (Symbol.Rule piece_rule ∷ []) xs p.events) atoms p.is_text))
     by_stack (symbol ∷ symbols) some = ap is_empty some
 
 -- Steps within a piece
@@ -154,7 +137,7 @@ pub data Sorted (limits : Limits) (context : Context) (all : List Step) (s : Rea
 
 -- a token that comes alone
 sort_one : (limits : Limits) (context : Context) (all : List Step) (s : ReaderState) (m : Between) (t : SourceToken) (rest : List Step)
-    → all ≡ Passes m ∷ Reads (Kept t) ∷ rest → NoneGiven rest → s.reading.mode ≡ mode.Reads → is_empty s.reading.stack ≡ false
+    → all ≡ Passes m ∷ Reads (Kept t) ∷ rest → NoneGiven rest → s.reading.mode ≡ Recovery.Reads → is_empty s.reading.stack ≡ false
     → (b : Bool) → fits grammar known (atom_of t) s.reading.stack ≡ b → Sorted limits context all s
 sort_one limits context all s m t rest is free reads some true fit =
     Fit (subst (λ (steps : List Step). AllFit limits context steps s) (sym is)
@@ -164,7 +147,7 @@ sort_one limits context all s m t rest is free reads some false out =
     CutFirst m (Kept t) rest is out (none_skipped rest (mode_behind (skip_of s.reading.stack) t.kind) free)
 
 -- tokens behind a bad `#`
-hash_skipped : (symbols : List (Symbol Action)) (k : TokenKind) (next : Given) (rest : List Step) → k ≡ kind.Mark mark.Hash
+hash_skipped : (symbols : List (Symbol Action)) (k : TokenKind) (next : Given) (rest : List Step) → k ≡ TokenKind.Mark Mark.Hash
     → NoneGiven rest → AllSkipped (Reads next ∷ rest) (mode_behind (skip_of symbols) k)
 hash_skipped symbols k next rest is_hash free = (
   hash_skips symbols k is_hash,
@@ -175,7 +158,7 @@ hash_skipped symbols k next rest is_hash free = (
 sort_two : (limits : Limits) (context : Context) (all : List Step) (s : ReaderState) (m : Between) (h : SourceToken) (next : Given)
     (rest : List Step)
     → all ≡ Passes m ∷ Reads (Kept h) ∷ Reads next ∷ rest → NoneGiven rest → IsFit h s.reading
-    → (behind_kept limits context m h s).reading.mode ≡ mode.Reads
+    → (behind_kept limits context m h s).reading.mode ≡ Recovery.Reads
     → is_empty (behind_kept limits context m h s).reading.stack ≡ false
     → (b : Bool) → fits grammar known (atom_of (token_in next)) (behind_kept limits context m h s).reading.stack ≡ b
     → Sorted limits context all s
@@ -199,7 +182,7 @@ sort_two limits context all s m h (Kept t) rest is free fit reads some false e =
 -- a `#` that comes before another token
 sort_hash : (limits : Limits) (context : Context) (all : List Step) (s : ReaderState) (tokens : List SourceToken) (m : Between)
     (h : SourceToken) (next : Given) (rest : List Step)
-    → all ≡ Passes m ∷ Reads (Kept h) ∷ Reads next ∷ rest → h.kind ≡ kind.Mark mark.Hash → NoneGiven rest → At tokens s.reading
+    → all ≡ Passes m ∷ Reads (Kept h) ∷ Reads next ∷ rest → h.kind ≡ TokenKind.Mark Mark.Hash → NoneGiven rest → At tokens s.reading
     → is_empty s.reading.stack ≡ false → (b : Bool) → fits grammar known (atom_of h) s.reading.stack ≡ b → Sorted limits context all s
 sort_hash limits context all s tokens m h next rest is is_hash free at some false out =
     CutFirst m (Kept h) (Reads next ∷ rest) is out (hash_skipped s.reading.stack h.kind next rest is_hash free)

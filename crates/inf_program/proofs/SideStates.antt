@@ -1,34 +1,25 @@
 -- Behind a token the same happens by conditionals and by the sides that stand for them: where a file is entered or left, where another
 -- directive asks for something, and where a directive ends.
 use Rattle.std.proofs.Common.{◌≡◌, ℕ, ◌⊎◌, inl, inr, List, [], ◌∷◌, ◌&&◌, Bool, true, false, Option, None, refl, sym, ◌∙◌, ap, map}
-use Rattle.std.proofs.Common.{append-nil, subst, true≢false}
-use Rattle.std.specs.Prelude.{if◌then◌else◌}
+use Rattle.std.proofs.Common.{append-nil, subst, true≢false, if◌then◌else◌}
 use Rattle.inf_scanner.specs.declared.tokens.Place.{Place}
 use Rattle.inf_devices.specs.Files.{Sources}
+use Rattle.inf_sources.specs.{declared.open_file.Conditional.Conditional, declared.open_files.Included.Included}
 use Rattle.inf_sources.specs.Inclusions.{Inclusion, Opens, OpensNone, Waiting, inclusion, with_opened}
-use Rattle.inf_sources.specs.declared.open_file.Conditional.{Conditional}
-use Rattle.inf_sources.specs.declared.open_files.Included.TheVariants as answer
 use Rattle.inf_unit.specs.Directives.{Characters, End, Include, Nothing, Request}
 use Rattle.inf_unit.specs.Messages.{Reported}
-use Rattle.inf_conditionals.specs.Ends.{file_ended, piece_ended as conditions_ended, with_among}
-use Rattle.inf_conditionals.specs.Judging.{is_none_pending}
-use Rattle.inf_conditionals.specs.Open.{Conditions}
-use Rattle.inf_conditionals.specs.declared.open.LeftOut.{LeftOut}
-use Rattle.inf_conditionals.specs.declared.pending.Pending.{Pending}
-use Rattle.inf_conditional_sides.specs.Ends.{inner_only}
+use Rattle.inf_conditionals.specs.{Ends.file_ended, Ends.piece_ended as conditions_ended, Ends.with_among, Judging.is_none_pending}
+use Rattle.inf_conditionals.specs.{Open.Conditions, declared.open.LeftOut.LeftOut, declared.pending.Pending.Pending}
+use Rattle.inf_conditional_sides.specs.{Ends.inner_only, Rests.AreSeated}
 use Rattle.inf_conditional_sides.specs.Judged.{Agree, FewIn, StandFor, is_settled, is_settled_by, open_sides, pendings}
-use Rattle.inf_conditional_sides.specs.Rests.{AreSeated}
 use Rattle.inf_conditional_sides.specs.Sides.{Side, Text, has_none, outer_sides, side_of}
+use Rattle.inf_conditional_sides.proofs.{Running.kept_levels, Same.sides_are_judged}
 use Rattle.inf_conditional_sides.proofs.Ending.{between_of, ends_are_told_by_sides, inner_of}
-use Rattle.inf_conditional_sides.proofs.Running.{kept_levels}
-use Rattle.inf_conditional_sides.proofs.Same.{sides_are_judged}
-use Rattle.inf_reader.specs.Handing.{is_between}
-use Rattle.inf_reader.specs.Reading.{is_mode_ended}
-use Rattle.inf_session.specs.Choices.{Choices, most_quoted}
-use Rattle.inf_session.specs.Session.{State as TurnState}
-use Rattle.inf_session.specs.Session.{answered as turn_answered, file_closed as turn_closed}
-use Rattle.inf_session.specs.Session.{included_by as turn_included_by, is_resting as turn_resting, left as turn_left, left_by as turn_left_by}
-use Rattle.inf_session.specs.Session.{asked_nothing as turn_asked_nothing, piece_closed as turn_piece_closed, rested as turn_rested}
+use Rattle.inf_reader.specs.{Handing.is_between, Reading.is_mode_ended}
+use Rattle.inf_session.specs.{Choices.Choices, Choices.most_quoted, Session.State as TurnState, Session.answered as turn_answered}
+use Rattle.inf_session.specs.{Session.asked_nothing as turn_asked_nothing, Session.file_closed as turn_closed}
+use Rattle.inf_session.specs.{Session.included_by as turn_included_by, Session.is_resting as turn_resting, Session.left as turn_left}
+use Rattle.inf_session.specs.{Session.left_by as turn_left_by, Session.piece_closed as turn_piece_closed, Session.rested as turn_rested}
 use Rattle.inf_program.specs.BySides.{with_conditions}
 use Rattle.inf_program.specs.definition.States.{State, answered, asked_nothing, conditionals_of, file_closed, has_ended, included_by}
 use Rattle.inf_program.specs.definition.States.{is_resting, left, left_by, piece_closed, rested}
@@ -226,12 +217,12 @@ included_alike (Opens name) sources o unit text c q s most i =
         stay = i.stay;
       });
     }
-included_alike (OpensNone answer.Entered) sources o unit text c q s most i = opened_alike c q s most i
-included_alike (OpensNone answer.NotThere) sources o unit text c q s most i =
-    opened_alike c q (included_by sources o unit text (OpensNone answer.NotThere) s) most
+included_alike (OpensNone Included.Entered) sources o unit text c q s most i = opened_alike c q s most i
+included_alike (OpensNone Included.NotThere) sources o unit text c q s most i =
+    opened_alike c q (included_by sources o unit text (OpensNone Included.NotThere) s) most
     (record { agree = i.agree; declared = i.declared; none_said = i.none_said; none = i.none; stay = i.stay })
-included_alike (OpensNone answer.TooDeep) sources o unit text c q s most i =
-    opened_alike c q (included_by sources o unit text (OpensNone answer.TooDeep) s) most
+included_alike (OpensNone Included.TooDeep) sources o unit text c q s most i =
+    opened_alike c q (included_by sources o unit text (OpensNone Included.TooDeep) s) most
     (record { agree = i.agree; declared = i.declared; none_said = i.none_said; none = i.none; stay = i.stay })
 
 answered_alike : (a : Request) (sources : Sources) (o : Choices) (c : Conditions) (q : ℕ) (s : State) → c.most_tokens ≡ s.most_tokens

@@ -1,54 +1,36 @@
 -- The turns of a source, whose messages are still to be written, lead to the state to which turns by sides lead.
 use Rattle.std.proofs.Common.{◌≡◌, ℕ, ◌⊎◌, inl, inr, zero, suc, List, [], ◌∷◌, ◌++◌, ◌&&◌, ◌||◌, Bool, true, false, Option, Some, None}
-use Rattle.std.proofs.Common.{refl, sym, ◌∙◌, ap, subst, true≢false}
-use Rattle.std.specs.Prelude.{if◌then◌else◌}
+use Rattle.std.proofs.Common.{refl, sym, ◌∙◌, ap, subst, true≢false, if◌then◌else◌}
 use Rattle.inf_settings.specs.Bounds.{Limits, limits_of}
 use Rattle.inf_scanner.specs.declared.tokens.Place.{Place}
 use Rattle.inf_devices.specs.Files.{Sources}
-use Rattle.inf_unit.specs.Directives.{Nothing, Request}
-use Rattle.inf_unit.specs.Messages.{FileNames}
-use Rattle.inf_unit.specs.Tokens.{SourceToken}
+use Rattle.inf_unit.specs.{Directives.Nothing, Directives.Request, Messages.FileNames, Tokens.SourceToken}
 use Rattle.inf_compilation.specs.Context.{Context}
-use Rattle.inf_conditionals.specs.Judging.{Behind as Judged, is_none_pending, judged}
-use Rattle.inf_conditionals.specs.Open.{Conditions, no_conditions, silent}
-use Rattle.inf_conditionals.specs.Said.{Said}
-use Rattle.inf_conditionals.specs.declared.filtered.Filtered.{Filtered}
-use Rattle.inf_conditionals.specs.declared.filtered.Forwarded.{Forwarded}
-use Rattle.inf_conditionals.specs.declared.filtered.Forwarded.TheVariants as handed
-use Rattle.inf_conditionals.specs.declared.filtered.Sign.{Sign}
-use Rattle.inf_conditionals.specs.declared.filtered.Site.{Site}
-use Rattle.inf_conditional_sides.specs.Judged.{Agree, ComeToTheSame, end_given, given_of, is_settled, lone_given}
-use Rattle.inf_conditional_sides.specs.Judged.{sign_given, token_given}
-use Rattle.inf_conditional_sides.specs.Rests.{AreSeated, HandsNone, Rests}
+use Rattle.inf_conditionals.specs.{Judging.Behind as Judged, Judging.is_none_pending, Judging.judged, Open.Conditions, Open.no_conditions}
+use Rattle.inf_conditionals.specs.{Open.silent, Said.Said, declared.filtered.Filtered.Filtered, declared.filtered.Forwarded.Forwarded}
+use Rattle.inf_conditionals.specs.{declared.filtered.Sign.Sign, declared.filtered.Site.Site}
+use Rattle.inf_conditional_sides.specs.{Rests.AreSeated, Rests.HandsNone, Rests.Rests, Tellings.telling, Told.Told, Told.told_of}
+use Rattle.inf_conditional_sides.specs.Judged.{Agree, ComeToTheSame, end_given, given_of, is_settled, lone_given, sign_given, token_given}
 use Rattle.inf_conditional_sides.specs.Sides.{Given as GivenBySides, Sides, has_none, heard, step as side_step}
-use Rattle.inf_conditional_sides.specs.Tellings.{telling}
-use Rattle.inf_conditional_sides.specs.Told.{Told, told_of}
-use Rattle.inf_conditional_sides.proofs.Same.{sides_are_judged}
-use Rattle.inf_conditional_sides.proofs.Seating.{tokens_rest}
-use Rattle.inf_conditional_sides.proofs.Telling.{conditions_are_told}
-use Rattle.inf_reader.specs.Handing.{is_between, site_of}
-use Rattle.inf_reader.specs.Reading.{Reading, ReaderState, is_mode_ended}
-use Rattle.inf_session.specs.Choices.{Choices}
+use Rattle.inf_conditional_sides.proofs.{Same.sides_are_judged, Seating.tokens_rest, Telling.conditions_are_told}
+use Rattle.inf_reader.specs.{Handing.is_between, Handing.site_of, Reading.ReaderState, Reading.Reading, Reading.is_mode_ended}
+use Rattle.inf_session.specs.{Choices.Choices, Taking.quoted_behind}
 use Rattle.inf_session.specs.Session.{State as TurnState, carried_out as turn_carried_out, followed as turn_followed, left as turn_left}
 use Rattle.inf_session.specs.Session.{answered as turn_answered, asked_nothing as turn_asked_nothing, rested as turn_rested}
 use Rattle.inf_session.specs.Session.{start as turn_start, stepped as turn_stepped, token_of}
-use Rattle.inf_session.specs.Taking.{quoted_behind}
 use Rattle.inf_laws.specs.KeptTokens.{given_sign, given_token}
-use Rattle.inf_program.specs.BySides.{TurnsGoBySides, with_conditions}
-use Rattle.inf_program.specs.Writing.{silent_run as turn_run, silent_turn as turn_silent}
+use Rattle.inf_program.specs.{BySides.TurnsGoBySides, BySides.with_conditions, Writing.silent_run as turn_run}
+use Rattle.inf_program.specs.{Writing.silent_turn as turn_silent, definition.Program.NoneGiven}
 use Rattle.inf_program.specs.definition.NextToken.{Position, coming, step_at, told_at}
-use Rattle.inf_program.specs.definition.States.{State, answered, asked_nothing, carried_out, context_of, followed, has_ended, is_resting, left}
-use Rattle.inf_program.specs.definition.States.{rested, start}
+use Rattle.inf_program.specs.definition.States.{State, answered, asked_nothing, carried_out, context_of, followed, has_ended, is_resting}
+use Rattle.inf_program.specs.definition.States.{left, rested, start}
 use Rattle.inf_program.specs.definition.Steps.{Passes, Step, said_between, step_of, steps_of_all, token_steps}
-use Rattle.inf_program.specs.definition.Program.{NoneGiven}
-use Rattle.inf_program.specs.SideTurns.{position_of, silent_run, silent_turn, stand_behind, stand_of, stepped, steps_of}
+use Rattle.inf_program.specs.SideTurns.{position_of, side_run, side_turn, stand_behind, stand_of, stepped, side_steps}
 use Rattle.inf_program.specs.Turns.{given_steps, judged_steps, judgement, step_by, steps_behind, steps_by}
-use Rattle.inf_program.proofs.Asking.{Calm}
-use Rattle.inf_program.proofs.Given.{NoneIn, mild_at, none_free}
+use Rattle.inf_program.proofs.{Asking.Calm, Given.NoneIn, Given.mild_at, Given.none_free, Stepping.followed_supplied, Stepping.over_ends}
+use Rattle.inf_program.proofs.{TurnSteps.steps_joined, TurnSteps.turns_are_steps}
 use Rattle.inf_program.proofs.RegularTurns.{followed_calm, none_asked, none_read, turn_rests}
 use Rattle.inf_program.proofs.SideStates.{Behind, Matches, Ready, handed_alike, none_alike, then_rested}
-use Rattle.inf_program.proofs.Stepping.{followed_supplied, over_ends}
-use Rattle.inf_program.proofs.TurnSteps.{steps_joined, turns_are_steps}
 
 -- The steps of a token, by its judgement and by what is given of it
 
@@ -65,16 +47,16 @@ sign_steps limits files (Some sign) = by_way sign.handed sign.place
     by_way : (h : Forwarded) (place : Place)
         → given_steps (given_sign (Some (record { place = place; handed = h })))
         ≡ steps_of_all limits files (sign_given (Some (record { place = place; handed = h })))
-    by_way handed.Kept place = refl
-    by_way handed.Unfit place = refl
-    by_way handed.Condition place = refl
+    by_way Forwarded.Kept place = refl
+    by_way Forwarded.Unfit place = refl
+    by_way Forwarded.Condition place = refl
 
 handed_steps : (limits : Limits) (files : FileNames) (h : Option Forwarded) (t : SourceToken)
     → given_steps (given_token h t) ≡ steps_of_all limits files (token_given h t)
 handed_steps limits files None t = refl
-handed_steps limits files (Some handed.Kept) t = refl
-handed_steps limits files (Some handed.Unfit) t = refl
-handed_steps limits files (Some handed.Condition) t = refl
+handed_steps limits files (Some Forwarded.Kept) t = refl
+handed_steps limits files (Some Forwarded.Unfit) t = refl
+handed_steps limits files (Some Forwarded.Condition) t = refl
 
 last_steps : (limits : Limits) (context : Context) (lone ended : Option Place) (j : Filtered) → j.unmatched ≡ lone → j.ended ≡ ended
     → (x : ReaderState)
@@ -179,7 +161,7 @@ none_in t j none =
     (none_in_ends j.unmatched j.ended))
 
 pub none_handed : (limits : Limits) (o : Choices) (c : Conditions) (s : State) (b : Judged) → Taken limits o c s b → HandsNone b.judged
-    → NoneGiven (steps_of limits o s)
+    → NoneGiven (side_steps limits o s)
 none_handed limits o c s b k none =
     let p : Position = position_of s.reading in
     none_free limits s.nesting.names (heard p.is_passed (step_at p s).given)
@@ -193,10 +175,10 @@ stands_still : (limits : Limits) (o : Choices) (c : Conditions) (s : State) (b :
     → HandsNone b.judged → Still s (stepped limits o s)
 stands_still limits o c s b k calm none =
     let p : Position = position_of s.reading in
-    let free : NoneGiven (steps_of limits o s) = none_handed limits o c s b k none in
+    let free : NoneGiven (side_steps limits o s) = none_handed limits o c s b k none in
     record {
-      reading = none_read limits (context_of o s) (steps_of limits o s) (stand_of s) free;
-      asks = none_asked limits (context_of o s) (steps_of limits o s) (stand_of s) free (mild_at limits o p s) ∙ calm.asks;
+      reading = none_read limits (context_of o s) (side_steps limits o s) (stand_of s) free;
+      asks = none_asked limits (context_of o s) (side_steps limits o s) (stand_of s) free (mild_at limits o p s) ∙ calm.asks;
     }
 
 -- Behind the token
@@ -313,7 +295,7 @@ pub record Turned (t : TurnState) (s : State) : Type 0 where
 
 turned_alike : (limits : Limits) (sources : Sources) (o : Choices) (c : Conditions) (q : ℕ) (s : State) → c.most_tokens ≡ s.most_tokens
     → has_ended s ≡ false → s.is_supplied ≡ false → Matches c s → Calm (stand_of s)
-    → Turned (turn_silent limits sources o (with_conditions c q s)) (silent_turn limits sources o s)
+    → Turned (turn_silent limits sources o (with_conditions c q s)) (side_turn limits sources o s)
 turned_alike limits sources o c q s most going of_file m calm =
     let site : Site = site_of o.settings s.reading in
     let p : Position = position_of s.reading in
@@ -354,27 +336,27 @@ pub record Ran (t : TurnState) (s : State) : Type 0 where
 abbrev RunsAlike : Limits → Sources → Choices → ℕ → Type 0
 RunsAlike limits sources o n =
     (c : Conditions) (q : ℕ) (s : State) → c.most_tokens ≡ s.most_tokens → (has_ended s ≡ false → Goes c s)
-    → Ran (turn_run limits sources o n (with_conditions c q s)) (silent_run limits sources o n s)
+    → Ran (turn_run limits sources o n (with_conditions c q s)) (side_run limits sources o n s)
 
 run_by : (limits : Limits) (sources : Sources) (o : Choices) (n : ℕ) → RunsAlike limits sources o n → (c : Conditions) (q : ℕ) (s : State)
     → c.most_tokens ≡ s.most_tokens → (has_ended s ≡ false → Goes c s) → (b : Bool) → has_ended s ≡ b
-    → Ran (turn_run limits sources o (suc n) (with_conditions c q s)) (silent_run limits sources o (suc n) s)
+    → Ran (turn_run limits sources o (suc n) (with_conditions c q s)) (side_run limits sources o (suc n) s)
 run_by limits sources o n later c q s most goes true over =
     subst (λ (b : Bool). Ran
     (if b then with_conditions c q s else turn_run limits sources o n (turn_silent limits sources o (with_conditions c q s)))
-    (if b then s else silent_run limits sources o n (silent_turn limits sources o s))) (sym over)
+    (if b then s else side_run limits sources o n (side_turn limits sources o s))) (sym over)
     (record { conditions = c; quoted = q; same = refl; most = most; goes = goes })
 run_by limits sources o n later c q s most goes false going =
     let g : Goes c s = goes going in
-    let x : State = silent_turn limits sources o s in
+    let x : State = side_turn limits sources o s in
     let y : State = stepped limits o s in
     let turned : Turned (turn_silent limits sources o (with_conditions c q s)) x =
     turned_alike limits sources o c q s most going g.of_file g.matches g.calm in
     let behind : Matched turned.quoted (turn_silent limits sources o (with_conditions c q s)) x = turned.behind in
     subst (λ (b : Bool). Ran
     (if b then with_conditions c q s else turn_run limits sources o n (turn_silent limits sources o (with_conditions c q s)))
-    (if b then s else silent_run limits sources o n x)) (sym going)
-    (subst (λ (t : TurnState). Ran (turn_run limits sources o n t) (silent_run limits sources o n x)) (sym behind.same)
+    (if b then s else side_run limits sources o n x)) (sym going)
+    (subst (λ (t : TurnState). Ran (turn_run limits sources o n t) (side_run limits sources o n x)) (sym behind.same)
     (later behind.now turned.quoted x behind.most (λ on. record {
       of_file = followed_supplied sources o y ∙ g.of_file;
       matches = behind.ready on;
@@ -387,7 +369,7 @@ run_alike limits sources o (suc n) c q s most goes =
     run_by limits sources o n (run_alike limits sources o n) c q s most goes (has_ended s) refl
 
 pub source_ran : (limits : Limits) (sources : Sources) (o : Choices) (name : List ℕ) (n : ℕ)
-    → Ran (turn_run limits sources o n (turn_start sources o name)) (silent_run limits sources o n (start sources o name))
+    → Ran (turn_run limits sources o n (turn_start sources o name)) (side_run limits sources o n (start sources o name))
 source_ran limits sources o name n =
     run_alike limits sources o n no_conditions 0 (start sources o name) refl (λ going. record {
       of_file = refl;
@@ -415,12 +397,12 @@ still_alike : (limits : Limits) (sources : Sources) (o : Choices) (t : TurnState
 still_alike limits sources o t s r going none =
     let p : Position = position_of s.reading in
     let k = taken_by limits o r.conditions s r.most (r.goes going).matches in
-    let free : NoneGiven (steps_of limits o s) =
+    let free : NoneGiven (side_steps limits o s) =
     none_free limits s.nesting.names (heard p.is_passed (step_at p s).given)
     (subst (λ (xs : List GivenBySides). NoneIn (heard p.is_passed xs)) (sym none) (nothing_heard p.is_passed)) in
     ap (λ (x : TurnState). (turn_stepped limits o x).reading) r.same
     ∙ (ap (λ (x : TurnState). x.reading) (stepped_alike limits sources o r.conditions r.quoted s k)
-    ∙ (none_read limits (context_of o s) (steps_of limits o s) (stand_of s) free ∙ ap (λ (x : TurnState). x.reading) (sym r.same)))
+    ∙ (none_read limits (context_of o s) (side_steps limits o s) (stand_of s) free ∙ ap (λ (x : TurnState). x.reading) (sym r.same)))
   where
     nothing_heard : (is_quiet : Bool) → NoneIn (heard is_quiet [])
     nothing_heard true = tt
@@ -429,7 +411,7 @@ still_alike limits sources o t s r going none =
 pub turns_go_by_sides : TurnsGoBySides
 turns_go_by_sides sources o name n =
     let limits : Limits = limits_of o.settings in
-    let s : State = silent_run limits sources o n (start sources o name) in
+    let s : State = side_run limits sources o n (start sources o name) in
     let r : Ran (turn_run limits sources o n (turn_start sources o name)) s = source_ran limits sources o name n in
     record {
       conditions = r.conditions;

@@ -4,46 +4,33 @@ use Rattle.std.proofs.Common.{true≢false}
 use Rattle.std.proofs.lemmas.Bool.{false_from_ne_true}
 use Rattle.inf_settings.specs.Bounds.{Limits}
 use Rattle.inf_devices.specs.Files.{Sources}
-use Rattle.inf_machine.specs.declared.symbols.Symbol.{Symbol}
-use Rattle.inf_machine.specs.Machine.{fits}
-use Rattle.inf_machine.specs.declared.symbols.Symbol.TheVariants.{Rule}
+use Rattle.inf_machine.specs.{Machine.fits, declared.symbols.Symbol.Symbol}
 use Rattle.inf_syntax.specs.declared.actions.Action.{Action}
-use Rattle.inf_grammar.specs.Brackets.{is_bracket_open}
-use Rattle.inf_grammar.specs.Language.{grammar, known}
-use Rattle.inf_grammar.specs.Routines.{is_in_routine}
-use Rattle.inf_grammar.specs.Sources.{is_inside}
+use Rattle.inf_grammar.specs.{Brackets.is_bracket_open, Language.grammar, Language.known, Routines.is_in_routine, Sources.is_inside}
 use Rattle.inf_unit.specs.Tokens.{SourceToken, atom_of}
-use Rattle.inf_compilation.specs.Actions.{Compilation, piece_begun as work_begun}
-use Rattle.inf_compilation.specs.Context.{Context}
+use Rattle.inf_compilation.specs.{Actions.Compilation, Actions.piece_begun as work_begun, Context.Context}
 use Rattle.inf_conditional_sides.specs.Sides.{has_none}
-use Rattle.inf_reader.specs.Handing.{is_empty, skips, unfit_in}
+use Rattle.inf_reader.specs.{Handing.is_empty, Handing.skips, Handing.unfit_in, declared.recovery.Recovery.Recovery}
 use Rattle.inf_reader.specs.Reading.{Reading, ReaderState, bad, between, is_mode_ended, passed as mode_behind, piece_begun, piece_rule}
 use Rattle.inf_reader.specs.Reading.{skip_of}
-use Rattle.inf_reader.specs.declared.recovery.Recovery.{Recovery}
-use Rattle.inf_reader.specs.declared.recovery.Recovery.TheVariants as mode
 use Rattle.inf_session.specs.Choices.{Choices}
 use Rattle.inf_laws.specs.BadTokens.{skip_behind}
 use Rattle.inf_laws.specs.KeptTokens.{Given, IsBad, Kept, Unfit, token_in, took_by}
-use Rattle.inf_laws.proofs.BadTokens.{bracketed}
-use Rattle.inf_laws.proofs.KeptTokens.{At, begins, goes, no_token}
-use Rattle.inf_statement_laws.specs.Happenings.{Between}
-use Rattle.inf_statement_laws.specs.Laid.{passed}
+use Rattle.inf_laws.proofs.{BadTokens.bracketed, KeptTokens.At, KeptTokens.begins, KeptTokens.goes, KeptTokens.no_token}
+use Rattle.inf_statement_laws.specs.{Happenings.Between, Laid.passed}
 use Rattle.inf_program.specs.definition.Steps.{Ends, Passes, Reads, Step}
 use Rattle.inf_program.specs.Turns.{IsUnfit, step_by, steps_by}
-use Rattle.inf_program.proofs.Grouping.{turns_take_tokens}
 use Rattle.inf_program.specs.definition.NextToken.{Position, at_front, behind_at, passed_over, steps_at, within}
 use Rattle.inf_program.specs.definition.Fronts.{Derives, IsOpen, PieceState, Progress, done_by, fresh_progress, is_whole, kept_atoms, progress_of}
 use Rattle.inf_program.specs.definition.Fronts.{reached}
 use Rattle.inf_program.specs.definition.BadPieces.{AllSkipOn, AllSkipped, Alone, BadAlone, BadFirst, BadPiece, Behind, First, HandsOnBad, IsNoEnd}
 use Rattle.inf_program.specs.definition.BadPieces.{SkipState, SkipsOn, all_passed, all_skipped, begun_by, cut_alone, cut_behind, cut_by}
 use Rattle.inf_program.specs.definition.BadPieces.{cut_first, cut_in, cut_of, lands, skip_from, skipped_behind, skipped_on}
-use Rattle.inf_program.proofs.Events.{Agrees, not_ahead, steps_agree}
-use Rattle.inf_program.proofs.Stacks.{some_left}
-use Rattle.inf_program.proofs.Stepping.{Comes, comes_next, comes_same, comes_then, followed_plainly, goes_on, stand}
-use Rattle.inf_program.proofs.Stepping.{turn_lands, turn_steps}
-use Rattle.inf_program.proofs.Walking.{IsAt, Walked, comes_at, first_step, front_agrees, front_steps, front_walked, is_within}
 use Rattle.inf_program.specs.definition.States.{State, context_of, followed, has_ended}
-use Rattle.inf_program.specs.SideTurns.{IsQuiet, position_of, stand_of, stepped}
+use Rattle.inf_program.specs.SideTurns.{IsQuietBySide, position_of, stand_of, stepped}
+use Rattle.inf_program.proofs.{Events.Agrees, Events.not_ahead, Events.steps_agree, Grouping.turns_take_tokens, Stacks.some_left}
+use Rattle.inf_program.proofs.Stepping.{Comes, comes_next, comes_same, comes_then, followed_plainly, goes_on, stand, turn_lands, turn_steps}
+use Rattle.inf_program.proofs.Walking.{IsAt, Walked, comes_at, first_step, front_agrees, front_steps, front_walked, is_within}
 
 -- The bad token
 
@@ -52,7 +39,7 @@ skips_as tokens r at =
     let left : is_in_routine r.stack ≡ is_bracket_open (map atom_of tokens) =
     ap is_in_routine (sym at.is_read.leaves) ∙ sym (ap is_inside at.is_read.is_read)
     ∙ bracketed (map atom_of tokens) (begins tokens r at) in
-    ap (λ b. cond b mode.SkipsRoutine mode.SkipsDirective) left
+    ap (λ b. cond b Recovery.SkipsRoutine Recovery.SkipsDirective) left
 
 cut_is : (limits : Limits) (context : Context) (t : SourceToken) (tokens : List SourceToken) (w : Compilation) (x : ReaderState)
     → At tokens x.reading → x.work ≡ w
@@ -80,14 +67,14 @@ bad_step limits context (Kept t) tokens w x at inside same wrong =
 
 skip_one : (limits : Limits) (context : Context) (given : Given) (skip : Recovery) (w : Compilation) → skips skip ≡ true
     → step_by limits context (Reads given) (stand (between skip) w) ≡ stand (between (mode_behind skip (token_in given).kind)) w
-skip_one limits context (Kept t) mode.SkipsRoutine w e = refl
-skip_one limits context (Kept t) mode.SkipsDirective w e = refl
-skip_one limits context (Kept t) mode.Reads w e = absurd (true≢false (sym e))
-skip_one limits context (Kept t) mode.Ended w e = absurd (true≢false (sym e))
-skip_one limits context (Unfit t) mode.SkipsRoutine w e = refl
-skip_one limits context (Unfit t) mode.SkipsDirective w e = refl
-skip_one limits context (Unfit t) mode.Reads w e = absurd (true≢false (sym e))
-skip_one limits context (Unfit t) mode.Ended w e = absurd (true≢false (sym e))
+skip_one limits context (Kept t) Recovery.SkipsRoutine w e = refl
+skip_one limits context (Kept t) Recovery.SkipsDirective w e = refl
+skip_one limits context (Kept t) Recovery.Reads w e = absurd (true≢false (sym e))
+skip_one limits context (Kept t) Recovery.Ended w e = absurd (true≢false (sym e))
+skip_one limits context (Unfit t) Recovery.SkipsRoutine w e = refl
+skip_one limits context (Unfit t) Recovery.SkipsDirective w e = refl
+skip_one limits context (Unfit t) Recovery.Reads w e = absurd (true≢false (sym e))
+skip_one limits context (Unfit t) Recovery.Ended w e = absurd (true≢false (sym e))
 
 skip_steps : (limits : Limits) (context : Context) (steps : List Step) (skip : Recovery) (w : Compilation) → AllSkipped steps skip
     → steps_by limits context steps (stand (between skip) w) ≡ stand (between (skipped_behind steps skip)) (all_passed steps w)
@@ -143,7 +130,8 @@ bad_behind limits sources o m x left before given after b s is =
     turn_lands limits o x within (between skip) w here steps
     ∙ ap (λ (q : State). record (behind_at o within w q) { reading = between skip }) (sym s.same)
 
-pub bad_first : (limits : Limits) (sources : Sources) (o : Choices) (s : State) (f : BadFirst limits o s) → s.reading ≡ between mode.Reads
+pub bad_first : (limits : Limits) (sources : Sources) (o : Choices) (s : State) (f : BadFirst limits o s) →
+    s.reading ≡ between Recovery.Reads
     → stepped limits o s ≡ lands (cut_first f)
 bad_first limits sources o s f fresh =
     let c : Context = context_of o s in
@@ -152,10 +140,10 @@ bad_first limits sources o s f fresh =
     let done : Progress = done_by limits c before start in
     let skip : Recovery = skipped_behind f.after (skip_from done.tokens (token_in f.given)) in
     let w : Compilation = all_passed f.after (cut_by limits c (token_in f.given) done.work) in
-    let x : ReaderState = stand (between mode.Reads) s.work in
+    let x : ReaderState = stand (between Recovery.Reads) s.work in
     let agrees : Agrees [] f.left done (steps_by limits c before x) =
     front_agrees limits c f.effect f.token f.rest [] f.left f.course s.work f.is_no_end f.bad.are_kept
-    (subst (λ (atoms : List ℕ). Derives (Rule piece_rule ∷ []) atoms f.course f.left) (sym (append-nil (kept_atoms before)))
+    (subst (λ (atoms : List ℕ). Derives (Symbol.Rule piece_rule ∷ []) atoms f.course f.left) (sym (append-nil (kept_atoms before)))
     f.derives) in
     turn_lands limits o s at_front (between skip) w (ap position_of fresh)
     (front_steps limits sources o s fresh
@@ -164,21 +152,22 @@ bad_first limits sources o s f fresh =
 
 -- a bad token alone
 alone_step : (limits : Limits) (context : Context) (m : Between) (given : Given) (w : Compilation) → IsNoEnd given → IsBad [] given
-    → step_by limits context (Reads given) (stand (between mode.Reads) (passed m w))
+    → step_by limits context (Reads given) (stand (between Recovery.Reads) (passed m w))
     ≡ stand (between (skip_from [] (token_in given))) (cut_by limits context (token_in given) (begun_by given (passed m w)))
 alone_step limits context m (Unfit t) w no_end wrong = refl
 alone_step limits context m (Kept t) w no_end wrong =
     first_step limits context t m w no_end
-    ∙ bad_step limits context (Kept t) [] (work_begun (passed m w)) (stand (piece_begun (between mode.Reads)) (work_begun (passed m w)))
+    ∙ bad_step limits context (Kept t) [] (work_begun (passed m w)) (stand (piece_begun (between Recovery.Reads)) (work_begun (passed m w)))
     no_token refl refl wrong
 
-pub bad_alone : (limits : Limits) (sources : Sources) (o : Choices) (s : State) (b : BadAlone limits o s) → s.reading ≡ between mode.Reads
+pub bad_alone : (limits : Limits) (sources : Sources) (o : Choices) (s : State) (b : BadAlone limits o s) →
+    s.reading ≡ between Recovery.Reads
     → stepped limits o s ≡ lands (cut_alone b)
 bad_alone limits sources o s b fresh =
     let c : Context = context_of o s in
     let skip : Recovery = skip_from [] (token_in b.given) in
     let cut : Compilation = cut_by limits c (token_in b.given) (begun_by b.given (passed b.effect s.work)) in
-    let x : ReaderState = stand (between mode.Reads) s.work in
+    let x : ReaderState = stand (between Recovery.Reads) s.work in
     turn_lands limits o s at_front (between (skipped_behind b.after skip)) (all_passed b.after cut) (ap position_of fresh)
     (front_steps limits sources o s fresh
     ∙ (ap (λ (all : List Step). steps_by limits c all x) b.steps
@@ -186,7 +175,8 @@ bad_alone limits sources o s b fresh =
     ∙ skip_steps limits c b.after skip cut b.are_skipped)))
 
 -- the turns up to the bad token
-pub bad_walked : (limits : Limits) (sources : Sources) (o : Choices) (s : State) (b : BadPiece limits o s) → s.reading ≡ between mode.Reads
+pub bad_walked : (limits : Limits) (sources : Sources) (o : Choices) (s : State) (b : BadPiece limits o s) →
+    s.reading ≡ between Recovery.Reads
     → has_ended s ≡ false → Comes limits sources o s (followed sources o (lands (cut_of b)))
 bad_walked limits sources o s (Alone b) fresh going =
     comes_then limits sources o s (followed sources o (stepped limits o s)) (followed sources o (lands (cut_alone b)))
@@ -216,16 +206,16 @@ bad_walked limits sources o s (Behind b) fresh going =
 -- Turns that pass tokens over
 
 pub position_skips : (skip : Recovery) → skips skip ≡ true → position_of (between skip) ≡ passed_over
-position_skips mode.SkipsRoutine e = refl
-position_skips mode.SkipsDirective e = refl
-position_skips mode.Reads e = absurd (true≢false (sym e))
-position_skips mode.Ended e = absurd (true≢false (sym e))
+position_skips Recovery.SkipsRoutine e = refl
+position_skips Recovery.SkipsDirective e = refl
+position_skips Recovery.Reads e = absurd (true≢false (sym e))
+position_skips Recovery.Ended e = absurd (true≢false (sym e))
 
 skips_not_ended : (skip : Recovery) → skips skip ≡ true → is_mode_ended skip ≡ false
-skips_not_ended mode.SkipsRoutine e = refl
-skips_not_ended mode.SkipsDirective e = refl
-skips_not_ended mode.Reads e = refl
-skips_not_ended mode.Ended e = absurd (true≢false (sym e))
+skips_not_ended Recovery.SkipsRoutine e = refl
+skips_not_ended Recovery.SkipsDirective e = refl
+skips_not_ended Recovery.Reads e = refl
+skips_not_ended Recovery.Ended e = absurd (true≢false (sym e))
 
 pub skip_turn : (limits : Limits) (sources : Sources) (o : Choices) (k : SkipState) → SkipsOn limits o k
     → stepped limits o (lands k) ≡ lands (skipped_on limits o k)
@@ -236,7 +226,7 @@ skip_turn limits sources o k on =
     (turn_steps limits sources o (lands k) passed_over here
     ∙ skip_steps limits (context_of o k.state) steps k.skip k.state.work on.are_skipped)
 
-skip_quiet : (limits : Limits) (o : Choices) (k : SkipState) → SkipsOn limits o k → IsQuiet (lands k)
+skip_quiet : (limits : Limits) (o : Choices) (k : SkipState) → SkipsOn limits o k → IsQuietBySide (lands k)
 skip_quiet limits o k on = record {
   is_not_over = on.is_not_over;
   has_more = skips_not_ended k.skip on.skips_more;
@@ -253,7 +243,7 @@ skip_walked limits sources o (suc n) k all =
     let k2 : SkipState = skipped_on limits o k in
     let x : State = lands k in
     let last : State = followed sources o (lands (all_skipped limits o n k2)) in
-    let quiet : IsQuiet x = skip_quiet limits o k all.0 in
+    let quiet : IsQuietBySide x = skip_quiet limits o k all.0 in
     let going : has_ended x ≡ false = goes_on x all.0.is_going all.0.is_not_over quiet.has_more in
     let rest : Comes limits sources o (followed sources o (lands k2)) last = skip_walked limits sources o n k2 all.1 in
     let there : Comes limits sources o (followed sources o (stepped limits o x)) last =

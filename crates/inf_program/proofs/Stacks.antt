@@ -2,18 +2,13 @@
 use Rattle.std.proofs.Common.{◌≡◌, ◌⊎◌, inl, inr, ℕ, zero, suc, List, [], ◌∷◌, ◌++◌, Bool, true, false, Some, refl, sym, ap, subst}
 use Rattle.std.proofs.Common.{append-nil, true≢false}
 use Rattle.std.proofs.lemmas.Bool.{and_parts}
-use Rattle.inf_machine.specs.declared.symbols.Symbol.{Symbol}
-use Rattle.inf_machine.specs.declared.symbols.Symbol.TheVariants.{Act, Rule, Token}
+use Rattle.inf_machine.specs.{Laws.IsDecided, Pieces.all_rows, Pieces.closes, Pieces.last_symbol, declared.symbols.Symbol.Symbol}
 use Rattle.inf_machine.specs.Grammar.{Event, Grammar, IsOneOf, Leads, Row, action, first, here, later, row, token}
-use Rattle.inf_machine.specs.Laws.{IsDecided}
 use Rattle.inf_machine.specs.Machine.{Known, chosen, fits, stepped, taken, work}
-use Rattle.inf_machine.specs.Pieces.{all_rows, closes, last_symbol}
 use Rattle.inf_machine.proofs.Taking.{choice, chosen_fits}
 use Rattle.inf_syntax.specs.declared.actions.Action.{Action}
-use Rattle.inf_grammar.specs.Evaluated.{language_is_decided}
-use Rattle.inf_grammar.specs.Language.{grammar, known}
-use Rattle.inf_reader.specs.Handing.{is_empty}
-use Rattle.inf_reader.specs.Reading.{piece_rule}
+use Rattle.inf_grammar.specs.{Evaluated.language_is_decided, Language.grammar, Language.known}
+use Rattle.inf_reader.specs.{Handing.is_empty, Reading.piece_rule}
 use Rattle.inf_program.specs.definition.Fronts.{is_whole}
 
 -- Symbols that end with a token
@@ -36,7 +31,7 @@ last_append (x ∷ []) y ys = refl
 last_append (x ∷ z ∷ xs) y ys = last_append (z ∷ xs) y ys
 
 closes_row : (g : Grammar Action) (rule : ℕ) (r : Row Action) (symbols : List (Symbol Action)) → IsOneOf r (g.rows_of rule) → (n : ℕ)
-    → closes g (last_symbol (Rule rule ∷ symbols)) n ≡ true → Closes g (r.parts ++ symbols)
+    → closes g (last_symbol (Symbol.Rule rule ∷ symbols)) n ≡ true → Closes g (r.parts ++ symbols)
 closes_row g rule r [] m zero c = cc
 closes_row g rule r [] m (suc n) c = record {
   deep = n;
@@ -63,12 +58,12 @@ closes_left : (g : Grammar Action) (k : Known) → IsDecided g k → (atom n : �
     → ((stepped g k atom n symbols).left ≡ []) ⊎ Closes g (stepped g k atom n symbols).left
 closes_left g k d atom zero symbols f c = inr c
 closes_left g k d atom (suc n) [] f c = inl refl
-closes_left g k d atom (suc n) (Token class ∷ []) f c = inl refl
-closes_left g k d atom (suc n) (Token class ∷ s ∷ symbols) f c = inr (record { deep = c.deep; closes_there = c.closes_there })
-closes_left g k d atom (suc n) (Act a ∷ []) f c = absurd (true≢false (sym c.closes_there))
-closes_left g k d atom (suc n) (Act a ∷ s ∷ symbols) f c =
+closes_left g k d atom (suc n) (Symbol.Token class ∷ []) f c = inl refl
+closes_left g k d atom (suc n) (Symbol.Token class ∷ s ∷ symbols) f c = inr (record { deep = c.deep; closes_there = c.closes_there })
+closes_left g k d atom (suc n) (Symbol.Act a ∷ []) f c = absurd (true≢false (sym c.closes_there))
+closes_left g k d atom (suc n) (Symbol.Act a ∷ s ∷ symbols) f c =
     closes_left g k d atom n (s ∷ symbols) f (record { deep = c.deep; closes_there = c.closes_there })
-closes_left g k d atom (suc n) (Rule rule ∷ symbols) f c =
+closes_left g k d atom (suc n) (Symbol.Rule rule ∷ symbols) f c =
     let o = choice g k d atom rule symbols f in
     closes_left g k d atom n (chosen g k atom rule ++ symbols) (chosen_fits g k d atom rule symbols f)
     (subst (λ parts. Closes g (parts ++ symbols)) (sym o.is) (closes_row g rule o.row symbols o.one c.deep c.closes_there))
@@ -78,11 +73,11 @@ closes_left g k d atom (suc n) (Rule rule ∷ symbols) f c =
 abbrev pub IsRest : List (Symbol Action) → Type 0
 IsRest symbols = (symbols ≡ []) ⊎ Closes grammar symbols
 
-piece_closes : closes grammar (Some (Rule piece_rule)) 3 ≡ true
+piece_closes : closes grammar (Some (Symbol.Rule piece_rule)) 3 ≡ true
 unfolding grammar
 piece_closes = refl
 
-pub piece_is_rest : IsRest (Rule piece_rule ∷ [])
+pub piece_is_rest : IsRest (Symbol.Rule piece_rule ∷ [])
 piece_is_rest = inr (record { deep = 3; closes_there = piece_closes })
 
 pub rest_left : (atom : ℕ) (symbols : List (Symbol Action)) → fits grammar known atom symbols ≡ true → IsRest symbols

@@ -1,6 +1,5 @@
 -- Steps of a whole reading that neither depend on the lines of its messages nor on those that were written.
-use Rattle.std.proofs.Common.{◌≡◌, ℕ, List, Bool, true, false, refl, ◌∙◌, ap}
-use Rattle.std.specs.Prelude.{if◌then◌else◌}
+use Rattle.std.proofs.Common.{◌≡◌, ℕ, List, Bool, true, false, refl, ◌∙◌, ap, if◌then◌else◌}
 use Rattle.inf_unit.specs.Messages.{Reported}
 use Rattle.inf_session.specs.Session.{State}
 use Rattle.inf_message_laws.specs.Growing.{told_before}

@@ -1,32 +1,28 @@
 -- Turns of a reading whose messages are still to be written: which of them lead from one state to another, and what a turn does where
 -- nothing else happens behind its token.
-use Rattle.std.proofs.Common.{◌≡◌, ℕ, suc, ◌+◌, List, [], ◌∷◌, ◌&&◌, ◌||◌, Bool, true, false, refl, sym, ◌∙◌, ap, arith}
-use Rattle.std.specs.Prelude.{if◌then◌else◌}
+use Rattle.std.proofs.Common.{◌≡◌, ℕ, suc, ◌+◌, List, [], ◌∷◌, ◌&&◌, ◌||◌, Bool, true, false, refl, sym, ◌∙◌, ap, arith, if◌then◌else◌}
 use Rattle.inf_settings.specs.Bounds.{Limits}
 use Rattle.inf_scanner.specs.declared.tokens.Place.{Place}
 use Rattle.inf_devices.specs.Files.{Sources}
 use Rattle.inf_sources.specs.Inclusions.{Inclusion, Opens, OpensNone, Waiting, inclusion}
-use Rattle.inf_sources.specs.declared.open_files.Included.TheVariants as answer
+use Rattle.inf_sources.specs.declared.open_files.Included.{Included}
 use Rattle.inf_unit.specs.Directives.{Characters, End, Include, Nothing, Request}
 use Rattle.inf_unit.proofs.Cases.{of_both}
 use Rattle.inf_compilation.specs.Actions.{Compilation}
-use Rattle.inf_reader.specs.Handing.{is_empty, reads, skips}
-use Rattle.inf_reader.specs.Reading.{Reading, ReaderState, is_mode_ended}
-use Rattle.inf_reader.specs.declared.recovery.Recovery.{Recovery}
-use Rattle.inf_reader.specs.declared.recovery.Recovery.TheVariants as mode
+use Rattle.inf_reader.specs.{Handing.is_empty, Handing.reads, Handing.skips, Reading.ReaderState, Reading.Reading, Reading.is_mode_ended}
+use Rattle.inf_reader.specs.{declared.recovery.Recovery.Recovery}
 use Rattle.inf_session.specs.Choices.{Choices}
 use Rattle.inf_program.specs.Turns.{steps_by}
 use Rattle.inf_program.specs.definition.NextToken.{Position, afresh, behind_at, position, steps_at, within}
 use Rattle.inf_program.specs.definition.States.{State, answered, asked_nothing, carried_out, context_of, file_closed, followed, has_ended}
-use Rattle.inf_program.specs.definition.States.{included_by}
-use Rattle.inf_program.specs.definition.States.{handled, is_resting, left, left_by, piece_closed, rested}
-use Rattle.inf_program.specs.SideTurns.{IsQuiet, position_of, silent_run, silent_turn, stand_of, stepped}
+use Rattle.inf_program.specs.definition.States.{included_by, handled, is_resting, left, left_by, piece_closed, rested}
+use Rattle.inf_program.specs.SideTurns.{IsQuietBySide, position_of, side_run, side_turn, stand_of, stepped}
 
 -- Turns that lead from one state to another
 
 pub record Comes (limits : Limits) (sources : Sources) (o : Choices) (s t : State) : Type 0 where
   pub turns : ℕ
-  pub leads : (more : ℕ) → silent_run limits sources o (turns + more) s ≡ silent_run limits sources o more t
+  pub leads : (more : ℕ) → side_run limits sources o (turns + more) s ≡ side_run limits sources o more t
 
 nothing_more : (n : ℕ) → 0 + n ≡ n
 nothing_more n = omega arith
@@ -40,7 +36,7 @@ all_more a b n = omega arith
 pub comes_same : (limits : Limits) (sources : Sources) (o : Choices) (s t : State) → s ≡ t → Comes limits sources o s t
 comes_same limits sources o s t same = record {
   turns = 0;
-  leads = λ more. ap (λ n. silent_run limits sources o n s) (nothing_more more) ∙ ap (silent_run limits sources o more) same;
+  leads = λ more. ap (λ n. side_run limits sources o n s) (nothing_more more) ∙ ap (side_run limits sources o more) same;
 }
 
 pub comes_then : (limits : Limits) (sources : Sources) (o : Choices) (s t u : State) → Comes limits sources o s t
@@ -48,16 +44,16 @@ pub comes_then : (limits : Limits) (sources : Sources) (o : Choices) (s t u : St
 comes_then limits sources o s t u a b = record {
   turns = a.turns + b.turns;
   leads = λ more.
-      ap (λ n. silent_run limits sources o n s) (all_more a.turns b.turns more) ∙ (a.leads (b.turns + more) ∙ b.leads more);
+      ap (λ n. side_run limits sources o n s) (all_more a.turns b.turns more) ∙ (a.leads (b.turns + more) ∙ b.leads more);
 }
 
 pub comes_next : (limits : Limits) (sources : Sources) (o : Choices) (s : State) → has_ended s ≡ false
-    → Comes limits sources o s (silent_turn limits sources o s)
+    → Comes limits sources o s (side_turn limits sources o s)
 comes_next limits sources o s going = record {
   turns = 1;
   leads = λ more.
-      ap (λ n. silent_run limits sources o n s) (one_more more)
-      ∙ ap (λ b. if b then s else silent_run limits sources o more (silent_turn limits sources o s)) going;
+      ap (λ n. side_run limits sources o n s) (one_more more)
+      ∙ ap (λ b. if b then s else side_run limits sources o more (side_turn limits sources o s)) going;
 }
 
 -- Reading has ended, or not.
@@ -83,7 +79,7 @@ answered_plainly : (asked : Request) (sources : Sources) (o : Choices) (s : Stat
     → answered asked sources o s ≡ s
 answered_plainly asked sources o s nothing = ap (λ a. answered a sources o s) nothing
 
-carried_plainly : (sources : Sources) (o : Choices) (s : State) → IsQuiet s → s.work.asked ≡ Nothing → carried_out sources o s ≡ s
+carried_plainly : (sources : Sources) (o : Choices) (s : State) → IsQuietBySide s → s.work.asked ≡ Nothing → carried_out sources o s ≡ s
 carried_plainly sources o s quiet nothing =
     ap (λ b. if b then s else if is_mode_ended s.reading.mode then left s else answered s.work.asked sources o (asked_nothing s))
     quiet.is_not_over
@@ -91,7 +87,7 @@ carried_plainly sources o s quiet nothing =
     ∙ (answered_plainly s.work.asked sources o (asked_nothing s) nothing
     ∙ ap (λ (a : Request). record s { work = record s.work { asked = a } }) (sym nothing)))
 
-handled_plainly : (sources : Sources) (o : Choices) (s : State) → IsQuiet s → handled sources o s ≡ s
+handled_plainly : (sources : Sources) (o : Choices) (s : State) → IsQuietBySide s → handled sources o s ≡ s
 handled_plainly sources o s quiet =
     of_both (λ (x : State). x ≡ s) s.is_supplied s (carried_out sources o s) (λ _. refl)
     (λ of_file. carried_plainly sources o s quiet (quiet.asks_nothing of_file))
@@ -104,7 +100,7 @@ rested_plainly : (s : State) → is_resting s ≡ false → rested s ≡ s
 rested_plainly s inside =
     ap (λ b. if has_ended s then s else if b then piece_closed s else s) inside ∙ either_state (has_ended s) s
 
-pub followed_plainly : (sources : Sources) (o : Choices) (s : State) → IsQuiet s → followed sources o s ≡ s
+pub followed_plainly : (sources : Sources) (o : Choices) (s : State) → IsQuietBySide s → followed sources o s ≡ s
 followed_plainly sources o s quiet = ap rested (handled_plainly sources o s quiet) ∙ rested_plainly s quiet.is_inside
 
 -- behind a fatal message nothing happens
@@ -120,9 +116,9 @@ followed_over sources o s over =
 included_reading : (sources : Sources) (o : Choices) (unit : Place) (text : List ℕ) (i : Inclusion) (s : State)
     → (included_by sources o unit text i s).reading ≡ s.reading
 included_reading sources o unit text (Opens name) s = refl
-included_reading sources o unit text (OpensNone answer.Entered) s = refl
-included_reading sources o unit text (OpensNone answer.NotThere) s = refl
-included_reading sources o unit text (OpensNone answer.TooDeep) s = refl
+included_reading sources o unit text (OpensNone Included.Entered) s = refl
+included_reading sources o unit text (OpensNone Included.NotThere) s = refl
+included_reading sources o unit text (OpensNone Included.TooDeep) s = refl
 
 answered_reading : (asked : Request) (sources : Sources) (o : Choices) (s : State) → (answered asked sources o s).reading ≡ s.reading
 answered_reading (Include text unit) sources o s = included_reading sources o unit text (inclusion sources o.directories text s.nesting) s
@@ -159,9 +155,9 @@ left_supplied (w ∷ waiting) s = refl
 included_supplied : (sources : Sources) (o : Choices) (unit : Place) (text : List ℕ) (i : Inclusion) (s : State)
     → (included_by sources o unit text i s).is_supplied ≡ s.is_supplied
 included_supplied sources o unit text (Opens name) s = refl
-included_supplied sources o unit text (OpensNone answer.Entered) s = refl
-included_supplied sources o unit text (OpensNone answer.NotThere) s = refl
-included_supplied sources o unit text (OpensNone answer.TooDeep) s = refl
+included_supplied sources o unit text (OpensNone Included.Entered) s = refl
+included_supplied sources o unit text (OpensNone Included.NotThere) s = refl
+included_supplied sources o unit text (OpensNone Included.TooDeep) s = refl
 
 answered_supplied : (asked : Request) (sources : Sources) (o : Choices) (s : State) → (answered asked sources o s).is_supplied ≡ s.is_supplied
 answered_supplied (Include text unit) sources o s =
@@ -194,7 +190,7 @@ followed_supplied sources o s =
 abbrev pub stand : Reading → Compilation → ReaderState
 stand r w = record { reading = r; work = w }
 
-pub position_within : (r : Reading) → r.mode ≡ mode.Reads → is_empty r.stack ≡ false → position_of r ≡ within
+pub position_within : (r : Reading) → r.mode ≡ Recovery.Reads → is_empty r.stack ≡ false → position_of r ≡ within
 position_within r reading some =
     ap (λ (m : Recovery). position (reads m && is_empty r.stack) (skips m)) reading ∙ ap (λ b. position b false) some
 

@@ -1,7 +1,6 @@
 -- The supplied routines: each text is a program, and behind all of them the ending is the one that turns give.
 use Rattle.std.proofs.Common.{◌≡◌, ℕ, zero, suc, ◌-◌, ◌<◌, ◌≤◌, max, List, [], ◌++◌, length, true, false, Option, Some, None, refl, sym}
-use Rattle.std.proofs.Common.{◌∙◌}
-use Rattle.std.proofs.Common.{ap, append-nil, arith, subst}
+use Rattle.std.proofs.Common.{◌∙◌, ap, append-nil, arith, subst}
 use Rattle.inf_settings.specs.Bounds.{Limits}
 use Rattle.inf_devices.specs.Files.{Sources}
 use Rattle.inf_sources.specs.Inclusions.{Nesting}
@@ -9,28 +8,19 @@ use Rattle.inf_unit.specs.Messages.{flushed, veneer_file}
 use Rattle.inf_compilation.specs.Actions.{Compilation}
 use Rattle.inf_conditionals.specs.Open.{Conditions, no_conditions}
 use Rattle.inf_conditional_sides.proofs.Same.{sides_are_judged}
-use Rattle.inf_reader.specs.Reading.{between}
-use Rattle.inf_reader.specs.declared.recovery.Recovery.TheVariants as mode
-use Rattle.inf_session.specs.Choices.{Choices, most_quoted}
+use Rattle.inf_reader.specs.{Reading.between, declared.recovery.Recovery.Recovery}
+use Rattle.inf_session.specs.{Choices.Choices, Choices.most_quoted, Session.State as TurnState, Session.has_ended as turn_has_ended}
+use Rattle.inf_session.specs.{Session.told_out, Veneer.in_text, Veneer.most_texts, Veneer.next_text, Veneer.supplied, Veneer.supplied_at}
+use Rattle.inf_session.specs.{Veneer.text_begun, Veneer.text_front, Veneer.text_read, Veneer.text_turns, Veneer.veneer_text}
 use Rattle.inf_ending.specs.Ending.{Outcome, finished}
-use Rattle.inf_session.specs.Session.{State as TurnState, has_ended as turn_has_ended, told_out}
-use Rattle.inf_session.specs.Veneer.{in_text, most_texts, next_text, supplied, supplied_at, text_begun, text_front, text_read}
-use Rattle.inf_session.specs.Veneer.{text_turns, veneer_text}
 use Rattle.inf_session.proofs.Supplying.{next_in, next_within, supplied_more, supplied_none}
 use Rattle.inf_compile.specs.Outcome.{ending_of}
-use Rattle.inf_program.specs.BySides.{with_conditions}
-use Rattle.inf_program.specs.Programs.{EndsAs}
-use Rattle.inf_program.specs.Readings.{ProgramOf, TextsArePrograms}
-use Rattle.inf_program.specs.SideTurns.{silent_run}
-use Rattle.inf_program.specs.definition.NextToken.{afresh}
-use Rattle.inf_program.specs.definition.Program.{IsProgram}
-use Rattle.inf_program.specs.definition.States.{State, has_ended}
+use Rattle.inf_program.specs.{BySides.with_conditions, Programs.EndsAs, Readings.ProgramOf, Readings.TextsArePrograms, SideTurns.side_run}
+use Rattle.inf_program.specs.{definition.NextToken.afresh, definition.Program.IsProgram, definition.States.State}
+use Rattle.inf_program.specs.{definition.States.has_ended, definition.Written.ending}
 use Rattle.inf_program.specs.definition.Supplied.{AreSupplied, NoMore, Supplies, next_behind, text_end, text_start}
-use Rattle.inf_program.specs.definition.Written.{ending}
+use Rattle.inf_program.proofs.{Readings.regular_readings_are_programs, RegularTurns.text_regular, SideStates.Matches}
 use Rattle.inf_program.proofs.Programs.{same_end, turns_do_programs}
-use Rattle.inf_program.proofs.Readings.{regular_readings_are_programs}
-use Rattle.inf_program.proofs.RegularTurns.{text_regular}
-use Rattle.inf_program.proofs.SideStates.{Matches}
 use Rattle.inf_program.proofs.TextTurns.{TextRan, beside, texts_alike, texts_beside, texts_end}
 
 -- One text
@@ -66,7 +56,7 @@ front_turn o number quoted s = with_conditions (front_conditions s.work.output.n
 
 text_ran : (limits : Limits) (sources : Sources) (o : Choices) (number quoted : ℕ) (s : State)
     → TextRan (text_turns limits o (text_length number) (front_turn o number quoted s))
-    (silent_run limits sources o (text_length number) (text_start o number s))
+    (side_run limits sources o (text_length number) (text_start o number s))
 text_ran limits sources o number quoted s =
     texts_alike limits sources o (text_length number) (front_conditions s.work.output.names.declared) quoted (text_start o number s) refl refl
     (λ going. front_matches o number s)
@@ -75,7 +65,7 @@ less_than_next : (n : ℕ) → n < suc n
 less_than_next n = omega arith
 
 text_over : (limits : Limits) (sources : Sources) (o : Choices) (number : ℕ) (s : State)
-    → has_ended (silent_run limits sources o (text_length number) (text_start o number s)) ≡ true
+    → has_ended (side_run limits sources o (text_length number) (text_start o number s)) ≡ true
 text_over limits sources o number s =
     ap turn_has_ended (sym (text_ran limits sources o number 0 s).same)
     ∙ texts_end limits o (text_length number) (front_turn o number 0 s) (less_than_next (length (veneer_text number)))
@@ -140,7 +130,7 @@ begun_as o number nesting w most told quoted passed = record {
     };
   };
   conditions = front_conditions w.output.names.declared;
-  reading = between mode.Reads;
+  reading = between Recovery.Reads;
   work = record w { most_tokens = max w.most_tokens most; is_system = false };
   told = told;
   is_over = false;
@@ -181,7 +171,7 @@ text_speaks limits sources o n number v s final p program =
     let first : State = text_start o number s in
     let z : TurnState = front_turn o number v.quoted (flushed_state s) in
     let t : TurnState = text_turns limits o k z in
-    let x : State = silent_run limits sources o k first in
+    let x : State = side_run limits sources o k first in
     let ran : TextRan (text_turns limits o k (front_turn o number v.quoted s)) x = text_ran limits sources o number v.quoted s in
     let e : EndsAs limits sources o final first = turns_do_programs limits sources o final first program in
     let same : afresh x ≡ afresh final =

@@ -1,39 +1,27 @@
 -- The turns of the text of a supplied routine: by sides they lead to the same state, they end, and lines are written at any time.
 use Rattle.std.proofs.Common.{◌≡◌, ◌⊎◌, inl, inr, ℕ, zero, suc, ◌<◌, ◌||◌, List, [], length, Bool, true, false, None, refl, sym, ◌∙◌, ap}
-use Rattle.std.proofs.Common.{arith, subst, true≢false}
-use Rattle.std.specs.Prelude.{if◌then◌else◌}
+use Rattle.std.proofs.Common.{arith, subst, true≢false, if◌then◌else◌}
 use Rattle.inf_settings.specs.Bounds.{Limits}
 use Rattle.inf_scanner.proofs.TokenLaws.{tokens_take_bytes}
 use Rattle.inf_devices.specs.Files.{Sources}
 use Rattle.inf_unit.specs.Tokens.{SourceToken}
 use Rattle.inf_unit.proofs.Cases.{of_both}
-use Rattle.inf_conditionals.specs.Judging.{Behind as Judged, judged}
-use Rattle.inf_conditionals.specs.Open.{Conditions, silent}
-use Rattle.inf_conditionals.specs.declared.filtered.Site.{Site}
+use Rattle.inf_conditionals.specs.{Judging.Behind as Judged, Judging.judged, Open.Conditions, Open.silent, declared.filtered.Site.Site}
 use Rattle.inf_conditional_sides.specs.Rests.{HandsNone}
-use Rattle.inf_reader.specs.Handing.{said_told, site_of}
-use Rattle.inf_reader.specs.Reading.{is_mode_ended}
-use Rattle.inf_session.specs.Choices.{Choices}
-use Rattle.inf_session.specs.Session.{State as TurnState, context_of as turn_context, has_ended as turn_has_ended, is_resting as turn_resting}
-use Rattle.inf_session.specs.Session.{piece_closed as turn_piece_closed, rested as turn_rested, stand_of as turn_stand, stepped as turn_stepped}
-use Rattle.inf_session.specs.Session.{token_of}
-use Rattle.inf_session.specs.Taking.{quoted_behind}
-use Rattle.inf_session.specs.Veneer.{text_turns}
-use Rattle.inf_session.proofs.Stepping.{end_ends}
-use Rattle.inf_session.proofs.TextTurns.{text_ended}
+use Rattle.inf_reader.specs.{Handing.said_told, Handing.site_of, Reading.is_mode_ended}
+use Rattle.inf_session.specs.{Choices.Choices, Taking.quoted_behind, Veneer.text_turns}
+use Rattle.inf_session.specs.Session.{State as TurnState, context_of as turn_context, has_ended as turn_has_ended}
+use Rattle.inf_session.specs.Session.{is_resting as turn_resting, piece_closed as turn_piece_closed, rested as turn_rested}
+use Rattle.inf_session.specs.Session.{stand_of as turn_stand, stepped as turn_stepped, token_of}
+use Rattle.inf_session.proofs.{Stepping.end_ends, TextTurns.text_ended}
 use Rattle.inf_message_laws.specs.Growing.{with_lines_before}
-use Rattle.inf_program.specs.BySides.{with_conditions}
-use Rattle.inf_program.specs.Writing.{with_lines}
-use Rattle.inf_program.specs.definition.NextToken.{Position, coming}
+use Rattle.inf_program.specs.{BySides.with_conditions, Writing.with_lines, definition.NextToken.Position, definition.NextToken.coming}
 use Rattle.inf_program.specs.definition.States.{State, carried_out, context_of, has_ended, rested}
-use Rattle.inf_program.specs.SideTurns.{position_of, silent_run, silent_turn, stand_of, stepped, steps_of}
-use Rattle.inf_program.proofs.Followed.{rested_moves}
-use Rattle.inf_program.proofs.RegularTurns.{none_read}
+use Rattle.inf_program.specs.SideTurns.{position_of, side_run, side_turn, stand_of, stepped, side_steps}
+use Rattle.inf_program.proofs.{Followed.rested_moves, RegularTurns.none_read, Stepping.followed_supplied, Turns.stepped_moves}
 use Rattle.inf_program.proofs.SideStates.{Matches, Ready, open_ready, then_rested}
 use Rattle.inf_program.proofs.SideTurns.{Matched, Passed, Taken, Turned, agree_silent, none_handed, passed_by, stepped_alike, still_ready}
 use Rattle.inf_program.proofs.SideTurns.{taken_by}
-use Rattle.inf_program.proofs.Stepping.{followed_supplied}
-use Rattle.inf_program.proofs.Turns.{stepped_moves}
 
 -- One turn by sides
 
@@ -51,7 +39,7 @@ text_ready c s y b p still (inr quiet) = still_ready c s y b p (still quiet)
 
 text_turned : (limits : Limits) (sources : Sources) (o : Choices) (c : Conditions) (q : ℕ) (s : State) → c.most_tokens ≡ s.most_tokens
     → s.is_supplied ≡ true → Matches c s
-    → Turned (turn_rested (turn_stepped limits o (with_conditions c q s))) (silent_turn limits sources o s)
+    → Turned (turn_rested (turn_stepped limits o (with_conditions c q s))) (side_turn limits sources o s)
 text_turned limits sources o c q s most supplied m =
     let site : Site = site_of o.settings s.reading in
     let p : Position = position_of s.reading in
@@ -62,11 +50,11 @@ text_turned limits sources o c q s most supplied m =
     let k : Taken limits o c s b = taken_by limits o c s most m in
     let passed : Passed c s y b = passed_by limits o c s b k m.declared in
     let still : HandsNone b.judged → y.reading ≡ s.reading =
-    λ none. none_read limits (context_of o s) (steps_of limits o s) (stand_of s) (none_handed limits o c s b k none) in
+    λ none. none_read limits (context_of o s) (side_steps limits o s) (stand_of s) (none_handed limits o c s b k none) in
     let now : TurnState = with_conditions (silent b.now) q2 y in
     record {
       quoted = q2;
-      behind = subst (λ (x : TurnState). Matched q2 (turn_rested x) (silent_turn limits sources o s))
+      behind = subst (λ (x : TurnState). Matched q2 (turn_rested x) (side_turn limits sources o s))
           (sym (stepped_alike limits sources o c q s k))
           (subst (λ (is_supplied : Bool). Matched q2 (turn_rested now) (rested (if is_supplied then y else carried_out sources o y)))
           (sym supplied)
@@ -89,24 +77,24 @@ pub record TextRan (t : TurnState) (s : State) : Type 0 where
 abbrev TextsAlike : Limits → Sources → Choices → ℕ → Type 0
 TextsAlike limits sources o n =
     (c : Conditions) (q : ℕ) (s : State) → c.most_tokens ≡ s.most_tokens → s.is_supplied ≡ true → (has_ended s ≡ false → Matches c s)
-    → TextRan (text_turns limits o n (with_conditions c q s)) (silent_run limits sources o n s)
+    → TextRan (text_turns limits o n (with_conditions c q s)) (side_run limits sources o n s)
 
 text_by : (limits : Limits) (sources : Sources) (o : Choices) (n : ℕ) → TextsAlike limits sources o n → (c : Conditions) (q : ℕ) (s : State)
     → c.most_tokens ≡ s.most_tokens → s.is_supplied ≡ true → (has_ended s ≡ false → Matches c s) → (b : Bool) → has_ended s ≡ b
-    → TextRan (text_turns limits o (suc n) (with_conditions c q s)) (silent_run limits sources o (suc n) s)
+    → TextRan (text_turns limits o (suc n) (with_conditions c q s)) (side_run limits sources o (suc n) s)
 text_by limits sources o n later c q s most supplied matches true over =
     subst (λ (b : Bool). TextRan
     (if b then with_conditions c q s else text_turns limits o n (turn_rested (turn_stepped limits o (with_conditions c q s))))
-    (if b then s else silent_run limits sources o n (silent_turn limits sources o s))) (sym over)
+    (if b then s else side_run limits sources o n (side_turn limits sources o s))) (sym over)
     (record { conditions = c; quoted = q; same = refl; most = most })
 text_by limits sources o n later c q s most supplied matches false going =
-    let x : State = silent_turn limits sources o s in
+    let x : State = side_turn limits sources o s in
     let t : TurnState = turn_rested (turn_stepped limits o (with_conditions c q s)) in
     let turned : Turned t x = text_turned limits sources o c q s most supplied (matches going) in
     let behind : Matched turned.quoted t x = turned.behind in
     subst (λ (b : Bool). TextRan (if b then with_conditions c q s else text_turns limits o n t)
-    (if b then s else silent_run limits sources o n x)) (sym going)
-    (subst (λ (y : TurnState). TextRan (text_turns limits o n y) (silent_run limits sources o n x)) (sym behind.same)
+    (if b then s else side_run limits sources o n x)) (sym going)
+    (subst (λ (y : TurnState). TextRan (text_turns limits o n y) (side_run limits sources o n x)) (sym behind.same)
     (later behind.now turned.quoted x behind.most (followed_supplied sources o (stepped limits o s) ∙ supplied) (λ on. behind.ready on)))
 
 pub texts_alike : (limits : Limits) (sources : Sources) (o : Choices) (n : ℕ) → TextsAlike limits sources o n

@@ -4,24 +4,19 @@ use Rattle.std.specs.Prelude.{if◌then◌else◌}
 use Rattle.inf_settings.specs.Bounds.{Limits}
 use Rattle.inf_scanner.specs.declared.tokens.Place.{Place}
 use Rattle.inf_devices.specs.Files.{Sources}
-use Rattle.inf_unit.specs.Directives.{Nothing, Request}
-use Rattle.inf_unit.specs.Tokens.{SourceToken}
+use Rattle.inf_unit.specs.{Directives.Nothing, Directives.Request, Tokens.SourceToken}
 use Rattle.inf_compilation.specs.Context.{Context}
-use Rattle.inf_conditionals.specs.Said.{Said}
-use Rattle.inf_conditionals.specs.declared.filtered.Filtered.{Filtered}
-use Rattle.inf_conditionals.specs.declared.filtered.Forwarded.{Forwarded}
-use Rattle.inf_conditionals.specs.declared.filtered.Forwarded.TheVariants as handed
-use Rattle.inf_conditionals.specs.declared.filtered.Sign.{Sign}
+use Rattle.inf_conditionals.specs.{Said.Said, declared.filtered.Filtered.Filtered, declared.filtered.Forwarded.Forwarded}
+use Rattle.inf_conditionals.specs.{declared.filtered.Sign.Sign}
 use Rattle.inf_reader.specs.Handing.{handed_as, hash, judged_taken, lone_told, said_told, sign_taken, token_taken, unit_ended}
 use Rattle.inf_reader.specs.Reading.{ReaderState, is_mode_ended}
 use Rattle.inf_session.specs.Choices.{Choices}
 use Rattle.inf_session.specs.Session.{State, answered, asked_nothing, carried_out, context_of, followed, has_ended, is_resting, left}
 use Rattle.inf_session.specs.Session.{piece_closed, rested, stand_of, stepped, token_of}
 use Rattle.inf_laws.specs.KeptTokens.{given_as, given_sign, given_token}
-use Rattle.inf_program.specs.definition.Steps.{Passes, Step}
+use Rattle.inf_program.specs.definition.Steps.{Passes, Step, lone_between, said_between}
 use Rattle.inf_program.specs.Turns.{AreQuiet, IsQuiet, all_steps, end_steps, given_steps, judged_steps, judgement, judgement_said, step_by}
 use Rattle.inf_program.specs.Turns.{steps_behind, steps_by, steps_of}
-use Rattle.inf_program.specs.definition.Steps.{lone_between, said_between}
 use Rattle.inf_program.specs.Writing.{silent_turn, silent_turned}
 
 -- Steps one behind the other
@@ -35,9 +30,9 @@ steps_joined limits context (x ∷ a) b s = steps_joined limits context a b (ste
 
 handed_is : (limits : Limits) (h : Forwarded) (context : Context) (t : SourceToken) (s : ReaderState)
     → handed_as limits h context t s ≡ steps_by limits context (given_steps (given_as h t)) s
-handed_is limits handed.Kept context t s = refl
-handed_is limits handed.Unfit context t s = refl
-handed_is limits handed.Condition context t s = refl
+handed_is limits Forwarded.Kept context t s = refl
+handed_is limits Forwarded.Unfit context t s = refl
+handed_is limits Forwarded.Condition context t s = refl
 
 sign_is : (limits : Limits) (sign : Option Sign) (context : Context) (s : ReaderState)
     → sign_taken limits sign context s ≡ steps_by limits context (given_steps (given_sign sign)) s

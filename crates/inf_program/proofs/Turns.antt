@@ -1,20 +1,16 @@
 -- Turns lead to the same state whether they write their messages or not.
-use Rattle.std.proofs.Common.{◌≡◌, ℕ, zero, suc, List, [], ◌++◌, Bool, true, false, refl, sym, ◌∙◌, ap, append-nil}
-use Rattle.std.specs.Prelude.{if◌then◌else◌}
+use Rattle.std.proofs.Common.{◌≡◌, ℕ, zero, suc, List, [], ◌++◌, Bool, true, false, refl, sym, ◌∙◌, ap, append-nil, if◌then◌else◌}
 use Rattle.inf_settings.specs.Bounds.{Limits}
 use Rattle.inf_scanner.specs.declared.tokens.Place.{Place}
 use Rattle.inf_devices.specs.Files.{Sources}
 use Rattle.inf_sources.specs.Cursors.{behind, read}
 use Rattle.inf_unit.specs.Tokens.{SourceToken}
 use Rattle.inf_reader.specs.Handing.{is_between}
-use Rattle.inf_session.specs.Choices.{Choices}
+use Rattle.inf_session.specs.{Choices.Choices, Taking.Taken, Taking.token_taken}
 use Rattle.inf_session.specs.Session.{State, context_of, followed, has_ended, run, stand_of, stepped, token_of, told_out, turn}
-use Rattle.inf_session.specs.Taking.{Taken, token_taken}
 use Rattle.inf_laws.specs.KeptTurns.{turned}
 use Rattle.inf_program.specs.Writing.{LinesAreWrittenAtAnyTime, silent_run, silent_turn, silent_turned, unwritten, with_lines}
-use Rattle.inf_program.proofs.Followed.{followed_moves}
-use Rattle.inf_program.proofs.Handed.{taken_lead, token_stays}
-use Rattle.inf_program.proofs.Readers.{state_behind}
+use Rattle.inf_program.proofs.{Followed.followed_moves, Handed.taken_lead, Handed.token_stays, Readers.state_behind}
 use Rattle.inf_program.proofs.States.{Moves, Stays, then_moves}
 
 -- A token is taken.

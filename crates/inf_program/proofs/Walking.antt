@@ -1,36 +1,29 @@
 -- Turns through the front of a piece do what the events of its text say.
-use Rattle.std.proofs.Common.{◌≡◌, ℕ, zero, suc, List, [], ◌∷◌, ◌++◌, ◌&&◌, false, refl, sym, ◌∙◌, ap, subst}
-use Rattle.std.specs.Prelude.{if◌then◌else◌}
+use Rattle.std.proofs.Common.{◌≡◌, ℕ, zero, suc, List, [], ◌∷◌, ◌++◌, ◌&&◌, false, refl, sym, ◌∙◌, ap, subst, if◌then◌else◌}
 use Rattle.inf_settings.specs.Bounds.{Limits}
 use Rattle.inf_devices.specs.Files.{Sources}
 use Rattle.inf_machine.specs.declared.symbols.Symbol.{Symbol}
-use Rattle.inf_machine.specs.declared.symbols.Symbol.TheVariants.{Rule}
 use Rattle.inf_syntax.specs.declared.actions.Action.{Action}
 use Rattle.inf_unit.specs.Tokens.{SourceToken, is_end}
-use Rattle.inf_compilation.specs.Actions.{Compilation, piece_begun as work_begun}
-use Rattle.inf_compilation.specs.Context.{Context}
+use Rattle.inf_compilation.specs.{Actions.Compilation, Actions.piece_begun as work_begun, Context.Context}
 use Rattle.inf_conditional_sides.specs.Sides.{has_none}
 use Rattle.inf_reader.specs.Reading.{Reading, ReaderState, between, is_mode_ended, judged, piece_begun, piece_rule, step}
-use Rattle.inf_reader.specs.declared.recovery.Recovery.TheVariants as mode
+use Rattle.inf_reader.specs.declared.recovery.Recovery.{Recovery}
 use Rattle.inf_session.specs.Choices.{Choices}
 use Rattle.inf_laws.specs.KeptTokens.{Kept}
 use Rattle.inf_laws.proofs.KeptTokens.{no_token}
-use Rattle.inf_statement_laws.specs.Happenings.{Between}
-use Rattle.inf_statement_laws.specs.Laid.{passed}
+use Rattle.inf_statement_laws.specs.{Happenings.Between, Laid.passed}
 use Rattle.inf_grammar.proofs.Spaced.{rule_is_spaced}
-use Rattle.inf_program.specs.definition.Steps.{AllKept}
-use Rattle.inf_program.specs.definition.Steps.{Passes, Reads, Step}
+use Rattle.inf_program.specs.definition.Steps.{AllKept, Passes, Reads, Step}
 use Rattle.inf_program.specs.Turns.{piece_first, step_by, steps_by}
 use Rattle.inf_program.specs.definition.NextToken.{Position, afresh, at_front, steps_at, within}
 use Rattle.inf_program.specs.definition.Fronts.{AllGoOn, Course, Derives, FirstKept, Front, IsOpen, PieceState, Progress, atoms_from}
-use Rattle.inf_program.specs.definition.Fronts.{begun_piece}
-use Rattle.inf_program.specs.definition.Fronts.{done_by, fresh_progress, kept_atoms, moved, piece_behind, reached, walked}
-use Rattle.inf_program.proofs.Events.{Agrees, InPiece, steps_agree}
-use Rattle.inf_program.proofs.Stacks.{none_left, piece_is_rest, some_left}
-use Rattle.inf_program.proofs.Stepping.{Comes, comes_next, comes_same, comes_then, followed_plainly, goes_on}
-use Rattle.inf_program.proofs.Stepping.{position_within, stand, turn_behind, turn_steps}
+use Rattle.inf_program.specs.definition.Fronts.{begun_piece, done_by, fresh_progress, kept_atoms, moved, piece_behind, reached, walked}
 use Rattle.inf_program.specs.definition.States.{AsksNothing, State, context_of, followed, has_ended}
-use Rattle.inf_program.specs.SideTurns.{IsQuiet, position_of, stand_of, stepped}
+use Rattle.inf_program.specs.SideTurns.{IsQuietBySide, position_of, stand_of, stepped}
+use Rattle.inf_program.proofs.{Events.Agrees, Events.InPiece, Events.steps_agree, Stacks.none_left, Stacks.piece_is_rest, Stacks.some_left}
+use Rattle.inf_program.proofs.Stepping.{Comes, comes_next, comes_same, comes_then, followed_plainly, goes_on, position_within, stand}
+use Rattle.inf_program.proofs.Stepping.{turn_behind, turn_steps}
 
 -- A state of the reading, behind the token of a turn, is that of a piece of which these atoms are still to come, and these symbols are
 -- left.
@@ -81,7 +74,8 @@ next_is_at limits sources o m x atoms left s is kept =
     s.inside kept
 
 -- behind a token of an open piece nothing else happens
-pub quiet_at : (m : PieceState) (x : State) (atoms : List ℕ) (left : List (Symbol Action)) → IsAt atoms left m x → IsOpen left m → IsQuiet x
+pub quiet_at : (m : PieceState) (x : State) (atoms : List ℕ) (left : List (Symbol Action)) → IsAt atoms left m x → IsOpen left m →
+    IsQuietBySide x
 quiet_at m x atoms left s is = record {
   is_not_over = ap (λ (q : State). q.work.report.counts.is_over) (sym s.same) ∙ is.is_not_over;
   has_more = ap is_mode_ended s.inside.at.reads;
@@ -140,17 +134,17 @@ walk limits sources o (suc n) atoms left m x s all =
 -- The first token
 
 pub first_step : (limits : Limits) (context : Context) (t : SourceToken) (m : Between) (w : Compilation) → is_end t.kind ≡ false
-    → step limits context t (between mode.Reads) (passed m w) ≡ step_by limits context (Reads (Kept t)) (piece_first m w)
+    → step limits context t (between Recovery.Reads) (passed m w) ≡ step_by limits context (Reads (Kept t)) (piece_first m w)
 first_step limits context t m w is_no_end =
-    let ended : ReaderState = record { reading = between mode.Ended; work = passed m w } in
-    ap (λ b. if b then ended else judged limits context t (piece_begun (between mode.Reads)) (work_begun (passed m w))) is_no_end
+    let ended : ReaderState = record { reading = between Recovery.Ended; work = passed m w } in
+    ap (λ b. if b then ended else judged limits context t (piece_begun (between Recovery.Reads)) (work_begun (passed m w))) is_no_end
 
 pub front_agrees : (limits : Limits) (context : Context) (m : Between) (t : SourceToken) (rest : List Step) (atoms : List ℕ)
     (left : List (Symbol Action)) (course : Course) (w : Compilation)
     → is_end t.kind ≡ false → AllKept (Passes m ∷ Reads (Kept t) ∷ rest)
-    → Derives (Rule piece_rule ∷ []) (kept_atoms (Passes m ∷ Reads (Kept t) ∷ rest) ++ atoms) course left
+    → Derives (Symbol.Rule piece_rule ∷ []) (kept_atoms (Passes m ∷ Reads (Kept t) ∷ rest) ++ atoms) course left
     → Agrees atoms left (done_by limits context (Passes m ∷ Reads (Kept t) ∷ rest) (fresh_progress course w))
-    (steps_by limits context (Passes m ∷ Reads (Kept t) ∷ rest) (stand (between mode.Reads) w))
+    (steps_by limits context (Passes m ∷ Reads (Kept t) ∷ rest) (stand (between Recovery.Reads) w))
 front_agrees limits context m t rest atoms left course w is_no_end kept text =
     let start : Progress = record { tokens = []; over = 0; course = course; work = work_begun (passed m w) } in
     subst (λ (x : ReaderState). Agrees atoms left (done_by limits context (Reads (Kept t) ∷ rest) start) (steps_by limits context rest x))
@@ -160,13 +154,13 @@ front_agrees limits context m t rest atoms left course w is_no_end kept text =
       inside = record { at = no_token; is_over = refl; spaced = rule_is_spaced piece_rule; derives = text; is_rest = piece_is_rest };
     }))
 
-pub afresh_same : (s : State) → s.reading ≡ between mode.Reads → afresh s ≡ s
+pub afresh_same : (s : State) → s.reading ≡ between Recovery.Reads → afresh s ≡ s
 afresh_same s fresh = ap (λ (r : Reading). record s { reading = r }) (sym fresh)
 
 -- the reading of a turn at the front of a piece, by its steps
-pub front_steps : (limits : Limits) (sources : Sources) (o : Choices) (s : State) → s.reading ≡ between mode.Reads
+pub front_steps : (limits : Limits) (sources : Sources) (o : Choices) (s : State) → s.reading ≡ between Recovery.Reads
     → stand_of (stepped limits o s)
-    ≡ steps_by limits (context_of o s) (steps_at limits o at_front s) (stand (between mode.Reads) s.work)
+    ≡ steps_by limits (context_of o s) (steps_at limits o at_front s) (stand (between Recovery.Reads) s.work)
 front_steps limits sources o s fresh =
     turn_steps limits sources o s at_front (ap position_of fresh)
     ∙ ap (λ (r : Reading). steps_by limits (context_of o s) (steps_at limits o at_front s) (stand r s.work)) fresh
@@ -174,24 +168,25 @@ front_steps limits sources o s fresh =
 -- the state behind the first token of the file
 pub begun_is_at : (limits : Limits) (sources : Sources) (o : Choices) (s : State) (course : Course) (atoms : List ℕ)
     (left : List (Symbol Action))
-    → s.reading ≡ between mode.Reads → FirstKept limits o s → AllKept (steps_at limits o at_front s)
-    → Derives (Rule piece_rule ∷ []) (kept_atoms (steps_at limits o at_front s) ++ atoms) course left
+    → s.reading ≡ between Recovery.Reads → FirstKept limits o s → AllKept (steps_at limits o at_front s)
+    → Derives (Symbol.Rule piece_rule ∷ []) (kept_atoms (steps_at limits o at_front s) ++ atoms) course left
     → IsAt atoms left (begun_piece limits o course s) (stepped limits o s)
 begun_is_at limits sources o s course atoms left fresh b kept text =
     let c : Context = context_of o s in
     let start : Progress = fresh_progress course s.work in
     let done : Progress = done_by limits c (steps_at limits o at_front s) start in
-    let by_steps : Agrees atoms left done (steps_by limits c (steps_at limits o at_front s) (stand (between mode.Reads) s.work)) =
+    let by_steps : Agrees atoms left done (steps_by limits c (steps_at limits o at_front s) (stand (between Recovery.Reads) s.work)) =
     subst (λ (steps : List Step). AllKept steps
-    → Derives (Rule piece_rule ∷ []) (kept_atoms steps ++ atoms) course left
-    → Agrees atoms left (done_by limits c steps start) (steps_by limits c steps (stand (between mode.Reads) s.work))) (sym b.steps)
+    → Derives (Symbol.Rule piece_rule ∷ []) (kept_atoms steps ++ atoms) course left
+    → Agrees atoms left (done_by limits c steps start) (steps_by limits c steps (stand (between Recovery.Reads) s.work))) (sym b.steps)
     (front_agrees limits c b.effect b.token b.rest atoms left course s.work b.is_no_end) kept text in
     subst (λ (q : State). IsAt atoms left (piece_behind o at_front q done) (stepped limits o s)) (afresh_same s fresh)
     (turn_is_at limits o s at_front done atoms left (ap position_of fresh)
     (subst (λ (x : ReaderState). Agrees atoms left done x) (sym (front_steps limits sources o s fresh)) by_steps))
 
 -- turns through a front
-pub front_walked : (limits : Limits) (sources : Sources) (o : Choices) (s : State) (f : Front limits o s) → s.reading ≡ between mode.Reads
+pub front_walked : (limits : Limits) (sources : Sources) (o : Choices) (s : State) (f : Front limits o s) →
+    s.reading ≡ between Recovery.Reads
     → has_ended s ≡ false → Walked limits sources o f.further f.left (reached f) s
 front_walked limits sources o s f fresh going =
     let x : State = stepped limits o s in
@@ -210,7 +205,7 @@ front_walked limits sources o s f fresh going =
 pub whole_is : (m : PieceState) (x : State) → IsAt [] [] m x → x ≡ m.state
 whole_is m x s =
     let empty : x.reading.stack ≡ [] = none_left x.reading.stack s.inside.derives.leads s.inside.is_rest in
-    let reading : x.reading ≡ between mode.Reads =
+    let reading : x.reading ≡ between Recovery.Reads =
     ap (λ m. record { mode = m; stack = x.reading.stack }) s.inside.at.reads
-    ∙ ap (λ stack. record { mode = mode.Reads; stack = stack }) empty in
+    ∙ ap (λ stack. record { mode = Recovery.Reads; stack = stack }) empty in
     sym (afresh_same x reading) ∙ sym s.same

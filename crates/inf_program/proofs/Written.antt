@@ -1,23 +1,18 @@
 -- The outcome of a source is the one that its program gives, whether the source is there or not, and wherever reading ends.
-use Rattle.std.proofs.Common.{◌≡◌, ℕ, zero, List, Bool, true, false, Option, Some, None, refl, sym, ◌∙◌, ap, subst, true≢false}
-use Rattle.std.specs.Prelude.{◌↔◌}
+use Rattle.std.proofs.Common.{◌≡◌, ℕ, zero, List, Bool, true, false, Option, Some, None, refl, sym, ◌∙◌, ap, subst, true≢false, ◌↔◌}
 use Rattle.inf_settings.specs.Bounds.{Limits, limits_of}
 use Rattle.inf_devices.specs.Files.{Sources}
-use Rattle.inf_session.specs.Choices.{Choices}
+use Rattle.inf_session.specs.{Choices.Choices, Session.State as TurnState, Session.start as turn_start, Session.told_out}
 use Rattle.inf_ending.specs.Ending.{Outcome}
-use Rattle.inf_session.specs.Session.{State as TurnState, start as turn_start, told_out}
 use Rattle.inf_session.proofs.Leadings.{run_ended}
 use Rattle.inf_compile.specs.Outcome.{IsCompiled, IsOutcome, IsOutcomeOf, ending_of}
-use Rattle.inf_compile.proofs.OutcomeLaws.{outcomes_are_unique}
-use Rattle.inf_compile.proofs.Reaching.{outcomes_exist}
+use Rattle.inf_compile.proofs.{OutcomeLaws.outcomes_are_unique, Reaching.outcomes_exist}
+use Rattle.inf_program.specs.{Writings.OutcomesAreWritten, definition.Supplied.AreSupplied}
 use Rattle.inf_program.specs.definition.Program.{Continues, IsOver, IsProgram}
 use Rattle.inf_program.specs.definition.States.{State, has_ended, start}
-use Rattle.inf_program.specs.definition.Supplied.{AreSupplied}
 use Rattle.inf_program.specs.definition.Written.{IsOutcomeOfProgram, IsWritten, IsWrittenOf, ending}
-use Rattle.inf_program.specs.Writings.{OutcomesAreWritten}
-use Rattle.inf_program.proofs.Early.{ending_told, start_over}
-use Rattle.inf_program.proofs.Existing.{outcomes_are_those_of_programs}
-use Rattle.inf_program.proofs.Supplied.{supplied_ending, texts_are_programs}
+use Rattle.inf_program.proofs.{Early.ending_told, Early.start_over, Existing.outcomes_are_those_of_programs, Supplied.supplied_ending}
+use Rattle.inf_program.proofs.{Supplied.texts_are_programs}
 
 -- Reading ends before the first token
 

@@ -4,15 +4,11 @@ use Rattle.std.specs.Prelude.{◌≡◌, ℕ, List, [], false}
 use Rattle.inf_settings.specs.Bounds.{Limits, limits_of}
 use Rattle.inf_devices.specs.Files.{Sources}
 use Rattle.inf_conditionals.specs.Open.{Conditions}
-use Rattle.inf_conditional_sides.specs.Judged.{Agree, given_of}
-use Rattle.inf_conditional_sides.specs.Sides.{heard}
+use Rattle.inf_conditional_sides.specs.{Judged.Agree, Judged.given_of, Sides.heard}
 use Rattle.inf_session.specs.Choices.{Choices}
 use Rattle.inf_session.specs.Session.{State as TurnState, start as turn_start, stepped as turn_stepped, token_of}
-use Rattle.inf_program.specs.definition.NextToken.{step_at}
-use Rattle.inf_program.specs.definition.States.{State, has_ended, start}
-use Rattle.inf_program.specs.SideTurns.{position_of, silent_run}
-use Rattle.inf_program.specs.Turns.{judgement}
-use Rattle.inf_program.specs.Writing.{silent_run as turn_run}
+use Rattle.inf_program.specs.{SideTurns.position_of, SideTurns.side_run, Turns.judgement, Writing.silent_run as turn_run}
+use Rattle.inf_program.specs.{definition.NextToken.step_at, definition.States.State, definition.States.has_ended, definition.States.start}
 
 -- the state of a turn, by its conditionals and the number of bytes of the longest quoted token, where no message was written
 abbrev pub with_conditions : Conditions → ℕ → State → TurnState
@@ -43,4 +39,4 @@ abbrev pub TurnsGoBySides : Type 0
 TurnsGoBySides =
     (sources : Sources) (o : Choices) (name : List ℕ) (n : ℕ)
     → AreAlike (limits_of o.settings) o (turn_run (limits_of o.settings) sources o n (turn_start sources o name))
-    (silent_run (limits_of o.settings) sources o n (start sources o name))
+    (side_run (limits_of o.settings) sources o n (start sources o name))

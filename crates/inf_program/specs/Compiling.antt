@@ -1,11 +1,8 @@
 -- The bytes that a compilation leaves in its devices, by the outcome that the program of its source gives.
 use Rattle.std.specs.Prelude.{◌≡◌, ℕ, List, Option}
-use Rattle.inf_devices.specs.Files.{Sources}
-use Rattle.inf_devices.specs.Sinks.{Takes}
+use Rattle.inf_devices.specs.{Files.Sources, Sinks.Takes}
 use Rattle.inf_session.specs.Choices.{Choices}
-use Rattle.inf_ending.specs.Ending.{Outcome}
-use Rattle.inf_ending.specs.Delivered.{IsFront}
-use Rattle.inf_ending.specs.declared.compiled.Status.{Status}
+use Rattle.inf_ending.specs.{Delivered.IsFront, Ending.Outcome, declared.compiled.Status.Status}
 use Rattle.inf_compile.specs.Compiling.{TakesPart, TakesStory}
 use Rattle.inf_program.specs.definition.Written.{IsWritten}
 

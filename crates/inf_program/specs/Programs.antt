@@ -4,18 +4,15 @@ use Rattle.inf_settings.specs.Bounds.{Limits, limits_of}
 use Rattle.inf_devices.specs.Files.{Sources}
 use Rattle.inf_session.specs.Choices.{Choices}
 use Rattle.inf_compile.specs.Outcome.{IsOutcome}
-use Rattle.inf_program.specs.definition.NextToken.{afresh}
-use Rattle.inf_program.specs.definition.Program.{IsProgram}
-use Rattle.inf_program.specs.definition.Supplied.{AreSupplied}
-use Rattle.inf_program.specs.definition.Written.{ending}
+use Rattle.inf_program.specs.{SideTurns.side_run, definition.NextToken.afresh, definition.Program.IsProgram}
+use Rattle.inf_program.specs.{definition.Supplied.AreSupplied, definition.Written.ending}
 use Rattle.inf_program.specs.definition.States.{State, has_ended, start}
-use Rattle.inf_program.specs.SideTurns.{silent_run}
 
 -- Some turns end reading in the state `final`, but for the rest of a piece that is broken off there.
 pub record EndsAs (limits : Limits) (sources : Sources) (o : Choices) (final s : State) : Type 0 where
   pub turns : ℕ
-  pub ends : has_ended (silent_run limits sources o turns s) ≡ true
-  pub same : afresh (silent_run limits sources o turns s) ≡ afresh final
+  pub ends : has_ended (side_run limits sources o turns s) ≡ true
+  pub same : afresh (side_run limits sources o turns s) ≡ afresh final
 
 -- Turns, whose messages are still to be written, do what a program does.
 abbrev pub TurnsDoPrograms : Limits → Type 0

@@ -3,26 +3,22 @@ use Rattle.std.specs.Prelude.{◌≡◌, ℕ, List, Some, true}
 use Rattle.inf_settings.specs.Bounds.{Limits, limits_of}
 use Rattle.inf_devices.specs.Files.{Sources}
 use Rattle.inf_session.specs.Choices.{Choices}
-use Rattle.inf_reader.specs.Reading.{between}
-use Rattle.inf_reader.specs.declared.recovery.Recovery.TheVariants as mode
-use Rattle.inf_program.specs.definition.NextToken.{afresh}
-use Rattle.inf_program.specs.definition.Program.{IsProgram}
-use Rattle.inf_program.specs.Regular.{AreRegular}
+use Rattle.inf_reader.specs.{Reading.between, declared.recovery.Recovery.Recovery}
+use Rattle.inf_program.specs.{Regular.AreRegular, SideTurns.side_run, definition.NextToken.afresh, definition.Program.IsProgram}
 use Rattle.inf_program.specs.definition.States.{State, has_ended, start}
 use Rattle.inf_program.specs.definition.Supplied.{AreSupplied, text_start}
-use Rattle.inf_program.specs.SideTurns.{silent_run}
 
 -- A program from a state on that ends as `n` turns do, but for the rest of a piece that is broken off there.
 pub record ProgramOf (limits : Limits) (sources : Sources) (o : Choices) (n : ℕ) (s : State) : Type 0 where
   pub final : State
   pub is_program : IsProgram limits sources o final s
-  pub same : afresh (silent_run limits sources o n s) ≡ afresh final
+  pub same : afresh (side_run limits sources o n s) ≡ afresh final
 
 -- Where regular turns from a state between two pieces end reading, they are a program.
 abbrev pub RegularReadingsArePrograms : Limits → Type 0
 RegularReadingsArePrograms limits =
-    (sources : Sources) (o : Choices) (n : ℕ) (s : State) → s.reading ≡ between mode.Reads → AreRegular limits sources o n s
-    → has_ended (silent_run limits sources o n s) ≡ true → ProgramOf limits sources o n s
+    (sources : Sources) (o : Choices) (n : ℕ) (s : State) → s.reading ≡ between Recovery.Reads → AreRegular limits sources o n s
+    → has_ended (side_run limits sources o n s) ≡ true → ProgramOf limits sources o n s
 
 -- Each turn of the reading of a main source is regular.
 abbrev pub SourcesAreRegular : Type 0

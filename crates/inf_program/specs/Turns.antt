@@ -4,27 +4,17 @@ use Rattle.std.specs.Prelude.{◌≡◌, ℕ, zero, suc, List, [], ◌∷◌, �
 use Rattle.inf_settings.specs.Bounds.{Limits}
 use Rattle.inf_devices.specs.Files.{Sources}
 use Rattle.inf_scanner.specs.declared.tokens.Place.{Place}
-use Rattle.inf_machine.specs.Machine.{fits}
-use Rattle.inf_machine.specs.declared.symbols.Symbol.TheVariants.{Rule}
-use Rattle.inf_grammar.specs.Language.{grammar, known}
-use Rattle.inf_grammar.specs.Routines.{closings}
-use Rattle.inf_unit.specs.Directives.{Nothing}
-use Rattle.inf_unit.specs.Messages.{FileNames}
-use Rattle.inf_unit.specs.Tokens.{SourceToken, atom_of, is_end}
-use Rattle.inf_compilation.specs.Actions.{Compilation, piece_begun as work_begun}
-use Rattle.inf_compilation.specs.Context.{Context}
-use Rattle.inf_compilation.specs.Nesting.{closed_ahead}
-use Rattle.inf_conditionals.specs.Judging.{judged}
-use Rattle.inf_conditionals.specs.Said.{Said}
-use Rattle.inf_conditionals.specs.declared.filtered.Filtered.{Filtered}
-use Rattle.inf_reader.specs.Handing.{is_empty, site_of, skips, unfit_in}
+use Rattle.inf_machine.specs.{Machine.fits, declared.symbols.Symbol.Symbol}
+use Rattle.inf_grammar.specs.{Language.grammar, Language.known, Routines.closings}
+use Rattle.inf_unit.specs.{Directives.Nothing, Messages.FileNames, Tokens.SourceToken, Tokens.atom_of, Tokens.is_end}
+use Rattle.inf_compilation.specs.{Actions.Compilation, Actions.piece_begun as work_begun, Context.Context, Nesting.closed_ahead}
+use Rattle.inf_conditionals.specs.{Judging.judged, Said.Said, declared.filtered.Filtered.Filtered}
+use Rattle.inf_reader.specs.{Handing.is_empty, Handing.site_of, Handing.skips, Handing.unfit_in, declared.recovery.Recovery.Recovery}
 use Rattle.inf_reader.specs.Reading.{Reading, ReaderState, bad, between, is_mode_ended, piece_begun, piece_rule, step}
-use Rattle.inf_reader.specs.declared.recovery.Recovery.TheVariants as mode
 use Rattle.inf_session.specs.Choices.{Choices}
 use Rattle.inf_session.specs.Session.{State, context_of, is_resting, stand_of, stepped, token_of}
 use Rattle.inf_laws.specs.KeptTokens.{Given, Kept, Unfit, given_sign, given_token, token_in}
-use Rattle.inf_statement_laws.specs.Happenings.{Between}
-use Rattle.inf_statement_laws.specs.Laid.{passed}
+use Rattle.inf_statement_laws.specs.{Happenings.Between, Laid.passed}
 use Rattle.inf_statement_laws.specs.Readings.{Seen, all_taken, directed, directive_between, nothing_between, then_between}
 use Rattle.inf_program.specs.definition.Steps.{Ends, Passes, Reads, Step, lone_between, said_between}
 use Rattle.inf_program.specs.Writing.{silent_turn, silent_turned}
@@ -96,13 +86,13 @@ all_steps limits sources o (suc n) s = steps_of limits o s ++ all_steps limits s
 
 -- A token fits in the piece at hand.
 pub record IsFit (t : SourceToken) (r : Reading) : Type 0 where
-  pub reads : r.mode ≡ mode.Reads
+  pub reads : r.mode ≡ Recovery.Reads
   pub is_inside : is_empty r.stack ≡ false
   pub is_fit : fits grammar known (atom_of t) r.stack ≡ true
 
 -- A token does not fit in the piece at hand.
 pub record IsUnfit (t : SourceToken) (r : Reading) : Type 0 where
-  pub reads : r.mode ≡ mode.Reads
+  pub reads : r.mode ≡ Recovery.Reads
   pub is_inside : is_empty r.stack ≡ false
   pub is_unfit : fits grammar known (atom_of t) r.stack ≡ false
 
@@ -142,7 +132,7 @@ grouped (x ∷ steps) = before x (grouped steps)
 
 -- the reading of a piece that begins with a token, at the token, behind the effect of conditional directives
 abbrev pub piece_first : Between → Compilation → ReaderState
-piece_first m w = record { reading = piece_begun (between mode.Reads); work = work_begun (passed m w) }
+piece_first m w = record { reading = piece_begun (between Recovery.Reads); work = work_begun (passed m w) }
 
 -- Turns behind which nothing else happens have the effect of their steps (`turns`). Of steps in a piece, tokens that fit are taken as the
 -- machine of the grammar takes them, each with the effect behind it (`inside`). A token that does not fit is the bad one (`cut`), and one
@@ -161,8 +151,9 @@ pub record TurnsTakeTokens (limits : Limits) : Type 0 where
   pub skipped : (context : Context) (g : Given) (s : ReaderState) → skips s.reading.mode ≡ true
       → (step_by limits context (Reads g) s).work ≡ s.work
   pub whole : (sources : Sources) (o : Choices) (n : ℕ) (s : State) (m : Between) (t : SourceToken) (steps : List Step)
-      → s.reading ≡ between mode.Reads → is_end t.kind ≡ false → AreQuiet limits sources o n s
+      → s.reading ≡ between Recovery.Reads → is_end t.kind ≡ false → AreQuiet limits sources o n s
       → all_steps limits sources o n s ≡ Passes m ∷ Reads (Kept t) ∷ steps
       → AllFit limits (context_of o s) (Reads (Kept t) ∷ steps) (piece_first m s.work)
       → (stepped limits o (silent_turned limits sources o n s)).work
-      ≡ all_taken limits (context_of o s) (grouped (Reads (Kept t) ∷ steps)).seen (Rule piece_rule ∷ []) (work_begun (passed m s.work))
+      ≡ all_taken limits (context_of o s) (grouped (Reads (Kept t) ∷ steps)).seen (Symbol.Rule piece_rule ∷ [])
+      (work_begun (passed m s.work))

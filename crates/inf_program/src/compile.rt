@@ -1,6 +1,5 @@
 ghost use Rattle.std.specs.Prelude.{◌≡◌, IsTrue, IfOk, IfErr, MatchResult, Ok, OnOk, OnErr, Some};
-ghost use Rattle.inf_devices.specs.Files.{Rose};
-ghost use Rattle.inf_devices.specs.Sinks.{Takes};
+ghost use Rattle.inf_devices.specs.{Files.Rose, Sinks.Takes};
 ghost use Rattle.inf_command.specs.FileNames.{source_name};
 ghost use Rattle.inf_ending.specs.Faults.{HidesNoFailure, IfRead, IfStory, UnlessStory};
 ghost use Rattle.inf_compile.specs.Comes.{Heard, IsUnread, OpenedBy, OpenedPart};

@@ -1,11 +1,9 @@
 //! Laws of programs.
 ghost use Rattle.inf_settings.specs.Bounds.{Limits};
-ghost use Rattle.inf_program.specs.BySides.{TurnsGoBySides};
+ghost use Rattle.inf_program.specs.{BySides.TurnsGoBySides, Turns.TurnsTakeTokens, Writing.LinesAreWrittenAtAnyTime};
+ghost use Rattle.inf_program.specs.{Writings.OutcomesAreWritten};
 ghost use Rattle.inf_program.specs.Programs.{ProgramsEndInOneWay, ProgramsHaveTheirOutcome, TurnsDoPrograms};
 ghost use Rattle.inf_program.specs.Readings.{RegularReadingsArePrograms, SourcesAreRegular, SourcesHavePrograms, TextsArePrograms};
-ghost use Rattle.inf_program.specs.Turns.{TurnsTakeTokens};
-ghost use Rattle.inf_program.specs.Writing.{LinesAreWrittenAtAnyTime};
-ghost use Rattle.inf_program.specs.Writings.{OutcomesAreWritten};
 
 /// Shows that turns which write their messages lead to the same state as turns which write none, but that there all lines are still
 /// to be written.

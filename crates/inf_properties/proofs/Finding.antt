@@ -1,12 +1,11 @@
 -- Properties are found by the places that are kept under their numbers.
 use Rattle.std.proofs.Common.{◌≡◌, ◌<◌, ◌+◌, ◌-◌, ◌∷◌, ◌++◌, ◌==◌, [], ℕ, zero, suc, List, Bool, true, false, Option, Some, None, inl, inr}
 use Rattle.std.proofs.Common.{ltb, length, length-set, get_or, refl, sym, ap, subst, ◌∙◌, arith}
-use Rattle.std.specs.Prelude.{slice_get, slice_set, nat_lt, is_some, if◌then◌else◌}
 use Rattle.std.proofs.lemmas.Option.{slice_get-get_or, slice_get_within}
 use Rattle.std.proofs.lemmas.Bool.{eqb-true, eqb-false, lt-ltb, le-ltb, cases_lt}
-use Rattle.inf_properties.specs.declared.values.Property.{Property}
+use Rattle.std.specs.Prelude.{slice_get, slice_set, nat_lt, is_some, if◌then◌else◌}
+use Rattle.inf_properties.specs.{Properties.found, Properties.has, declared.values.Property.Property}
 use Rattle.inf_properties.specs.Places.{AreAt, AreCovered, KeepsPlaces, checked}
-use Rattle.inf_properties.specs.Properties.{found, has}
 
 abbrev pub at_place : ℕ → List Property → Option ℕ → Option Property
 at_place number properties None = None

@@ -1,14 +1,10 @@
 -- The change of a size that the code computes is the change of the size that a body's properties have.
-use Rattle.std.proofs.Common.{◌≡◌, ◌∷◌, ◌++◌, [], ℕ, List, Bool, false, Option, length, refl, sym, ap, subst, ◌∙◌}
-use Rattle.std.specs.Prelude.{option_to_list}
+use Rattle.std.proofs.Common.{◌≡◌, ◌∷◌, ◌++◌, [], ℕ, List, Bool, false, Option, length, refl, sym, ap, subst, ◌∙◌, option_to_list}
 use Rattle.inf_area.specs.declared.targets.Value.{Value}
-use Rattle.inf_properties.specs.declared.values.Property.{Property}
-use Rattle.inf_properties.specs.declared.sizes.Owner.{Owner}
-use Rattle.inf_properties.specs.declared.sizes.Size.{Size}
+use Rattle.inf_properties.specs.{Open.Open, Open.given_first, Open.is_last_short, Values.with_last_value, declared.sizes.Owner.Owner}
+use Rattle.inf_properties.specs.{declared.sizes.Size.Size, declared.values.Property.Property}
 use Rattle.inf_properties.specs.Properties.{AreNew, found, has, inherited, joined, joined_values, values_in, values_of}
 use Rattle.inf_properties.specs.Sizes.{is_short, joined_size, later_count, size_by, size_of, size_option, total}
-use Rattle.inf_properties.specs.Open.{Open, given_first, is_last_short}
-use Rattle.inf_properties.specs.Values.{with_last_value}
 use Rattle.inf_properties.proofs.Opening.{is_last_short_push, with_last_value-push}
 use Rattle.inf_properties.proofs.Sums.{Changes, given_changes, replaced_changes, size-joined}
 

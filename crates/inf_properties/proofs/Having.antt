@@ -1,13 +1,10 @@
 -- The property that an object has of a number.
 use Rattle.std.proofs.Common.{◌≡◌, ◌≤◌, ◌∷◌, ◌++◌, ◌==◌, [], ℕ, length, sym, subst, List, Bool, true, false, Option, Some, None, refl, ap}
-use Rattle.std.proofs.Common.{◌∙◌}
-use Rattle.std.specs.Prelude.{is_some, option_map, IfSome, ◌||◌, if◌then◌else◌}
+use Rattle.std.proofs.Common.{◌∙◌, is_some, option_map, IfSome, ◌||◌, if◌then◌else◌}
 use Rattle.std.proofs.lemmas.Bool.{eqb-true, leb-true, and_parts}
 use Rattle.inf_area.specs.declared.targets.Value.{Value}
-use Rattle.inf_properties.specs.declared.values.Property.{Property}
+use Rattle.inf_properties.specs.{Sizes.are_short, Sizes.is_short, Values.with_last_value, declared.values.Property.Property}
 use Rattle.inf_properties.specs.Properties.{AreFree, found, found_or_above, has, inherited, is_reserved, joined, lacked, with_joined}
-use Rattle.inf_properties.specs.Sizes.{are_short, is_short}
-use Rattle.inf_properties.specs.Values.{with_last_value}
 use Rattle.inf_properties.proofs.Inheriting.{has-push_other}
 
 -- the first of two

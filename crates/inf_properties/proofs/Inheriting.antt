@@ -1,7 +1,6 @@
 -- Properties no two of which have the same number, and those that an object takes from its classes.
 use Rattle.std.proofs.Common.{◌≡◌, ◌∷◌, ◌++◌, ◌==◌, [], ℕ, List, Bool, true, false, Some, append_assoc, append-nil, refl, sym, ap, subst}
-use Rattle.std.proofs.Common.{◌∙◌}
-use Rattle.std.specs.Prelude.{is_some, if◌then◌else◌}
+use Rattle.std.proofs.Common.{◌∙◌, is_some, if◌then◌else◌}
 use Rattle.std.proofs.lemmas.Bool.{eqb-true, eq-eqb}
 use Rattle.inf_properties.specs.declared.values.Property.{Property}
 use Rattle.inf_properties.specs.Properties.{AreNew, found, has, inherited, joined, lacked, with_joined}

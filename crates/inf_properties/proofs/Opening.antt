@@ -1,21 +1,13 @@
 -- The invariant of a body holds behind all that the body takes.
 use Rattle.std.proofs.Common.{◌≡◌, ◌≤◌, ◌<◌, ◌+◌, ◌^◌, ◌∷◌, ◌++◌, [], ℕ, suc, zero, List, Bool, true, false, length, get_or, take, inl, inr}
-use Rattle.std.proofs.Common.{refl, sym, ap, subst, ◌∙◌, arith}
-use Rattle.std.specs.Prelude.{slice_set, nat_lt, ◌⊎◌, if◌then◌else◌}
+use Rattle.std.proofs.Common.{refl, sym, ap, subst, ◌∙◌, arith, slice_set, nat_lt, ◌⊎◌, if◌then◌else◌}
 use Rattle.inf_area.specs.declared.targets.Value.{Value}
-use Rattle.inf_properties.specs.declared.values.Property.{Property}
-use Rattle.inf_properties.specs.declared.sizes.Owner.{Owner}
-use Rattle.inf_properties.specs.declared.sizes.Size.{Size}
-use Rattle.inf_properties.specs.Places.{AreAt, KeepsPlaces}
+use Rattle.inf_properties.specs.{Open.IsOpen, Open.is_last_short, Places.AreAt, Places.KeepsPlaces, Values.with_last_value}
+use Rattle.inf_properties.specs.{declared.sizes.Owner.Owner, declared.sizes.Size.Size, declared.values.Property.Property}
 use Rattle.inf_properties.specs.Properties.{AreFree, AreNew, has, inherited, is_reserved, joined}
 use Rattle.inf_properties.specs.Sizes.{are_short, is_short, total, with_table}
-use Rattle.inf_properties.specs.Open.{IsOpen, is_last_short}
-use Rattle.inf_properties.specs.Values.{with_last_value}
-use Rattle.inf_properties.proofs.Finding.{AreAt-kept}
-use Rattle.inf_properties.proofs.Having.{AreFree-inherited, AreFree-push, AreFree-valued}
-use Rattle.inf_properties.proofs.Inheriting.{AreNew-inherited, AreNew-push}
-use Rattle.inf_properties.proofs.Short.{short-given, short-replaced}
-use Rattle.inf_properties.proofs.Sums.{few}
+use Rattle.inf_properties.proofs.{Finding.AreAt-kept, Having.AreFree-inherited, Having.AreFree-push, Having.AreFree-valued}
+use Rattle.inf_properties.proofs.{Inheriting.AreNew-inherited, Inheriting.AreNew-push, Short.short-given, Short.short-replaced, Sums.few}
 
 -- the invariant of any lists with the size of all their properties
 opens : (o : Owner) (own above : List Property) (own_places above_places : List ℕ) (size : Size)

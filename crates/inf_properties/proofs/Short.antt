@@ -1,15 +1,12 @@
 -- No property has more than 32 values.
 use Rattle.std.proofs.Common.{◌≡◌, ◌≤◌, ◌∷◌, ◌++◌, ◌==◌, [], ℕ, List, Bool, true, false, Some, length, length-append, refl, sym, ap, subst}
-use Rattle.std.proofs.Common.{◌∙◌, arith}
-use Rattle.std.specs.Prelude.{if◌then◌else◌}
+use Rattle.std.proofs.Common.{◌∙◌, arith, if◌then◌else◌}
 use Rattle.std.proofs.lemmas.List.Folds.{list_all-append}
 use Rattle.std.proofs.lemmas.Bool.{and_parts, and_from, leb-true, eqb-true}
 use Rattle.inf_area.specs.declared.targets.Value.{Value}
-use Rattle.inf_properties.specs.declared.values.Property.{Property}
+use Rattle.inf_properties.specs.{Sizes.are_short, Sizes.is_short, declared.values.Property.Property}
 use Rattle.inf_properties.specs.Properties.{found, has, inherited, joined, joined_values, lacked, with_joined}
-use Rattle.inf_properties.specs.Sizes.{are_short, is_short}
-use Rattle.inf_properties.proofs.Inheriting.{has-push_true, SameNumbers-push}
-use Rattle.inf_properties.proofs.Sums.{lacked-same}
+use Rattle.inf_properties.proofs.{Inheriting.SameNumbers-push, Inheriting.has-push_true, Sums.lacked-same}
 
 lacked_short : (own above : List Property) (p : Property) → are_short (lacked own above) ≡ true →
     are_short (lacked (own ++ p ∷ []) above) ≡ true

@@ -1,14 +1,10 @@
 -- One property more of a list that a loop goes over.
 use Rattle.std.proofs.Common.{◌≡◌, ◌≤◌, ◌<◌, ◌+◌, ◌∷◌, ◌++◌, [], ℕ, List, true, length, get_or, take, drop, sym, ap, subst, ◌∙◌, arith}
-use Rattle.std.proofs.Common.{length-take}
-use Rattle.std.specs.Prelude.{slice_set, sum_by}
-use Rattle.std.proofs.lemmas.Bool.{and_parts, leb-true}
-use Rattle.std.proofs.lemmas.List.{drop_more, take_more}
-use Rattle.std.proofs.lemmas.List.Sums.{sum_by-cons}
-use Rattle.inf_properties.specs.declared.values.Property.{Property}
+use Rattle.std.proofs.Common.{length-take, slice_set, sum_by}
+use Rattle.std.proofs.{lemmas.Bool.and_parts, lemmas.Bool.leb-true, lemmas.List.Sums.sum_by-cons, lemmas.List.drop_more}
+use Rattle.std.proofs.{lemmas.List.take_more}
+use Rattle.inf_properties.specs.{Properties.AreNew, Sizes.are_short, Sizes.is_short, declared.values.Property.Property}
 use Rattle.inf_properties.specs.Places.{AreAt, AreCovered, KeepsPlaces}
-use Rattle.inf_properties.specs.Properties.{AreNew}
-use Rattle.inf_properties.specs.Sizes.{are_short, is_short}
 use Rattle.inf_properties.proofs.Finding.{AreAt-push, AreCovered-kept, AreCovered-push, AreCovered-set}
 
 taken : (ps : List Property) (i : ℕ) (p : Property) → i < length ps → p ≡ get_or ps i p → take (i + 1) ps ≡ take i ps ++ p ∷ []

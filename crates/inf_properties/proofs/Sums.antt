@@ -1,15 +1,10 @@
 -- Sums over the properties of an object, when its body gives more.
 use Rattle.std.proofs.Common.{◌≡◌, ◌≤◌, ◌+◌, ◌-◌, ◌*◌, ◌∷◌, ◌++◌, ◌==◌, [], ℕ, List, Bool, true, false, Option, Some, None, length}
-use Rattle.std.proofs.Common.{length-append, refl, sym, ap, subst, ◌∙◌, arith}
-use Rattle.std.specs.Prelude.{nat_le, nat_lt, sum_by, if◌then◌else◌}
+use Rattle.std.proofs.Common.{length-append, refl, sym, ap, subst, ◌∙◌, arith, nat_le, nat_lt, sum_by, if◌then◌else◌}
 use Rattle.std.proofs.lemmas.Bool.{eqb-true, eqb-false, ne_eqb, leb-true}
 use Rattle.std.proofs.lemmas.List.Sums.{sum_by-append, sum_by-cons, sum_by_push}
 use Rattle.inf_area.specs.declared.targets.Value.{Value}
-use Rattle.inf_area.specs.declared.targets.Value.TheVariants as value
-use Rattle.inf_properties.specs.declared.values.Property.{Property}
-use Rattle.inf_properties.specs.declared.sizes.Owner.{Owner}
-use Rattle.inf_properties.specs.declared.sizes.Owner.TheVariants as owner
-use Rattle.inf_properties.specs.declared.sizes.Size.{Size}
+use Rattle.inf_properties.specs.{declared.sizes.Owner.Owner, declared.sizes.Size.Size, declared.values.Property.Property}
 use Rattle.inf_properties.specs.Properties.{AreNew, found, has, inherited, joined, joined_values, lacked, with_joined}
 use Rattle.inf_properties.specs.Sizes.{bytes_of, fixups_of, individuals_of, joined_count, joined_later, joined_size, later_count, size_by}
 use Rattle.inf_properties.specs.Sizes.{size_of, size_option, total}
@@ -185,8 +180,8 @@ changed_is old lost gained new h =
 -- counts of joined values
 later_count-append : (xs ys : List Value) → later_count (xs ++ ys) ≡ later_count xs + later_count ys
 later_count-append [] ys = omega arith
-later_count-append (value.Known n ∷ xs) ys = later_count-append xs ys
-later_count-append (value.Later t ∷ xs) ys = omega (arith, later_count-append xs ys)
+later_count-append (Value.Known n ∷ xs) ys = later_count-append xs ys
+later_count-append (Value.Later t ∷ xs) ys = omega (arith, later_count-append xs ys)
 
 pub later_count_push : (xs : List Value) (v : Value) → later_count (xs ++ v ∷ []) ≡ later_count xs + later_count (v ∷ [])
 later_count_push xs v = later_count-append xs (v ∷ [])
@@ -212,12 +207,12 @@ count-joined = length-joined
 -- there are no more fixups and individual properties than bytes
 later_within : (values : List Value) → later_count values ≤ length values
 later_within [] = omega arith
-later_within (value.Known n ∷ values) = omega (arith, later_within values)
-later_within (value.Later t ∷ values) = omega (arith, later_within values)
+later_within (Value.Known n ∷ values) = omega (arith, later_within values)
+later_within (Value.Later t ∷ values) = omega (arith, later_within values)
 
 few_by : (o : Owner) (n count later : ℕ) → later ≤ count → ((size_by o n count later).fixups ≤ (size_by o n count later).bytes) ×
     ((size_by o n count later).individuals ≤ (size_by o n count later).bytes)
-few_by owner.Object n count later h = go (nat_lt n 64) (nat_le count 1) refl
+few_by Owner.Object n count later h = go (nat_lt n 64) (nat_le count 1) refl
   where
     go : (b t : Bool) → nat_le count 1 ≡ t →
         ((if b then sized (if t then 3 else 2 + 2 * count) later 0 else sized (if t then 5 else 3 + 2 * count) later 1).fixups
@@ -228,8 +223,8 @@ few_by owner.Object n count later h = go (nat_lt n 64) (nat_le count 1) refl
     go true false e = (omega arith, omega arith)
     go false true e = let few = leb-true count 1 e in (omega arith, omega arith)
     go false false e = (omega arith, omega arith)
-few_by owner.Class n count later h = (omega arith, omega arith)
-few_by owner.Nothing n count later h = (omega arith, omega arith)
+few_by Owner.Class n count later h = (omega arith, omega arith)
+few_by Owner.Nothing n count later h = (omega arith, omega arith)
 
 pub few_here : (o : Owner) (p : Property) → ((size_of o p).fixups ≤ (size_of o p).bytes) × ((size_of o p).individuals ≤ (size_of o p).bytes)
 few_here o p = few_by o p.number (length p.values) (later_count p.values) (later_within p.values)

@@ -2,15 +2,9 @@
 use Rattle.std.specs.Prelude.{ℕ, ◌<◌, ◌≤◌, ◌^◌, ◌≡◌, List, [], ◌∷◌, ◌++◌, not, Bool, true, false, Option, Some, None, option_to_list}
 use Rattle.std.specs.Prelude.{if◌then◌else◌}
 use Rattle.inf_area.specs.declared.targets.Value.{Value}
-use Rattle.inf_properties.specs.declared.values.Property.{Property}
-use Rattle.inf_properties.specs.declared.sizes.Owner.{Owner}
-use Rattle.inf_properties.specs.declared.sizes.Room.{Room}
-use Rattle.inf_properties.specs.declared.sizes.Size.{Size}
-use Rattle.inf_properties.specs.declared.open.GiveFault.{GiveFault}
-use Rattle.inf_properties.specs.declared.open.GiveFault.TheVariants as fault
-use Rattle.inf_properties.specs.Places.{AreAt}
+use Rattle.inf_properties.specs.{Places.AreAt, Values.with_last_value, declared.open.GiveFault.GiveFault, declared.sizes.Owner.Owner}
+use Rattle.inf_properties.specs.{declared.sizes.Room.Room, declared.sizes.Size.Size, declared.values.Property.Property}
 use Rattle.inf_properties.specs.Properties.{AreFree, AreNew, has, inherited, joined}
-use Rattle.inf_properties.specs.Values.{with_last_value}
 use Rattle.inf_properties.specs.Sizes.{are_short, is_short, lacks, table_bytes, total, with_table}
 
 -- The owner of the properties, those that its body gave, those of the classes that it named, and whether a further value belongs to
@@ -48,14 +42,14 @@ with_class properties o = record o { above = inherited o.above properties }
 
 -- the fault of too little room, where properties of the size `size` lack it
 abbrev pub full_fault : Size → Room → Option GiveFault
-full_fault size room = if lacks room (with_table size).bytes then Some fault.Full else None
+full_fault size room = if lacks room (with_table size).bytes then Some GiveFault.Full else None
 
 -- The reason for which a property is refused: the first of these faults in their order, if any.
 abbrev pub give_fault : Property → Room → Open → Option GiveFault
 give_fault p room o =
-    if has p.number o.own then Some fault.Given
-    else if not (is_short (joined o.above p)) then Some fault.TooLong
-    else if lacks room (bytes_now (with_given p o)) then Some fault.Full
+    if has p.number o.own then Some GiveFault.Given
+    else if not (is_short (joined o.above p)) then Some GiveFault.TooLong
+    else if lacks room (bytes_now (with_given p o)) then Some GiveFault.Full
     else None
 
 -- the property that was given last has at most 32 values, with those of classes
@@ -67,24 +61,24 @@ is_last_short above (p ∷ q ∷ own) = is_last_short above (q ∷ own)
 abbrev pub value_fault : Value → Room → Open → Option GiveFault
 value_fault value room o =
     if not o.takes_values then None
-    else if not (is_last_short o.above (with_last_value value o.own)) then Some fault.TooLong
-    else if lacks room (bytes_now (with_value value o)) then Some fault.Full
+    else if not (is_last_short o.above (with_last_value value o.own)) then Some GiveFault.TooLong
+    else if lacks room (bytes_now (with_value value o)) then Some GiveFault.Full
     else None
 
 abbrev pub class_fault : List Property → Room → Open → Option GiveFault
 class_fault properties room o =
-    if not (are_short (all (with_class properties o))) then Some fault.TooLong
-    else if lacks room (bytes_now (with_class properties o)) then Some fault.Full
+    if not (are_short (all (with_class properties o))) then Some GiveFault.TooLong
+    else if lacks room (bytes_now (with_class properties o)) then Some GiveFault.Full
     else None
 
 -- the fault that is told: the one that was found, or else that memory ran out
 abbrev pub refusal : Option GiveFault → GiveFault
-refusal None = fault.Memory
+refusal None = GiveFault.Memory
 refusal (Some f) = f
 
 -- the fault that is told of a class: the one that was found, or that memory ran out before
 abbrev pub class_refused : Option GiveFault → GiveFault → Type 0
-class_refused found fault.Memory = Unit {0}
+class_refused found GiveFault.Memory = Unit {0}
 class_refused found refused = found ≡ Some refused
 
 -- The invariant of a body: the places of its properties and of those of its classes, and the size of all of them.

@@ -2,18 +2,13 @@
 use Rattle.std.specs.Prelude.{ℕ, ◌+◌, ◌*◌, List, [], ◌∷◌, length, nat_le, nat_lt, sum_by, Bool, Option, None, Some, if◌then◌else◌}
 use Rattle.std.specs.List.{list_all}
 use Rattle.inf_area.specs.declared.targets.Value.{Value}
-use Rattle.inf_area.specs.declared.targets.Value.TheVariants as value
-use Rattle.inf_properties.specs.declared.values.Property.{Property}
-use Rattle.inf_properties.specs.declared.sizes.Owner.{Owner}
-use Rattle.inf_properties.specs.declared.sizes.Owner.TheVariants as owner
-use Rattle.inf_properties.specs.declared.sizes.Room.{Room}
-use Rattle.inf_properties.specs.declared.sizes.Size.{Size}
+use Rattle.inf_properties.specs.declared.{sizes.Owner.Owner, sizes.Room.Room, sizes.Size.Size, values.Property.Property}
 
 -- the number of values that are known later
 abbrev pub later_count : List Value → ℕ
 later_count [] = 0
-later_count (value.Known number ∷ values) = later_count values
-later_count (value.Later target ∷ values) = 1 + later_count values
+later_count (Value.Known number ∷ values) = later_count values
+later_count (Value.Later target ∷ values) = 1 + later_count values
 
 -- The bytes of a property with `count` values in a property table: a byte for its size and number where it has one value, two bytes
 -- where it has more; a property without values has one 0.
@@ -37,11 +32,11 @@ are_short properties = list_all is_short properties
 -- The size that a property with `count` values, `later` of which are known later, adds to its owner's. A class keeps its values in
 -- no table; each counts two bytes.
 abbrev pub size_by : Owner → ℕ → ℕ → ℕ → Size
-size_by owner.Object number count later =
+size_by Owner.Object number count later =
     if nat_lt number 64 then record { bytes = common_bytes count; fixups = later; individuals = 0 }
     else record { bytes = individual_bytes count; fixups = later; individuals = 1 }
-size_by owner.Class number count later = record { bytes = 2 * count; fixups = 0; individuals = 0 }
-size_by owner.Nothing number count later = no_size
+size_by Owner.Class number count later = record { bytes = 2 * count; fixups = 0; individuals = 0 }
+size_by Owner.Nothing number count later = no_size
 
 abbrev pub size_of : Owner → Property → Size
 size_of owner p = size_by owner p.number (length p.values) (later_count p.values)

@@ -1,7 +1,6 @@
 //! An index of properties by their numbers.
 ghost use Rattle.std.specs.Prelude.{◌≡◌, ◌≤◌, [], length, option_map, IfSome, OnOk};
-ghost use Rattle.inf_properties.specs.Places.{AreAt};
-ghost use Rattle.inf_properties.specs.Properties.{AreFree, found};
+ghost use Rattle.inf_properties.specs.{Places.AreAt, Properties.AreFree, Properties.found};
 
 use crate::lists::{Properties, cover_all, place_all};
 use crate::places::find;

@@ -1,8 +1,7 @@
 //! Lists of properties, and how an object takes from its classes.
 ghost use Rattle.std.specs.Prelude.{◌≡◌, ◌+◌, ◌++◌, ◌<◌, ◌≤◌, [], true, length, IfOk, IfSome, IfNone, OnOk, OnErr};
-ghost use Rattle.inf_properties.specs.Places.{AreAt, AreCovered, KeepsPlaces};
+ghost use Rattle.inf_properties.specs.{Places.AreAt, Places.AreCovered, Places.KeepsPlaces, Sizes.are_short, Sizes.total};
 ghost use Rattle.inf_properties.specs.Properties.{AreFree, AreNew, found, inherited, joined, lacked, values_of, with_joined};
-ghost use Rattle.inf_properties.specs.Sizes.{are_short, total};
 
 use crate::places::{cover, find};
 use crate::sizes::{NO_SIZE, Owner, Size};

@@ -1,11 +1,8 @@
 //! The properties of a body that is being read.
 ghost use Rattle.std.specs.Prelude.{◌≡◌, ◌<◌, ◌≤◌, ◌^◌, ◌++◌, ◌∷◌, [], true, false, length, IfOk, IfSome, IfNone, IsSome, OnOk, OnErr};
 ghost use Rattle.std.specs.Prelude.{MatchResult, None, option_to_list};
-ghost use Rattle.inf_properties.specs.declared.open.GiveFault.TheVariants.{Memory};
-ghost use Rattle.inf_properties.specs.Places.{AreAt};
+ghost use Rattle.inf_properties.specs.{Open.full_fault, Places.AreAt, Values.with_last_value, declared.open.GiveFault.TheVariants.Memory};
 ghost use Rattle.inf_properties.specs.Properties.{has, joined_values};
-ghost use Rattle.inf_properties.specs.Open.{full_fault};
-ghost use Rattle.inf_properties.specs.Values.{with_last_value};
 ghost use Rattle.inf_properties.specs.Sizes.{joined_count, joined_size, later_count, size_by, size_option};
 
 use crate::lists::{Properties, cover_all, inherited, place_all, total_within};

@@ -2,8 +2,7 @@
 //!
 //! A place that was written for another list does no harm: the list itself shows whether the property at a place has the number.
 ghost use Rattle.std.specs.Prelude.{◌≡◌, ◌<◌, length, option_map, OnOk, slice_get};
-ghost use Rattle.inf_properties.specs.Properties.{found};
-ghost use Rattle.inf_properties.specs.Places.{AreAt, KeepsPlaces, checked};
+ghost use Rattle.inf_properties.specs.{Places.AreAt, Places.KeepsPlaces, Places.checked, Properties.found};
 
 use crate::values::Property;
 use std::alloc::AllocError;

@@ -3,11 +3,9 @@ use Rattle.std.proofs.Common.{◌≡◌, List, [], ◌∷◌, false, cond, refl,
 use Rattle.inf_settings.specs.Bounds.{Limits}
 use Rattle.inf_machine.specs.declared.symbols.Symbol.{Symbol}
 use Rattle.inf_syntax.specs.declared.actions.Action.{Action}
-use Rattle.inf_compilation.specs.Context.{Context}
+use Rattle.inf_compilation.specs.{Actions.Compilation, Actions.piece_begun as work_begun, Context.Context}
 use Rattle.inf_unit.specs.Tokens.{SourceToken, is_end}
-use Rattle.inf_compilation.specs.Actions.{Compilation, piece_begun as work_begun}
-use Rattle.inf_reader.specs.Reading.{Reading, judged, piece_begun, read_at}
-use Rattle.inf_reader.specs.declared.recovery.Recovery.TheVariants as mode
+use Rattle.inf_reader.specs.{Reading.Reading, Reading.judged, Reading.piece_begun, Reading.read_at, declared.recovery.Recovery.Recovery}
 
 pub read_inside : (limits : Limits) (context : Context) (t : SourceToken) (stack : List (Symbol Action)) (r : Reading) (w : Compilation) →
     (stack ≡ [] → ⊥) →
@@ -21,5 +19,5 @@ pub read_first : (limits : Limits) (context : Context) (t : SourceToken) (stack 
     → read_at limits context t stack r w ≡ judged limits context t (piece_begun r) (work_begun w)
 read_first limits context t stack r w empty going =
     ap (λ s. read_at limits context t s r w) empty
-    ∙ ap (λ b. cond b (record { reading = record r { mode = mode.Ended }; work = w })
+    ∙ ap (λ b. cond b (record { reading = record r { mode = Recovery.Ended }; work = w })
     (judged limits context t (piece_begun r) (work_begun w))) going

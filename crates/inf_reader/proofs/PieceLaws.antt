@@ -2,24 +2,17 @@
 use Rattle.std.proofs.Common.{◌≡◌, ℕ, List, [], ◌∷◌, take, drop, Bool, true, Option, Some, None, is_some, refl, sym, ap, ◌∙◌}
 use Rattle.std.proofs.lemmas.List.{take-append-drop}
 use Rattle.inf_scanner.specs.declared.tokens.TokenKind.{TokenKind}
-use Rattle.inf_scanner.specs.declared.tokens.TokenKind.TheVariants as kind
 use Rattle.inf_report.specs.Messages.{Message}
 use Rattle.inf_syntax.specs.declared.actions.Action.{Action}
-use Rattle.inf_machine.specs.declared.symbols.Symbol.{Symbol}
-use Rattle.inf_machine.specs.declared.symbols.Symbol.TheVariants.{Rule}
-use Rattle.inf_grammar.specs.Language.{grammar, known}
-use Rattle.inf_machine.specs.Machine.{fits, read, Read}
-use Rattle.inf_grammar.specs.Evaluated.{language_is_decided}
-use Rattle.inf_machine.proofs.TokenLaws.{bad_tokens_begin_nothing}
+use Rattle.inf_machine.specs.{Machine.Read, Machine.fits, Machine.read, declared.symbols.Symbol.Symbol}
+use Rattle.inf_grammar.specs.{Evaluated.language_is_decided, Language.grammar, Language.known}
+use Rattle.inf_machine.proofs.{ReadOn.read_append, ReadOn.read_on, TokenLaws.bad_tokens_begin_nothing}
 use Rattle.inf_unit.specs.Atoms.{atom_of_kind, bad_atom}
-use Rattle.inf_reader.specs.Tests.{fault_of_kind}
-use Rattle.inf_reader.specs.Reading.{piece_rule}
-use Rattle.inf_reader.specs.Pieces.{PiecesBegin, FrontsBegin, FaultyTokensFitNothing}
+use Rattle.inf_reader.specs.{Pieces.FaultyTokensFitNothing, Pieces.FrontsBegin, Pieces.PiecesBegin, Reading.piece_rule, Tests.fault_of_kind}
 use Rattle.inf_conditionals.proofs.Misfits.{bad_fits_nothing}
-use Rattle.inf_machine.proofs.ReadOn.{read_on, read_append}
 
 abbrev piece : List (Symbol Action)
-piece = Rule piece_rule ∷ []
+piece = Symbol.Rule piece_rule ∷ []
 
 pub pieces_begin : PiecesBegin
 pieces_begin seen p = record { begins = (p.events, [], p.is_text) }
@@ -47,14 +40,14 @@ fronts_begin seen n b = record {
 -- Tokens that are faulty by themselves
 
 faulty_is_bad : (c : Bool) (k : TokenKind) (bytes : List ℕ) (m : Message) → fault_of_kind k ≡ Some m → atom_of_kind c k bytes ≡ bad_atom
-faulty_is_bad c (kind.Bad b) bytes m h = refl
-faulty_is_bad c kind.Name bytes m h = cc
-faulty_is_bad c (kind.Number n) bytes m h = cc
-faulty_is_bad c kind.Text bytes m h = cc
-faulty_is_bad c (kind.Char z) bytes m h = cc
-faulty_is_bad c (kind.Word w) bytes m h = cc
-faulty_is_bad c (kind.Mark mark) bytes m h = cc
-faulty_is_bad c kind.End bytes m h = cc
+faulty_is_bad c (TokenKind.Bad b) bytes m h = refl
+faulty_is_bad c TokenKind.Name bytes m h = cc
+faulty_is_bad c (TokenKind.Number n) bytes m h = cc
+faulty_is_bad c TokenKind.Text bytes m h = cc
+faulty_is_bad c (TokenKind.Char z) bytes m h = cc
+faulty_is_bad c (TokenKind.Word w) bytes m h = cc
+faulty_is_bad c (TokenKind.Mark mark) bytes m h = cc
+faulty_is_bad c TokenKind.End bytes m h = cc
 
 pub faulty_tokens_fit_nothing : FaultyTokensFitNothing
 faulty_tokens_fit_nothing t m stack h =

@@ -3,51 +3,43 @@ use Rattle.std.specs.Prelude.{List, [], ◌∷◌, true}
 use Rattle.inf_settings.specs.Bounds.{Limits}
 use Rattle.inf_scanner.specs.declared.tokens.Place.{Place}
 use Rattle.inf_names.specs.Spellings.{Name}
+use Rattle.inf_unit.specs.{Messages.location, Messages.with_words, declared.directives.Directive.Directive}
 use Rattle.inf_unit.specs.Directives.{Include, End, directive_of, weight_of}
-use Rattle.inf_unit.specs.declared.directives.Directive.{Directive}
-use Rattle.inf_unit.specs.declared.directives.Directive.TheVariants as directive
-use Rattle.inf_unit.specs.Messages.{location, with_words}
-use Rattle.inf_compilation.specs.Context.{Context}
 use Rattle.inf_unit.specs.Units.{directive_word, first_place, names_in, quoted_in}
+use Rattle.inf_compilation.specs.{Context.Context, Findings.nothing_found}
 use Rattle.inf_compilation.specs.Actions.{Compilation, code_begun, constant, passed, replace, stub, unit_ended, words_of}
-use Rattle.inf_compilation.specs.Findings.{nothing_found}
-use Rattle.inf_declarations.specs.Globals.{global_variable}
-use Rattle.inf_declarations.specs.Properties.{property}
-use Rattle.inf_declarations.specs.Attributes.{attribute}
+use Rattle.inf_declarations.specs.{Abbreviations.low_string, Attributes.attribute, Defaults.default, Globals.global_variable}
+use Rattle.inf_declarations.specs.{Headers.release, Headers.serial, Properties.property, Switches.switches}
 use Rattle.inf_verb_lines.specs.Verbs.{fake_action}
-use Rattle.inf_declarations.specs.Defaults.{default}
-use Rattle.inf_declarations.specs.Switches.{switches}
-use Rattle.inf_declarations.specs.Abbreviations.{low_string}
-use Rattle.inf_declarations.specs.Headers.{release, serial}
 
 -- A directive with which nothing is wrong ends: the first setting that was passed is shown.
 abbrev pub fit_ended : Limits → Context → Place → Compilation → Compilation
 fit_ended limits context first w = unit_ended limits context first true nothing_found w
 
 abbrev pub carried_out : Limits → Directive → Context → Place → List Name → Compilation → Compilation
-carried_out limits directive.Include context first names w =
+carried_out limits Directive.Include context first names w =
     fit_ended limits context first (record w { asked = Include (quoted_in w.unit.tokens) first })
-carried_out limits directive.Message context first names w =
+carried_out limits Directive.Message context first names w =
     fit_ended limits context first
     (record w { report = with_words (location context.names first) (weight_of names) (words_of context.set w.unit) w.report })
-carried_out limits directive.End context first names w = fit_ended limits context first (record w { asked = End })
-carried_out limits directive.Constant context first names w = constant limits context first names w
-carried_out limits directive.Replace context first names w = replace limits context first names w
-carried_out limits directive.Stub context first names w = stub limits context first names w
-carried_out limits directive.Default context first names w = default limits context first names w
-carried_out limits directive.Attribute context first names w = attribute limits context first names w
-carried_out limits directive.Property context first names w = property limits context first names w
-carried_out limits directive.Global context first names w = global_variable limits context first names w
-carried_out limits directive.FakeAction context first names w = fake_action limits context first names w
-carried_out limits directive.Switches context first names w = switches limits context first names w
-carried_out limits directive.Lowstring context first names w = low_string limits context first names w
-carried_out limits directive.Release context first names w = release limits context first w
-carried_out limits directive.Serial context first names w = serial limits context first w
-carried_out limits directive.SystemFile context first names w = fit_ended limits context first (record w { is_system = true })
+carried_out limits Directive.End context first names w = fit_ended limits context first (record w { asked = End })
+carried_out limits Directive.Constant context first names w = constant limits context first names w
+carried_out limits Directive.Replace context first names w = replace limits context first names w
+carried_out limits Directive.Stub context first names w = stub limits context first names w
+carried_out limits Directive.Default context first names w = default limits context first names w
+carried_out limits Directive.Attribute context first names w = attribute limits context first names w
+carried_out limits Directive.Property context first names w = property limits context first names w
+carried_out limits Directive.Global context first names w = global_variable limits context first names w
+carried_out limits Directive.FakeAction context first names w = fake_action limits context first names w
+carried_out limits Directive.Switches context first names w = switches limits context first names w
+carried_out limits Directive.Lowstring context first names w = low_string limits context first names w
+carried_out limits Directive.Release context first names w = release limits context first w
+carried_out limits Directive.Serial context first names w = serial limits context first w
+carried_out limits Directive.SystemFile context first names w = fit_ended limits context first (record w { is_system = true })
 
 -- Code begins with a directive, unless it has begun. With `Switches` it does not.
 abbrev pub code_begun_by : Limits → Directive → Compilation → Compilation
-code_begun_by limits directive.Switches w = w
+code_begun_by limits Directive.Switches w = w
 code_begun_by limits _ w = code_begun limits w
 
 -- a directive ends, which begins with the name of its word

@@ -1,29 +1,15 @@
 -- The tokens that the machine of the grammar gets, by their results among conditionals.
 use Rattle.std.specs.Prelude.{List, [], ◌∷◌, codes, Bool, true, false, ◌&&◌, Option, Some, None}
-use Rattle.inf_settings.specs.Bounds.{Limits}
-use Rattle.inf_settings.specs.Settings.{number_of}
-use Rattle.inf_settings.specs.declared.setting.Setting.TheVariants as setting
-use Rattle.inf_settings.specs.declared.settings.Settings.{Settings}
-use Rattle.inf_scanner.specs.declared.tokens.Mark.TheVariants as mark
-use Rattle.inf_scanner.specs.declared.tokens.Place.{Place}
-use Rattle.inf_scanner.specs.declared.tokens.TokenKind.TheVariants as kind
+use Rattle.inf_settings.specs.{Bounds.Limits, Settings.number_of, declared.setting.Setting.Setting, declared.settings.Settings.Settings}
+use Rattle.inf_scanner.specs.{declared.tokens.Mark.Mark, declared.tokens.Place.Place, declared.tokens.TokenKind.TokenKind}
 use Rattle.inf_machine.specs.declared.symbols.Symbol.{Symbol}
 use Rattle.inf_syntax.specs.declared.actions.Action.{Action}
-use Rattle.inf_compilation.specs.Context.{Context}
+use Rattle.inf_compilation.specs.{Actions.begun_at, Context.Context, Nesting.closed_ahead}
 use Rattle.inf_unit.specs.Tokens.{SourceToken}
-use Rattle.inf_conditionals.specs.Ends.{with_lone}
-use Rattle.inf_conditionals.specs.Said.{Said, with_right, with_said}
-use Rattle.inf_conditionals.specs.declared.filtered.Forwarded.{Forwarded}
-use Rattle.inf_conditionals.specs.declared.filtered.Forwarded.TheVariants as handed
-use Rattle.inf_conditionals.specs.declared.filtered.Filtered.{Filtered}
-use Rattle.inf_conditionals.specs.declared.filtered.Sign.{Sign}
-use Rattle.inf_conditionals.specs.declared.filtered.Site.{Site}
+use Rattle.inf_conditionals.specs.{Ends.with_lone, Said.Said, Said.with_right, Said.with_said, declared.filtered.Filtered.Filtered}
+use Rattle.inf_conditionals.specs.{declared.filtered.Forwarded.Forwarded, declared.filtered.Sign.Sign, declared.filtered.Site.Site}
 use Rattle.inf_grammar.specs.Routines.{closings}
-use Rattle.inf_compilation.specs.Actions.{begun_at}
-use Rattle.inf_compilation.specs.Nesting.{closed_ahead}
-use Rattle.inf_reader.specs.Reading.{Reading, ReaderState, bad, step}
-use Rattle.inf_reader.specs.declared.recovery.Recovery.{Recovery}
-use Rattle.inf_reader.specs.declared.recovery.Recovery.TheVariants as mode
+use Rattle.inf_reader.specs.{Reading.ReaderState, Reading.Reading, Reading.bad, Reading.step, declared.recovery.Recovery.Recovery}
 
 -- The places in the reading at which a token comes
 
@@ -32,12 +18,12 @@ is_empty [] = true
 is_empty (_ ∷ _) = false
 
 abbrev pub reads : Recovery → Bool
-reads mode.Reads = true
+reads Recovery.Reads = true
 reads _ = false
 
 abbrev pub skips : Recovery → Bool
-skips mode.SkipsRoutine = true
-skips mode.SkipsDirective = true
+skips Recovery.SkipsRoutine = true
+skips Recovery.SkipsDirective = true
 skips _ = false
 
 -- Tells whether the next token comes between the pieces of a source.
@@ -46,25 +32,25 @@ is_between r = reads r.mode && is_empty r.stack
 
 -- the place in the reading at which the next token comes: between the pieces, or among tokens that are passed over
 abbrev pub site_of : Settings → Reading → Site
-site_of settings r = record { is_between = is_between r; is_quiet = skips r.mode; longest = number_of setting.ExpressionNodes settings }
+site_of settings r = record { is_between = is_between r; is_quiet = skips r.mode; longest = number_of Setting.ExpressionNodes settings }
 
 -- The tokens that are handed on
 
 -- a `#` at a place, as a token
 abbrev pub hash : Place → SourceToken
-hash place = record { kind = kind.Mark mark.Hash; bytes = codes "#"; place = place; is_class = false }
+hash place = record { kind = TokenKind.Mark Mark.Hash; bytes = codes "#"; place = place; is_class = false }
 
 -- the reading behind a token that does not fit a conditional: it is the bad one of the piece at hand, and is passed over where one was
 -- reported before
 abbrev pub unfit_in : Limits → Recovery → Context → SourceToken → ReaderState → ReaderState
-unfit_in limits mode.Reads context t s = bad limits context t s.reading s.work
+unfit_in limits Recovery.Reads context t s = bad limits context t s.reading s.work
 unfit_in limits _ context t s = step limits context t s.reading s.work
 
 -- the reading behind a token that is handed on in this way; one that a condition takes is not handed on
 abbrev pub handed_as : Limits → Forwarded → Context → SourceToken → ReaderState → ReaderState
-handed_as limits handed.Kept context t s = step limits context t s.reading s.work
-handed_as limits handed.Unfit context t s = unfit_in limits s.reading.mode context t s
-handed_as limits handed.Condition context t s = s
+handed_as limits Forwarded.Kept context t s = step limits context t s.reading s.work
+handed_as limits Forwarded.Unfit context t s = unfit_in limits s.reading.mode context t s
+handed_as limits Forwarded.Condition context t s = s
 
 abbrev pub sign_taken : Limits → Option Sign → Context → ReaderState → ReaderState
 sign_taken limits None context s = s

@@ -3,23 +3,19 @@ use Rattle.std.specs.Prelude.{◌≡◌, ℕ, List, [], ◌∷◌, take, Bool, f
 use Rattle.inf_unit.specs.Tokens.{SourceToken, atom_of}
 use Rattle.inf_report.specs.Messages.{Message}
 use Rattle.inf_syntax.specs.declared.actions.Action.{Action}
-use Rattle.inf_machine.specs.declared.symbols.Symbol.{Symbol}
-use Rattle.inf_machine.specs.declared.symbols.Symbol.TheVariants.{Rule}
-use Rattle.inf_machine.specs.Grammar.{Event, IsText, Begins}
+use Rattle.inf_machine.specs.{Grammar.Begins, Grammar.Event, Grammar.IsText, Machine.fits, declared.symbols.Symbol.Symbol}
 use Rattle.inf_grammar.specs.Language.{grammar, known}
-use Rattle.inf_machine.specs.Machine.{fits}
-use Rattle.inf_reader.specs.Tests.{fault_of}
+use Rattle.inf_reader.specs.{Reading.Reading, Reading.piece_begun, Reading.piece_rule, Tests.fault_of}
 use Rattle.inf_compilation.specs.Actions.{Compilation, piece_begun as work_begun}
-use Rattle.inf_reader.specs.Reading.{Reading, piece_rule, piece_begun}
 
 -- Tokens with these atoms are a piece: a text of the grammar's rule for pieces.
 pub record IsPiece (atoms : List ℕ) : Type 0 where
   pub events : List (Event Action)
-  pub is_text : IsText grammar (Rule piece_rule ∷ []) atoms events
+  pub is_text : IsText grammar (Symbol.Rule piece_rule ∷ []) atoms events
 
 -- Tokens with these atoms begin a piece, as far as they go.
 pub record BeginsPiece (atoms : List ℕ) : Type 0 where
-  pub begins : Begins grammar (Rule piece_rule ∷ []) atoms
+  pub begins : Begins grammar (Symbol.Rule piece_rule ∷ []) atoms
 
 -- the piece that is at hand at a token: a new one where there was none
 abbrev pub at_hand_by : List (Symbol Action) → Reading → Reading

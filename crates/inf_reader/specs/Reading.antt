@@ -2,28 +2,18 @@
 -- act. One that does not is the bad token of its piece; it is reported, and tokens are passed over to the end of the piece. The unit that
 -- it cuts gives nothing. Designer's Manual, fourth edition, sections 1.3, 1.4 and 1.7.
 use Rattle.std.specs.Prelude.{ℕ, List, [], ◌∷◌, Bool, true, false, ◌||◌, if◌then◌else◌}
-use Rattle.inf_settings.specs.Bounds.{Limits}
+use Rattle.inf_settings.specs.{Bounds.Limits, declared.settings.Settings.Settings}
 use Rattle.inf_characters.specs.declared.characters.CharSet.{CharSet}
-use Rattle.inf_scanner.specs.declared.tokens.Mark.TheVariants as mark
-use Rattle.inf_scanner.specs.declared.tokens.TokenKind.{TokenKind}
-use Rattle.inf_settings.specs.declared.settings.Settings.{Settings}
-use Rattle.inf_report.specs.Messages.{Location, Message, kind_of}
-use Rattle.inf_report.specs.declared.messages.Kind.{Kind}
-use Rattle.inf_report.specs.declared.messages.Kind.TheVariants as weight
+use Rattle.inf_scanner.specs.{declared.tokens.Mark.Mark, declared.tokens.TokenKind.TokenKind}
+use Rattle.inf_report.specs.{Messages.Location, Messages.Message, Messages.kind_of, declared.messages.Kind.Kind}
 use Rattle.inf_unit.specs.Messages.{Reported, location, with_error, with_fatal}
-use Rattle.inf_compilation.specs.Context.{Context}
 use Rattle.inf_unit.specs.Tokens.{SourceToken, atom_of, is_end, is_mark}
-use Rattle.inf_syntax.specs.declared.actions.Action.{Action}
-use Rattle.inf_machine.specs.declared.symbols.Symbol.{Symbol}
-use Rattle.inf_machine.specs.declared.symbols.Symbol.TheVariants.{Rule}
-use Rattle.inf_machine.specs.Machine.{fits, taken}
-use Rattle.inf_grammar.specs.Routines.{is_in_routine}
-use Rattle.inf_grammar.specs.Language.{grammar, known}
+use Rattle.inf_compilation.specs.Context.{Context}
 use Rattle.inf_compilation.specs.Actions.{Compilation, no_work, piece_begun as work_begun, took as work_took}
-use Rattle.inf_reader.specs.Acting.{all_acted, cut_at}
-use Rattle.inf_reader.specs.Tests.{complaint_of}
-use Rattle.inf_reader.specs.declared.recovery.Recovery.{Recovery}
-use Rattle.inf_reader.specs.declared.recovery.Recovery.TheVariants as mode
+use Rattle.inf_syntax.specs.declared.actions.Action.{Action}
+use Rattle.inf_machine.specs.{Machine.fits, Machine.taken, declared.symbols.Symbol.Symbol}
+use Rattle.inf_grammar.specs.{Language.grammar, Language.known, Routines.is_in_routine}
+use Rattle.inf_reader.specs.{Acting.all_acted, Acting.cut_at, Tests.complaint_of, declared.recovery.Recovery.Recovery}
 
 -- The reading of a source: the way in which the next token is read, and the rest of the piece at hand that is still to come.
 pub record Reading : Type 0 where
@@ -41,10 +31,10 @@ pub record ReaderState : Type 0 where
 
 -- the state before the first token of a source
 abbrev pub begun_stand : Settings → ReaderState
-begun_stand settings = record { reading = between mode.Reads; work = no_work settings }
+begun_stand settings = record { reading = between Recovery.Reads; work = no_work settings }
 
 abbrev pub is_mode_ended : Recovery → Bool
-is_mode_ended mode.Ended = true
+is_mode_ended Recovery.Ended = true
 is_mode_ended _ = false
 
 -- Tells whether reading has ended: at the end of the source or with a fatal message.
@@ -56,21 +46,21 @@ has_ended_at s = s.work.report.counts.is_over || is_mode_ended s.reading.mode
 -- The way in which reading goes on behind a token that is passed over: after the next semicolon, in a routine after the first one behind
 -- the next closing bracket.
 abbrev pub passed_mark : Recovery → TokenKind → Recovery
-passed_mark mode.SkipsRoutine token = if is_mark mark.CloseBracket token then mode.SkipsDirective else mode.SkipsRoutine
-passed_mark _ token = if is_mark mark.Semicolon token then mode.Reads else mode.SkipsDirective
+passed_mark Recovery.SkipsRoutine token = if is_mark Mark.CloseBracket token then Recovery.SkipsDirective else Recovery.SkipsRoutine
+passed_mark _ token = if is_mark Mark.Semicolon token then Recovery.Reads else Recovery.SkipsDirective
 
 abbrev pub passed : Recovery → TokenKind → Recovery
-passed skip token = if is_end token then mode.Ended else passed_mark skip token
+passed skip token = if is_end token then Recovery.Ended else passed_mark skip token
 
 -- the way in which tokens are passed over in a piece, which is in a routine up to where the machine expects the routine's end
 abbrev pub skip_of : List (Symbol Action) → Recovery
-skip_of stack = if is_in_routine stack then mode.SkipsRoutine else mode.SkipsDirective
+skip_of stack = if is_in_routine stack then Recovery.SkipsRoutine else Recovery.SkipsDirective
 
 -- Tokens
 
 -- the messages with that about a token at a line: a text that is too long ends the compilation
 abbrev pub with_complaint_of : Kind → Location → Message → Reported → Reported
-with_complaint_of weight.Fatal at m r = with_fatal at m r
+with_complaint_of Kind.Fatal at m r = with_fatal at m r
 with_complaint_of _ at m r = with_error at at m r
 
 abbrev pub with_complaint : Location → Message → Reported → Reported
@@ -102,18 +92,18 @@ piece_rule = 1
 
 -- the reading of a new piece
 abbrev pub piece_begun : Reading → Reading
-piece_begun r = record { mode = r.mode; stack = Rule piece_rule ∷ [] }
+piece_begun r = record { mode = r.mode; stack = Symbol.Rule piece_rule ∷ [] }
 
 -- the state behind the next token, of a new piece where the stack is empty, and else of the piece at hand
 abbrev pub read_at : Limits → Context → SourceToken → List (Symbol Action) → Reading → Compilation → ReaderState
 read_at limits context t [] r w =
-    if is_end t.kind then record { reading = record r { mode = mode.Ended }; work = w }
+    if is_end t.kind then record { reading = record r { mode = Recovery.Ended }; work = w }
     else judged limits context t (piece_begun r) (work_begun w)
 read_at limits context t (_ ∷ _) r w = judged limits context t r w
 
 abbrev pub step_in : Limits → Recovery → Context → SourceToken → Reading → Compilation → ReaderState
-step_in limits mode.Reads context t r w = read_at limits context t r.stack r w
-step_in limits mode.Ended context t r w = record { reading = r; work = w }
+step_in limits Recovery.Reads context t r w = read_at limits context t r.stack r w
+step_in limits Recovery.Ended context t r w = record { reading = r; work = w }
 step_in limits skip context t r w = record { reading = record r { mode = passed skip t.kind }; work = w }
 
 -- the state behind a token

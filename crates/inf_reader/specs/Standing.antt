@@ -1,8 +1,6 @@
 -- The reading of a source as the code has it.
 use Rattle.inf_compilation.specs.Works.{work}
-use Rattle.inf_reader.specs.Reading.{Reading, ReaderState}
-use Rattle.inf_reader.specs.declared.reader.Reader.{Reader}
-use Rattle.inf_reader.specs.declared.progress.Progress.{Progress}
+use Rattle.inf_reader.specs.{Reading.ReaderState, Reading.Reading, declared.progress.Progress.Progress, declared.reader.Reader.Reader}
 
 abbrev pub reading : Reader → Reading
 reading r = record { mode = r.mode; stack = r.machine }

@@ -1,11 +1,9 @@
 //! The effects of the grammar's actions: they gather the parts of a unit, which acts at its end.
-ghost use Rattle.inf_compilation.specs.Context.{handed};
+ghost use Rattle.inf_compilation.specs.{Actions.cut, Actions.is_deep, Context.handed, Works.work};
 ghost use Rattle.std.specs.Prelude.{None, OnOk, ◌≡◌};
 ghost use Rattle.inf_reader.specs.Acting.{act, acted, all_acted, cut_at, ended, is_crowded, is_long, is_tall, kind_of, noted, noted_of};
 ghost use Rattle.inf_reader.specs.Acting.{is_wordy, operands_named, value_noted};
 ghost use Rattle.inf_unit.specs.Directives.{Nothing};
-ghost use Rattle.inf_compilation.specs.Actions.{cut, is_deep};
-ghost use Rattle.inf_compilation.specs.Works.{work};
 
 use crate::directives::end_directive;
 use crate::headers::end_directive_header;

@@ -1,12 +1,10 @@
 //! The directives that are one unit: the word of each decides which it is.
-ghost use Rattle.inf_compilation.specs.Context.{handed};
+ghost use Rattle.inf_compilation.specs.{Actions.constant, Actions.replace, Actions.stub, Context.handed, Works.work};
 ghost use Rattle.std.specs.Prelude.{OnOk, map, ◌≡◌};
 ghost use Rattle.inf_names.specs.Spellings.{as_name};
 ghost use Rattle.inf_unit.specs.Directives.{Include, asked};
-ghost use Rattle.inf_compilation.specs.Actions.{constant, replace, stub};
 ghost use Rattle.inf_reader.specs.Directives.{carried_out, code_begun_by, directive_end};
 ghost use Rattle.inf_declarations.specs.Defaults.{default};
-ghost use Rattle.inf_compilation.specs.Works.{work};
 
 use inf_compilation::compilation::Compilation;
 use inf_compilation::context::Context;

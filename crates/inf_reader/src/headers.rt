@@ -1,10 +1,9 @@
 //! The headers of directives that have entries, bodies, lines or texts: the word of each decides which it is.
-ghost use Rattle.inf_compilation.specs.Context.{handed};
+ghost use Rattle.inf_compilation.specs.{Context.handed, Works.work};
 ghost use Rattle.std.specs.Prelude.{OnOk, false, map, ◌≡◌};
 ghost use Rattle.inf_names.specs.Spellings.{as_name};
 ghost use Rattle.inf_reader.specs.Headers.{class_named, header_as, header_ended, directive_header, heading_of};
 ghost use Rattle.inf_declarations.specs.Arrays.{array_named};
-ghost use Rattle.inf_compilation.specs.Works.{work};
 
 use inf_bodies::objects::{class_header, object_header};
 use inf_compilation::compilation::Compilation;

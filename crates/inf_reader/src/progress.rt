@@ -4,9 +4,7 @@ ghost use Rattle.std.specs.Prelude.{◌≡◌, [], IfOk, OnOk};
 ghost use Rattle.inf_settings.specs.Bounds.{AreSet};
 ghost use Rattle.inf_report.specs.Meant.{located};
 ghost use Rattle.inf_unit.specs.Spelled.{spelled};
-ghost use Rattle.inf_reader.specs.Handing.{hash};
-ghost use Rattle.inf_reader.specs.Reading.{with_complaint};
-ghost use Rattle.inf_reader.specs.Tests.{complaint_of};
+ghost use Rattle.inf_reader.specs.{Handing.hash, Reading.with_complaint, Tests.complaint_of};
 
 use crate::acting::{act_all, cut};
 use crate::reader::Reader;
@@ -43,8 +41,7 @@ impl<B: Bounds> Progress<B> {
     ghost use Rattle.inf_reader.specs.Handing.{handed_as, is_between, judged_taken, site_of};
     ghost use Rattle.inf_reader.specs.Reading.{bad, begun_stand, has_ended_at, judged, piece_begun, read_at, step};
     ghost use Rattle.inf_reader.specs.Standing.{reading, standing};
-    ghost use Rattle.inf_compilation.specs.Actions.{piece_begun as work_begun};
-    ghost use Rattle.inf_compilation.specs.Works.{work};
+    ghost use Rattle.inf_compilation.specs.{Actions.piece_begun as work_begun, Works.work};
 
     /// Returns the progress before the first token of a source, whose names are hashed by `hashing`.
     pub fn new(

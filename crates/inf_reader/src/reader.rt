@@ -2,9 +2,8 @@
 ghost use Rattle.std.specs.Prelude.{◌≡◌, [], IfOk, OnErr, OnOk, false, true};
 ghost use Rattle.inf_grammar.specs.Language.{grammar, known};
 ghost use Rattle.inf_machine.specs.Machine.{fits, taken};
+ghost use Rattle.inf_reader.specs.{Standing.reading, declared.recovery.Recovery.Recovery};
 ghost use Rattle.inf_reader.specs.Reading.{between, passed, skip_of, piece_begun};
-ghost use Rattle.inf_reader.specs.Standing.{reading};
-ghost use Rattle.inf_reader.specs.declared.recovery.Recovery.TheVariants as mode;
 
 use crate::recovery::{Recovery, passed};
 use inf_grammar::{Action, Machine, PIECE};
@@ -21,7 +20,7 @@ pub struct Reader {
 impl Reader {
     /// Returns a reader before the first piece.
     pub fn new(alloc: Global) -> Reader
-        ensures { reading result ≡ between mode.Reads }
+        ensures { reading result ≡ between Recovery.Reads }
     {
         Reader {
             mode: Recovery::Reads,

@@ -2,13 +2,10 @@
 use Rattle.std.proofs.Common.{◌≡◌, ℕ, suc, ◌+◌, ◌≤◌, ◌++◌, Bool, true, false, not, cond, List, [], ◌∷◌, append_assoc, append-nil, take}
 use Rattle.std.proofs.Common.{drop, Option, Result, IsErr, refl, sym, ap, ◌∙◌, arith}
 use Rattle.std.specs.List.{prefix_len}
-use Rattle.inf_characters.specs.Characters.{is_white}
-use Rattle.inf_characters.specs.declared.characters.CharSet.{CharSet}
-use Rattle.inf_devices.specs.Sinks.{Takes}
-use Rattle.inf_devices.specs.Files.{Rose}
+use Rattle.inf_characters.specs.{Characters.is_white, declared.characters.CharSet.CharSet}
+use Rattle.inf_devices.specs.{Files.Rose, Sinks.Takes}
 use Rattle.inf_report.proofs.Writings.{both_whole, failed, goes_on, with_more}
-use Rattle.inf_report.specs.Writing.{TakesPart, Writes}
-use Rattle.inf_report.specs.declared.pieces.ReportFault.{ReportFault}
+use Rattle.inf_report.specs.{Writing.TakesPart, Writing.Writes, declared.pieces.ReportFault.ReportFault}
 use Rattle.inf_report.specs.OwnWords.{is_alike, shown_behind, shown_run, spaced}
 
 -- All so far was shown of a text, with no failure, and the rest is left.

@@ -1,11 +1,9 @@
 -- Writing one thing behind the other.
 use Rattle.std.proofs.Common.{◌≡◌, ℕ, ◌≤◌, ◌++◌, List, length-append, append_assoc, Option, Result, Ok, Err, IsErr, sym, ap, ◌∙◌, inl, inr}
 use Rattle.std.proofs.Common.{arith}
-use Rattle.inf_devices.specs.Sinks.{Takes}
+use Rattle.inf_devices.specs.{Files.Rose, Sinks.Takes}
 use Rattle.inf_devices.proofs.TakenBytes.{Takes-append}
-use Rattle.inf_devices.specs.Files.{Rose}
-use Rattle.inf_report.specs.Writing.{TakesPart, Writes}
-use Rattle.inf_report.specs.declared.pieces.ReportFault.{ReportFault}
+use Rattle.inf_report.specs.{Writing.TakesPart, Writing.Writes, declared.pieces.ReportFault.ReportFault}
 
 -- a part of some bytes is one of these with more behind them
 part_of_more : (old new : Option (List ℕ)) (xs ys : List ℕ) → TakesPart old new xs → TakesPart old new (xs ++ ys)

@@ -1,12 +1,7 @@
 -- The messages of a compilation: their texts, their kinds, and their numbers in the table of messages.
 use Rattle.std.specs.Prelude.{ℕ, List, ◌++◌, codes, decimal}
-use Rattle.inf_settings.specs.declared.setting.Setting.{Setting}
-use Rattle.inf_settings.specs.Settings.{name_of}
-use Rattle.inf_report.specs.OwnWords.{Words, shown}
-use Rattle.inf_report.specs.declared.messages.Kind.{Kind}
-use Rattle.inf_report.specs.declared.messages.Kind.TheVariants as kind
-use Rattle.inf_report.specs.declared.messages.FixedLimit.{FixedLimit}
-use Rattle.inf_report.specs.declared.messages.FixedLimit.TheVariants as countable
+use Rattle.inf_settings.specs.{Settings.name_of, declared.setting.Setting.Setting}
+use Rattle.inf_report.specs.{OwnWords.Words, OwnWords.shown, declared.messages.FixedLimit.FixedLimit, declared.messages.Kind.Kind}
 
 -- a line of a file
 pub record Location : Type 0 where
@@ -86,13 +81,13 @@ told End = codes "end of file"
 
 -- the most that there can be of one kind, with its name
 abbrev pub most : FixedLimit → List ℕ
-most countable.Locals = codes "15 locals"
-most countable.Globals = codes "235 globals"
-most countable.Attributes = codes "48 attributes"
-most countable.Properties = codes "60 properties"
-most countable.Values = codes "32 values"
-most countable.Abbreviations = codes "64 abbreviations"
-most countable.Verbs = codes "255 verbs"
+most FixedLimit.Locals = codes "15 locals"
+most FixedLimit.Globals = codes "235 globals"
+most FixedLimit.Attributes = codes "48 attributes"
+most FixedLimit.Properties = codes "60 properties"
+most FixedLimit.Values = codes "32 values"
+most FixedLimit.Abbreviations = codes "64 abbreviations"
+most FixedLimit.Verbs = codes "255 verbs"
 
 -- the text of a message
 abbrev pub text : Message → List ℕ
@@ -137,45 +132,45 @@ text (NoSource name) = codes "No file " ++ quoted name
 text DeepNesting = codes "Nesting over 64"
 
 abbrev pub kind_of : Message → Kind
-kind_of (Syntax _) = kind.Error
-kind_of IllegalCharacter = kind.Error
-kind_of UnclosedQuote = kind.Error
-kind_of NumberOutOfRange = kind.Error
-kind_of UnknownEscape = kind.Error
-kind_of LongName = kind.Error
-kind_of NoZscii = kind.Error
-kind_of (Declared _ _) = kind.Error
-kind_of (SystemName _) = kind.Error
-kind_of (WrongKind _) = kind.Error
-kind_of (Undeclared _) = kind.Error
-kind_of (UsedBefore _) = kind.Error
-kind_of NotConstant = kind.Error
-kind_of ConstantOutOfRange = kind.Error
-kind_of TooManyArguments = kind.Error
-kind_of (WrongOpcode _) = kind.Error
-kind_of (LabelMissing _) = kind.Error
-kind_of (LabelTwice _) = kind.Error
-kind_of NothingToLeave = kind.Error
-kind_of BranchTooFar = kind.Error
-kind_of (TooMany _) = kind.Error
-kind_of MisplacedSwitches = kind.Error
-kind_of WrongAbbreviation = kind.Error
-kind_of (WrongVerb _) = kind.Error
-kind_of NoMain = kind.Error
-kind_of MisplacedDefault = kind.Error
-kind_of (ErrorText _) = kind.Error
-kind_of LoneConditional = kind.Error
-kind_of (UnusedLocal _) = kind.Warning
-kind_of (WarningText _) = kind.Warning
-kind_of (Exceeded _) = kind.Fatal
-kind_of (NoInclude _) = kind.Fatal
-kind_of TooManyFiles = kind.Fatal
-kind_of (FatalText _) = kind.Fatal
-kind_of TooManyErrors = kind.Fatal
-kind_of ReadableTooLong = kind.Fatal
-kind_of (StoryTooLong _) = kind.Fatal
-kind_of (NoSource _) = kind.Fatal
-kind_of DeepNesting = kind.Fatal
+kind_of (Syntax _) = Kind.Error
+kind_of IllegalCharacter = Kind.Error
+kind_of UnclosedQuote = Kind.Error
+kind_of NumberOutOfRange = Kind.Error
+kind_of UnknownEscape = Kind.Error
+kind_of LongName = Kind.Error
+kind_of NoZscii = Kind.Error
+kind_of (Declared _ _) = Kind.Error
+kind_of (SystemName _) = Kind.Error
+kind_of (WrongKind _) = Kind.Error
+kind_of (Undeclared _) = Kind.Error
+kind_of (UsedBefore _) = Kind.Error
+kind_of NotConstant = Kind.Error
+kind_of ConstantOutOfRange = Kind.Error
+kind_of TooManyArguments = Kind.Error
+kind_of (WrongOpcode _) = Kind.Error
+kind_of (LabelMissing _) = Kind.Error
+kind_of (LabelTwice _) = Kind.Error
+kind_of NothingToLeave = Kind.Error
+kind_of BranchTooFar = Kind.Error
+kind_of (TooMany _) = Kind.Error
+kind_of MisplacedSwitches = Kind.Error
+kind_of WrongAbbreviation = Kind.Error
+kind_of (WrongVerb _) = Kind.Error
+kind_of NoMain = Kind.Error
+kind_of MisplacedDefault = Kind.Error
+kind_of (ErrorText _) = Kind.Error
+kind_of LoneConditional = Kind.Error
+kind_of (UnusedLocal _) = Kind.Warning
+kind_of (WarningText _) = Kind.Warning
+kind_of (Exceeded _) = Kind.Fatal
+kind_of (NoInclude _) = Kind.Fatal
+kind_of TooManyFiles = Kind.Fatal
+kind_of (FatalText _) = Kind.Fatal
+kind_of TooManyErrors = Kind.Fatal
+kind_of ReadableTooLong = Kind.Fatal
+kind_of (StoryTooLong _) = Kind.Fatal
+kind_of (NoSource _) = Kind.Fatal
+kind_of DeepNesting = Kind.Fatal
 
 -- the number of a message among those of its kind: of two errors at one place the one with the lesser number is reported
 abbrev pub number_of : Message → ℕ
@@ -221,9 +216,9 @@ number_of DeepNesting = 9
 
 -- the words between the place and the text
 abbrev pub severity : Kind → List ℕ
-severity kind.Error = codes ": Error: "
-severity kind.Warning = codes ": Warning: "
-severity kind.Fatal = codes ": Fatal error: "
+severity Kind.Error = codes ": Error: "
+severity Kind.Warning = codes ": Warning: "
+severity Kind.Fatal = codes ": Fatal error: "
 
 -- the line of a message of this kind, at a place
 abbrev pub line_of : Kind → Location → Message → List ℕ

@@ -1,8 +1,7 @@
 -- Messages in the source's own words: the bytes between the quotes as a line shows them.
 use Rattle.std.specs.Prelude.{ℕ, List, [], ◌∷◌, ◌++◌, codes, Bool, not, if◌then◌else◌}
 use Rattle.std.specs.List.{list_any}
-use Rattle.inf_characters.specs.Characters.{is_line_end, is_white}
-use Rattle.inf_characters.specs.declared.characters.CharSet.{CharSet}
+use Rattle.inf_characters.specs.{Characters.is_line_end, Characters.is_white, declared.characters.CharSet.CharSet}
 
 -- the bytes between the quotes, in their character set
 pub record Words : Type 0 where

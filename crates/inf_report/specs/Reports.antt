@@ -1,8 +1,7 @@
 -- The report of a compilation: the lines that it writes, and its counts.
 use Rattle.std.specs.Prelude.{ℕ, ◌+◌, List, [], ◌++◌, codes, decimal, Bool, true, false, not, ◌||◌, ◌==◌, if◌then◌else◌}
+use Rattle.inf_report.specs.{OwnWords.Words, OwnWords.shown, declared.messages.Kind.Kind}
 use Rattle.inf_report.specs.Messages.{Location, Message, TooManyErrors, line_of}
-use Rattle.inf_report.specs.OwnWords.{Words, shown}
-use Rattle.inf_report.specs.declared.messages.Kind.TheVariants as kind
 
 -- The numbers of errors and warnings that were reported, whether a fatal error has ended the report, and whether warnings are reported at
 -- all.
@@ -28,7 +27,7 @@ is_last c = c.errors + 1 == most_errors
 abbrev pub error_lines : Location → Location → Message → Counts → List ℕ
 error_lines at unit m c =
     if c.is_over then [] else
-    if is_last c then line_of kind.Error at m ++ line_of kind.Fatal unit TooManyErrors else line_of kind.Error at m
+    if is_last c then line_of Kind.Error at m ++ line_of Kind.Fatal unit TooManyErrors else line_of Kind.Error at m
 
 abbrev pub with_error : Counts → Counts
 with_error c = if c.is_over then c else record c { errors = c.errors + 1; is_over = is_last c }
@@ -42,14 +41,14 @@ one_warning_more n = if n == most_warnings then most_warnings else n + 1
 
 -- the line of a warning: where none are wanted it is not counted
 abbrev pub warning_lines : Location → Message → Counts → List ℕ
-warning_lines at m c = if c.is_over || not c.has_warnings then [] else line_of kind.Warning at m
+warning_lines at m c = if c.is_over || not c.has_warnings then [] else line_of Kind.Warning at m
 
 abbrev pub with_warning : Counts → Counts
 with_warning c = if c.is_over || not c.has_warnings then c else record c { warnings = one_warning_more c.warnings }
 
 -- the line of a fatal error, which ends the report
 abbrev pub fatal_lines : Location → Message → Counts → List ℕ
-fatal_lines at m c = if c.is_over then [] else line_of kind.Fatal at m
+fatal_lines at m c = if c.is_over then [] else line_of Kind.Fatal at m
 
 abbrev pub with_fatal : Counts → Counts
 with_fatal c = if c.is_over then c else record c { is_over = true }

@@ -1,7 +1,6 @@
 -- The outcome of writing some bytes to a sink.
 use Rattle.std.specs.Prelude.{◌≡◌, ℕ, ◌<◌, ◌≤◌, List, ◌++◌, length, Option, Result, Ok, Err}
-use Rattle.inf_devices.specs.Sinks.{Takes}
-use Rattle.inf_devices.specs.Files.{Rose}
+use Rattle.inf_devices.specs.{Files.Rose, Sinks.Takes}
 use Rattle.inf_report.specs.declared.pieces.ReportFault.{ReportFault}
 
 -- A sink took only the front of some bytes.

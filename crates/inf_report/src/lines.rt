@@ -1,12 +1,8 @@
 //! The lines of messages.
 ghost use Rattle.std.specs.Prelude.{◌≡◌, ◌++◌, codes};
-ghost use Rattle.inf_report.specs.Meant.{located, meant, worded};
-ghost use Rattle.inf_report.specs.Messages.{line_of, place, TooManyErrors};
-ghost use Rattle.inf_report.specs.OwnWords.{shown};
-ghost use Rattle.inf_report.specs.Reports.{closing, ending};
-ghost use Rattle.inf_report.specs.declared.messages.Kind.TheVariants.{Error, Fatal};
-ghost use Rattle.inf_report.specs.Wordings.{said};
-ghost use Rattle.inf_report.specs.Writing.{Writes};
+ghost use Rattle.inf_report.specs.{Meant.located, Meant.meant, Meant.worded, Messages.TooManyErrors, Messages.line_of, Messages.place};
+ghost use Rattle.inf_report.specs.{OwnWords.shown, Reports.closing, Reports.ending, Wordings.said, Writing.Writes};
+ghost use Rattle.inf_report.specs.{declared.messages.Kind.TheVariants.Error, declared.messages.Kind.TheVariants.Fatal};
 
 use crate::messages::{Kind, Location, Message};
 use crate::own_words::{OwnWords, write_shown};

@@ -1,8 +1,7 @@
 //! The messages of a compilation, in one table.
 ghost use Rattle.std.specs.Prelude.{◌≡◌};
+ghost use Rattle.inf_report.specs.{Meant.located, Meant.meant, Meant.named, Wordings.said};
 ghost use Rattle.inf_report.specs.Messages.{kind_of, most, number_of, severity, text, veneer_line};
-ghost use Rattle.inf_report.specs.Meant.{located, meant, named};
-ghost use Rattle.inf_report.specs.Wordings.{said};
 
 use crate::own_words::OwnWords;
 use crate::wordings::Wording;

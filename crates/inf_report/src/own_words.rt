@@ -2,9 +2,8 @@
 ghost use Rattle.std.specs.Prelude.{◌≡◌, ◌≤◌, length};
 ghost use Rattle.std.specs.List.{prefix_len};
 ghost use Rattle.inf_characters.specs.Characters.{is_white};
-ghost use Rattle.inf_report.specs.Meant.{worded};
+ghost use Rattle.inf_report.specs.{Meant.worded, Writing.Writes};
 ghost use Rattle.inf_report.specs.OwnWords.{has_line_end, is_alike, shown, shown_run};
-ghost use Rattle.inf_report.specs.Writing.{Writes};
 
 use crate::pieces::{ReportFault, write_bytes};
 use inf_characters::{CharSet, is_line_end, is_white};

@@ -1,7 +1,6 @@
 //! The report of a compilation, which writes each message as it comes.
 ghost use Rattle.std.specs.Prelude.{◌≡◌, OnOk, OnErr};
-ghost use Rattle.inf_report.specs.Meant.{located, meant, worded};
-ghost use Rattle.inf_report.specs.Writing.{Writes};
+ghost use Rattle.inf_report.specs.{Meant.located, Meant.meant, Meant.worded, Writing.Writes};
 ghost use Rattle.inf_report.specs.Reports.{closing_lines, error_lines, fatal_lines, no_counts, plain_lines, statistic_lines, warning_lines};
 ghost use Rattle.inf_report.specs.Reports.{with_error, with_fatal, with_warning};
 

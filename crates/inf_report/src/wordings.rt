@@ -1,8 +1,6 @@
 //! The texts of messages, made of pieces.
 ghost use Rattle.std.specs.Prelude.{◌≡◌, ◌++◌, codes};
-ghost use Rattle.inf_report.specs.Meant.{named};
-ghost use Rattle.inf_report.specs.Messages.{told};
-ghost use Rattle.inf_report.specs.Wordings.{said};
+ghost use Rattle.inf_report.specs.{Meant.named, Messages.told, Wordings.said};
 
 use crate::messages::{Location, Told};
 use crate::own_words::OwnWords;

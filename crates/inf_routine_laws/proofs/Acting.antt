@@ -1,55 +1,36 @@
 -- Units of a routine, and what happens while it is read, in the book of labels.
-use Rattle.std.proofs.Common.{arith, ◌≡◌, List, [], ◌∷◌, Bool, true, false, ◌&&◌, Option, Some, None, refl, ap}
-use Rattle.std.proofs.Common.{subst}
+use Rattle.std.proofs.Common.{arith, ◌≡◌, List, [], ◌∷◌, Bool, true, false, ◌&&◌, Option, Some, None, refl, ap, subst, map, if◌then◌else◌}
 use Rattle.std.proofs.lemmas.Bool.{and_parts}
-use Rattle.std.specs.Prelude.{map, if◌then◌else◌}
 use Rattle.inf_settings.specs.Bounds.{Limits}
 use Rattle.inf_scanner.specs.declared.tokens.Place.{Place}
-use Rattle.inf_expressions.specs.declared.findings.Finding.{Finding}
-use Rattle.inf_expressions.specs.Findings.{is_before, least_of_both}
-use Rattle.inf_expressions.specs.Rooted.{Rooted}
+use Rattle.inf_expressions.specs.{Findings.is_before, Findings.least_of_both, Rooted.Rooted, declared.findings.Finding.Finding}
 use Rattle.inf_code.specs.Code.{Routines}
 use Rattle.inf_output.specs.Output.{Out}
-use Rattle.inf_compilation.specs.Context.{Context, longest}
-use Rattle.inf_unit.proofs.Cases.{of_both}
-use Rattle.inf_unit.specs.Tokens.{SourceToken}
-use Rattle.inf_unit.specs.Units.{bytes_at, is_full, last_passed, long_at, next_place, noted as unit_noted, taken as unit_taken, text_passed}
-use Rattle.inf_unit.specs.Roles.{ends_outer, ends_token, ends_value, is_arrow, is_text, is_verb_word, makes_sure, role_of}
-use Rattle.inf_unit.specs.declared.roles.Ending.{Ending}
-use Rattle.inf_unit.specs.declared.roles.Ending.TheVariants as ending
-use Rattle.inf_unit.specs.declared.roles.Note.{Note}
-use Rattle.inf_unit.specs.declared.roles.Role.{Role}
-use Rattle.inf_unit.specs.declared.roles.Role.TheVariants as role
-use Rattle.inf_constructs.specs.declared.constructs.Construct.{Construct}
-use Rattle.inf_constructs.specs.Cases.{case_code}
-use Rattle.inf_constructs.specs.Constructs.{are_own, cases_begun, condition_label, next_case}
-use Rattle.inf_constructs.specs.Labels.{NamedLabel, is_given}
-use Rattle.inf_constructs.specs.Roots.{tree_in}
-use Rattle.inf_statements.specs.declared.statements.Statement.{Statement}
-use Rattle.inf_statements.specs.declared.statements.Statement.TheVariants as statement
-use Rattle.inf_statements.specs.Effects.{only_if, statement_finding}
-use Rattle.inf_statements.specs.Statements.{alone, switched, tested}
-use Rattle.inf_verb_lines.specs.Verbs.{token_sifted, word_sifted}
+use Rattle.inf_compilation.specs.{Context.Context, Context.longest, Nesting.constructs_laid}
 use Rattle.inf_compilation.specs.Actions.{Compilation, finding_at, is_deep, named, nested, opens, passed, settled_of, sized, stopped, took}
 use Rattle.inf_compilation.specs.Actions.{trees_at}
-use Rattle.inf_parts.specs.Parts.{actions_named, case_prepared, found_in, has_last, is_default, order_of}
-use Rattle.inf_compilation.specs.Nesting.{constructs_laid}
-use Rattle.inf_parts.specs.Parts.{own_finding}
-use Rattle.inf_parts.specs.Parts.{part_begun, part_carried, part_effect, part_ended, part_finished, part_prepared, place_of, site_of}
-use Rattle.inf_parts.specs.Parts.{statement_at, wanted_of}
-use Rattle.inf_parts.specs.declared.parts.Part.TheVariants as part
+use Rattle.inf_unit.proofs.Cases.{of_both}
+use Rattle.inf_unit.specs.{Tokens.SourceToken, declared.roles.Ending.Ending, declared.roles.Note.Note, declared.roles.Role.Role}
+use Rattle.inf_unit.specs.Units.{bytes_at, is_full, last_passed, long_at, next_place, noted as unit_noted, taken as unit_taken, text_passed}
+use Rattle.inf_unit.specs.Roles.{ends_outer, ends_token, ends_value, is_arrow, is_text, is_verb_word, makes_sure, role_of}
+use Rattle.inf_constructs.specs.{Cases.case_code, Roots.tree_in, declared.constructs.Construct.Construct}
+use Rattle.inf_constructs.specs.Constructs.{are_own, cases_begun, condition_label, next_case}
+use Rattle.inf_constructs.specs.Labels.{NamedLabel, is_given}
+use Rattle.inf_statements.specs.{Effects.only_if, Effects.statement_finding, declared.statements.Statement.Statement}
+use Rattle.inf_statements.specs.Statements.{alone, switched, tested}
+use Rattle.inf_verb_lines.specs.Verbs.{token_sifted, word_sifted}
+use Rattle.inf_parts.specs.Parts.{actions_named, case_prepared, found_in, has_last, is_default, order_of, own_finding, part_begun}
+use Rattle.inf_parts.specs.Parts.{part_carried, part_effect, part_ended, part_finished, part_prepared, place_of, site_of, statement_at}
+use Rattle.inf_parts.specs.Parts.{wanted_of}
+use Rattle.inf_parts.specs.declared.parts.Part.{Part}
 use Rattle.inf_reader.specs.Acting.{act, ended as ended_as, is_crowded, is_long, is_tall, is_wordy, noted, noted_of, operands_named, played}
 use Rattle.inf_reader.specs.Acting.{value_noted}
-use Rattle.inf_statement_laws.specs.Happenings.{Acts, Happening, Takes, happen_quietly, happens_quietly, is_quiet_end}
-use Rattle.inf_statement_laws.specs.Happenings.{is_quiet_role}
+use Rattle.inf_statement_laws.specs.Happenings.{Acts, Happening, Takes, happen_quietly, happens_quietly, is_quiet_end, is_quiet_role}
 use Rattle.inf_statement_laws.specs.Laid.{happens, run}
-use Rattle.inf_routine_laws.specs.Faults.{AllLeave}
-use Rattle.inf_routine_laws.specs.Leaving.{LeavesRoutine}
-use Rattle.inf_routine_laws.proofs.Booking.{Counts}
+use Rattle.inf_routine_laws.specs.{Faults.AllLeave, Leaving.LeavesRoutine}
+use Rattle.inf_routine_laws.proofs.{Booking.Counts, Casing.entered_good, Settling.settled_idle}
 use Rattle.inf_routine_laws.proofs.Balance.{Good, good_still, opened_cases}
-use Rattle.inf_routine_laws.proofs.Casing.{entered_good}
 use Rattle.inf_routine_laws.proofs.Codes.{Idle, alone_owns, case_code_owns, label_in, switched_owns, tested_owns}
-use Rattle.inf_routine_laws.proofs.Settling.{settled_idle}
 use Rattle.inf_routine_laws.proofs.Stating.{code_good, condition_reached, next_reached, statement_good}
 
 -- The book of a compilation
@@ -78,17 +59,17 @@ settled_good limits context first due spare extra w g =
 
 -- whether a unit gives the place of a label that was not given before, where it gives one
 abbrev IsNew : Statement → Compilation → Type 0
-IsNew s w = s ≡ statement.Place → is_given (bytes_at w.unit.tokens (next_place w.unit.begun)) w.labels ≡ false
+IsNew s w = s ≡ Statement.Place → is_given (bytes_at w.unit.tokens (next_place w.unit.begun)) w.labels ≡ false
 
 statement_effect : (limits : Limits) (context : Context) (s : Statement) (trees : List Rooted) (due spare extra : Counts)
     (w : Compilation) →
-    IsNew s w → Balanced due spare extra w → Balanced due spare extra (part_effect limits context (part.Statement s) trees w)
+    IsNew s w → Balanced due spare extra w → Balanced due spare extra (part_effect limits context (Part.Statement s) trees w)
 unfolding part_effect
 statement_effect limits context s trees due spare extra w h g =
     statement_good limits (site_of context w) s (map tree_in trees) due spare extra w.labels w.output h g
 
 condition_effect : (limits : Limits) (context : Context) (trees : List Rooted) (due spare extra : Counts) (w : Compilation) →
-    Balanced due spare extra w → Balanced due spare extra (part_effect limits context part.Condition trees w)
+    Balanced due spare extra w → Balanced due spare extra (part_effect limits context Part.Condition trees w)
 unfolding part_effect
 condition_effect limits context trees due spare extra w g =
     code_good {code = tested limits (condition_label w.constructs) (map tree_in trees)}
@@ -97,21 +78,21 @@ condition_effect limits context trees due spare extra w g =
     (λ n. let p = condition_reached w.constructs n in omega (arith, p)) g
 
 start_effect : (limits : Limits) (context : Context) (trees : List Rooted) (due spare extra : Counts) (w : Compilation) →
-    Balanced due spare extra w → Balanced due spare extra (part_effect limits context part.Start trees w)
+    Balanced due spare extra w → Balanced due spare extra (part_effect limits context Part.Start trees w)
 unfolding part_effect
 start_effect limits context trees due spare extra w g =
     code_good {code = alone limits (map tree_in trees)} {needs = []} due spare extra w.labels w.constructs w.output
     (alone_owns limits (map tree_in trees)) (λ n. omega arith) g
 
 switched_effect : (limits : Limits) (context : Context) (trees : List Rooted) (due spare extra : Counts) (w : Compilation) →
-    Balanced due spare extra w → Balanced due spare extra (part_effect limits context part.Switched trees w)
+    Balanced due spare extra w → Balanced due spare extra (part_effect limits context Part.Switched trees w)
 unfolding part_effect
 switched_effect limits context trees due spare extra w g =
     code_good {code = switched limits (map tree_in trees)} {needs = []} due spare extra w.labels w.constructs w.output
     (switched_owns limits (map tree_in trees)) (λ n. omega arith) g
 
 case_effect : (limits : Limits) (context : Context) (trees : List Rooted) (due spare extra : Counts) (w : Compilation) →
-    Balanced due spare extra w → Balanced due spare extra (part_effect limits context part.Case trees w)
+    Balanced due spare extra w → Balanced due spare extra (part_effect limits context Part.Case trees w)
 unfolding part_effect
 case_effect limits context trees due spare extra w g =
     code_good {code = case_code limits (next_case w.constructs) (map tree_in trees)} {needs = label_in (next_case w.constructs)} due spare
@@ -125,49 +106,49 @@ some_finding e = absurd (cc e)
 
 carried_statement : (limits : Limits) (context : Context) (first : Place) (s : Statement) (f : Option Finding) (due spare extra : Counts)
     (w : Compilation) → (f ≡ None → IsNew s w) → Balanced due spare extra w →
-    Balanced due spare extra (part_carried limits context first (part.Statement s) f w)
+    Balanced due spare extra (part_carried limits context first (Part.Statement s) f w)
 carried_statement limits context first s (Some f) due spare extra w h g = g
 carried_statement limits context first s None due spare extra w h g =
     let o = (settled_of limits context w).out in
     let v = record w { output = record o { first = first } } in
     statement_effect limits context s
-    (trees_at (order_of (part.Statement s) w) (wanted_of (part.Statement s)) (settled_of limits context w).operands w) due spare extra v
+    (trees_at (order_of (Part.Statement s) w) (wanted_of (Part.Statement s)) (settled_of limits context w).operands w) due spare extra v
     (h refl) (settled_good limits context first due spare extra w g)
 
 carried_condition : (limits : Limits) (context : Context) (first : Place) (f : Option Finding) (due spare extra : Counts)
     (w : Compilation) →
-    Balanced due spare extra w → Balanced due spare extra (part_carried limits context first part.Condition f w)
+    Balanced due spare extra w → Balanced due spare extra (part_carried limits context first Part.Condition f w)
 carried_condition limits context first (Some f) due spare extra w g = g
 carried_condition limits context first None due spare extra w g =
     condition_effect limits context
-    (trees_at (order_of part.Condition w) (wanted_of part.Condition) (settled_of limits context w).operands w) due spare extra
+    (trees_at (order_of Part.Condition w) (wanted_of Part.Condition) (settled_of limits context w).operands w) due spare extra
     (record w { output = record (settled_of limits context w).out { first = first } })
     (settled_good limits context first due spare extra w g)
 
 carried_start : (limits : Limits) (context : Context) (first : Place) (f : Option Finding) (due spare extra : Counts) (w : Compilation) →
-    Balanced due spare extra w → Balanced due spare extra (part_carried limits context first part.Start f w)
+    Balanced due spare extra w → Balanced due spare extra (part_carried limits context first Part.Start f w)
 carried_start limits context first (Some f) due spare extra w g = g
 carried_start limits context first None due spare extra w g =
     start_effect limits context
-    (trees_at (order_of part.Start w) (wanted_of part.Start) (settled_of limits context w).operands w) due spare extra
+    (trees_at (order_of Part.Start w) (wanted_of Part.Start) (settled_of limits context w).operands w) due spare extra
     (record w { output = record (settled_of limits context w).out { first = first } })
     (settled_good limits context first due spare extra w g)
 
 carried_switched : (limits : Limits) (context : Context) (first : Place) (f : Option Finding) (due spare extra : Counts) (w : Compilation) →
-    Balanced due spare extra w → Balanced due spare extra (part_carried limits context first part.Switched f w)
+    Balanced due spare extra w → Balanced due spare extra (part_carried limits context first Part.Switched f w)
 carried_switched limits context first (Some f) due spare extra w g = g
 carried_switched limits context first None due spare extra w g =
     switched_effect limits context
-    (trees_at (order_of part.Switched w) (wanted_of part.Switched) (settled_of limits context w).operands w) due spare extra
+    (trees_at (order_of Part.Switched w) (wanted_of Part.Switched) (settled_of limits context w).operands w) due spare extra
     (record w { output = record (settled_of limits context w).out { first = first } })
     (settled_good limits context first due spare extra w g)
 
 carried_case : (limits : Limits) (context : Context) (first : Place) (f : Option Finding) (due spare extra : Counts) (w : Compilation) →
-    Balanced due spare extra w → Balanced due spare extra (part_carried limits context first part.Case f w)
+    Balanced due spare extra w → Balanced due spare extra (part_carried limits context first Part.Case f w)
 carried_case limits context first (Some f) due spare extra w g = g
 carried_case limits context first None due spare extra w g =
     case_effect limits context
-    (trees_at (order_of part.Case w) (wanted_of part.Case) (settled_of limits context w).operands w) due spare extra
+    (trees_at (order_of Part.Case w) (wanted_of Part.Case) (settled_of limits context w).operands w) due spare extra
     (record w { output = record (settled_of limits context w).out { first = first } })
     (settled_good limits context first due spare extra w g)
 
@@ -186,24 +167,24 @@ only_none true f e = some_finding e
 only_none false f e = refl
 
 place_finds : (limits : Limits) (context : Context) (w : Compilation) →
-    own_finding limits context (part.Statement statement.Place) w ≡ None →
+    own_finding limits context (Part.Statement Statement.Place) w ≡ None →
     is_given (bytes_at w.unit.tokens (next_place w.unit.begun)) w.labels ≡ false
 unfolding statement_finding
 place_finds limits context w e = only_none (is_given (bytes_at w.unit.tokens (next_place w.unit.begun)) w.labels) _ e
 
-is_new : (limits : Limits) (context : Context) (s : Statement) (w : Compilation) → found_in limits context (part.Statement s) w ≡ None →
+is_new : (limits : Limits) (context : Context) (s : Statement) (w : Compilation) → found_in limits context (Part.Statement s) w ≡ None →
     IsNew s w
 is_new limits context s w e same =
-    let p = part.Statement s in
+    let p = Part.Statement s in
     let own = least_none (finding_at (order_of p w) (wanted_of p) w) (own_finding limits context p w) e in
-    place_finds limits context w (subst (λ (t : Statement). own_finding limits context (part.Statement t) w ≡ None) same own)
+    place_finds limits context w (subst (λ (t : Statement). own_finding limits context (Part.Statement t) w ≡ None) same own)
 
 -- A unit ends, in a routine that is passed over or not.
 
 statement_ends : (limits : Limits) (context : Context) (place : Place) (s : Statement) (due spare extra : Counts) (w : Compilation) →
-    Balanced due spare extra w → Balanced due spare extra (part_ended limits context place (part.Statement s) w)
+    Balanced due spare extra w → Balanced due spare extra (part_ended limits context place (Part.Statement s) w)
 statement_ends limits context place s due spare extra w g =
-    let p = part.Statement s in
+    let p = Part.Statement s in
     let ready = part_prepared w in
     of_both (Balanced due spare extra) w.is_replaced (passed (has_last p) w) (part_finished limits context (place_of p place ready) p ready)
     (λ _. g)
@@ -211,27 +192,27 @@ statement_ends limits context place s due spare extra w g =
     (λ e. is_new limits context s ready e) g)
 
 condition_ends : (limits : Limits) (context : Context) (place : Place) (due spare extra : Counts) (w : Compilation) →
-    Balanced due spare extra w → Balanced due spare extra (part_ended limits context place part.Condition w)
+    Balanced due spare extra w → Balanced due spare extra (part_ended limits context place Part.Condition w)
 condition_ends limits context place due spare extra w g =
-    let p = part.Condition in
+    let p = Part.Condition in
     let ready = part_prepared w in
     of_both (Balanced due spare extra) w.is_replaced (passed (has_last p) w) (part_finished limits context (place_of p place ready) p ready)
     (λ _. g)
     (λ _. carried_condition limits context (place_of p place ready) (found_in limits context p ready) due spare extra (named ready) g)
 
 start_ends : (limits : Limits) (context : Context) (place : Place) (due spare extra : Counts) (w : Compilation) →
-    Balanced due spare extra w → Balanced due spare extra (part_ended limits context place part.Start w)
+    Balanced due spare extra w → Balanced due spare extra (part_ended limits context place Part.Start w)
 start_ends limits context place due spare extra w g =
-    let p = part.Start in
+    let p = Part.Start in
     let ready = part_prepared w in
     of_both (Balanced due spare extra) w.is_replaced (passed (has_last p) w) (part_finished limits context (place_of p place ready) p ready)
     (λ _. g)
     (λ _. carried_start limits context (place_of p place ready) (found_in limits context p ready) due spare extra (named ready) g)
 
 switched_ends : (limits : Limits) (context : Context) (place : Place) (due spare extra : Counts) (w : Compilation) →
-    Balanced due spare extra w → Balanced due spare extra (part_ended limits context place part.Switched w)
+    Balanced due spare extra w → Balanced due spare extra (part_ended limits context place Part.Switched w)
 switched_ends limits context place due spare extra w g =
-    let p = part.Switched in
+    let p = Part.Switched in
     let ready = part_prepared w in
     of_both (Balanced due spare extra) w.is_replaced (passed (has_last p) w) (part_finished limits context (place_of p place ready) p ready)
     (λ _. g)
@@ -250,9 +231,9 @@ actions_good true due spare extra w g = g
 actions_good false due spare extra w g = g
 
 pub case_ends_good : (limits : Limits) (context : Context) (place : Place) (due spare extra : Counts) (w : Compilation) →
-    Balanced due spare extra w → Balanced due spare extra (part_ended limits context place part.Case w)
+    Balanced due spare extra w → Balanced due spare extra (part_ended limits context place Part.Case w)
 case_ends_good limits context place due spare extra w g =
-    let p = part.Case in
+    let p = Part.Case in
     let before = part_prepared w in
     let begun = constructs_laid (cases_begun limits before.constructs) before in
     let ready = case_prepared limits p before in
@@ -315,24 +296,24 @@ note_good limits context n due spare extra w g =
 
 end_good : (limits : Limits) (context : Context) (place : Place) (e : Ending) (due spare extra : Counts) (w : Compilation) →
     is_quiet_end e ≡ true → Balanced due spare extra w → Balanced due spare extra (ended_as limits context place e w)
-end_good limits context place ending.Statement due spare extra w q g =
+end_good limits context place Ending.Statement due spare extra w q g =
     statement_ends limits context place (statement_at w) due spare extra w g
-end_good limits context place ending.Condition due spare extra w q g = condition_ends limits context place due spare extra w g
-end_good limits context place ending.Start due spare extra w q g = start_ends limits context place due spare extra w g
-end_good limits context place ending.Switched due spare extra w q g = switched_ends limits context place due spare extra w g
+end_good limits context place Ending.Condition due spare extra w q g = condition_ends limits context place due spare extra w g
+end_good limits context place Ending.Start due spare extra w q g = start_ends limits context place due spare extra w g
+end_good limits context place Ending.Switched due spare extra w q g = switched_ends limits context place due spare extra w g
 end_good limits context place _ due spare extra w q g = cc
 
 role_good : (limits : Limits) (context : Context) (place : Place) (r : Role) (due spare extra : Counts) (w : Compilation) →
     is_quiet_role r ≡ true → Balanced due spare extra w → Balanced due spare extra (played limits context place r w)
-role_good limits context place (role.Gather s) due spare extra w q g = g
-role_good limits context place (role.Note n) due spare extra w q g = note_good limits context n due spare extra w g
-role_good limits context place (role.End e) due spare extra w q g = end_good limits context place e due spare extra w q g
-role_good limits context place (role.Open o) due spare extra w q g = cc
-role_good limits context place role.Join due spare extra w q g = cc
-role_good limits context place role.Close due spare extra w q g = cc
-role_good limits context place role.Deeper due spare extra w q g = nested_good context place (is_deep w 1) due spare extra w g
-role_good limits context place role.MaybeDeeper due spare extra w q g = g
-role_good limits context place role.Nothing due spare extra w q g = g
+role_good limits context place (Role.Gather s) due spare extra w q g = g
+role_good limits context place (Role.Note n) due spare extra w q g = note_good limits context n due spare extra w g
+role_good limits context place (Role.End e) due spare extra w q g = end_good limits context place e due spare extra w q g
+role_good limits context place (Role.Open o) due spare extra w q g = cc
+role_good limits context place Role.Join due spare extra w q g = cc
+role_good limits context place Role.Close due spare extra w q g = cc
+role_good limits context place Role.Deeper due spare extra w q g = nested_good context place (is_deep w 1) due spare extra w g
+role_good limits context place Role.MaybeDeeper due spare extra w q g = g
+role_good limits context place Role.Nothing due spare extra w q g = g
 
 -- Happenings
 

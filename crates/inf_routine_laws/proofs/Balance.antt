@@ -1,19 +1,11 @@
 -- The book of a compilation: labels with names are due until they are given, and an open `switch` has its end and the next case due.
 -- Statements that hold others hand labels out, and mark each of them once.
-use Rattle.std.proofs.Common.{arith, ◌≡◌, ◌≤◌, ℕ, List, [], ◌∷◌, Bool, true, false, None, ◌∙◌}
-use Rattle.std.specs.Prelude.{◌+◌}
+use Rattle.std.proofs.Common.{arith, ◌≡◌, ◌≤◌, ℕ, List, [], ◌∷◌, Bool, true, false, None, ◌∙◌, ◌+◌}
 use Rattle.inf_settings.specs.Bounds.{Limits}
 use Rattle.inf_opcode.specs.declared.instructions.Label.{Label}
 use Rattle.inf_output.specs.Output.{Out, behind, marked}
-use Rattle.inf_constructs.specs.declared.constructs.Case.{Case}
-use Rattle.inf_constructs.specs.declared.constructs.Case.TheVariants as case
-use Rattle.inf_constructs.specs.declared.constructs.Construct.{Construct}
-use Rattle.inf_constructs.specs.declared.constructs.Kind.{Kind}
-use Rattle.inf_constructs.specs.declared.constructs.Kind.TheVariants as kind
-use Rattle.inf_constructs.specs.declared.constructs.Over.TheVariants as over
-use Rattle.inf_constructs.specs.Constructs.{opened}
-use Rattle.inf_constructs.specs.Constructs.{with_labels}
-use Rattle.inf_constructs.specs.Labels.{NamedLabel}
+use Rattle.inf_constructs.specs.{Constructs.opened, Constructs.with_labels, Labels.NamedLabel, declared.constructs.Case.Case}
+use Rattle.inf_constructs.specs.{declared.constructs.Construct.Construct, declared.constructs.Kind.Kind, declared.constructs.Over.Over}
 use Rattle.inf_label_laws.specs.Labels.{times}
 use Rattle.inf_label_laws.proofs.Owning.{owned_mark}
 use Rattle.inf_routine_laws.specs.Leaving.{LeavesRoutine}
@@ -37,13 +29,13 @@ named_all n (l ∷ labels) = one n l.known.label + named_all n labels
 -- Open statements: the labels that cases have due, and all to which `break`, `continue` and conditions go
 
 abbrev pub case_due : ℕ → Case → ℕ
-case_due n case.Nothing = 0
-case_due n (case.Values next) = one n next
-case_due n case.Default = 0
+case_due n Case.Nothing = 0
+case_due n (Case.Values next) = one n next
+case_due n Case.Default = 0
 
 abbrev pub cased_in : ℕ → Construct → Kind → ℕ
-cased_in n c (kind.Switch old had_default) = case_due n old + one n c.end
-cased_in n c (kind.Cases old had_default) = case_due n old + one n c.end
+cased_in n c (Kind.Switch old had_default) = case_due n old + one n c.end
+cased_in n c (Kind.Cases old had_default) = case_due n old + one n c.end
 cased_in n c _ = 0
 
 abbrev pub cased : ℕ → List Construct → ℕ
@@ -51,14 +43,14 @@ cased n [] = 0
 cased n (c ∷ constructs) = cased_in n c c.kind + cased n constructs
 
 abbrev pub reached_in : ℕ → Construct → Kind → ℕ
-reached_in n c kind.If = one n c.next
-reached_in n c kind.Else = one n c.end
-reached_in n c kind.While = one n c.next + one n c.end
-reached_in n c kind.Do = one n c.top + (one n c.next + one n c.end)
-reached_in n c kind.For = one n c.next + one n c.end
-reached_in n c (kind.Objects how v) = one n c.next + one n c.end
-reached_in n c (kind.Switch old had_default) = case_due n old + one n c.end
-reached_in n c (kind.Cases old had_default) = case_due n old + one n c.end
+reached_in n c Kind.If = one n c.next
+reached_in n c Kind.Else = one n c.end
+reached_in n c Kind.While = one n c.next + one n c.end
+reached_in n c Kind.Do = one n c.top + (one n c.next + one n c.end)
+reached_in n c Kind.For = one n c.next + one n c.end
+reached_in n c (Kind.Objects how v) = one n c.next + one n c.end
+reached_in n c (Kind.Switch old had_default) = case_due n old + one n c.end
+reached_in n c (Kind.Cases old had_default) = case_due n old + one n c.end
 
 abbrev pub reached : ℕ → List Construct → ℕ
 reached n [] = 0
@@ -173,23 +165,23 @@ good_opened k due spare extra more rest other labels around o g t =
 
 pub opened_if : (limits : Limits) (due spare extra : Counts) (labels : List NamedLabel) (around : List Construct) (o : Out) →
     Good due spare extra labels around o →
-    let c = opened limits kind.If o in
+    let c = opened limits Kind.If o in
     Good (λ n. one n c.0.next + due n) (λ n. one n c.0.end + spare n) extra labels (c.0 ∷ around) c.1
 unfolding opened
 opened_if limits due spare extra labels around o g =
-    good_opened kind.If due spare extra (λ n. one n (next_of o) + due n) (λ n. one n (end_of o) + spare n) extra labels around o g
+    good_opened Kind.If due spare extra (λ n. one n (next_of o) + due n) (λ n. one n (end_of o) + spare n) extra labels around o g
     (record { once = λ n. omega arith; all = λ n. omega arith; known = λ n. omega arith })
 
 pub opened_while : (limits : Limits) (due spare extra : Counts) (labels : List NamedLabel) (around : List Construct) (o : Out) →
     Good due spare extra labels around o →
-    let c = opened limits kind.While o in Good (λ n. one n c.0.end + due n) spare extra labels (c.0 ∷ around) c.1
+    let c = opened limits Kind.While o in Good (λ n. one n c.0.end + due n) spare extra labels (c.0 ∷ around) c.1
 unfolding opened
 opened_while limits due spare extra labels around o g =
-    let c = (with_labels kind.While o).0 in
+    let c = (with_labels Kind.While o).0 in
     let more : Counts = λ n. one n (next_of o) + (one n (end_of o) + due n) in
     good_paid [] (c.next.number ∷ []) more (λ n. one n (end_of o) + due n) spare extra labels (c ∷ around) (handed o)
     (marked limits c.next (handed o))
-    (good_opened kind.While due spare extra more spare extra labels around o g
+    (good_opened Kind.While due spare extra more spare extra labels around o g
     (record { once = λ n. omega arith; all = λ n. omega arith; known = λ n. omega arith }))
     (came {needs = []} {given = c.next.number ∷ []} (owned_mark limits c.next) (handed o))
     (λ n. let e = one_is n c.next in paid (one n c.next) (one n (end_of o) + due n) (times n (c.next.number ∷ [])) e)
@@ -200,14 +192,14 @@ opened_while limits due spare extra labels around o g =
 
 pub opened_do : (limits : Limits) (due spare extra : Counts) (labels : List NamedLabel) (around : List Construct) (o : Out) →
     Good due spare extra labels around o →
-    let c = opened limits kind.Do o in Good (λ n. one n c.0.next + (one n c.0.end + due n)) spare extra labels (c.0 ∷ around) c.1
+    let c = opened limits Kind.Do o in Good (λ n. one n c.0.next + (one n c.0.end + due n)) spare extra labels (c.0 ∷ around) c.1
 unfolding opened
 opened_do limits due spare extra labels around o g =
-    let c = (with_labels kind.Do o).0 in
+    let c = (with_labels Kind.Do o).0 in
     let left : Counts = λ n. one n (next_of o) + (one n (end_of o) + due n) in
     good_paid [] (c.top.number ∷ []) (λ n. one n (top_of o) + left n) left spare extra labels (c ∷ around) (handed o)
     (marked limits c.top (handed o))
-    (good_opened kind.Do due spare extra (λ n. one n (top_of o) + left n) spare extra labels around o g
+    (good_opened Kind.Do due spare extra (λ n. one n (top_of o) + left n) spare extra labels around o g
     (record { once = λ n. omega arith; all = λ n. omega arith; known = λ n. omega arith }))
     (came {needs = []} {given = c.top.number ∷ []} (owned_mark limits c.top) (handed o))
     (λ n. let e = one_is n c.top in paid (one n c.top) (left n) (times n (c.top.number ∷ [])) e)
@@ -225,36 +217,36 @@ top_known c extra n = one n c.top + extra n
 
 pub opened_for : (limits : Limits) (due spare extra : Counts) (labels : List NamedLabel) (around : List Construct) (o : Out) →
     Good due spare extra labels around o →
-    let c = opened limits kind.For o in Good (loop_due c.0 due) spare (top_known c.0 extra) labels (c.0 ∷ around) c.1
+    let c = opened limits Kind.For o in Good (loop_due c.0 due) spare (top_known c.0 extra) labels (c.0 ∷ around) c.1
 unfolding opened
 opened_for limits due spare extra labels around o g =
-    let c = (with_labels kind.For o).0 in
-    good_opened kind.For due spare extra (loop_due c due) spare (top_known c extra) labels around o g
+    let c = (with_labels Kind.For o).0 in
+    good_opened Kind.For due spare extra (loop_due c due) spare (top_known c extra) labels around o g
     (record { once = λ n. omega arith; all = λ n. omega arith; known = λ n. omega arith })
 
 pub opened_objects : (limits : Limits) (due spare extra : Counts) (labels : List NamedLabel) (around : List Construct) (o : Out) →
     Good due spare extra labels around o →
-    let c = opened limits (kind.Objects over.Nothing 0) o in
+    let c = opened limits (Kind.Objects Over.Nothing 0) o in
     Good (loop_due c.0 due) spare (top_known c.0 extra) labels (c.0 ∷ around) c.1
 unfolding opened
 opened_objects limits due spare extra labels around o g =
-    let k = kind.Objects over.Nothing 0 in
+    let k = Kind.Objects Over.Nothing 0 in
     let c = (with_labels k o).0 in
     good_opened k due spare extra (loop_due c due) spare (top_known c extra) labels around o g
     (record { once = λ n. omega arith; all = λ n. omega arith; known = λ n. omega arith })
 
 pub opened_switch : (limits : Limits) (due spare extra : Counts) (labels : List NamedLabel) (around : List Construct) (o : Out) →
     Good due spare extra labels around o →
-    let c = opened limits (kind.Switch case.Nothing false) o in Good due spare extra labels (c.0 ∷ around) c.1
+    let c = opened limits (Kind.Switch Case.Nothing false) o in Good due spare extra labels (c.0 ∷ around) c.1
 unfolding opened
 opened_switch limits due spare extra labels around o g =
-    good_opened (kind.Switch case.Nothing false) due spare extra due spare extra labels around o g
+    good_opened (Kind.Switch Case.Nothing false) due spare extra due spare extra labels around o g
     (record { once = λ n. omega arith; all = λ n. omega arith; known = λ n. omega arith })
 
 pub opened_cases : (limits : Limits) (due spare extra : Counts) (labels : List NamedLabel) (o : Out) →
     Good due spare extra labels [] o →
-    let c = opened limits (kind.Cases case.Nothing false) o in Good due spare extra labels (c.0 ∷ []) c.1
+    let c = opened limits (Kind.Cases Case.Nothing false) o in Good due spare extra labels (c.0 ∷ []) c.1
 unfolding opened
 opened_cases limits due spare extra labels o g =
-    good_opened (kind.Cases case.Nothing false) due spare extra due spare extra labels [] o g
+    good_opened (Kind.Cases Case.Nothing false) due spare extra due spare extra labels [] o g
     (record { once = λ n. omega arith; all = λ n. omega arith; known = λ n. omega arith })

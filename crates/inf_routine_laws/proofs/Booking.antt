@@ -1,26 +1,18 @@
 -- A book of the labels of the open routine: each is marked, due or spare at most once, and each that is used is marked or due. A label is
 -- due that surely is still to be marked, and spare where nothing uses it yet.
-use Rattle.std.proofs.Common.{arith, ◌≡◌, ◌≤◌, ℕ, suc, List, [], ◌∷◌, ◌++◌, Option, Some, None, refl, ◌∙◌, ap, sym}
-use Rattle.std.proofs.Common.{subst}
-use Rattle.std.proofs.Common.{inl, inr}
+use Rattle.std.proofs.Common.{arith, ◌≡◌, ◌≤◌, ℕ, suc, List, [], ◌∷◌, ◌++◌, Option, Some, None, refl, ◌∙◌, ap, sym, subst, inl, inr}
+use Rattle.std.proofs.Common.{append_assoc, append-nil, ◌+◌, ◌<◌, ◌⊎◌}
 use Rattle.std.proofs.lemmas.Bool.{cases_eq, cases_lt}
-use Rattle.std.specs.Prelude.{◌+◌, ◌<◌, ◌⊎◌}
-use Rattle.inf_opcode.specs.declared.instructions.Label.{Label}
-use Rattle.inf_opcode.specs.Cells.{Cell}
-use Rattle.inf_opcode.specs.Instructions.{Parts, instruction_cells}
+use Rattle.inf_opcode.specs.{Cells.Cell, Instructions.Parts, Instructions.instruction_cells, declared.instructions.Label.Label}
 use Rattle.inf_code.specs.Code.{Opened, Routines}
-use Rattle.inf_output.specs.declared.items.Item.{Item}
-use Rattle.inf_output.specs.declared.items.Item.TheVariants.{Instruction, Mark}
-use Rattle.inf_output.specs.Output.{Code, Out, behind, grown}
+use Rattle.inf_output.specs.{Output.Code, Output.Out, Output.behind, Output.grown, declared.items.Item.Item}
 use Rattle.inf_interpreter.specs.Claims.{Laid, all_grown, code_behind, kept_behind}
-use Rattle.inf_label_laws.specs.Labels.{times}
-use Rattle.inf_label_laws.specs.Programs.{branch_labels, marks, operand_labels, uses}
+use Rattle.inf_label_laws.specs.{Labels.times, Programs.branch_labels, Programs.marks, Programs.operand_labels, Programs.uses}
 use Rattle.inf_label_laws.proofs.Owning.{Owned, Settles, behind_is, marks_joined, some_of_two, times_first, times_joined, times_other}
 use Rattle.inf_label_laws.proofs.Owning.{uses_joined}
 use Rattle.inf_routine_laws.proofs.Counting.{cell_marks, cell_marks_joined, cell_uses, cell_uses_joined, instruction_marks}
 use Rattle.inf_routine_laws.proofs.Counting.{instruction_uses}
 use Rattle.inf_routine_laws.specs.Leaving.{LeavesRoutine}
-use Rattle.std.proofs.Common.{append_assoc, append-nil}
 
 -- how often a number is that of one label
 unfoldable pub one : ℕ → Label → ℕ
@@ -56,8 +48,8 @@ pub some_is : {A : Type 0} {a b : A} → Some a ≡ Some b → a ≡ b
 some_is e = cc e
 
 grew_instruction : (i : Parts) (c : Opened) (cells : List Cell) → cells ≡ c.contents.cells ++ instruction_cells i →
-    (cell_marks cells ≡ cell_marks c.contents.cells ++ marks (Instruction i ∷ []))
-    × (cell_uses cells ≡ cell_uses c.contents.cells ++ uses (Instruction i ∷ []))
+    (cell_marks cells ≡ cell_marks c.contents.cells ++ marks (Item.Instruction i ∷ []))
+    × (cell_uses cells ≡ cell_uses c.contents.cells ++ uses (Item.Instruction i ∷ []))
 grew_instruction i c cells e = (
   ap cell_marks e ∙ (cell_marks_joined c.contents.cells (instruction_cells i)
       ∙ ap (λ ns. cell_marks c.contents.cells ++ ns) (instruction_marks i)),
@@ -69,15 +61,15 @@ grew_instruction i c cells e = (
 grew_one : (item : Item) (code : Routines) (opened : Option Opened) (now : Opened) → code.opened ≡ opened →
     (grown item code).opened ≡ Some now
     → GrewFrom (item ∷ []) opened now
-grew_one (Instruction i) code None now e h =
-    some_none (sym (ap (λ o. (grown (Instruction i) (record code { opened = o })).opened) e) ∙ h)
-grew_one (Instruction i) code (Some c) now e h =
-    let is = some_is (sym (ap (λ o. (grown (Instruction i) (record code { opened = o })).opened) e) ∙ h) in
+grew_one (Item.Instruction i) code None now e h =
+    some_none (sym (ap (λ o. (grown (Item.Instruction i) (record code { opened = o })).opened) e) ∙ h)
+grew_one (Item.Instruction i) code (Some c) now e h =
+    let is = some_is (sym (ap (λ o. (grown (Item.Instruction i) (record code { opened = o })).opened) e) ∙ h) in
     let both = grew_instruction i c now.contents.cells (sym (ap (λ (d : Opened). d.contents.cells) is)) in
     record { before = c; is = refl; grew = record { marked = both.0; used = both.1 } }
-grew_one (Mark l) code None now e h = some_none (sym (ap (λ o. (grown (Mark l) (record code { opened = o })).opened) e) ∙ h)
-grew_one (Mark l) code (Some c) now e h =
-    let is = some_is (sym (ap (λ o. (grown (Mark l) (record code { opened = o })).opened) e) ∙ h) in
+grew_one (Item.Mark l) code None now e h = some_none (sym (ap (λ o. (grown (Item.Mark l) (record code { opened = o })).opened) e) ∙ h)
+grew_one (Item.Mark l) code (Some c) now e h =
+    let is = some_is (sym (ap (λ o. (grown (Item.Mark l) (record code { opened = o })).opened) e) ∙ h) in
     let cells = sym (ap (λ (d : Opened). d.contents.cells) is) in
     record {
       before = c;

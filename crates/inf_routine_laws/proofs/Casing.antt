@@ -2,25 +2,15 @@
 use Rattle.std.proofs.Common.{arith, ◌≡◌, ◌≤◌, ℕ, List, [], ◌∷◌, ◌++◌, Bool, true, false, Option, Some, None, refl, ap, sym, subst}
 use Rattle.std.specs.Prelude.{◌+◌, unwrap_or}
 use Rattle.inf_settings.specs.Bounds.{Limits}
-use Rattle.inf_opcode.specs.declared.instructions.Label.{Label}
-use Rattle.inf_opcode.specs.declared.opcodes.Opcode.TheVariants as opcode
-use Rattle.inf_expressions.specs.Questions.{children_of}
-use Rattle.inf_expressions.specs.Rooted.{Rooted}
-use Rattle.inf_expressions.specs.Trees.{Tree}
+use Rattle.inf_opcode.specs.{declared.instructions.Label.Label, declared.opcodes.Opcode.Opcode}
+use Rattle.inf_expressions.specs.{Questions.children_of, Rooted.Rooted, Trees.Tree}
 use Rattle.inf_output.specs.declared.operands.Simple.{Simple}
-use Rattle.inf_output.specs.declared.operands.Simple.TheVariants.{Known}
 use Rattle.inf_output.specs.Output.{Code, Out, behind, jumped, marked, to, ◌▸◌}
 use Rattle.inf_templates.specs.Meaning.{Meaning, meaning, part}
-use Rattle.inf_constructs.specs.declared.constructs.Case.{Case}
-use Rattle.inf_constructs.specs.declared.constructs.Case.TheVariants as case
-use Rattle.inf_constructs.specs.declared.constructs.Construct.{Construct}
-use Rattle.inf_constructs.specs.declared.constructs.Kind.{Kind}
-use Rattle.inf_constructs.specs.declared.constructs.Kind.TheVariants as kind
-use Rattle.inf_constructs.specs.declared.constructs.Over.{Over}
-use Rattle.inf_constructs.specs.declared.constructs.Over.TheVariants as over
+use Rattle.inf_constructs.specs.{Labels.NamedLabel, declared.constructs.Case.Case, declared.constructs.Construct.Construct}
+use Rattle.inf_constructs.specs.{declared.constructs.Kind.Kind, declared.constructs.Over.Over}
 use Rattle.inf_constructs.specs.Constructs.{between, case_closed, changed, closed, ending, entered, entered_by, joint, kind_behind, looped}
 use Rattle.inf_constructs.specs.Constructs.{looped_by, looped_over, over_all, over_children, tested_over, with_case}
-use Rattle.inf_constructs.specs.Labels.{NamedLabel}
 use Rattle.inf_label_laws.specs.Labels.{times}
 use Rattle.inf_label_laws.proofs.Owning.{Owned, owned_before, owned_behind, owned_jump, owned_mark, owned_naming}
 use Rattle.inf_label_laws.proofs.Owning.{owned_nothing, owned_then, times_joined}
@@ -33,19 +23,19 @@ use Rattle.inf_routine_laws.proofs.Constructing.{jump_mark, marks_one, needs_one
 -- Cases
 
 abbrev pub case_given : Case → List ℕ
-case_given case.Nothing = []
-case_given (case.Values next) = next.number ∷ []
-case_given case.Default = []
+case_given Case.Nothing = []
+case_given (Case.Values next) = next.number ∷ []
+case_given Case.Default = []
 
 case_is : (n : ℕ) (old : Case) → case_due n old ≡ times n (case_given old)
-case_is n case.Nothing = refl
-case_is n (case.Values next) = sym (one_is n next)
-case_is n case.Default = refl
+case_is n Case.Nothing = refl
+case_is n (Case.Values next) = sym (one_is n next)
+case_is n Case.Default = refl
 
 case_closed_owns : (limits : Limits) (old : Case) (end : Label) → Owned (case_closed limits old end) (end.number ∷ []) (case_given old)
-case_closed_owns limits case.Nothing end = owned_nothing
-case_closed_owns limits (case.Values next) end = jump_mark limits end next
-case_closed_owns limits case.Default end = owned_jump limits end
+case_closed_owns limits Case.Nothing end = owned_nothing
+case_closed_owns limits (Case.Values next) end = jump_mark limits end next
+case_closed_owns limits Case.Default end = owned_jump limits end
 
 -- The last case is closed, and then its statement ends.
 ends_as : (limits : Limits) (due spare extra : Counts) (labels : List NamedLabel) (c : Construct) (around : List Construct) (o : Out)
@@ -83,7 +73,7 @@ ends_as limits due spare extra labels c around o old h k g =
     sums a b d g x y p q r = omega (arith, p, q, r)
 
 pub ends_switch : (limits : Limits) (due spare extra : Counts) (labels : List NamedLabel) (c : Construct) (around : List Construct)
-    (o : Out) (old : Case) (had_default : Bool) → c.kind ≡ kind.Switch old had_default → Good due spare extra labels (c ∷ around) o →
+    (o : Out) (old : Case) (had_default : Bool) → c.kind ≡ Kind.Switch old had_default → Good due spare extra labels (c ∷ around) o →
     Good due spare extra labels around (closed limits c o)
 unfolding closed
 ends_switch limits due spare extra labels c around o old had_default e g =
@@ -91,7 +81,7 @@ ends_switch limits due spare extra labels c around o old had_default e g =
     (ends_as limits due spare extra labels c around o old (λ n. ap (cased_in n c) e) (λ n. ap (reached_in n c) e) g)
 
 pub ends_cases : (limits : Limits) (due spare extra : Counts) (labels : List NamedLabel) (c : Construct) (around : List Construct)
-    (o : Out) (old : Case) (had_default : Bool) → c.kind ≡ kind.Cases old had_default → Good due spare extra labels (c ∷ around) o →
+    (o : Out) (old : Case) (had_default : Bool) → c.kind ≡ Kind.Cases old had_default → Good due spare extra labels (c ∷ around) o →
     Good due spare extra labels around (closed limits c o)
 unfolding closed
 ends_cases limits due spare extra labels c around o old had_default e g =
@@ -125,21 +115,21 @@ enters limits due spare rest extra labels c around o old k n_due h r i j few g =
 entered_as : (limits : Limits) (k : Kind) (is_default : Bool) (due spare extra : Counts) (labels : List NamedLabel) (c : Construct)
     (around : List Construct) (o : Out) → c.kind ≡ k → Good due spare extra labels (c ∷ around) o →
     let r = entered_by limits k is_default c o in Good due spare extra labels (r.0 ∷ around) r.1
-entered_as limits (kind.Switch old had_default) true due spare extra labels c around o e g =
-    enters limits due spare spare extra labels c around o old (with_case false case.Default true) (λ n. 0) (λ n. ap (cased_in n c) e)
+entered_as limits (Kind.Switch old had_default) true due spare extra labels c around o e g =
+    enters limits due spare spare extra labels c around o old (with_case false Case.Default true) (λ n. 0) (λ n. ap (cased_in n c) e)
     (λ n. ap (reached_in n c) e) (λ n. refl) (λ n. refl) (λ n. omega arith) g
-entered_as limits (kind.Switch old had_default) false due spare extra labels c around o e g =
+entered_as limits (Kind.Switch old had_default) false due spare extra labels c around o e g =
     let next : Label = record { number = o.next } in
     enters limits due (λ n. spare n + one n next) spare extra labels c around (record o { next = behind o.next }) old
-    (with_case false (case.Values next) had_default) (λ n. one n next) (λ n. ap (cased_in n c) e) (λ n. ap (reached_in n c) e)
+    (with_case false (Case.Values next) had_default) (λ n. one n next) (λ n. ap (cased_in n c) e) (λ n. ap (reached_in n c) e)
     (λ n. refl) (λ n. refl) (λ n. omega arith) (good_label due spare extra labels (c ∷ around) o g)
-entered_as limits (kind.Cases old had_default) true due spare extra labels c around o e g =
-    enters limits due spare spare extra labels c around o old (with_case true case.Default true) (λ n. 0) (λ n. ap (cased_in n c) e)
+entered_as limits (Kind.Cases old had_default) true due spare extra labels c around o e g =
+    enters limits due spare spare extra labels c around o old (with_case true Case.Default true) (λ n. 0) (λ n. ap (cased_in n c) e)
     (λ n. ap (reached_in n c) e) (λ n. refl) (λ n. refl) (λ n. omega arith) g
-entered_as limits (kind.Cases old had_default) false due spare extra labels c around o e g =
+entered_as limits (Kind.Cases old had_default) false due spare extra labels c around o e g =
     let next : Label = record { number = o.next } in
     enters limits due (λ n. spare n + one n next) spare extra labels c around (record o { next = behind o.next }) old
-    (with_case true (case.Values next) had_default) (λ n. one n next) (λ n. ap (cased_in n c) e) (λ n. ap (reached_in n c) e)
+    (with_case true (Case.Values next) had_default) (λ n. one n next) (λ n. ap (cased_in n c) e) (λ n. ap (reached_in n c) e)
     (λ n. refl) (λ n. refl) (λ n. omega arith) (good_label due spare extra labels (c ∷ around) o g)
 entered_as limits _ is_default due spare extra labels c around o e g = g
 
@@ -159,11 +149,11 @@ Joined limits due spare extra labels c around o k =
 
 pub joined_if : (limits : Limits) (due spare extra : Counts) (labels : List NamedLabel) (c : Construct) (around : List Construct)
     (o : Out) →
-    c.kind ≡ kind.If → Good (λ n. one n c.next + due n) (λ n. one n c.end + spare n) extra labels (c ∷ around) o →
+    c.kind ≡ Kind.If → Good (λ n. one n c.next + due n) (λ n. one n c.end + spare n) extra labels (c ∷ around) o →
     let j = between limits c o in Good (λ n. one n j.0.end + due n) spare extra labels (j.0 ∷ around) j.1
 unfolding between
 joined_if limits due spare extra labels c around o e g =
-    let d = record c { kind = kind.Else } in
+    let d = record c { kind = Kind.Else } in
     let left : Counts = λ n. one n c.end + due n in
     let more : Counts = λ n. one n c.next + left n in
     subst (λ k. Joined limits left spare extra labels c around o k) (sym e)
@@ -180,11 +170,11 @@ joined_if limits due spare extra labels c around o e g =
 
 pub joined_do : (limits : Limits) (due spare extra : Counts) (labels : List NamedLabel) (c : Construct) (around : List Construct)
     (o : Out) →
-    c.kind ≡ kind.Do → Good (λ n. one n c.next + (one n c.end + due n)) spare extra labels (c ∷ around) o →
+    c.kind ≡ Kind.Do → Good (λ n. one n c.next + (one n c.end + due n)) spare extra labels (c ∷ around) o →
     let j = between limits c o in Good (λ n. one n j.0.end + due n) spare extra labels (j.0 ∷ around) j.1
 unfolding between
 joined_do limits due spare extra labels c around o e g =
-    let d = record c { kind = kind.Do } in
+    let d = record c { kind = Kind.Do } in
     let left : Counts = λ n. one n c.end + due n in
     let more : Counts = λ n. one n c.next + left n in
     subst (λ k. Joined limits left spare extra labels c around o k) (sym e)
@@ -200,12 +190,12 @@ joined_do limits due spare extra labels c around o e g =
 
 pub joined_for : (limits : Limits) (due spare extra : Counts) (labels : List NamedLabel) (c : Construct) (around : List Construct)
     (o : Out) →
-    c.kind ≡ kind.For → Good (loop_due c due) spare (top_known c extra) labels (c ∷ around) o →
+    c.kind ≡ Kind.For → Good (loop_due c due) spare (top_known c extra) labels (c ∷ around) o →
     let j = between limits c o in
     Good (λ n. one n j.0.next + (one n j.0.end + due n)) spare (top_known j.0 extra) labels (j.0 ∷ around) j.1
 unfolding between
 joined_for limits due spare extra labels c around o e g =
-    let d = record c { kind = kind.For } in
+    let d = record c { kind = Kind.For } in
     let left : Counts = λ n. one n c.next + (one n c.end + due n) in
     subst (λ k. Joined limits left spare (top_known c extra) labels c around o k) (sym e)
     (good_paid [] (c.top.number ∷ []) (loop_due c due) left spare (top_known c extra) labels (d ∷ around) o (marked limits c.top o)
@@ -221,23 +211,23 @@ joined_for limits due spare extra labels c around o e g =
 -- A loop over objects begins where its objects end, or, where these had an error, at its joint.
 
 abbrev pub top_due : ℕ → Over → Label → ℕ
-top_due n over.Nothing top = one n top
-top_due n over.Children top = 0
-top_due n over.All top = 0
+top_due n Over.Nothing top = one n top
+top_due n Over.Children top = 0
+top_due n Over.All top = 0
 
 abbrev pub objects_due : Over → Construct → Counts → Counts
 objects_due how c due n = top_due n how c.top + (one n c.next + (one n c.end + due n))
 
 joined_over : (limits : Limits) (how : Over) (v : ℕ) (due spare extra : Counts) (labels : List NamedLabel) (c : Construct)
-    (around : List Construct) (o : Out) → c.kind ≡ kind.Objects how v →
+    (around : List Construct) (o : Out) → c.kind ≡ Kind.Objects how v →
     Good (objects_due how c due) spare (top_known c extra) labels (c ∷ around) o →
-    Joined limits (λ n. one n c.next + (one n c.end + due n)) spare (top_known c extra) labels c around o (kind.Objects how v)
-joined_over limits over.Nothing v due spare extra labels c around o e g =
-    let d = record c { kind = kind.Objects over.Nothing v } in
+    Joined limits (λ n. one n c.next + (one n c.end + due n)) spare (top_known c extra) labels c around o (Kind.Objects how v)
+joined_over limits Over.Nothing v due spare extra labels c around o e g =
+    let d = record c { kind = Kind.Objects Over.Nothing v } in
     let left : Counts = λ n. one n c.next + (one n c.end + due n) in
-    good_paid [] (c.top.number ∷ []) (objects_due over.Nothing c due) left spare (top_known c extra) labels (d ∷ around) o
+    good_paid [] (c.top.number ∷ []) (objects_due Over.Nothing c due) left spare (top_known c extra) labels (d ∷ around) o
     (marked limits c.top o)
-    (good_as (objects_due over.Nothing c due) spare (top_known c extra) (objects_due over.Nothing c due) spare (top_known c extra) labels
+    (good_as (objects_due Over.Nothing c due) spare (top_known c extra) (objects_due Over.Nothing c due) spare (top_known c extra) labels
     (c ∷ around) (d ∷ around) o
     (record {
       once = λ n. let i = ap (cased_in n c) e in omega (arith, i);
@@ -246,9 +236,9 @@ joined_over limits over.Nothing v due spare extra labels c around o e g =
     }) g)
     (came {needs = []} {given = c.top.number ∷ []} (owned_mark limits c.top) o) (marks_one c.top left)
     (λ n some. none_needed n (top_known c extra n + (reached n (d ∷ around) + named_all n labels)) some)
-joined_over limits over.Children v due spare extra labels c around o e g =
-    let d = record c { kind = kind.Objects over.Children v } in
-    good_as (objects_due over.Children c due) spare (top_known c extra) (λ n. one n c.next + (one n c.end + due n)) spare
+joined_over limits Over.Children v due spare extra labels c around o e g =
+    let d = record c { kind = Kind.Objects Over.Children v } in
+    good_as (objects_due Over.Children c due) spare (top_known c extra) (λ n. one n c.next + (one n c.end + due n)) spare
     (top_known c extra)
     labels (c ∷ around) (d ∷ around) o
     (record {
@@ -256,9 +246,9 @@ joined_over limits over.Children v due spare extra labels c around o e g =
       all = λ n. let i = ap (cased_in n c) e in omega (arith, i);
       known = λ n. let i = ap (reached_in n c) e in omega (arith, i);
     }) g
-joined_over limits over.All v due spare extra labels c around o e g =
-    let d = record c { kind = kind.Objects over.All v } in
-    good_as (objects_due over.All c due) spare (top_known c extra) (λ n. one n c.next + (one n c.end + due n)) spare (top_known c extra)
+joined_over limits Over.All v due spare extra labels c around o e g =
+    let d = record c { kind = Kind.Objects Over.All v } in
+    good_as (objects_due Over.All c due) spare (top_known c extra) (λ n. one n c.next + (one n c.end + due n)) spare (top_known c extra)
     labels (c ∷ around) (d ∷ around) o
     (record {
       once = λ n. let i = ap (cased_in n c) e in omega (arith, i);
@@ -267,7 +257,7 @@ joined_over limits over.All v due spare extra labels c around o e g =
     }) g
 
 pub joined_objects : (limits : Limits) (how : Over) (v : ℕ) (due spare extra : Counts) (labels : List NamedLabel) (c : Construct)
-    (around : List Construct) (o : Out) → c.kind ≡ kind.Objects how v →
+    (around : List Construct) (o : Out) → c.kind ≡ Kind.Objects how v →
     Good (objects_due how c due) spare (top_known c extra) labels (c ∷ around) o →
     let j = between limits c o in
     Good (λ n. one n j.0.next + (one n j.0.end + due n)) spare (top_known j.0 extra) labels (j.0 ∷ around) j.1
@@ -280,13 +270,13 @@ pub record IsLooped (due spare extra : Counts) (labels : List NamedLabel) (c : C
     Type 0 where
   pub how : Over
   pub variable : ℕ
-  pub is : constructs ≡ record c { kind = kind.Objects how variable } ∷ around
-  pub good : Good (objects_due how c due) spare (top_known c extra) labels (record c { kind = kind.Objects how variable } ∷ around) o
+  pub is : constructs ≡ record c { kind = Kind.Objects how variable } ∷ around
+  pub good : Good (objects_due how c due) spare (top_known c extra) labels (record c { kind = Kind.Objects how variable } ∷ around) o
 
 children_owns : (limits : Limits) (e : Tree) (v : ℕ) (c : Construct) →
     Owned (over_children limits e v c) (c.end.number ∷ []) (c.top.number ∷ [])
 children_owns limits e v c =
-    owned_behind (owned_worked limits opcode.GetChild (part (meaning limits e) ∷ []) ((owns limits e).value, tt) (Some v) (to false c.end))
+    owned_behind (owned_worked limits Opcode.GetChild (part (meaning limits e) ∷ []) ((owns limits e).value, tt) (Some v) (to false c.end))
     (owned_mark limits c.top)
 
 tested_owns_over : (x : Option Simple) (m : Meaning) → OwnsAll m → (next : Label) → Owned (tested_over x m next) (next.number ∷ []) []
@@ -296,16 +286,16 @@ tested_owns_over None m h next = h.branch false next
 all_owns : (limits : Limits) (m : Meaning) → OwnsAll m → (v : ℕ) (c : Construct) →
     Owned (over_all limits m v c) (c.next.number ∷ []) (c.top.number ∷ [])
 all_owns limits m h v c =
-    owned_before (owned_naming limits opcode.Store v (Known 5 ∷ []) None None)
+    owned_before (owned_naming limits Opcode.Store v (Simple.Known 5 ∷ []) None None)
     (owned_then {a = c.top.number ∷ []} {b = []} (owned_mark limits c.top) (tested_owns_over m.operand m h c.next))
 
 looped_as : (limits : Limits) (code : Code) (needs : Label) (how : Over) (v : ℕ) (due spare extra : Counts) (labels : List NamedLabel)
-    (c : Construct) (around : List Construct) (o : Out) → c.kind ≡ kind.Objects over.Nothing 0 →
+    (c : Construct) (around : List Construct) (o : Out) → c.kind ≡ Kind.Objects Over.Nothing 0 →
     ((n : ℕ) → one n needs ≤ one n c.next + one n c.end) → ((n : ℕ) → top_due n how c.top ≡ 0) →
     Owned code (needs.number ∷ []) (c.top.number ∷ []) → Good (loop_due c due) spare (top_known c extra) labels (c ∷ around) o →
-    Good (objects_due how c due) spare (top_known c extra) labels (record c { kind = kind.Objects how v } ∷ around) (code o)
+    Good (objects_due how c due) spare (top_known c extra) labels (record c { kind = Kind.Objects how v } ∷ around) (code o)
 looped_as limits code needs how v due spare extra labels c around o e among none owned g =
-    let d = record c { kind = kind.Objects how v } in
+    let d = record c { kind = Kind.Objects how v } in
     let left : Counts = λ n. one n c.next + (one n c.end + due n) in
     let paid = good_paid (needs.number ∷ []) (c.top.number ∷ []) (loop_due c due) left spare (top_known c extra) labels (c ∷ around) o
     (code o) g
@@ -320,38 +310,38 @@ looped_as limits code needs how v due spare extra labels c around o e among none
     }) paid
 
 looped_by_good : (limits : Limits) (parent : Option Tree) (e : Tree) (v : ℕ) (due spare extra : Counts) (labels : List NamedLabel)
-    (c : Construct) (around : List Construct) (o : Out) → c.kind ≡ kind.Objects over.Nothing 0 →
+    (c : Construct) (around : List Construct) (o : Out) → c.kind ≡ Kind.Objects Over.Nothing 0 →
     Good (loop_due c due) spare (top_known c extra) labels (c ∷ around) o →
     let r = looped_by limits parent e v c o in IsLooped due spare extra labels c around (r.0 ∷ around) r.1
 looped_by_good limits (Some parent) e v due spare extra labels c around o k g = record {
-  how = over.Children;
+  how = Over.Children;
   variable = v;
   is = refl;
   good =
-      looped_as limits (over_children limits parent v c) c.end over.Children v due spare extra labels c around o k (λ n. omega arith)
+      looped_as limits (over_children limits parent v c) c.end Over.Children v due spare extra labels c around o k (λ n. omega arith)
       (λ n. refl) (children_owns limits parent v c) g;
 }
 looped_by_good limits None e v due spare extra labels c around o k g = record {
-  how = over.All;
+  how = Over.All;
   variable = v;
   is = refl;
   good =
-      looped_as limits (over_all limits (meaning limits e) v c) c.next over.All v due spare extra labels c around o k (λ n. omega arith)
+      looped_as limits (over_all limits (meaning limits e) v c) c.next Over.All v due spare extra labels c around o k (λ n. omega arith)
       (λ n. refl) (all_owns limits (meaning limits e) (owns limits e) v c) g;
 }
 
 not_begun : (due spare extra : Counts) (labels : List NamedLabel) (c : Construct) (around : List Construct) (o : Out) →
-    c.kind ≡ kind.Objects over.Nothing 0 → Good (loop_due c due) spare (top_known c extra) labels (c ∷ around) o →
+    c.kind ≡ Kind.Objects Over.Nothing 0 → Good (loop_due c due) spare (top_known c extra) labels (c ∷ around) o →
     IsLooped due spare extra labels c around (c ∷ around) o
 not_begun due spare extra labels c around o k g = record {
-  how = over.Nothing;
+  how = Over.Nothing;
   variable = 0;
   is = ap (λ x. record c { kind = x } ∷ around) k;
   good = subst (λ x. Good (loop_due c due) spare (top_known c extra) labels (record c { kind = x } ∷ around) o) k g;
 }
 
 pub looped_good : (limits : Limits) (trees : List Rooted) (due spare extra : Counts) (labels : List NamedLabel) (c : Construct)
-    (around : List Construct) (o : Out) → c.kind ≡ kind.Objects over.Nothing 0 →
+    (around : List Construct) (o : Out) → c.kind ≡ Kind.Objects Over.Nothing 0 →
     Good (loop_due c due) spare (top_known c extra) labels (c ∷ around) o →
     let r = looped_over limits trees (c ∷ around) o in IsLooped due spare extra labels c around r.0 r.1
 unfolding looped
@@ -360,6 +350,6 @@ looped_good limits (r ∷ trees) due spare extra labels c around o k g =
     looped_by_good limits (children_of r.tree) r.tree (unwrap_or r.origin.lead.variable 0) due spare extra labels c around o k g
 
 pub not_looped : (due spare extra : Counts) (labels : List NamedLabel) (c : Construct) (around : List Construct) (o : Out) →
-    c.kind ≡ kind.Objects over.Nothing 0 → Good (loop_due c due) spare (top_known c extra) labels (c ∷ around) o →
+    c.kind ≡ Kind.Objects Over.Nothing 0 → Good (loop_due c due) spare (top_known c extra) labels (c ∷ around) o →
     IsLooped due spare extra labels c around (c ∷ around) o
 not_looped due spare extra labels c around o k g = not_begun due spare extra labels c around o k g

@@ -3,44 +3,26 @@ use Rattle.std.proofs.Common.{arith, ◌≡◌, ◌≤◌, ℕ, List, [], ◌∷
 use Rattle.std.specs.Prelude.{◌==◌, ◌+◌, ◌<◌, if◌then◌else◌}
 use Rattle.inf_settings.specs.Bounds.{Limits}
 use Rattle.inf_area.specs.declared.targets.Target.{Target}
-use Rattle.inf_characters.specs.declared.characters.CharSet.{CharSet}
-use Rattle.inf_characters.specs.declared.texts.TextItem.{TextItem}
+use Rattle.inf_characters.specs.{declared.characters.CharSet.CharSet, declared.texts.TextItem.TextItem}
 use Rattle.inf_text.specs.Packing.{packed}
-use Rattle.inf_opcode.specs.declared.instructions.Label.{Label}
-use Rattle.inf_opcode.specs.declared.opcodes.Opcode.{Opcode}
-use Rattle.inf_opcode.specs.declared.opcodes.Opcode.TheVariants as opcode
-use Rattle.inf_opcode.specs.Instructions.{bare}
-use Rattle.inf_expressions.specs.Questions.{range_of}
-use Rattle.inf_expressions.specs.Trees.{Tree}
-use Rattle.inf_output.specs.declared.items.Item.{Item as CodeItem}
-use Rattle.inf_output.specs.declared.items.Item.TheVariants.{Instruction, Mark}
-use Rattle.inf_output.specs.declared.operands.Simple.{Simple}
-use Rattle.inf_output.specs.declared.operands.Simple.TheVariants.{Known, Later, Variable}
-use Rattle.inf_output.specs.declared.veneer.Veneer.{Veneer}
-use Rattle.inf_output.specs.declared.veneer.Veneer.TheVariants as veneer
-use Rattle.inf_output.specs.Output.{Code, Out, instruction, laid, laid_all, low_string_at, nothing, to, with_low_text}
-use Rattle.inf_output.specs.Output.{with_low_text_by}
-use Rattle.inf_output.specs.Texts.{used_in}
+use Rattle.inf_opcode.specs.{Instructions.bare, declared.instructions.Label.Label, declared.opcodes.Opcode.Opcode}
+use Rattle.inf_expressions.specs.{Questions.range_of, Trees.Tree}
+use Rattle.inf_output.specs.{Texts.used_in, declared.items.Item.Item as CodeItem, declared.operands.Simple.Simple}
+use Rattle.inf_output.specs.{declared.veneer.Veneer.Veneer}
+use Rattle.inf_output.specs.Output.{Code, Out, instruction, laid, laid_all, low_string_at, nothing, to, with_low_text, with_low_text_by}
 use Rattle.inf_tables.specs.LowStrings.{low_fits}
-use Rattle.inf_templates.specs.Meaning.{Meaning, meaning, part}
-use Rattle.inf_templates.specs.Parts.{Part, SP, TEMP, is}
-use Rattle.inf_unit.specs.Tokens.{SourceToken}
-use Rattle.inf_unit.specs.declared.items.Item.{Item}
-use Rattle.inf_unit.specs.declared.items.Item.TheVariants as item
-use Rattle.inf_unit.specs.declared.items.PrintRule.{PrintRule}
-use Rattle.inf_unit.specs.declared.items.PrintRule.TheVariants as rule
+use Rattle.inf_templates.specs.{Meaning.Meaning, Meaning.meaning, Meaning.part, Parts.Part, Parts.SP, Parts.TEMP, Parts.is}
+use Rattle.inf_unit.specs.{Tokens.SourceToken, declared.items.Item.Item, declared.items.PrintRule.PrintRule}
 use Rattle.inf_constructs.specs.Cases.{SWITCHED, beside, case_code, case_tested, group_tested, grouped, is_empty, is_open, laid_before}
 use Rattle.inf_constructs.specs.Cases.{operand_in, range_tested, value_grouped, value_laid, within}
 use Rattle.inf_statements.specs.Printing.{called_with, ends_behind, ended, item_code, items_printed, rule_code, text_opcode}
-use Rattle.inf_operands.specs.Texts.{text_at}
 use Rattle.inf_statements.specs.Printing.{trees_behind, veneer_called}
 use Rattle.inf_statements.specs.Statements.{abbreviations, action_laid, action_on, alone, are_several, attribute_code, attribute_opcode}
 use Rattle.inf_statements.specs.Statements.{attributes_changed, attributes_given, given_by, jumped_to, moved, one_worked, plain, printed}
 use Rattle.inf_statements.specs.Statements.{rest, returned, returned_by, returned_number, spaced, string_changed, string_set}
 use Rattle.inf_statements.specs.Statements.{styled_by, switched, tested, unless}
-use Rattle.inf_operands.specs.Texts.{text_packed}
-use Rattle.inf_label_laws.specs.Labels.{times}
-use Rattle.inf_label_laws.specs.Programs.{branch_labels, marks, operand_labels, uses}
+use Rattle.inf_operands.specs.Texts.{text_at, text_packed}
+use Rattle.inf_label_laws.specs.{Labels.times, Programs.branch_labels, Programs.marks, Programs.operand_labels, Programs.uses}
 use Rattle.inf_label_laws.proofs.Owning.{Owned, Owns, Settles, has_first, has_later, owned_at, owned_before, owned_behind, owned_free}
 use Rattle.inf_label_laws.proofs.Owning.{owned_instruction, owned_jump, owned_label, owned_mark, owned_nothing}
 use Rattle.inf_label_laws.proofs.Owning.{owned_item, owned_parts_laid, owned_then, owned_wide, times_joined}
@@ -90,26 +72,26 @@ pub printed_owns : (limits : Limits) (op : Opcode) (text : Option (List TextItem
 printed_owns limits op None o = owned_nothing {needs = []} o
 printed_owns limits op (Some text) o =
     let i = record (bare op) { text = packed text (used_in o.texts) } in
-    idle_owns {c = laid limits (Instruction i)} {d = printed limits op (Some text)} o (text_packed o)
+    idle_owns {c = laid limits (CodeItem.Instruction i)} {d = printed limits op (Some text)} o (text_packed o)
     (record { code = refl; next = refl; kept = refl; fits = λ e. e }) refl (owned_parts_laid limits i [] refl refl (text_packed o))
 
 number_owns : (limits : Limits) (n : ℕ) → Owned (returned_number limits n) [] []
 number_owns limits n =
-    if_owns (n == 1) (plain limits opcode.Rtrue)
-    (if n == 0 then plain limits opcode.Rfalse else instruction limits opcode.Ret (Known n ∷ [])
-    None None) (plain_owns limits opcode.Rtrue)
-    (if_owns (n == 0) (plain limits opcode.Rfalse) (instruction limits opcode.Ret (Known n ∷ []) None None)
-    (plain_owns limits opcode.Rfalse)
-    (owned_instruction limits opcode.Ret (Known n ∷ []) None None))
+    if_owns (n == 1) (plain limits Opcode.Rtrue)
+    (if n == 0 then plain limits Opcode.Rfalse else instruction limits Opcode.Ret (Simple.Known n ∷ [])
+    None None) (plain_owns limits Opcode.Rtrue)
+    (if_owns (n == 0) (plain limits Opcode.Rfalse) (instruction limits Opcode.Ret (Simple.Known n ∷ []) None None)
+    (plain_owns limits Opcode.Rfalse)
+    (owned_instruction limits Opcode.Ret (Simple.Known n ∷ []) None None))
 
 by_owns : (limits : Limits) (x : Option Simple) (m : Meaning) → OwnsAll m → Owned (returned_by limits x m) [] []
-by_owns limits (Some (Known n)) m h = number_owns limits n
-by_owns limits (Some (Variable v)) m h = owned_instruction limits opcode.Ret (Variable v ∷ []) None None
-by_owns limits (Some (Later t)) m h = owned_instruction limits opcode.Ret (Later t ∷ []) None None
-by_owns limits None m h = owned_before (h.value SP) (plain_owns limits opcode.RetPopped)
+by_owns limits (Some (Simple.Known n)) m h = number_owns limits n
+by_owns limits (Some (Simple.Variable v)) m h = owned_instruction limits Opcode.Ret (Simple.Variable v ∷ []) None None
+by_owns limits (Some (Simple.Later t)) m h = owned_instruction limits Opcode.Ret (Simple.Later t ∷ []) None None
+by_owns limits None m h = owned_before (h.value SP) (plain_owns limits Opcode.RetPopped)
 
 pub returned_owns : (limits : Limits) (trees : List Tree) → Owned (returned limits trees) [] []
-returned_owns limits [] = plain_owns limits opcode.Rtrue
+returned_owns limits [] = plain_owns limits Opcode.Rtrue
 returned_owns limits (e ∷ trees) = by_owns limits (meaning limits e).operand (meaning limits e) (owns limits e)
 
 pub alone_owns : (limits : Limits) (trees : List Tree) → Owned (alone limits trees) [] []
@@ -120,19 +102,19 @@ pub moved_owns : (limits : Limits) (trees : List Tree) → Owned (moved limits t
 moved_owns limits [] = owned_nothing
 moved_owns limits (a ∷ []) = owned_nothing
 moved_owns limits (a ∷ b ∷ trees) =
-    owned_worked limits opcode.InsertObj (part (meaning limits a) ∷ part (meaning limits b) ∷ [])
+    owned_worked limits Opcode.InsertObj (part (meaning limits a) ∷ part (meaning limits b) ∷ [])
     (part_owns limits a, (part_owns limits b, tt)) None None
 
 pub spaced_owns : (limits : Limits) (trees : List Tree) → Owned (spaced limits trees) [] []
 spaced_owns limits [] = owned_nothing
-spaced_owns limits (e ∷ trees) = owned_ask limits veneer.Spaces (part (meaning limits e) ∷ []) (part_owns limits e, tt) None
+spaced_owns limits (e ∷ trees) = owned_ask limits Veneer.Spaces (part (meaning limits e) ∷ []) (part_owns limits e, tt) None
 
 action_owns_on : (limits : Limits) (action : Part) → OwnsPart action → (trees : List Tree) → Owned (action_on limits action trees) [] []
-action_owns_on limits action h [] = owned_ask limits veneer.Process (action ∷ []) (h, tt) None
+action_owns_on limits action h [] = owned_ask limits Veneer.Process (action ∷ []) (h, tt) None
 action_owns_on limits action h (a ∷ []) =
-    owned_ask limits veneer.Process (action ∷ part (meaning limits a) ∷ []) (h, (part_owns limits a, tt)) None
+    owned_ask limits Veneer.Process (action ∷ part (meaning limits a) ∷ []) (h, (part_owns limits a, tt)) None
 action_owns_on limits action h (a ∷ b ∷ trees) =
-    owned_ask limits veneer.Process (action ∷ part (meaning limits a) ∷ part (meaning limits b) ∷ [])
+    owned_ask limits Veneer.Process (action ∷ part (meaning limits a) ∷ part (meaning limits b) ∷ [])
     (h, (part_owns limits a, (part_owns limits b, tt))) None
 
 pub action_owns : (limits : Limits) (trees : List Tree) → Owned (action_laid limits trees) [] []
@@ -155,7 +137,7 @@ given_owns : (limits : Limits) (several : Bool) (x : Option Simple) (m : Meaning
     (items : List Item) (attributes : List Tree) →
     Owned (given_by limits several x m items attributes) [] []
 given_owns limits true None m h items attributes =
-    owned_before (h.value TEMP) (attributes_owns limits (is (Variable TEMP)) (simple_owns (Variable TEMP)) items attributes)
+    owned_before (h.value TEMP) (attributes_owns limits (is (Simple.Variable TEMP)) (simple_owns (Simple.Variable TEMP)) items attributes)
 given_owns limits true (Some x) m h items attributes = attributes_owns limits (part m) h.value items attributes
 given_owns limits false None m h items attributes = attributes_owns limits (part m) h.value items attributes
 given_owns limits false (Some x) m h items attributes = attributes_owns limits (part m) h.value items attributes
@@ -167,13 +149,13 @@ changed_owns limits items (e ∷ trees) =
 
 pub styled_owns : (limits : Limits) (style : Option ℕ) → Owned (styled_by limits style) [] []
 styled_owns limits None = owned_nothing
-styled_owns limits (Some style) = owned_instruction limits opcode.SetTextStyle (Known style ∷ []) None None
+styled_owns limits (Some style) = owned_instruction limits Opcode.SetTextStyle (Simple.Known style ∷ []) None None
 
 set_owns : (limits : Limits) (low : Target) (trees : List Tree) → Owned (string_set limits low trees) [] []
 set_owns limits low [] = owned_nothing
 set_owns limits low (e ∷ trees) =
-    owned_worked limits opcode.Storew (is (Later abbreviations) ∷ part (meaning limits e) ∷ is (Later low) ∷ [])
-    (simple_owns (Later abbreviations), (part_owns limits e, (simple_owns (Later low), tt))) None None
+    owned_worked limits Opcode.Storew (is (Simple.Later abbreviations) ∷ part (meaning limits e) ∷ is (Simple.Later low) ∷ [])
+    (simple_owns (Simple.Later abbreviations), (part_owns limits e, (simple_owns (Simple.Later low), tt))) None None
 
 past_none : {A : Type 0} {B : Type 0} {a : A} → Some a ≡ None → B
 past_none e = absurd (cc e)
@@ -225,7 +207,7 @@ jumped_owns limits (Some l) = owned_jump limits l
 -- Printing
 
 ended_owns : (limits : Limits) (b : Bool) → Owned (ended limits b) [] []
-ended_owns limits true = owned_before (plain_owns limits opcode.NewLine) (plain_owns limits opcode.Rtrue)
+ended_owns limits true = owned_before (plain_owns limits Opcode.NewLine) (plain_owns limits Opcode.Rtrue)
 ended_owns limits false = owned_nothing
 
 called_owns : (limits : Limits) (trees : List Tree) → Owned (called_with limits trees) [] []
@@ -240,22 +222,22 @@ veneer_owns limits v (e ∷ trees) = owned_ask limits v (part (meaning limits e)
 
 rule_owns : (limits : Limits) (r : PrintRule) (trees : List Tree) → Owned (rule_code limits r trees) [] []
 unfolding rule_code
-rule_owns limits rule.Character trees = one_owns limits opcode.PrintChar trees
-rule_owns limits rule.String trees = one_owns limits opcode.PrintPaddr trees
-rule_owns limits rule.Address trees = one_owns limits opcode.PrintAddr trees
-rule_owns limits rule.Object trees = one_owns limits opcode.PrintObj trees
-rule_owns limits rule.ShortName trees = veneer_owns limits veneer.ShortName trees
-rule_owns limits rule.DefiniteArticle trees = veneer_owns limits veneer.DefiniteArticle trees
-rule_owns limits rule.CapitalArticle trees = veneer_owns limits veneer.CapitalArticle trees
-rule_owns limits rule.IndefiniteArticle trees = veneer_owns limits veneer.IndefiniteArticle trees
-rule_owns limits rule.EnglishNumber trees = veneer_owns limits veneer.EnglishNumber trees
-rule_owns limits rule.Routine trees = called_owns limits trees
+rule_owns limits PrintRule.Character trees = one_owns limits Opcode.PrintChar trees
+rule_owns limits PrintRule.String trees = one_owns limits Opcode.PrintPaddr trees
+rule_owns limits PrintRule.Address trees = one_owns limits Opcode.PrintAddr trees
+rule_owns limits PrintRule.Object trees = one_owns limits Opcode.PrintObj trees
+rule_owns limits PrintRule.ShortName trees = veneer_owns limits Veneer.ShortName trees
+rule_owns limits PrintRule.DefiniteArticle trees = veneer_owns limits Veneer.DefiniteArticle trees
+rule_owns limits PrintRule.CapitalArticle trees = veneer_owns limits Veneer.CapitalArticle trees
+rule_owns limits PrintRule.IndefiniteArticle trees = veneer_owns limits Veneer.IndefiniteArticle trees
+rule_owns limits PrintRule.EnglishNumber trees = veneer_owns limits Veneer.EnglishNumber trees
+rule_owns limits PrintRule.Routine trees = called_owns limits trees
 
 item_owns : (limits : Limits) (set : CharSet) (tokens : List SourceToken) (returns : Bool) (others : List Item) (i : Item)
     (trees : List Tree) → Owned (item_code limits set tokens returns others i trees) [] []
-item_owns limits set tokens returns others (item.Text at) trees = printed_owns limits (text_opcode returns others) (text_at set tokens at)
-item_owns limits set tokens returns others item.Value trees = one_owns limits opcode.PrintNum trees
-item_owns limits set tokens returns others (item.Ruled r) trees = rule_owns limits r trees
+item_owns limits set tokens returns others (Item.Text at) trees = printed_owns limits (text_opcode returns others) (text_at set tokens at)
+item_owns limits set tokens returns others Item.Value trees = one_owns limits Opcode.PrintNum trees
+item_owns limits set tokens returns others (Item.Ruled r) trees = rule_owns limits r trees
 item_owns limits set tokens returns others _ trees = owned_nothing
 
 pub items_own : (limits : Limits) (set : CharSet) (tokens : List SourceToken) (returns ends : Bool) (items : List Item)
@@ -272,7 +254,7 @@ group_owns : (limits : Limits) (group : List Simple) (sense : Bool) (l : Label) 
     Owned (group_tested limits group sense l) (l.number ∷ []) []
 unfolding group_tested
 group_owns limits [] sense l = owned_nothing
-group_owns limits (a ∷ others) sense l = owned_instruction limits opcode.Je (Variable SWITCHED ∷ a ∷ others) None (to sense l)
+group_owns limits (a ∷ others) sense l = owned_instruction limits Opcode.Je (Simple.Variable SWITCHED ∷ a ∷ others) None (to sense l)
 
 -- code that needs the first of two labels, or the second
 at_here : {c : Code} (here next : Label) → Owned c (here.number ∷ []) [] → Owned c (here.number ∷ next.number ∷ []) []
@@ -284,14 +266,14 @@ at_next {c} here next f =
 
 beside_owns : (limits : Limits) (a b : Simple) (next : Label) → Owned (beside limits a b next) (next.number ∷ []) []
 beside_owns limits a b next =
-    owned_behind (owned_instruction limits opcode.Jl (Variable SWITCHED ∷ a ∷ []) None (to true next))
-    (owned_instruction limits opcode.Jg (Variable SWITCHED ∷ b ∷ []) None (to true next))
+    owned_behind (owned_instruction limits Opcode.Jl (Simple.Variable SWITCHED ∷ a ∷ []) None (to true next))
+    (owned_instruction limits Opcode.Jg (Simple.Variable SWITCHED ∷ b ∷ []) None (to true next))
 
 within_owns : (limits : Limits) (a b : Simple) (here : Label) → Owned (within limits a b here) (here.number ∷ []) []
 within_owns limits a b here =
     owned_label λ beyond.
-    owned_behind (at_here beyond here (owned_instruction limits opcode.Jl (Variable SWITCHED ∷ a ∷ []) None (to true beyond)))
-    (owned_behind (at_next beyond here (owned_instruction limits opcode.Jg (Variable SWITCHED ∷ b ∷ []) None (to false here)))
+    owned_behind (at_here beyond here (owned_instruction limits Opcode.Jl (Simple.Variable SWITCHED ∷ a ∷ []) None (to true beyond)))
+    (owned_behind (at_next beyond here (owned_instruction limits Opcode.Jg (Simple.Variable SWITCHED ∷ b ∷ []) None (to false here)))
     (owned_mark limits beyond))
 
 range_owns : (limits : Limits) (is_last : Bool) (a b : Simple) (here next : Label) →
@@ -336,28 +318,31 @@ case_code_owns limits (Some next) values = case_owns limits values next
 -- Items that were kept apart are laid as they are.
 pub items_laid_own : (limits : Limits) (items : List CodeItem) → Owned (laid_all limits items) (uses items) (marks items)
 items_laid_own limits [] = owned_nothing
-items_laid_own limits ((Instruction i) ∷ items) =
-    owned_then {c = laid limits (Instruction i)} {d = laid_all limits items}
-    {needs = uses (Instruction i ∷ items)} {a = []} {b = marks items}
-    (owned_wide {c = laid limits (Instruction i)} {a = uses (Instruction i ∷ [])} (λ n h. first n h) (owned_item limits (Instruction i)))
+items_laid_own limits ((CodeItem.Instruction i) ∷ items) =
+    owned_then {c = laid limits (CodeItem.Instruction i)} {d = laid_all limits items}
+    {needs = uses (CodeItem.Instruction i ∷ items)} {a = []} {b = marks items}
+    (owned_wide {c = laid limits (CodeItem.Instruction i)} {a = uses (CodeItem.Instruction i ∷ [])} (λ n h. first n h)
+    (owned_item limits (CodeItem.Instruction i)))
     (owned_wide {c = laid_all limits items} {a = uses items} (λ n h. later n h) (items_laid_own limits items))
   where
-    parts : (n : ℕ) → times n (uses (Instruction i ∷ items)) ≡ times n (operand_labels i.operands) + (times n (branch_labels i.branch)
+    parts : (n : ℕ) →
+        times n (uses (CodeItem.Instruction i ∷ items)) ≡ times n (operand_labels i.operands) + (times n (branch_labels i.branch)
         + times n (uses items))
     parts n =
         times_joined n (operand_labels i.operands) (branch_labels i.branch ++ uses items)
         ∙ ap (λ k. times n (operand_labels i.operands) + k) (times_joined n (branch_labels i.branch) (uses items))
 
-    alone : (n : ℕ) → times n (uses (Instruction i ∷ [])) ≡ times n (operand_labels i.operands) + (times n (branch_labels i.branch) + 0)
+    alone : (n : ℕ) →
+        times n (uses (CodeItem.Instruction i ∷ [])) ≡ times n (operand_labels i.operands) + (times n (branch_labels i.branch) + 0)
     alone n =
         times_joined n (operand_labels i.operands) (branch_labels i.branch ++ [])
         ∙ ap (λ k. times n (operand_labels i.operands) + k) (times_joined n (branch_labels i.branch) [])
 
-    first : (n : ℕ) → 1 ≤ times n (uses (Instruction i ∷ [])) → 1 ≤ times n (uses (Instruction i ∷ items))
+    first : (n : ℕ) → 1 ≤ times n (uses (CodeItem.Instruction i ∷ [])) → 1 ≤ times n (uses (CodeItem.Instruction i ∷ items))
     first n h = let e = parts n in let d = alone n in omega (arith, h, e, d)
 
-    later : (n : ℕ) → 1 ≤ times n (uses items) → 1 ≤ times n (uses (Instruction i ∷ items))
+    later : (n : ℕ) → 1 ≤ times n (uses items) → 1 ≤ times n (uses (CodeItem.Instruction i ∷ items))
     later n h = let e = parts n in omega (arith, h, e)
-items_laid_own limits ((Mark l) ∷ items) =
-    owned_then {c = laid limits (Mark l)} {d = laid_all limits items} {needs = uses items} {a = l.number ∷ []} {b = marks items}
-    (owned_free {c = laid limits (Mark l)} (owned_item limits (Mark l))) (items_laid_own limits items)
+items_laid_own limits ((CodeItem.Mark l) ∷ items) =
+    owned_then {c = laid limits (CodeItem.Mark l)} {d = laid_all limits items} {needs = uses items} {a = l.number ∷ []} {b = marks items}
+    (owned_free {c = laid limits (CodeItem.Mark l)} (owned_item limits (CodeItem.Mark l))) (items_laid_own limits items)

@@ -1,27 +1,17 @@
 -- The joints and ends of statements that hold others, their cases, and the beginning of loops over objects, each in the book of labels.
-use Rattle.std.proofs.Common.{arith, ◌≡◌, ◌≤◌, ℕ, List, [], ◌∷◌, ◌++◌, true, false, Some, None, ap, sym, subst}
-use Rattle.std.specs.Prelude.{◌+◌}
+use Rattle.std.proofs.Common.{arith, ◌≡◌, ◌≤◌, ℕ, List, [], ◌∷◌, ◌++◌, true, false, Some, None, ap, sym, subst, ◌+◌}
 use Rattle.inf_settings.specs.Bounds.{Limits}
-use Rattle.inf_opcode.specs.declared.instructions.Label.{Label}
-use Rattle.inf_opcode.specs.declared.opcodes.Opcode.TheVariants as opcode
-use Rattle.inf_area.specs.declared.targets.Target.TheVariants as target
-use Rattle.inf_area.specs.declared.targets.SystemConstant.TheVariants as constant
-use Rattle.inf_output.specs.declared.operands.Simple.TheVariants.{Later, Variable}
+use Rattle.inf_opcode.specs.{declared.instructions.Label.Label, declared.opcodes.Opcode.Opcode}
+use Rattle.inf_area.specs.{declared.targets.SystemConstant.SystemConstant, declared.targets.Target.Target}
+use Rattle.inf_output.specs.declared.operands.Simple.{Simple}
 use Rattle.inf_output.specs.Output.{Out, items_of, jumped, laid_all, marked, to, ◌▸◌}
-use Rattle.inf_constructs.specs.declared.constructs.Construct.{Construct}
-use Rattle.inf_constructs.specs.declared.constructs.Kind.TheVariants as kind
-use Rattle.inf_constructs.specs.declared.constructs.Over.{Over}
-use Rattle.inf_constructs.specs.declared.constructs.Over.TheVariants as over
-use Rattle.inf_constructs.specs.Constructs.{closed, ending}
-use Rattle.inf_constructs.specs.Constructs.{looped_on}
-use Rattle.inf_constructs.specs.Labels.{NamedLabel}
-use Rattle.inf_label_laws.specs.Labels.{times}
-use Rattle.inf_label_laws.specs.Programs.{marks, uses}
+use Rattle.inf_constructs.specs.{Constructs.closed, Constructs.ending, Constructs.looped_on, Labels.NamedLabel}
+use Rattle.inf_constructs.specs.{declared.constructs.Construct.Construct, declared.constructs.Kind.Kind, declared.constructs.Over.Over}
+use Rattle.inf_label_laws.specs.{Labels.times, Programs.marks, Programs.uses}
 use Rattle.inf_label_laws.proofs.Owning.{Owned, has_first, owned_at, owned_behind, owned_instruction, owned_jump}
 use Rattle.inf_label_laws.proofs.Owning.{owned_mark, owned_naming, owned_nothing, owned_then, owned_wide, times_joined}
-use Rattle.inf_routine_laws.proofs.Booking.{Came, Counts, came, one, one_is}
+use Rattle.inf_routine_laws.proofs.{Booking.Came, Booking.Counts, Booking.came, Booking.one, Booking.one_is, Codes.items_laid_own}
 use Rattle.inf_routine_laws.proofs.Balance.{Good, Turns, cased_in, good_as, good_paid, named_all, reached, reached_in}
-use Rattle.inf_routine_laws.proofs.Codes.{items_laid_own}
 
 -- Code that marks one label, which is due, and needs one
 
@@ -52,7 +42,7 @@ ends_by needs given due spare extra middle left rest other labels c around o q x
 
 -- the statements that end by their kind
 pub ends_if : (limits : Limits) (due spare extra : Counts) (labels : List NamedLabel) (c : Construct) (around : List Construct) (o : Out) →
-    c.kind ≡ kind.If → (l : Label) → Good (λ n. one n c.next + due n) (λ n. one n l + spare n) extra labels (c ∷ around) o →
+    c.kind ≡ Kind.If → (l : Label) → Good (λ n. one n c.next + due n) (λ n. one n l + spare n) extra labels (c ∷ around) o →
     Good due spare extra labels around (closed limits c o)
 unfolding closed
 ends_if limits due spare extra labels c around o e l g =
@@ -68,7 +58,7 @@ ends_if limits due spare extra labels c around o e l g =
 
 pub ends_else : (limits : Limits) (due spare extra : Counts) (labels : List NamedLabel) (c : Construct) (around : List Construct)
     (o : Out) →
-    c.kind ≡ kind.Else → Good (λ n. one n c.end + due n) spare extra labels (c ∷ around) o →
+    c.kind ≡ Kind.Else → Good (λ n. one n c.end + due n) spare extra labels (c ∷ around) o →
     Good due spare extra labels around (closed limits c o)
 unfolding closed
 ends_else limits due spare extra labels c around o e g =
@@ -83,7 +73,7 @@ ends_else limits due spare extra labels c around o e g =
     }) g)
 
 pub ends_do : (limits : Limits) (due spare extra : Counts) (labels : List NamedLabel) (c : Construct) (around : List Construct) (o : Out) →
-    c.kind ≡ kind.Do → Good (λ n. one n c.end + due n) spare extra labels (c ∷ around) o →
+    c.kind ≡ Kind.Do → Good (λ n. one n c.end + due n) spare extra labels (c ∷ around) o →
     Good due spare extra labels around (closed limits c o)
 unfolding closed
 ends_do limits due spare extra labels c around o e g =
@@ -98,7 +88,7 @@ ends_do limits due spare extra labels c around o e g =
     }) g)
 
 pub ends_while : (limits : Limits) (due spare extra : Counts) (labels : List NamedLabel) (c : Construct) (around : List Construct)
-    (o : Out) → c.kind ≡ kind.While → Good (λ n. one n c.end + due n) spare extra labels (c ∷ around) o →
+    (o : Out) → c.kind ≡ Kind.While → Good (λ n. one n c.end + due n) spare extra labels (c ∷ around) o →
     Good due spare extra labels around (closed limits c o)
 unfolding closed
 ends_while limits due spare extra labels c around o e g =
@@ -122,7 +112,7 @@ abbrev pub step_uses : Construct → ℕ → ℕ
 step_uses c n = times n (uses (items_of c.step))
 
 pub ends_for : (limits : Limits) (due spare extra : Counts) (labels : List NamedLabel) (c : Construct) (around : List Construct) (o : Out) →
-    c.kind ≡ kind.For
+    c.kind ≡ Kind.For
     → Good (λ n. step_marks c n + (one n c.next + (one n c.end + due n))) spare (λ n. step_uses c n + (one n c.top + extra n)) labels
     (c ∷ around) o → Good due spare extra labels around (closed limits c o)
 unfolding closed
@@ -173,13 +163,13 @@ ends_for limits due spare extra labels c around o e g =
 
 -- a loop over objects
 looped_on_owns : (limits : Limits) (how : Over) (v : ℕ) (top : Label) → Owned (looped_on limits how v top) (top.number ∷ []) []
-looped_on_owns limits over.Nothing v top = owned_nothing
-looped_on_owns limits over.Children v top = owned_instruction limits opcode.GetSibling (Variable v ∷ []) (Some v) (to true top)
-looped_on_owns limits over.All v top =
-    owned_naming limits opcode.IncChk v (Later (target.System constant.HighestObjectNumber) ∷ []) None (to false top)
+looped_on_owns limits Over.Nothing v top = owned_nothing
+looped_on_owns limits Over.Children v top = owned_instruction limits Opcode.GetSibling (Simple.Variable v ∷ []) (Some v) (to true top)
+looped_on_owns limits Over.All v top =
+    owned_naming limits Opcode.IncChk v (Simple.Later (Target.System SystemConstant.HighestObjectNumber) ∷ []) None (to false top)
 
 pub ends_objects : (limits : Limits) (due spare extra : Counts) (labels : List NamedLabel) (c : Construct) (around : List Construct)
-    (o : Out) (how : Over) (v : ℕ) → c.kind ≡ kind.Objects how v
+    (o : Out) (how : Over) (v : ℕ) → c.kind ≡ Kind.Objects how v
     → Good (λ n. one n c.next + (one n c.end + due n)) spare (λ n. one n c.top + extra n) labels (c ∷ around) o →
     Good due spare extra labels around (closed limits c o)
 unfolding closed

@@ -1,14 +1,12 @@
 -- Labels with names, in the book of labels: one that is used is due until its place is given, and is given once.
-use Rattle.std.proofs.Common.{arith, ◌≡◌, ◌≤◌, ℕ, List, [], ◌∷◌, Bool, true, false, Option, Some, None, refl, ap, sym}
-use Rattle.std.specs.Prelude.{◌+◌, if◌then◌else◌}
-use Rattle.std.specs.Str.{bytes_eq}
+use Rattle.std.proofs.Common.{arith, ◌≡◌, ◌≤◌, ℕ, List, [], ◌∷◌, Bool, true, false, Option, Some, None, refl, ap, sym, ◌+◌, if◌then◌else◌}
+use Rattle.std.proofs.Common.{bytes_eq}
 use Rattle.inf_settings.specs.Bounds.{Limits}
 use Rattle.inf_opcode.specs.declared.instructions.Label.{Label}
 use Rattle.inf_names.specs.Symbols.{folded}
 use Rattle.inf_output.specs.Output.{Out, behind, jumped, marked, next_label}
 use Rattle.inf_constructs.specs.declared.constructs.Construct.{Construct}
-use Rattle.inf_constructs.specs.Labels.{Known, NamedLabel, given_by, is_given, known_of, label_or, put, wanted_by}
-use Rattle.inf_constructs.specs.Labels.{was_given}
+use Rattle.inf_constructs.specs.Labels.{Known, NamedLabel, given_by, is_given, known_of, label_or, put, wanted_by, was_given}
 use Rattle.inf_statements.specs.Assembly.{labelled, placed}
 use Rattle.inf_label_laws.proofs.Owning.{owned_jump, owned_mark}
 use Rattle.inf_routine_laws.proofs.Booking.{Counts, came, one, one_is, paid_together, sound_as, sound_paid}

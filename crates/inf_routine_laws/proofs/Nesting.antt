@@ -1,31 +1,24 @@
 -- Nested statements, each as a whole, in the book of labels.
-use Rattle.std.proofs.Common.{◌≡◌, List, [], ◌∷◌, ◌++◌, Bool, true, false, None, refl, ◌∙◌, ap, sym, subst}
-use Rattle.std.specs.Prelude.{◌+◌}
+use Rattle.std.proofs.Common.{◌≡◌, List, [], ◌∷◌, ◌++◌, Bool, true, false, None, refl, ◌∙◌, ap, sym, subst, ◌+◌}
 use Rattle.inf_settings.specs.Bounds.{Limits}
-use Rattle.inf_syntax.specs.declared.actions.Action.TheVariants as action
+use Rattle.inf_syntax.specs.declared.actions.Action.{Action}
 use Rattle.inf_output.specs.Output.{Out}
-use Rattle.inf_compilation.specs.Context.{Context}
-use Rattle.inf_compilation.specs.Actions.{Compilation}
+use Rattle.inf_compilation.specs.{Actions.Compilation, Context.Context}
 use Rattle.inf_constructs.specs.declared.constructs.Case.TheVariants as case
-use Rattle.inf_constructs.specs.declared.constructs.Construct.{Construct}
-use Rattle.inf_constructs.specs.declared.constructs.Kind.{Kind}
-use Rattle.inf_constructs.specs.declared.constructs.Kind.TheVariants as kind
-use Rattle.inf_constructs.specs.declared.constructs.Over.TheVariants as over
+use Rattle.inf_constructs.specs.{declared.constructs.Construct.Construct, declared.constructs.Kind.Kind, declared.constructs.Over.Over}
 use Rattle.inf_constructs.specs.Constructs.{between, closed, kind_behind, opened}
 use Rattle.inf_statement_laws.specs.Happenings.{Acts, Happening, Moment, Quiet, Takes}
 use Rattle.inf_statement_laws.specs.Nested.{Case, Do, For, If, IfElse, Nested, NoStep, Objectloop, Plain, Step, StepEnds, Switch, Then}
 use Rattle.inf_statement_laws.specs.Nested.{While, happenings, step_happenings}
 use Rattle.inf_statement_laws.specs.Laid.{ended_as, happens, holding, laid, opened_at, run, with_kind_in, with_step_in}
 use Rattle.inf_reader.specs.Acting.{act}
-use Rattle.inf_statement_laws.proofs.Acts.{loop_ends, quiet_run, step_ends}
-use Rattle.inf_statement_laws.proofs.Laying.{laid_as, run_then}
+use Rattle.inf_statement_laws.proofs.{Acts.loop_ends, Acts.quiet_run, Acts.step_ends, Laying.laid_as, Laying.run_then}
 use Rattle.inf_routine_laws.specs.Faults.{AllLeave, LeaveRoutine}
-use Rattle.inf_routine_laws.proofs.Booking.{Counts, one}
+use Rattle.inf_routine_laws.proofs.{Acting.Balanced, Acting.case_ends_good, Acting.quiet_good, Booking.Counts, Booking.one}
 use Rattle.inf_routine_laws.proofs.Balance.{Good, good_still, loop_due, opened_do, opened_for, opened_if, opened_objects, opened_switch}
 use Rattle.inf_routine_laws.proofs.Balance.{opened_while, top_known}
 use Rattle.inf_routine_laws.proofs.Constructing.{ends_do, ends_else, ends_for, ends_if, ends_objects, ends_while}
 use Rattle.inf_routine_laws.proofs.Casing.{joined_do, joined_for, joined_if, joined_objects, objects_due}
-use Rattle.inf_routine_laws.proofs.Acting.{Balanced, case_ends_good, quiet_good}
 use Rattle.inf_routine_laws.proofs.Stepping.{IsStepped, case_inside, case_kind, ends_case_kind, loop_ends_good, marks_due, not_stepped}
 use Rattle.inf_routine_laws.proofs.Stepping.{step_ends_good, switch_stays, uses_known}
 
@@ -119,8 +112,8 @@ ended_good limits at c around w due spare extra l g =
 if_good : (b : Bool) (limits : Limits) (context : Context) (opens : Moment) (test : Quiet) (body : Nested false) (closes : Moment) →
     Keeps limits context body → Keeps limits context (If {b = b} opens test body closes)
 if_good b limits context opens test body closes inner due spare extra w e l g =
-    let c = opened limits kind.If w.output in
-    let behind = Acts closes action.Close ∷ [] in
+    let c = opened limits Kind.If w.output in
+    let behind = Acts closes Action.Close ∷ [] in
     let l1 = leave_both test.all (happenings body ++ behind) l.1 in
     let l2 = leave_both (happenings body) behind l1.1 in
     let more : Counts = λ n. one n c.0.next + due n in
@@ -132,15 +125,15 @@ if_good b limits context opens test body closes inner due spare extra w e l g =
     let done = inside_body limits context body inner more rest extra c.0 w.constructs u l2.0 tested in
     let x = laid limits context body u in
     ended_good limits closes c.0 w.constructs x due spare extra l2.1.0
-    (ends_if limits due spare extra x.labels c.0 w.constructs x.output (opened_kind limits kind.If w.output) c.0.end done.good)
+    (ends_if limits due spare extra x.labels c.0 w.constructs x.output (opened_kind limits Kind.If w.output) c.0.end done.good)
 
 else_good : (b : Bool) (limits : Limits) (context : Context) (opens : Moment) (test : Quiet) (body : Nested false) (joins : Moment)
     (word : Quiet) (other : Nested false) (closes : Moment) → Keeps limits context body → Keeps limits context other →
     Keeps limits context (IfElse {b = b} opens test body joins word other closes)
 else_good b limits context opens test body joins word other closes inner inner_other due spare extra w e l g =
-    let c = opened limits kind.If w.output in
-    let behind = Acts closes action.Close ∷ [] in
-    let rest_of = Acts joins action.Else ∷ (word.all ++ (happenings other ++ behind)) in
+    let c = opened limits Kind.If w.output in
+    let behind = Acts closes Action.Close ∷ [] in
+    let rest_of = Acts joins Action.Else ∷ (word.all ++ (happenings other ++ behind)) in
     let l1 = leave_both test.all (happenings body ++ rest_of) l.1 in
     let l2 = leave_both (happenings body) rest_of l1.1 in
     let l3 = leave_both word.all (happenings other ++ behind) l2.1.1 in
@@ -154,7 +147,7 @@ else_good b limits context opens test body joins word other closes inner inner_o
     let first = laid limits context body u in
     let done = inside_body limits context body inner more rest extra c.0 w.constructs u l2.0 tested in
     let j = between limits c.0 first.output in
-    let is_if = opened_kind limits kind.If w.output in
+    let is_if = opened_kind limits Kind.If w.output in
     let left : Counts = λ n. one n j.0.end + due n in
     let joined = joined_if limits due spare extra first.labels c.0 w.constructs first.output is_if done.good in
     let held = inside_held joins j w.constructs first left spare extra l2.1.0 done.none joined in
@@ -170,8 +163,8 @@ else_good b limits context opens test body joins word other closes inner inner_o
 while_good : (b : Bool) (limits : Limits) (context : Context) (opens : Moment) (test : Quiet) (body : Nested false) (closes : Moment) →
     Keeps limits context body → Keeps limits context (While {b = b} opens test body closes)
 while_good b limits context opens test body closes inner due spare extra w e l g =
-    let c = opened limits kind.While w.output in
-    let behind = Acts closes action.Close ∷ [] in
+    let c = opened limits Kind.While w.output in
+    let behind = Acts closes Action.Close ∷ [] in
     let l1 = leave_both test.all (happenings body ++ behind) l.1 in
     let l2 = leave_both (happenings body) behind l1.1 in
     let more : Counts = λ n. one n c.0.end + due n in
@@ -183,14 +176,14 @@ while_good b limits context opens test body closes inner due spare extra w e l g
     let done = inside_body limits context body inner more spare extra c.0 w.constructs u l2.0 tested in
     let x = laid limits context body u in
     ended_good limits closes c.0 w.constructs x due spare extra l2.1.0
-    (ends_while limits due spare extra x.labels c.0 w.constructs x.output (opened_kind limits kind.While w.output) done.good)
+    (ends_while limits due spare extra x.labels c.0 w.constructs x.output (opened_kind limits Kind.While w.output) done.good)
 
 do_good : (b : Bool) (limits : Limits) (context : Context) (opens : Moment) (body : Nested false) (word : Quiet) (joins : Moment)
     (test : Quiet) (closes : Moment) → Keeps limits context body → Keeps limits context (Do {b = b} opens body word joins test closes)
 do_good b limits context opens body word joins test closes inner due spare extra w e l g =
-    let c = opened limits kind.Do w.output in
-    let behind = Acts closes action.Close ∷ [] in
-    let rest_of = Acts joins action.Until ∷ (test.all ++ behind) in
+    let c = opened limits Kind.Do w.output in
+    let behind = Acts closes Action.Close ∷ [] in
+    let rest_of = Acts joins Action.Until ∷ (test.all ++ behind) in
     let l1 = leave_both (happenings body) (word.all ++ rest_of) l.1 in
     let l2 = leave_both word.all rest_of l1.1 in
     let l3 = leave_both test.all behind l2.1.1 in
@@ -203,7 +196,7 @@ do_good b limits context opens body word joins test closes inner due spare extra
     let first = run limits context word.all u in
     let worded = inside_quiet limits context word more spare extra c.0 w.constructs u l2.0 done in
     let j = between limits c.0 first.output in
-    let is_do = opened_kind limits kind.Do w.output in
+    let is_do = opened_kind limits Kind.Do w.output in
     let left : Counts = λ n. one n j.0.end + due n in
     let joined = joined_do limits due spare extra first.labels c.0 w.constructs first.output is_do worded.good in
     let held = inside_held joins j w.constructs first left spare extra l2.1.0 worded.none joined in
@@ -216,7 +209,7 @@ do_good b limits context opens body word joins test closes inner due spare extra
 
 -- the step of a `for`, which may be missing
 for_stepped : (limits : Limits) (context : Context) (step : Step) (due spare extra : Counts) (c : Construct) (around : List Construct)
-    (v : Compilation) → c.kind ≡ kind.For → c.step ≡ None → AllLeave (step_happenings step) → Inside due spare extra c around v →
+    (v : Compilation) → c.kind ≡ Kind.For → c.step ≡ None → AllLeave (step_happenings step) → Inside due spare extra c around v →
     let u = run limits context (step_happenings step) v in
     IsStepped due spare extra u.labels c around u.constructs u.output × (u.closed ≡ 0)
 for_stepped limits context NoStep due spare extra c around v e none l i = (
@@ -225,13 +218,13 @@ for_stepped limits context NoStep due spare extra c around v e none l i = (
   i.none,
 )
 for_stepped limits context (StepEnds step ends) due spare extra c around v e none l i =
-    let l1 = leave_both step.all (Acts ends action.EndForStep ∷ []) l in
+    let l1 = leave_both step.all (Acts ends Action.EndForStep ∷ []) l in
     let u = run limits context step.all v in
     let read = inside_quiet limits context step due spare extra c around v l1.0 i in
-    let now = act limits context ends.place action.EndForStep u in
+    let now = act limits context ends.place Action.EndForStep u in
     let s = step_ends_good limits context ends.place due spare extra c around u read.is e none read.good in
-    let last = happens limits context (Acts ends action.EndForStep) u in
-    let same = run_then limits context step.all (Acts ends action.EndForStep ∷ []) v in
+    let last = happens limits context (Acts ends Action.EndForStep) u in
+    let same = run_then limits context step.all (Acts ends Action.EndForStep ∷ []) v in
     let d = record c { step = s.step } in
     subst (λ (x : Compilation). IsStepped due spare extra x.labels c around x.constructs x.output × (x.closed ≡ 0)) (sym same) (
       record {
@@ -248,16 +241,16 @@ for_good : (b : Bool) (limits : Limits) (context : Context) (opens : Moment) (st
     (bracket : Quiet) (body : Nested false) (closes : Moment) → Keeps limits context body →
     Keeps limits context (For {b = b} opens start joins test step bracket body closes)
 for_good b limits context opens start joins test step bracket body closes inner due spare extra w e l g =
-    let c = opened limits kind.For w.output in
-    let behind = Acts closes action.Close ∷ [] in
+    let c = opened limits Kind.For w.output in
+    let behind = Acts closes Action.Close ∷ [] in
     let last = bracket.all ++ (happenings body ++ behind) in
-    let rest_of = Acts joins action.ForTop ∷ (test.all ++ (step_happenings step ++ last)) in
+    let rest_of = Acts joins Action.ForTop ∷ (test.all ++ (step_happenings step ++ last)) in
     let l1 = leave_both start.all rest_of l.1 in
     let l2 = leave_both test.all (step_happenings step ++ last) l1.1.1 in
     let l3 = leave_both (step_happenings step) last l2.1 in
     let l4 = leave_both bracket.all (happenings body ++ behind) l3.1 in
     let l5 = leave_both (happenings body) behind l4.1 in
-    let is_for = opened_kind limits kind.For w.output in
+    let is_for = opened_kind limits Kind.For w.output in
     let v = opened_at context opens c w in
     let opening = inside_word context opens c w (loop_due c.0 due) spare (top_known c.0 extra) l.0 e
     (opened_for limits due spare extra w.labels w.constructs w.output g) in
@@ -265,7 +258,7 @@ for_good b limits context opens start joins test step bracket body closes inner 
     let first = inside_quiet limits context start (loop_due c.0 due) spare (top_known c.0 extra) c.0 w.constructs v l1.0 opening in
     let j = between limits c.0 started.output in
     let is_j = between_kind limits c.0 started.output ∙ ap kind_behind is_for in
-    let no_step = between_step limits c.0 started.output ∙ opened_step limits kind.For w.output in
+    let no_step = between_step limits c.0 started.output ∙ opened_step limits Kind.For w.output in
     let left : Counts = λ n. one n j.0.next + (one n j.0.end + due n) in
     let known = top_known j.0 extra in
     let joined = joined_for limits due spare extra started.labels c.0 w.constructs started.output is_for first.good in
@@ -298,10 +291,10 @@ loop_good : (b : Bool) (limits : Limits) (context : Context) (opens : Moment) (l
     (body : Nested false) (closes : Moment) → Keeps limits context body →
     Keeps limits context (Objectloop {b = b} opens loop ends joins bracket body closes)
 loop_good b limits context opens loop ends joins bracket body closes inner due spare extra w e l g =
-    let k = kind.Objects over.Nothing 0 in
+    let k = Kind.Objects Over.Nothing 0 in
     let c = opened limits k w.output in
-    let behind = Acts closes action.Close ∷ [] in
-    let rest_of = Acts ends action.EndObjectloop ∷ (Acts joins action.Loop ∷ (bracket.all ++ (happenings body ++ behind))) in
+    let behind = Acts closes Action.Close ∷ [] in
+    let rest_of = Acts ends Action.EndObjectloop ∷ (Acts joins Action.Loop ∷ (bracket.all ++ (happenings body ++ behind))) in
     let l1 = leave_both loop.all rest_of l.1 in
     let l2 = leave_both bracket.all (happenings body ++ behind) l1.1.1.1 in
     let l3 = leave_both (happenings body) behind l2.1 in
@@ -311,10 +304,10 @@ loop_good b limits context opens loop ends joins bracket body closes inner due s
     let unit = run limits context loop.all v in
     let read = inside_quiet limits context loop (loop_due c.0 due) spare (top_known c.0 extra) c.0 w.constructs v l1.0 opening in
     let is_loop = opened_kind limits k w.output in
-    let now = act limits context ends.place action.EndObjectloop unit in
+    let now = act limits context ends.place Action.EndObjectloop unit in
     let s = loop_ends_good limits context ends.place due spare extra c.0 w.constructs unit read.is is_loop read.good in
-    let looped = happens limits context (Acts ends action.EndObjectloop) unit in
-    let d = record c.0 { kind = kind.Objects s.how s.variable } in
+    let looped = happens limits context (Acts ends Action.EndObjectloop) unit in
+    let d = record c.0 { kind = Kind.Objects s.how s.variable } in
     let own = with_kind_in looped.constructs c.0 in
     let same : own ≡ d = ap (λ l. with_kind_in l c.0) s.is in
     let before = good_still (objects_due s.how c.0 due) spare (top_known c.0 extra) now.labels (d ∷ w.constructs) now.output
@@ -341,9 +334,9 @@ loop_good b limits context opens loop ends joins bracket body closes inner due s
 switch_good : (b : Bool) (limits : Limits) (context : Context) (opens : Moment) (value : Quiet) (cases : Nested true) (brace : Quiet)
     (closes : Moment) → Keeps limits context cases → Keeps limits context (Switch {b = b} opens value cases brace closes)
 switch_good b limits context opens value cases brace closes inner due spare extra w e l g =
-    let k = kind.Switch case.Nothing false in
+    let k = Kind.Switch case.Nothing false in
     let c = opened limits k w.output in
-    let behind = Acts closes action.Close ∷ [] in
+    let behind = Acts closes Action.Close ∷ [] in
     let l1 = leave_both value.all (happenings cases ++ (brace.all ++ behind)) l.1 in
     let l2 = leave_both (happenings cases) (brace.all ++ behind) l1.1 in
     let l3 = leave_both brace.all behind l2.1 in
@@ -376,9 +369,9 @@ keeps_all limits context (Then before behind) due spare extra w e l g =
     keeps_all limits context behind due spare extra (laid limits context before w) (laid_as limits context before w e).none_ahead both.1
     (keeps_all limits context before due spare extra w e both.0 g)
 keeps_all limits context (Case values ends) due spare extra w e l g =
-    let both = leave_both values.all (Acts ends action.EndCase ∷ []) l in
+    let both = leave_both values.all (Acts ends Action.EndCase ∷ []) l in
     let v = run limits context values.all w in
-    let now = act limits context ends.place action.EndCase v in
+    let now = act limits context ends.place Action.EndCase v in
     good_still due spare extra now.labels now.constructs now.output (ends.behind.output now.output) (both.1.0 now.output)
     (case_ends_good limits context ends.place due spare extra v
     (quiet_good limits context values.all due spare extra w values.are both.0 g))

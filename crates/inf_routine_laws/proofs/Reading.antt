@@ -1,16 +1,13 @@
 -- All that happens while tokens are read leaves the open routine as it is, where what comes behind each token does.
 use Rattle.std.proofs.Common.{ℕ, zero, suc, List, [], ◌∷◌, ◌++◌, Option, Some, None, refl, ◌∙◌}
-use Rattle.inf_machine.specs.Machine.{taken}
-use Rattle.inf_machine.specs.declared.symbols.Symbol.{Symbol}
+use Rattle.inf_machine.specs.{Machine.taken, declared.symbols.Symbol.Symbol}
 use Rattle.inf_syntax.specs.declared.actions.Action.{Action}
-use Rattle.inf_grammar.specs.Language.{grammar, known}
-use Rattle.inf_grammar.specs.Routines.{closings}
+use Rattle.inf_grammar.specs.{Language.grammar, Language.known, Routines.closings}
 use Rattle.inf_output.specs.Output.{Out}
 use Rattle.inf_unit.specs.Tokens.{SourceToken}
 use Rattle.inf_statement_laws.specs.Happenings.{Acts, Between, Happening, Takes}
 use Rattle.inf_statement_laws.specs.Readings.{Seen, all_happenings, behind_ends, behind_some, behind_token, then_between, token_happenings}
-use Rattle.inf_routine_laws.specs.Faults.{AllLeave, AllSeenLeave, DirectiveLeaves, LeaveRoutine}
-use Rattle.inf_routine_laws.specs.Leaving.{LeavesRoutine}
+use Rattle.inf_routine_laws.specs.{Faults.AllLeave, Faults.AllSeenLeave, Faults.DirectiveLeaves, Faults.LeaveRoutine, Leaving.LeavesRoutine}
 
 leaves_then : (o p q : Out) → LeavesRoutine o p → LeavesRoutine p q → LeavesRoutine o q
 leaves_then o p q a b = record {

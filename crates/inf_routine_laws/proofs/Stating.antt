@@ -4,40 +4,26 @@ use Rattle.std.specs.Prelude.{codes, unwrap_or, ◌+◌, if◌then◌else◌}
 use Rattle.std.specs.Str.{str_eq_ignore_ascii_case}
 use Rattle.inf_settings.specs.Bounds.{Limits}
 use Rattle.inf_characters.specs.declared.characters.CharSet.{CharSet}
-use Rattle.inf_opcode.specs.declared.instructions.Branch.{Branch}
-use Rattle.inf_opcode.specs.declared.instructions.Destination.TheVariants as destination
-use Rattle.inf_opcode.specs.declared.instructions.Label.{Label}
-use Rattle.inf_opcode.specs.declared.opcodes.Opcode.{Opcode}
-use Rattle.inf_opcode.specs.declared.opcodes.Opcode.TheVariants as opcode
-use Rattle.inf_opcode.specs.Opcodes.{row_of}
+use Rattle.inf_opcode.specs.{Opcodes.row_of, declared.instructions.Branch.Branch, declared.instructions.Destination.Destination}
+use Rattle.inf_opcode.specs.{declared.instructions.Label.Label, declared.opcodes.Opcode.Opcode}
 use Rattle.inf_expressions.specs.Trees.{Tree}
 use Rattle.inf_names.specs.Locals.{Local}
 use Rattle.inf_output.specs.Output.{Code, Out, ◌▸◌}
 use Rattle.inf_templates.specs.Meaning.{meaning}
-use Rattle.inf_unit.specs.Opcodes.{opcode_of}
-use Rattle.inf_unit.specs.Tokens.{SourceToken}
-use Rattle.inf_unit.specs.Units.{bytes_at}
-use Rattle.inf_constructs.specs.declared.constructs.Case.TheVariants as case
-use Rattle.inf_constructs.specs.declared.constructs.Construct.{Construct}
-use Rattle.inf_constructs.specs.declared.constructs.Kind.{Kind}
-use Rattle.inf_constructs.specs.declared.constructs.Kind.TheVariants as kind
+use Rattle.inf_unit.specs.{Opcodes.opcode_of, Tokens.SourceToken, Units.bytes_at}
+use Rattle.inf_constructs.specs.{declared.constructs.Case.Case, declared.constructs.Construct.Construct, declared.constructs.Kind.Kind}
 use Rattle.inf_constructs.specs.Constructs.{break_of, condition_label, continue_of, found_or, left_to, left_to_by, next_case, next_case_in}
 use Rattle.inf_constructs.specs.Constructs.{otherwise}
 use Rattle.inf_constructs.specs.Labels.{NamedLabel, is_given}
-use Rattle.inf_statements.specs.declared.assembly.Ends.{Ends}
-use Rattle.inf_statements.specs.declared.statements.Statement.{Statement}
-use Rattle.inf_statements.specs.declared.statements.Statement.TheVariants as statement
+use Rattle.inf_statements.specs.{Printing.items_printed, declared.assembly.Ends.Ends, declared.statements.Statement.Statement}
 use Rattle.inf_statements.specs.Assembly.{branch_to, branched, branched_to, ends_of, fits, instructed, jumped_on, labelled, line_instructed}
 use Rattle.inf_statements.specs.Assembly.{line_laid, line_laid_as, line_laid_by, named_first, operands_in, printing_of, some_printed}
-use Rattle.inf_statements.specs.Assembly.{store_of}
-use Rattle.inf_statements.specs.Assembly.{text_printed, variable_of}
+use Rattle.inf_statements.specs.Assembly.{store_of, text_printed, variable_of}
 use Rattle.inf_statements.specs.Effects.{Site, last_text, name_behind, statement_laid}
-use Rattle.inf_statements.specs.Printing.{items_printed}
-use Rattle.inf_operands.specs.Texts.{text_at}
 use Rattle.inf_statements.specs.Statements.{action_laid, alone, attributes_changed, jumped_to, moved, one_worked, plain, returned, spaced}
 use Rattle.inf_statements.specs.Statements.{string_changed, style_of, styled}
-use Rattle.inf_label_laws.specs.Labels.{times}
-use Rattle.inf_label_laws.specs.Programs.{branch_labels}
+use Rattle.inf_operands.specs.Texts.{text_at}
+use Rattle.inf_label_laws.specs.{Labels.times, Programs.branch_labels}
 use Rattle.inf_label_laws.proofs.Owning.{Owned, owned_before, owned_instruction, owned_naming, owned_nothing}
 use Rattle.inf_routine_laws.proofs.Booking.{Counts, came, one_is}
 use Rattle.inf_routine_laws.proofs.Balance.{Good, good_paid, named_all, reached, reached_in}
@@ -48,24 +34,24 @@ use Rattle.inf_routine_laws.proofs.Naming.{IsNamed, jump_good, labelled_good, pl
 -- Labels of open statements
 
 continue_in : (n : ℕ) (c : Construct) (k : Kind) → times n (label_in (continue_of c k)) ≤ reached_in n c k
-continue_in n c kind.If = omega arith
-continue_in n c kind.Else = omega arith
-continue_in n c kind.While = let e = one_is n c.next in omega (arith, e)
-continue_in n c kind.Do = let e = one_is n c.next in omega (arith, e)
-continue_in n c kind.For = let e = one_is n c.next in omega (arith, e)
-continue_in n c (kind.Objects how v) = let e = one_is n c.next in omega (arith, e)
-continue_in n c (kind.Switch old had_default) = omega arith
-continue_in n c (kind.Cases old had_default) = omega arith
+continue_in n c Kind.If = omega arith
+continue_in n c Kind.Else = omega arith
+continue_in n c Kind.While = let e = one_is n c.next in omega (arith, e)
+continue_in n c Kind.Do = let e = one_is n c.next in omega (arith, e)
+continue_in n c Kind.For = let e = one_is n c.next in omega (arith, e)
+continue_in n c (Kind.Objects how v) = let e = one_is n c.next in omega (arith, e)
+continue_in n c (Kind.Switch old had_default) = omega arith
+continue_in n c (Kind.Cases old had_default) = omega arith
 
 break_in : (n : ℕ) (c : Construct) (k : Kind) → times n (label_in (break_of c k)) ≤ reached_in n c k
-break_in n c kind.If = omega arith
-break_in n c kind.Else = omega arith
-break_in n c kind.While = let e = one_is n c.end in omega (arith, e)
-break_in n c kind.Do = let e = one_is n c.end in omega (arith, e)
-break_in n c kind.For = let e = one_is n c.end in omega (arith, e)
-break_in n c (kind.Objects how v) = let e = one_is n c.end in omega (arith, e)
-break_in n c (kind.Switch old had_default) = let e = one_is n c.end in omega (arith, e)
-break_in n c (kind.Cases old had_default) = let e = one_is n c.end in omega (arith, e)
+break_in n c Kind.If = omega arith
+break_in n c Kind.Else = omega arith
+break_in n c Kind.While = let e = one_is n c.end in omega (arith, e)
+break_in n c Kind.Do = let e = one_is n c.end in omega (arith, e)
+break_in n c Kind.For = let e = one_is n c.end in omega (arith, e)
+break_in n c (Kind.Objects how v) = let e = one_is n c.end in omega (arith, e)
+break_in n c (Kind.Switch old had_default) = let e = one_is n c.end in omega (arith, e)
+break_in n c (Kind.Cases old had_default) = let e = one_is n c.end in omega (arith, e)
 
 left_in : (n : ℕ) (on : Bool) (c : Construct) → times n (label_in (left_to_by on c)) ≤ reached_in n c c.kind
 left_in n true c = continue_in n c c.kind
@@ -84,22 +70,22 @@ left_reached on (c ∷ constructs) n =
     omega (arith, a, b, r)
 
 otherwise_in : (n : ℕ) (c : Construct) (k : Kind) → times n ((otherwise c k).number ∷ []) ≤ reached_in n c k
-otherwise_in n c kind.If = let e = one_is n c.next in omega (arith, e)
-otherwise_in n c kind.Else = let e = one_is n c.end in omega (arith, e)
-otherwise_in n c kind.While = let e = one_is n c.end in omega (arith, e)
-otherwise_in n c kind.Do = let e = one_is n c.top in omega (arith, e)
-otherwise_in n c kind.For = let e = one_is n c.end in omega (arith, e)
-otherwise_in n c (kind.Objects how v) = let e = one_is n c.end in omega (arith, e)
-otherwise_in n c (kind.Switch old had_default) = let e = one_is n c.end in omega (arith, e)
-otherwise_in n c (kind.Cases old had_default) = let e = one_is n c.end in omega (arith, e)
+otherwise_in n c Kind.If = let e = one_is n c.next in omega (arith, e)
+otherwise_in n c Kind.Else = let e = one_is n c.end in omega (arith, e)
+otherwise_in n c Kind.While = let e = one_is n c.end in omega (arith, e)
+otherwise_in n c Kind.Do = let e = one_is n c.top in omega (arith, e)
+otherwise_in n c Kind.For = let e = one_is n c.end in omega (arith, e)
+otherwise_in n c (Kind.Objects how v) = let e = one_is n c.end in omega (arith, e)
+otherwise_in n c (Kind.Switch old had_default) = let e = one_is n c.end in omega (arith, e)
+otherwise_in n c (Kind.Cases old had_default) = let e = one_is n c.end in omega (arith, e)
 
 pub condition_reached : (constructs : List Construct) (n : ℕ) → times n (label_in (condition_label constructs)) ≤ reached n constructs
 condition_reached [] n = omega arith
 condition_reached (c ∷ constructs) n = let a = otherwise_in n c c.kind in omega (arith, a)
 
 next_in : (n : ℕ) (c : Construct) (k : Kind) → times n (label_in (next_case_in k)) ≤ reached_in n c k
-next_in n c (kind.Switch (case.Values next) had_default) = let e = one_is n next in omega (arith, e)
-next_in n c (kind.Cases (case.Values next) had_default) = let e = one_is n next in omega (arith, e)
+next_in n c (Kind.Switch (Case.Values next) had_default) = let e = one_is n next in omega (arith, e)
+next_in n c (Kind.Cases (Case.Values next) had_default) = let e = one_is n next in omega (arith, e)
 next_in n c _ = omega arith
 
 pub next_reached : (constructs : List Construct) (n : ℕ) → times n (label_in (next_case constructs)) ≤ reached n constructs
@@ -138,7 +124,7 @@ record IsBranch (due spare extra : Counts) (constructs : List Construct) (b : Op
 
 to_label : (due spare extra : Counts) (constructs : List Construct) (l : Label) (sense : Bool) (labels : List NamedLabel) (o : Out) →
     IsNamed due spare extra constructs l labels o →
-    IsBranch due spare extra constructs (branch_to sense (destination.To l)) labels o
+    IsBranch due spare extra constructs (branch_to sense (Destination.To l)) labels o
 to_label due spare extra constructs l sense labels o i = record {
   good = i.good;
   among = λ n. let a = i.among n in let e = one_is n l in omega (arith, a, e);
@@ -158,9 +144,9 @@ branched_to_good : (due spare extra : Counts) (constructs : List Construct) (nam
     let b = branched_to name sense labels o in IsBranch due spare extra constructs b.0.0 b.0.1 b.1
 branched_to_good due spare extra constructs name sense labels o g =
     let l = labelled name labels o in
-    let x : Branching = ((branch_to sense destination.ReturnTrue, labels), o) in
-    let y : Branching = ((branch_to sense destination.ReturnFalse, labels), o) in
-    let z : Branching = ((branch_to sense (destination.To l.0.0), l.0.1), l.1) in
+    let x : Branching = ((branch_to sense Destination.ReturnTrue, labels), o) in
+    let y : Branching = ((branch_to sense Destination.ReturnFalse, labels), o) in
+    let z : Branching = ((branch_to sense (Destination.To l.0.0), l.0.1), l.1) in
     one_of_three (λ b. IsBranch due spare extra constructs b.0.0 b.0.1 b.1) (str_eq_ignore_ascii_case name (codes "rtrue"))
     (str_eq_ignore_ascii_case name (codes "rfalse")) x y z (record { good = g; among = λ n. omega arith })
     (record { good = g; among = λ n. omega arith })
@@ -247,56 +233,56 @@ line_good limits due spare extra constructs set locals tokens (Some op) e trees 
 
 -- Each statement; where it gives the place of a label, this was not given before.
 pub statement_good : (limits : Limits) (s : Site) (which : Statement) (trees : List Tree) (due spare extra : Counts)
-    (labels : List NamedLabel) (o : Out) → (which ≡ statement.Place → is_given (name_behind s) labels ≡ false) →
+    (labels : List NamedLabel) (o : Out) → (which ≡ Statement.Place → is_given (name_behind s) labels ≡ false) →
     Good due spare extra labels s.constructs o →
     let r = statement_laid limits s which trees labels o in Good due spare extra r.0 s.constructs r.1
 unfolding statement_laid
-statement_good limits s statement.Empty trees due spare extra labels o h g = g
-statement_good limits s statement.Expression trees due spare extra labels o h g =
+statement_good limits s Statement.Empty trees due spare extra labels o h g = g
+statement_good limits s Statement.Expression trees due spare extra labels o h g =
     free_good {code = alone limits trees} due spare extra labels s.constructs o (alone_owns limits trees) g
-statement_good limits s statement.Print trees due spare extra labels o h g =
+statement_good limits s Statement.Print trees due spare extra labels o h g =
     free_good {code = items_printed limits s.set s.tokens false false s.items trees} due spare extra labels s.constructs o
     (items_own limits s.set s.tokens false false s.items trees) g
-statement_good limits s statement.PrintReturn trees due spare extra labels o h g =
+statement_good limits s Statement.PrintReturn trees due spare extra labels o h g =
     free_good {code = items_printed limits s.set s.tokens true false s.items trees} due spare extra labels s.constructs o
     (items_own limits s.set s.tokens true false s.items trees) g
-statement_good limits s statement.Return trees due spare extra labels o h g =
+statement_good limits s Statement.Return trees due spare extra labels o h g =
     free_good {code = returned limits trees} due spare extra labels s.constructs o (returned_owns limits trees) g
-statement_good limits s statement.NewLine trees due spare extra labels o h g =
-    free_good {code = plain limits opcode.NewLine} due spare extra labels s.constructs o (plain_owns limits opcode.NewLine) g
-statement_good limits s statement.Quit trees due spare extra labels o h g =
-    free_good {code = plain limits opcode.Quit} due spare extra labels s.constructs o (plain_owns limits opcode.Quit) g
-statement_good limits s statement.ReturnTrue trees due spare extra labels o h g =
-    free_good {code = plain limits opcode.Rtrue} due spare extra labels s.constructs o (plain_owns limits opcode.Rtrue) g
-statement_good limits s statement.ReturnFalse trees due spare extra labels o h g =
-    free_good {code = plain limits opcode.Rfalse} due spare extra labels s.constructs o (plain_owns limits opcode.Rfalse) g
-statement_good limits s statement.Break trees due spare extra labels o h g =
+statement_good limits s Statement.NewLine trees due spare extra labels o h g =
+    free_good {code = plain limits Opcode.NewLine} due spare extra labels s.constructs o (plain_owns limits Opcode.NewLine) g
+statement_good limits s Statement.Quit trees due spare extra labels o h g =
+    free_good {code = plain limits Opcode.Quit} due spare extra labels s.constructs o (plain_owns limits Opcode.Quit) g
+statement_good limits s Statement.ReturnTrue trees due spare extra labels o h g =
+    free_good {code = plain limits Opcode.Rtrue} due spare extra labels s.constructs o (plain_owns limits Opcode.Rtrue) g
+statement_good limits s Statement.ReturnFalse trees due spare extra labels o h g =
+    free_good {code = plain limits Opcode.Rfalse} due spare extra labels s.constructs o (plain_owns limits Opcode.Rfalse) g
+statement_good limits s Statement.Break trees due spare extra labels o h g =
     left_good limits false due spare extra labels s.constructs o g
-statement_good limits s statement.Continue trees due spare extra labels o h g =
+statement_good limits s Statement.Continue trees due spare extra labels o h g =
     left_good limits true due spare extra labels s.constructs o g
-statement_good limits s statement.Give trees due spare extra labels o h g =
+statement_good limits s Statement.Give trees due spare extra labels o h g =
     free_good {code = attributes_changed limits s.items trees} due spare extra labels s.constructs o (changed_owns limits s.items trees) g
-statement_good limits s statement.String trees due spare extra labels o h g =
+statement_good limits s Statement.String trees due spare extra labels o h g =
     free_good {code = string_changed limits (last_text s) trees} due spare extra labels s.constructs o
     (string_owns limits (last_text s) trees) g
-statement_good limits s statement.Move trees due spare extra labels o h g =
+statement_good limits s Statement.Move trees due spare extra labels o h g =
     free_good {code = moved limits trees} due spare extra labels s.constructs o (moved_owns limits trees) g
-statement_good limits s statement.Action trees due spare extra labels o h g =
+statement_good limits s Statement.Action trees due spare extra labels o h g =
     free_good {code = action_laid limits trees} due spare extra labels s.constructs o (action_owns limits trees) g
-statement_good limits s statement.ActionReturn trees due spare extra labels o h g =
-    free_good {code = action_laid limits trees ▸ plain limits opcode.Rtrue} due spare extra labels s.constructs o
-    (owned_before (action_owns limits trees) (plain_owns limits opcode.Rtrue)) g
-statement_good limits s statement.Remove trees due spare extra labels o h g =
-    free_good {code = one_worked limits opcode.RemoveObj trees} due spare extra labels s.constructs o
-    (one_owns limits opcode.RemoveObj trees) g
-statement_good limits s statement.Spaces trees due spare extra labels o h g =
+statement_good limits s Statement.ActionReturn trees due spare extra labels o h g =
+    free_good {code = action_laid limits trees ▸ plain limits Opcode.Rtrue} due spare extra labels s.constructs o
+    (owned_before (action_owns limits trees) (plain_owns limits Opcode.Rtrue)) g
+statement_good limits s Statement.Remove trees due spare extra labels o h g =
+    free_good {code = one_worked limits Opcode.RemoveObj trees} due spare extra labels s.constructs o
+    (one_owns limits Opcode.RemoveObj trees) g
+statement_good limits s Statement.Spaces trees due spare extra labels o h g =
     free_good {code = spaced limits trees} due spare extra labels s.constructs o (spaced_owns limits trees) g
-statement_good limits s statement.Style trees due spare extra labels o h g =
+statement_good limits s Statement.Style trees due spare extra labels o h g =
     free_good {code = styled limits (name_behind s)} due spare extra labels s.constructs o (styled_owns limits (style_of (name_behind s))) g
-statement_good limits s statement.Place trees due spare extra labels o h g =
+statement_good limits s Statement.Place trees due spare extra labels o h g =
     placed_good limits due spare extra s.constructs (name_behind s) labels o (h refl) g
-statement_good limits s statement.Jump trees due spare extra labels o h g =
+statement_good limits s Statement.Jump trees due spare extra labels o h g =
     let l = labelled (name_behind s) labels o in
     jump_good limits due spare extra s.constructs l.0.0 l.0.1 l.1 (labelled_good due spare extra s.constructs (name_behind s) labels o g)
-statement_good limits s statement.Assembly trees due spare extra labels o h g =
+statement_good limits s Statement.Assembly trees due spare extra labels o h g =
     line_good limits due spare extra s.constructs s.set s.locals s.tokens (opcode_of (name_behind s)) (ends_of s.items) trees labels o g

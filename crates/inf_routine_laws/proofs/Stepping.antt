@@ -1,47 +1,35 @@
 -- The units that change the innermost statement, in the book of labels: the step of a `for`, the objects of a loop, and cases.
-use Rattle.std.proofs.Common.{arith, ◌≡◌, ◌≤◌, ℕ, List, [], ◌∷◌, Bool, true, false, Option, Some, None, refl, ◌∙◌, ap, sym, subst}
-use Rattle.std.proofs.Common.{inl, inr}
+use Rattle.std.proofs.Common.{arith, ◌≡◌, ◌≤◌, ℕ, List, [], ◌∷◌, Bool, true, false, Option, Some, None, refl, ◌∙◌, ap, sym, subst, inl, inr}
 use Rattle.std.proofs.lemmas.Bool.{cases_lt}
 use Rattle.std.specs.Prelude.{map, ◌+◌, ◌<◌, ◌⊎◌}
 use Rattle.inf_settings.specs.Bounds.{Limits}
 use Rattle.inf_scanner.specs.declared.tokens.Place.{Place}
-use Rattle.inf_syntax.specs.declared.actions.Action.TheVariants as action
+use Rattle.inf_syntax.specs.declared.actions.Action.{Action}
 use Rattle.inf_expressions.specs.declared.findings.Finding.{Finding}
 use Rattle.inf_opcode.specs.Cells.{Cell}
 use Rattle.inf_code.specs.Code.{Routines}
-use Rattle.inf_output.specs.declared.items.Item.{Item}
-use Rattle.inf_output.specs.Output.{Code, Out, apart, items_of, together}
-use Rattle.inf_compilation.specs.Context.{Context}
+use Rattle.inf_output.specs.{Output.Code, Output.Out, Output.apart, Output.items_of, Output.together, declared.items.Item.Item}
+use Rattle.inf_compilation.specs.{Context.Context, Nesting.constructs_laid}
 use Rattle.inf_compilation.specs.Actions.{Compilation, named, passed, settled_of, trees_at}
 use Rattle.inf_parts.specs.Parts.{actions_named, case_prepared, found_in, has_last, is_default, order_of, part_begun}
-use Rattle.inf_compilation.specs.Nesting.{constructs_laid}
 use Rattle.inf_parts.specs.Parts.{part_carried, part_effect, part_finished, part_prepared, place_of, wanted_of}
-use Rattle.inf_parts.specs.declared.parts.Part.TheVariants as part
+use Rattle.inf_parts.specs.declared.parts.Part.{Part}
 use Rattle.inf_constructs.specs.declared.constructs.Case.TheVariants as case
-use Rattle.inf_constructs.specs.declared.constructs.Construct.{Construct}
-use Rattle.inf_constructs.specs.declared.constructs.Kind.{Kind}
-use Rattle.inf_constructs.specs.declared.constructs.Kind.TheVariants as kind
-use Rattle.inf_constructs.specs.declared.constructs.Over.TheVariants as over
+use Rattle.inf_constructs.specs.{Labels.NamedLabel, Roots.tree_in, declared.constructs.Construct.Construct, declared.constructs.Kind.Kind}
+use Rattle.inf_constructs.specs.{declared.constructs.Over.Over}
 use Rattle.inf_constructs.specs.Constructs.{are_own, cases_begun, changed, closed, entered, entered_by, looped_over, opened, with_step}
-use Rattle.inf_constructs.specs.Labels.{NamedLabel}
-use Rattle.inf_constructs.specs.Roots.{tree_in}
 use Rattle.inf_statements.specs.Statements.{alone}
 use Rattle.inf_reader.specs.Acting.{act}
 use Rattle.inf_unit.proofs.Cases.{of_both}
 use Rattle.inf_statement_laws.specs.Nested.{Case, Do, For, If, IfElse, Nested, Objectloop, Plain, Switch, Then, While}
 use Rattle.inf_statement_laws.specs.Laid.{laid, run}
-use Rattle.inf_statement_laws.proofs.Acts.{quiet_run}
-use Rattle.inf_statement_laws.proofs.Laying.{laid_as}
-use Rattle.inf_label_laws.specs.Labels.{times}
-use Rattle.inf_label_laws.specs.Programs.{marks, uses}
+use Rattle.inf_statement_laws.proofs.{Acts.quiet_run, Laying.laid_as}
+use Rattle.inf_label_laws.specs.{Labels.times, Programs.marks, Programs.uses}
 use Rattle.inf_label_laws.proofs.Owning.{Owned, Settles, some_of_two}
+use Rattle.inf_routine_laws.proofs.{Acting.settled_good, Codes.alone_owns, Counting.cell_marks, Counting.cell_uses}
 use Rattle.inf_routine_laws.proofs.Booking.{Booked, Counts, booked_as}
-use Rattle.inf_routine_laws.proofs.Counting.{cell_marks, cell_uses}
-use Rattle.inf_routine_laws.proofs.Balance.{Good, cased, cased_in, good_as, loop_due, named_all, named_due, reached, reached_in}
-use Rattle.inf_routine_laws.proofs.Balance.{top_known}
+use Rattle.inf_routine_laws.proofs.Balance.{Good, cased, cased_in, good_as, loop_due, named_all, named_due, reached, reached_in, top_known}
 use Rattle.inf_routine_laws.proofs.Casing.{IsLooped, ends_cases, ends_switch, looped_good, not_looped}
-use Rattle.inf_routine_laws.proofs.Codes.{alone_owns}
-use Rattle.inf_routine_laws.proofs.Acting.{settled_good}
 
 -- The step of a `for`: its items are kept apart, and their labels are due from there on.
 
@@ -77,7 +65,7 @@ abbrev pub uses_known : Option (List Item) → Counts → Counts
 uses_known step extra n = times n (uses (items_of step)) + extra n
 
 stepped_good : (code : Code) → Owned code [] [] → (due spare extra : Counts) (labels : List NamedLabel) (c : Construct)
-    (around : List Construct) (o : Out) → c.kind ≡ kind.For → Good due spare extra labels (c ∷ around) o →
+    (around : List Construct) (o : Out) → c.kind ≡ Kind.For → Good due spare extra labels (c ∷ around) o →
     let step = Some (items_of (code (apart o)).kept) in
     Good (marks_due step due) spare (uses_known step extra) labels (record c { step = step } ∷ around) (together (code (apart o)))
 stepped_good code owned due spare extra labels c around o e g =
@@ -130,9 +118,9 @@ not_stepped due spare extra labels c around o e g = record {
 }
 
 step_carried : (limits : Limits) (context : Context) (first : Place) (f : Option Finding) (due spare extra : Counts) (c : Construct)
-    (around : List Construct) (w : Compilation) → w.constructs ≡ c ∷ around → c.kind ≡ kind.For → c.step ≡ None →
+    (around : List Construct) (w : Compilation) → w.constructs ≡ c ∷ around → c.kind ≡ Kind.For → c.step ≡ None →
     Good due spare extra w.labels (c ∷ around) w.output →
-    let v = part_carried limits context first part.Step f w in IsStepped due spare extra v.labels c around v.constructs v.output
+    let v = part_carried limits context first Part.Step f w in IsStepped due spare extra v.labels c around v.constructs v.output
 unfolding part_effect
 step_carried limits context first (Some f) due spare extra c around w is e none g =
     subst (λ l. IsStepped due spare extra w.labels c around l w.output) (sym is)
@@ -140,7 +128,7 @@ step_carried limits context first (Some f) due spare extra c around w is e none 
 step_carried limits context first None due spare extra c around w is e none g =
     let s = settled_of limits context w in
     let o = record s.out { first = first } in
-    let trees = map tree_in (trees_at (order_of part.Step w) (wanted_of part.Step) s.operands w) in
+    let trees = map tree_in (trees_at (order_of Part.Step w) (wanted_of Part.Step) s.operands w) in
     let code = alone limits trees in
     let before = settled_good limits context first due spare extra w
     (subst (λ l. Good due spare extra w.labels l w.output) (sym is) g) in record {
@@ -152,11 +140,11 @@ step_carried limits context first None due spare extra c around w is e none g =
     }
 
 pub step_ends_good : (limits : Limits) (context : Context) (place : Place) (due spare extra : Counts) (c : Construct)
-    (around : List Construct) (w : Compilation) → w.constructs ≡ c ∷ around → c.kind ≡ kind.For → c.step ≡ None →
+    (around : List Construct) (w : Compilation) → w.constructs ≡ c ∷ around → c.kind ≡ Kind.For → c.step ≡ None →
     Good due spare extra w.labels (c ∷ around) w.output →
-    let v = act limits context place action.EndForStep w in IsStepped due spare extra v.labels c around v.constructs v.output
+    let v = act limits context place Action.EndForStep w in IsStepped due spare extra v.labels c around v.constructs v.output
 step_ends_good limits context place due spare extra c around w is e none g =
-    let p = part.Step in
+    let p = Part.Step in
     let ready = part_prepared w in
     of_both (λ (v : Compilation). IsStepped due spare extra v.labels c around v.constructs v.output) w.is_replaced (passed (has_last p) w)
     (part_finished limits context (place_of p place ready) p ready)
@@ -171,16 +159,16 @@ abbrev pub IsLoopedIn : Counts → Counts → Counts → Construct → List Cons
 IsLoopedIn due spare extra c around v = IsLooped due spare extra v.labels c around v.constructs v.output
 
 loop_carried : (limits : Limits) (context : Context) (first : Place) (f : Option Finding) (due spare extra : Counts) (c : Construct)
-    (around : List Construct) (w : Compilation) → w.constructs ≡ c ∷ around → c.kind ≡ kind.Objects over.Nothing 0 →
+    (around : List Construct) (w : Compilation) → w.constructs ≡ c ∷ around → c.kind ≡ Kind.Objects Over.Nothing 0 →
     Good (loop_due c due) spare (top_known c extra) w.labels (c ∷ around) w.output →
-    IsLoopedIn due spare extra c around (part_carried limits context first part.Loop f w)
+    IsLoopedIn due spare extra c around (part_carried limits context first Part.Loop f w)
 unfolding part_effect
 loop_carried limits context first (Some f) due spare extra c around w is e g =
     subst (λ l. IsLooped due spare extra w.labels c around l w.output) (sym is) (not_looped due spare extra w.labels c around w.output e g)
 loop_carried limits context first None due spare extra c around w is e g =
     let s = settled_of limits context w in
     let o = record s.out { first = first } in
-    let trees = trees_at (order_of part.Loop w) (wanted_of part.Loop) s.operands w in
+    let trees = trees_at (order_of Part.Loop w) (wanted_of Part.Loop) s.operands w in
     let before = settled_good limits context first (loop_due c due) spare (top_known c extra) w
     (subst (λ l. Good (loop_due c due) spare (top_known c extra) w.labels l w.output) (sym is) g) in
     subst (λ l. let r = looped_over limits trees l o in IsLooped due spare extra w.labels c around r.0 r.1) (sym is)
@@ -188,11 +176,11 @@ loop_carried limits context first None due spare extra c around w is e g =
     (subst (λ l. Good (loop_due c due) spare (top_known c extra) w.labels l o) is before))
 
 pub loop_ends_good : (limits : Limits) (context : Context) (place : Place) (due spare extra : Counts) (c : Construct)
-    (around : List Construct) (w : Compilation) → w.constructs ≡ c ∷ around → c.kind ≡ kind.Objects over.Nothing 0 →
+    (around : List Construct) (w : Compilation) → w.constructs ≡ c ∷ around → c.kind ≡ Kind.Objects Over.Nothing 0 →
     Good (loop_due c due) spare (top_known c extra) w.labels (c ∷ around) w.output →
-    IsLoopedIn due spare extra c around (act limits context place action.EndObjectloop w)
+    IsLoopedIn due spare extra c around (act limits context place Action.EndObjectloop w)
 loop_ends_good limits context place due spare extra c around w is e g =
-    let p = part.Loop in
+    let p = Part.Loop in
     let ready = part_prepared w in
     of_both (IsLoopedIn due spare extra c around) w.is_replaced (passed (has_last p) w)
     (part_finished limits context (place_of p place ready) p ready)
@@ -204,8 +192,8 @@ loop_ends_good limits context place due spare extra c around w is e g =
 -- Cases: the innermost statement stays a `switch`, or the routine's own cases.
 
 abbrev pub case_kind : Kind → Bool
-case_kind (kind.Switch old had_default) = true
-case_kind (kind.Cases old had_default) = true
+case_kind (Kind.Switch old had_default) = true
+case_kind (Kind.Cases old had_default) = true
 case_kind _ = false
 
 abbrev pub case_inside : List Construct → Bool
@@ -214,10 +202,10 @@ case_inside (c ∷ constructs) = case_kind c.kind
 
 kind_entered : (limits : Limits) (k : Kind) (b : Bool) (c : Construct) (o : Out) → case_kind k ≡ true → case_kind c.kind ≡ true →
     case_kind (entered_by limits k b c o).0.kind ≡ true
-kind_entered limits (kind.Switch old had_default) true c o h e = refl
-kind_entered limits (kind.Switch old had_default) false c o h e = refl
-kind_entered limits (kind.Cases old had_default) true c o h e = refl
-kind_entered limits (kind.Cases old had_default) false c o h e = refl
+kind_entered limits (Kind.Switch old had_default) true c o h e = refl
+kind_entered limits (Kind.Switch old had_default) false c o h e = refl
+kind_entered limits (Kind.Cases old had_default) true c o h e = refl
+kind_entered limits (Kind.Cases old had_default) false c o h e = refl
 kind_entered limits _ b c o h e = e
 
 inside_entered : (limits : Limits) (b : Bool) (constructs : List Construct) (o : Out) → case_inside constructs ≡ true →
@@ -232,7 +220,7 @@ kind_begun limits k o = refl
 
 inside_begun : (limits : Limits) (constructs : List Construct) (o : Out) → case_inside constructs ≡ true →
     case_inside (cases_begun limits constructs o).0 ≡ true
-inside_begun limits [] o h = kind_begun limits (kind.Cases case.Nothing false) o
+inside_begun limits [] o h = kind_begun limits (Kind.Cases case.Nothing false) o
 inside_begun limits (c ∷ constructs) o h = h
 
 actions_inside : (b : Bool) (w : Compilation) → (actions_named b w).constructs ≡ w.constructs
@@ -240,23 +228,23 @@ actions_inside true w = refl
 actions_inside false w = refl
 
 carried_inside : (limits : Limits) (context : Context) (first : Place) (f : Option Finding) (w : Compilation) →
-    (part_carried limits context first part.Case f w).constructs ≡ w.constructs
+    (part_carried limits context first Part.Case f w).constructs ≡ w.constructs
 unfolding part_effect
 carried_inside limits context first (Some f) w = refl
 carried_inside limits context first None w = refl
 
 case_ends_inside : (limits : Limits) (context : Context) (place : Place) (w : Compilation) → case_inside w.constructs ≡ true →
-    case_inside (act limits context place action.EndCase w).constructs ≡ true
+    case_inside (act limits context place Action.EndCase w).constructs ≡ true
 case_ends_inside limits context place w h =
     let before = part_prepared w in
-    let ready = case_prepared limits part.Case before in
-    let at = place_of part.Case place ready in
+    let ready = case_prepared limits Part.Case before in
+    let at = place_of Part.Case place ready in
     let begun = constructs_laid (cases_begun limits before.constructs) before in
-    let entering = part_begun limits part.Case ready in
-    of_both (λ (v : Compilation). case_inside v.constructs ≡ true) w.is_replaced (passed (has_last part.Case) w)
-    (part_finished limits context at part.Case ready)
+    let entering = part_begun limits Part.Case ready in
+    of_both (λ (v : Compilation). case_inside v.constructs ≡ true) w.is_replaced (passed (has_last Part.Case) w)
+    (part_finished limits context at Part.Case ready)
     (λ _. h)
-    (λ _. ap case_inside (carried_inside limits context at (found_in limits context part.Case ready) (named entering))
+    (λ _. ap case_inside (carried_inside limits context at (found_in limits context Part.Case ready) (named entering))
     ∙ inside_entered limits (is_default ready.unit.items) ready.constructs ready.output
     (ap case_inside (actions_inside (are_own begun.constructs) begun) ∙ inside_begun limits before.constructs before.output h))
 
@@ -280,8 +268,8 @@ switch_stays limits context (Switch opens value cases brace closes) w e h = h
 pub ends_case_kind : (limits : Limits) (k : Kind) (due spare extra : Counts) (labels : List NamedLabel) (c : Construct)
     (around : List Construct) (o : Out) → c.kind ≡ k → case_kind k ≡ true → Good due spare extra labels (c ∷ around) o →
     Good due spare extra labels around (closed limits c o)
-ends_case_kind limits (kind.Switch old had_default) due spare extra labels c around o e h g =
+ends_case_kind limits (Kind.Switch old had_default) due spare extra labels c around o e h g =
     ends_switch limits due spare extra labels c around o old had_default e g
-ends_case_kind limits (kind.Cases old had_default) due spare extra labels c around o e h g =
+ends_case_kind limits (Kind.Cases old had_default) due spare extra labels c around o e h g =
     ends_cases limits due spare extra labels c around o old had_default e g
 ends_case_kind limits _ due spare extra labels c around o e h g = cc

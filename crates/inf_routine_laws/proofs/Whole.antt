@@ -3,70 +3,49 @@ use Rattle.std.proofs.Common.{arith, ◌≡◌, ℕ, List, [], ◌∷◌, ◌++�
 use Rattle.std.specs.Prelude.{is_some, length, nat_lt, ◌+◌, if◌then◌else◌}
 use Rattle.inf_settings.specs.Bounds.{Limits}
 use Rattle.inf_scanner.specs.declared.tokens.Place.{Place}
-use Rattle.inf_area.specs.Cells.{later_count}
-use Rattle.inf_area.specs.declared.cells.Cell.{Cell as CodeCell}
-use Rattle.inf_opcode.specs.declared.instructions.Label.{Label}
-use Rattle.inf_opcode.specs.Cells.{Cell}
-use Rattle.inf_assembler.specs.declared.routines.CloseFault.{CloseFault}
-use Rattle.inf_assembler.specs.declared.routines.CloseFault.TheVariants as close_fault
-use Rattle.inf_assembler.specs.declared.routines.Limit.{Limit}
-use Rattle.inf_assembler.specs.declared.routines.Limit.TheVariants as setting
-use Rattle.inf_assembler.specs.declared.routines.RoutineKind.{RoutineKind}
-use Rattle.inf_assembler.specs.Places.{twice_behind}
+use Rattle.inf_area.specs.{Cells.later_count, declared.cells.Cell.Cell as CodeCell}
+use Rattle.inf_opcode.specs.{Cells.Cell, declared.instructions.Label.Label}
+use Rattle.inf_assembler.specs.{Places.twice_behind, declared.routines.CloseFault.CloseFault, declared.routines.Limit.Limit}
+use Rattle.inf_assembler.specs.{declared.routines.RoutineKind.RoutineKind}
 use Rattle.inf_assembler.specs.Routines.{Contents, body_bytes, body_fault, is_full, missing_fault, twice_fault}
 use Rattle.inf_code.specs.Code.{Opened, Routines, begun_unless, code_limits, fault_behind, fault_closed, fault_end, first_fault, full_begun}
-use Rattle.inf_code.specs.Code.{full_opened}
-use Rattle.inf_code.specs.Code.{limit_fault, padded, place_behind, references_before, routine_cells, unlimited}
-use Rattle.inf_code.specs.Code.{fault_of_full, finished_fault, full_finished}
+use Rattle.inf_code.specs.Code.{full_opened, limit_fault, padded, place_behind, references_before, routine_cells, unlimited, fault_of_full}
+use Rattle.inf_code.specs.Code.{finished_fault, full_finished}
 use Rattle.inf_code.specs.declared.code.CodeLimits.{CodeLimits}
-use Rattle.inf_names.specs.declared.meanings.Meaning.{Meaning}
-use Rattle.inf_names.specs.declared.symbols.DeclareFault.{DeclareFault}
-use Rattle.inf_names.specs.declared.symbols.DeclareFault.TheVariants as declaring
-use Rattle.inf_names.specs.Locals.{Headed}
-use Rattle.inf_names.specs.Spellings.{Name}
-use Rattle.inf_names.specs.Symbols.{declare_fault}
+use Rattle.inf_names.specs.{Locals.Headed, Spellings.Name, Symbols.declare_fault, declared.meanings.Meaning.Meaning}
+use Rattle.inf_names.specs.{declared.symbols.DeclareFault.DeclareFault}
 use Rattle.inf_output.specs.Output.{Out, begun_by, declared_by, opened, opened_by}
-use Rattle.inf_syntax.specs.declared.actions.Action.TheVariants as action
-use Rattle.inf_constructs.specs.declared.constructs.Construct.{Construct}
-use Rattle.inf_constructs.specs.declared.constructs.Kind.{Kind}
-use Rattle.inf_constructs.specs.declared.constructs.Kind.TheVariants as kind
-use Rattle.inf_constructs.specs.Constructs.{are_cases, ended}
-use Rattle.inf_constructs.specs.Labels.{NamedLabel, missing}
-use Rattle.inf_compilation.specs.Context.{Context}
-use Rattle.inf_reader.specs.Acting.{act}
-use Rattle.inf_unit.specs.Units.{first_place, names_in}
+use Rattle.inf_syntax.specs.declared.actions.Action.{Action}
+use Rattle.inf_constructs.specs.{Constructs.are_cases, Constructs.ended, Labels.NamedLabel, Labels.missing}
+use Rattle.inf_constructs.specs.{declared.constructs.Construct.Construct, declared.constructs.Kind.Kind}
+use Rattle.inf_compilation.specs.{Context.Context, Findings.Findings, Findings.again_by, Findings.header_findings}
 use Rattle.inf_compilation.specs.Actions.{Compilation, header_of, header_with, is_to_be_replaced, opened_with, passed as passed_over}
 use Rattle.inf_compilation.specs.Actions.{routine_declared}
-use Rattle.inf_compilation.specs.Findings.{Findings, again_by, header_findings}
+use Rattle.inf_reader.specs.Acting.{act}
+use Rattle.inf_unit.specs.Units.{first_place, names_in}
+use Rattle.inf_statement_laws.specs.{Nested.Nested, Nested.happenings, Readings.Routine, Readings.body_laid, Readings.routine_happenings}
 use Rattle.inf_statement_laws.specs.Happenings.{Acts, Between, Happening, Moment}
-use Rattle.inf_statement_laws.specs.Nested.{Nested, happenings}
 use Rattle.inf_statement_laws.specs.Laid.{happens, laid, passed, run}
-use Rattle.inf_statement_laws.specs.Readings.{Routine, body_laid, routine_happenings}
-use Rattle.inf_statement_laws.proofs.Acts.{inside_act, own_alone, quiet_run}
-use Rattle.inf_statement_laws.proofs.Laying.{alone_behind}
+use Rattle.inf_statement_laws.proofs.{Acts.inside_act, Acts.own_alone, Acts.quiet_run, Laying.alone_behind}
 use Rattle.inf_label_laws.specs.Labels.{times}
+use Rattle.inf_routine_laws.specs.{Laws.RoutinesHaveTheirLabels, Laws.headed, Leaving.LeavesRoutine}
 use Rattle.inf_routine_laws.specs.Faults.{AllLeave, HasBegun, HasItsLabels, LeaveRoutine, is_of_labels}
-use Rattle.inf_routine_laws.specs.Laws.{RoutinesHaveTheirLabels, headed}
-use Rattle.inf_routine_laws.specs.Leaving.{LeavesRoutine}
+use Rattle.inf_routine_laws.proofs.{Acting.Balanced, Acting.quiet_good, Booking.Counts, Booking.one, Booking.some_is, Nesting.keeps_all}
+use Rattle.inf_routine_laws.proofs.{Nesting.leave_both, Reading.tokens_leave, Stepping.case_kind, Stepping.ends_case_kind}
 use Rattle.inf_routine_laws.proofs.Counting.{AreWhole, cell_marks, cell_uses, whole_missing, whole_twice}
-use Rattle.inf_routine_laws.proofs.Booking.{Counts, one, some_is}
 use Rattle.inf_routine_laws.proofs.Balance.{Good, cased, named_all, named_due, reached, unless_given}
-use Rattle.inf_routine_laws.proofs.Acting.{Balanced, quiet_good}
-use Rattle.inf_routine_laws.proofs.Stepping.{case_kind, ends_case_kind}
-use Rattle.inf_routine_laws.proofs.Nesting.{keeps_all, leave_both}
-use Rattle.inf_routine_laws.proofs.Reading.{tokens_leave}
 
 -- The fault of a routine whose labels are whole
 
 full_label : (b : Bool) (s : Limit) (rest : Option CloseFault) → is_of_labels rest ≡ false →
-    is_of_labels (if b then Some (close_fault.Full s) else rest) ≡ false
+    is_of_labels (if b then Some (CloseFault.Full s) else rest) ≡ false
 full_label true s rest h = refl
 full_label false s rest h = h
 
 limit_label : (references : ℕ) (contents : Contents) (len : ℕ) → is_of_labels (limit_fault references contents len) ≡ false
 limit_label references contents len =
-    full_label (is_full contents.is_final unlimited len) setting.Code _
-    (full_label _ setting.Refs None refl)
+    full_label (is_full contents.is_final unlimited len) Limit.Code _
+    (full_label _ Limit.Refs None refl)
 
 of_full_label : (full : Option Limit) → is_of_labels (fault_of_full full) ≡ false
 of_full_label None = refl
@@ -132,14 +111,14 @@ ended_good limits labels (c ∷ []) o h g =
     ends_case_kind limits c.kind none_due none_due none_due labels c [] o refl (cases_kind c.kind h) g
   where
     cases_kind : (k : Kind) → are_cases k ≡ true → case_kind k ≡ true
-    cases_kind (kind.Cases old had_default) e = refl
-    cases_kind (kind.Switch old had_default) e = refl
-    cases_kind kind.If e = cc
-    cases_kind kind.Else e = cc
-    cases_kind kind.While e = cc
-    cases_kind kind.Do e = cc
-    cases_kind kind.For e = cc
-    cases_kind (kind.Objects how v) e = cc
+    cases_kind (Kind.Cases old had_default) e = refl
+    cases_kind (Kind.Switch old had_default) e = refl
+    cases_kind Kind.If e = cc
+    cases_kind Kind.Else e = cc
+    cases_kind Kind.While e = cc
+    cases_kind Kind.Do e = cc
+    cases_kind Kind.For e = cc
+    cases_kind (Kind.Objects how v) e = cc
 ended_good limits labels (c ∷ d ∷ constructs) o h g = cc
 
 has_its_labels : (limits : Limits) (v : Compilation) → own_alone v.constructs ≡ true → Balanced none_due none_due none_due v →
@@ -189,12 +168,12 @@ routine_has : (limits : Limits) (context : Context) (r : Routine) (w : Compilati
     HasBegun (headed limits context r w) → AllLeave (routine_happenings r) → HasItsLabels limits (body_laid limits context r w)
 routine_has limits context r w e h l =
     let v = headed limits context r w in
-    let ends : List Happening = Acts r.ends action.EndRoutine ∷ r.last.all in
-    let l1 = leave_both r.header.all (Acts r.heads action.EndLocals ∷ (r.semicolon.all ++ (happenings r.body ++ ends))) l in
+    let ends : List Happening = Acts r.ends Action.EndRoutine ∷ r.last.all in
+    let l1 = leave_both r.header.all (Acts r.heads Action.EndLocals ∷ (r.semicolon.all ++ (happenings r.body ++ ends))) l in
     let l2 = leave_both r.semicolon.all (happenings r.body ++ ends) l1.1.1 in
     let l3 = leave_both (happenings r.body) ends l2.1 in
     let before = quiet_run limits context r.header.all w r.header.are in
-    let none = inside_act limits context r.heads.place action.EndLocals (run limits context r.header.all w) refl (before.1 ∙ e) in
+    let none = inside_act limits context r.heads.place Action.EndLocals (run limits context r.header.all w) refl (before.1 ∙ e) in
     let same = quiet_run limits context r.semicolon.all v r.semicolon.are in
     body_has limits context r.body (run limits context r.semicolon.all v) (same.1 ∙ none) (ap own_alone same.0 ∙ own_begun v h)
     (quiet_good limits context r.semicolon.all none_due none_due none_due v r.semicolon.are l2.0 (begun_good v h)) l3.0
@@ -230,9 +209,9 @@ opened_kept locals is_lost limits (Some limit) o = refl
 declared_kept : (limits : Limits) (f : Option (DeclareFault Place)) (name : List ℕ) (place : Place) (m : Meaning) (o : Out) →
     (declared_by limits f name place m o).kept ≡ o.kept
 declared_kept limits None name place m o = refl
-declared_kept limits (Some declaring.Full) name place m o = refl
-declared_kept limits (Some (declaring.Present first)) name place m o = refl
-declared_kept limits (Some declaring.Memory) name place m o = refl
+declared_kept limits (Some DeclareFault.Full) name place m o = refl
+declared_kept limits (Some (DeclareFault.Present first)) name place m o = refl
+declared_kept limits (Some DeclareFault.Memory) name place m o = refl
 
 opened_begins : (limits : Limits) (context : Context) (first : Place) (h : Headed) (found : Findings) (w : Compilation) →
     w.output.kept ≡ None → HasBegun (opened_with limits context first h found w)
@@ -262,7 +241,7 @@ begun_behind m v l h = record {
 
 headers_begin : (limits : Limits) (context : Context) (at : Moment) (name : Name) (names : List Name) (w : Compilation) →
     names_in w.unit.tokens ≡ name ∷ names → is_to_be_replaced name w ≡ false → w.output.kept ≡ None → LeaveRoutine at.behind →
-    HasBegun (happens limits context (Acts at action.EndLocals) w)
+    HasBegun (happens limits context (Acts at Action.EndLocals) w)
 headers_begin limits context at name names w e free none l =
     let first = first_place w.unit.tokens at.place in
     let own = record w { is_replaced = false; is_embedded = false } in
@@ -270,7 +249,7 @@ headers_begin limits context at name names w e free none l =
     let v = header_with limits context first name w.unit.headed own in
     let same : header_of limits context first (names_in w.unit.tokens) w ≡ v =
     ap (λ l. header_of limits context first l w) e ∙ ap (λ b. if b then over else v) free in
-    begun_behind at.behind (act limits context at.place action.EndLocals w) l
+    begun_behind at.behind (act limits context at.place Action.EndLocals w) l
     (subst HasBegun (sym same) (header_begins limits context first name w.unit.headed own none))
 
 -- Conditional directives

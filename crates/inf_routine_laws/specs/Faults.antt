@@ -1,21 +1,18 @@
 -- Faults of the labels of a routine, and what may happen between two tokens of one.
 use Rattle.std.specs.Prelude.{◌≡◌, ◌<◌, Bool, true, false, List, [], ◌∷◌, Option, Some, None}
 use Rattle.inf_settings.specs.Bounds.{Limits}
-use Rattle.inf_assembler.specs.declared.routines.CloseFault.{CloseFault}
-use Rattle.inf_assembler.specs.declared.routines.CloseFault.TheVariants as close_fault
-use Rattle.inf_assembler.specs.declared.routines.RoutineKind.{RoutineKind}
+use Rattle.inf_assembler.specs.{declared.routines.CloseFault.CloseFault, declared.routines.RoutineKind.RoutineKind}
 use Rattle.inf_code.specs.Code.{Opened, fault_closed}
 use Rattle.inf_output.specs.Output.{Out}
 use Rattle.inf_constructs.specs.Labels.{missing}
 use Rattle.inf_compilation.specs.Actions.{Compilation, cases_ended}
-use Rattle.inf_statement_laws.specs.Happenings.{Acts, Between, Happening, Takes}
-use Rattle.inf_statement_laws.specs.Readings.{Seen}
+use Rattle.inf_statement_laws.specs.{Happenings.Acts, Happenings.Between, Happenings.Happening, Happenings.Takes, Readings.Seen}
 use Rattle.inf_routine_laws.specs.Leaving.{LeavesRoutine}
 
 -- whether a label of a routine is missing, or marked twice
 abbrev pub is_of_labels : Option CloseFault → Bool
-is_of_labels (Some (close_fault.LabelMissing label)) = true
-is_of_labels (Some (close_fault.LabelTwice label)) = true
+is_of_labels (Some (CloseFault.LabelMissing label)) = true
+is_of_labels (Some (CloseFault.LabelTwice label)) = true
 is_of_labels _ = false
 
 -- Tells whether a routine has just begun: the open one, if there is one, has no items, and no statement is open.

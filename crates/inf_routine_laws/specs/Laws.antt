@@ -5,25 +5,19 @@ use Rattle.inf_scanner.specs.declared.tokens.Place.{Place}
 use Rattle.inf_assembler.specs.declared.routines.RoutineKind.{RoutineKind}
 use Rattle.inf_code.specs.Code.{fault_closed}
 use Rattle.inf_output.specs.Output.{Out, opened as opened_as}
-use Rattle.inf_names.specs.Locals.{Headed}
-use Rattle.inf_names.specs.Spellings.{Name}
+use Rattle.inf_names.specs.{Locals.Headed, Spellings.Name}
 use Rattle.inf_machine.specs.declared.symbols.Symbol.{Symbol}
 use Rattle.inf_syntax.specs.declared.actions.Action.{Action}
-use Rattle.inf_syntax.specs.declared.actions.Action.TheVariants as action
-use Rattle.inf_unit.specs.Messages.{FileNames}
-use Rattle.inf_unit.specs.Units.{names_in}
-use Rattle.inf_compilation.specs.Context.{Context}
-use Rattle.inf_compilation.specs.Actions.{Compilation, is_to_be_replaced, opened_with}
-use Rattle.inf_compilation.specs.Findings.{Findings}
-use Rattle.inf_statement_laws.specs.Happenings.{Acts, Moment}
+use Rattle.inf_unit.specs.{Messages.FileNames, Units.names_in}
+use Rattle.inf_compilation.specs.{Actions.Compilation, Actions.is_to_be_replaced, Actions.opened_with, Context.Context, Findings.Findings}
+use Rattle.inf_statement_laws.specs.{Happenings.Acts, Happenings.Moment, Nested.Nested, Nested.happenings}
 use Rattle.inf_statement_laws.specs.Laid.{happens, laid, run}
-use Rattle.inf_statement_laws.specs.Nested.{Nested, happenings}
 use Rattle.inf_statement_laws.specs.Readings.{Routine, Seen, all_happenings, body_laid, directive_between, routine_happenings}
 use Rattle.inf_routine_laws.specs.Faults.{AllLeave, AllSeenLeave, HasBegun, HasItsLabels, LeaveRoutine, is_of_labels}
 
 -- the compilation behind the header of a routine, up to its last local
 abbrev pub headed : Limits → Context → Routine → Compilation → Compilation
-headed limits context r w = happens limits context (Acts r.heads action.EndLocals) (run limits context r.header.all w)
+headed limits context r w = happens limits context (Acts r.heads Action.EndLocals) (run limits context r.header.all w)
 
 -- The body of a routine, by its nested statements, leaves it with its labels, whatever errors its statements have; so does a routine as a
 -- whole, of its own or a value of a property, where its header has begun it. A header that opens a routine begins it, and so does that of a
@@ -39,7 +33,7 @@ pub record RoutinesHaveTheirLabels (limits : Limits) : Type 0 where
       → HasBegun (opened_with limits context first h found w)
   pub headers : (context : Context) (at : Moment) (name : Name) (names : List Name) (w : Compilation)
       → names_in w.unit.tokens ≡ name ∷ names → is_to_be_replaced name w ≡ false → w.output.kept ≡ None → LeaveRoutine at.behind
-      → HasBegun (happens limits context (Acts at action.EndLocals) w)
+      → HasBegun (happens limits context (Acts at Action.EndLocals) w)
   pub empty : (how : RoutineKind) (locals : ℕ) (is_lost : Bool) (o : Out) →
       is_of_labels (fault_closed limits how (opened_as limits locals is_lost o).code) ≡ false
   pub directives : (files : FileNames) (place : Place) → LeaveRoutine (directive_between limits files place)

@@ -3,31 +3,20 @@ use Rattle.std.proofs.Common.{◌≡◌, ℕ, zero, suc, ◌+◌, ◌≤◌, ◌
 use Rattle.inf_settings.specs.Bounds.{Limits}
 use Rattle.inf_scanner.specs.declared.tokens.Place.{Place}
 use Rattle.inf_machine.specs.Grammar.{Event, IsText, here}
-use Rattle.inf_syntax.specs.Parts.{directive_2, top_item}
-use Rattle.inf_syntax.specs.Rows.{row}
-use Rattle.inf_syntax.specs.declared.actions.Action.{Action}
+use Rattle.inf_syntax.specs.{Parts.directive_2, Parts.top_item, Rows.row, declared.actions.Action.Action}
 use Rattle.inf_grammar.specs.Language.{grammar}
-use Rattle.inf_statement_laws.specs.Laid.{laid}
-use Rattle.inf_statement_laws.specs.Nested.{Plain, happenings}
-use Rattle.inf_statement_laws.specs.Nested.{Then as After}
-use Rattle.inf_statement_laws.specs.Readings.{Seen}
+use Rattle.inf_statement_laws.specs.{Laid.laid, Nested.Plain, Nested.Then as After, Nested.happenings, Readings.Seen}
 use Rattle.inf_statement_laws.proofs.Rules.{body_rows, number}
 use Rattle.inf_language.specs.Texts.{atoms_of, happenings_before}
 use Rattle.inf_language.proofs.Derivations.{texts_take_all}
 use Rattle.inf_trees.specs.Statements.{other_items as items_beside}
-use Rattle.inf_trees.proofs.RuleRows.{of_rows}
-use Rattle.inf_trees.proofs.TopTexts.{item_text}
-use Rattle.inf_trees.proofs.UnitsRead.{place_before, seen_parts}
+use Rattle.inf_trees.proofs.{RuleRows.of_rows, TopTexts.item_text, UnitsRead.place_before, UnitsRead.seen_parts}
 use Rattle.inf_simple_trees.specs.Simple.{other_items}
-use Rattle.inf_simple_trees.proofs.SimpleRead.{beside_item, simple_text}
+use Rattle.inf_simple_trees.proofs.{SimpleRead.beside_item, SimpleRead.simple_text, Symbols.parts_of, TopItems.top_item_text}
 use Rattle.inf_simple_trees.proofs.SimpleTexts.{Another, OneUnit, SimpleText}
-use Rattle.inf_simple_trees.proofs.Symbols.{parts_of}
 use Rattle.inf_routine_trees.specs.Bodies.{AtTop, BodiesAreLaidAsTrees, Nothing, Then, tree_laid, tree_seen, with_effects}
-use Rattle.inf_routine_trees.proofs.Effects.{put}
-use Rattle.inf_routine_trees.proofs.Endings.{end_so, ends, text_ends}
-use Rattle.inf_routine_trees.proofs.Loops.{nonempty}
-use Rattle.inf_routine_trees.proofs.StatementTrees.{Smaller, item_tree, smaller}
-use Rattle.inf_simple_trees.proofs.TopItems.{top_item_text}
+use Rattle.inf_routine_trees.proofs.{Effects.put, Endings.end_so, Endings.ends, Endings.text_ends, Loops.nonempty, StatementTrees.Smaller}
+use Rattle.inf_routine_trees.proofs.{StatementTrees.item_tree, StatementTrees.smaller}
 use Rattle.inf_routine_trees.proofs.Trees.{AreAll, IsTree, moved_seen, plain_runs, simple_tree, tree_closed, tree_opening}
 
 item_ends : end_so false (top_item ∷ []) ≡ true

@@ -1,34 +1,25 @@
 -- A case is a tree: the way in which it begins, its values, and its colon.
 use Rattle.std.proofs.Common.{◌≡◌, ◌+◌, ◌≤◌, ◌<◌, List, [], ◌∷◌, ◌++◌, length, Bool, true, false, None, refl, sym, ◌∙◌, ap, subst}
-use Rattle.std.proofs.Common.{append_assoc, arith}
-use Rattle.std.specs.Prelude.{nat_lt, not, ◌&&◌}
+use Rattle.std.proofs.Common.{append_assoc, arith, nat_lt, not, ◌&&◌}
 use Rattle.std.proofs.lemmas.Bool.{and_parts, ltb-false, ltb-true}
 use Rattle.inf_settings.specs.Bounds.{Limits}
 use Rattle.inf_scanner.specs.declared.tokens.Place.{Place}
-use Rattle.inf_machine.specs.declared.symbols.Symbol.{Symbol}
-use Rattle.inf_machine.specs.Grammar.{Event, IsText}
-use Rattle.inf_syntax.specs.Parts.{'colon'}
-use Rattle.inf_syntax.specs.declared.actions.Action.{Action}
-use Rattle.inf_syntax.specs.declared.actions.Action.TheVariants as action_of
+use Rattle.inf_machine.specs.{Grammar.Event, Grammar.IsText, declared.symbols.Symbol.Symbol}
+use Rattle.inf_syntax.specs.{Parts.'colon', declared.actions.Action.Action}
 use Rattle.inf_grammar.specs.Language.{grammar}
 use Rattle.inf_unit.specs.Units.{Unit as UnitAtHand, no_unit}
-use Rattle.inf_compilation.specs.Context.{Context}
-use Rattle.inf_compilation.specs.Actions.{Compilation}
+use Rattle.inf_compilation.specs.{Actions.Compilation, Context.Context}
 use Rattle.inf_reader.specs.Acting.{act}
 use Rattle.inf_expression_laws.specs.Gathered.{AreSeen}
+use Rattle.inf_statement_laws.specs.{Laid.run, Nested.Case, Nested.Plain, Nested.Then as After, Readings.Seen, Readings.plainly_at}
 use Rattle.inf_statement_laws.specs.Happenings.{Acts, Happening, Quiet, Takes, happen_quietly}
-use Rattle.inf_statement_laws.specs.Laid.{run}
-use Rattle.inf_statement_laws.specs.Nested.{Case, Plain}
-use Rattle.inf_statement_laws.specs.Nested.{Then as After}
-use Rattle.inf_statement_laws.specs.Readings.{Seen, plainly_at}
 use Rattle.inf_language.specs.Texts.{atoms_of, happenings_before, tokens_of}
 use Rattle.inf_trees.specs.Trees.{AreWritten, Part, all_seen, parts_told, with_parts}
 use Rattle.inf_trees.proofs.UnitsRead.{place_before, ready, seen_parts}
 use Rattle.inf_simple_trees.specs.Room.{have_room}
+use Rattle.inf_simple_trees.proofs.{SimpleTexts.Reading, UnitsGo.AreQuiet, UnitsGo.Going}
 use Rattle.inf_simple_trees.proofs.CaseTexts.{Begun, CaseStart, Directly, SwitchWord, TopWord, case_symbols}
-use Rattle.inf_simple_trees.proofs.SimpleTexts.{Reading}
 use Rattle.inf_simple_trees.proofs.Symbols.{act_first, nothing_left, parts_of, token_first}
-use Rattle.inf_simple_trees.proofs.UnitsGo.{AreQuiet, Going}
 use Rattle.inf_routine_trees.specs.Bodies.{AtTop, Case as CaseTree, OfSwitch, Standing, Start, WithNext, WithUnit, WithWord, count_of, fits}
 use Rattle.inf_routine_trees.specs.Bodies.{start_seen, started, token_done}
 use Rattle.inf_routine_trees.proofs.Pieces.{word_happens, worded}
@@ -76,7 +67,7 @@ with_word stands symbols seen events word rest late same text happen quiet runs 
 starts : {begins : List (Symbol Action)} → CaseStart begins → (limits : Limits) (symbols : List (Symbol Action)) (seen : List Seen)
     (events : List (Event Action)) → IsText grammar (begins ++ symbols) (atoms_of seen) events → Starts symbols seen events
 starts Begun limits symbols seen events text =
-    let b = act_first action_of.Begin symbols seen events text in
+    let b = act_first Action.Begin symbols seen events text in
     record {
       start = WithUnit;
       rest = seen;
@@ -84,7 +75,7 @@ starts Begun limits symbols seen events text =
       same = refl;
       text = b.text;
       fewer = omega arith;
-      happens = λ next. Acts (plainly_at (place_before seen next)) action_of.Begin ∷ [];
+      happens = λ next. Acts (plainly_at (place_before seen next)) Action.Begin ∷ [];
       happen = b.happen;
       quiet = λ next. refl;
       runs = λ limits context next w. refl;
@@ -177,7 +168,7 @@ case_tree is limits next front reading seen events text are_seen few =
     let parts = seen_parts (start_seen s.start) s.rest (moved_seen (sym s.same) are_seen) in
     let p = parts_of front case_symbols s.rest s.late s.text in
     let inside = seen_parts p.front p.rest (moved_seen (sym p.same) parts.1) in
-    let e = act_first action_of.EndCase ('colon' ∷ []) p.rest p.late p.of_rest in
+    let e = act_first Action.EndCase ('colon' ∷ []) p.rest p.late p.of_rest in
     let c = token_first [] p.rest e.late e.text in
     let n = nothing_left c.rest c.late c.text in
     let place = c.s.token.place in
@@ -202,13 +193,13 @@ case_tree is limits next front reading seen events text are_seen few =
           ∙ ap (λ x. s.happens next ++ x) (p.happen next
           ∙ (ap (λ x. happenings_before x p.early p.front ++ happenings_before next p.late p.rest) (c.place next)
           ∙ (ap (λ x. hs ++ x) (e.happen next
-          ∙ (ap (λ x. Acts (plainly_at x) action_of.EndCase ∷ happenings_before next e.late p.rest) (c.place next)
-          ∙ ap (λ x. Acts ends action_of.EndCase ∷ x) (c.happen next ∙ ap (λ x. Takes c.s.token c.s.behind ∷ x) (n.happen next))))
-          ∙ sym (append_assoc hs (Acts ends action_of.EndCase ∷ []) (Takes c.s.token c.s.behind ∷ []))))));
+          ∙ (ap (λ x. Acts (plainly_at x) Action.EndCase ∷ happenings_before next e.late p.rest) (c.place next)
+          ∙ ap (λ x. Acts ends Action.EndCase ∷ x) (c.happen next ∙ ap (λ x. Takes c.s.token c.s.behind ∷ x) (n.happen next))))
+          ∙ sym (append_assoc hs (Acts ends Action.EndCase ∷ []) (Takes c.s.token c.s.behind ∷ []))))));
       rests = λ effects. refl;
       lays = λ effects context w ahead none.
           let x = started limits context s.start w in
-          let behind = λ (z : Compilation). token_done context c.s (act limits context place action_of.EndCase z) in
+          let behind = λ (z : Compilation). token_done context c.s (act limits context place Action.EndCase z) in
           let values_done_by = record (parts_told context x.unit (values x.unit) x) { unit = with_parts (values x.unit) x.unit } in
           ap (λ z. behind (run limits context hs z)) (s.runs limits context next w)
           ∙ ap behind (room_lays (fits (count_of values) x.unit && have_room limits x.unit (values x.unit)) values_done_by

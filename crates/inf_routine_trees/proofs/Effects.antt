@@ -1,21 +1,16 @@
 -- The effects behind statements that are closed ahead, among happenings and in nested statements.
-use Rattle.std.proofs.Common.{◌≡◌, List, [], ◌∷◌, ◌++◌, Bool, true, false, Option, Some, None, refl, sym, ◌∙◌, ap}
-use Rattle.std.specs.Prelude.{◌&&◌, if◌then◌else◌}
+use Rattle.std.proofs.Common.{◌≡◌, List, [], ◌∷◌, ◌++◌, Bool, true, false, Option, Some, None, refl, sym, ◌∙◌, ap, ◌&&◌, if◌then◌else◌}
 use Rattle.std.proofs.lemmas.Bool.{and_parts}
 use Rattle.inf_settings.specs.Bounds.{Limits}
 use Rattle.inf_scanner.specs.declared.tokens.Place.{Place}
 use Rattle.inf_machine.specs.Grammar.{Did, Event, Took}
 use Rattle.inf_syntax.specs.declared.actions.Action.{Action}
-use Rattle.inf_syntax.specs.declared.actions.Action.TheVariants as action
-use Rattle.inf_compilation.specs.Context.{Context}
-use Rattle.inf_compilation.specs.Actions.{Compilation, took}
+use Rattle.inf_compilation.specs.{Actions.Compilation, Actions.took, Context.Context}
+use Rattle.inf_statement_laws.specs.{Laid.happens, Laid.next_comes, Laid.passed, Laid.run, Readings.Seen, Readings.plainly_at}
 use Rattle.inf_statement_laws.specs.Happenings.{Acts, Between, Happening, Moment, Quiet, Takes, happen_quietly, is_quiet}
-use Rattle.inf_statement_laws.specs.Laid.{happens, next_comes, passed, run}
-use Rattle.inf_statement_laws.specs.Nested.{Case, Do, For, If, IfElse, Nested, NoStep, Objectloop, Plain, Step, StepEnds, Switch, Then, While}
-use Rattle.inf_statement_laws.specs.Nested.{happenings, step_happenings}
-use Rattle.inf_statement_laws.specs.Readings.{Seen, plainly_at}
-use Rattle.inf_language.specs.Texts.{happenings_before}
-use Rattle.inf_language.specs.Units.{TakeAll}
+use Rattle.inf_statement_laws.specs.Nested.{Case, Do, For, If, IfElse, Nested, NoStep, Objectloop, Plain, Step, StepEnds, Switch, Then}
+use Rattle.inf_statement_laws.specs.Nested.{While, happenings, step_happenings}
+use Rattle.inf_language.specs.{Texts.happenings_before, Units.TakeAll}
 use Rattle.inf_routine_trees.specs.Bodies.{Block, Case as CaseTree, Do as DoTree, For as ForTree, If as IfTree, IfElse as ElseTree, Nothing}
 use Rattle.inf_routine_trees.specs.Bodies.{Objectloop as LoopTree, Simple, Switch as SwitchTree, Then as ThenTree, Tree, While as WhileTree}
 use Rattle.inf_routine_trees.specs.Bodies.{With, bracketed_seen, is_close, later_effects, maybe_seen, next_effect, tree_laid, tree_seen, with_effect}
@@ -58,7 +53,7 @@ left-append effects (Acts at a ∷ xs) ys = left-append (if is_close a then late
 -- Quiet happenings end no statement.
 
 quiet_is_no_close : (a : Action) → is_quiet a ≡ true → is_close a ≡ false
-quiet_is_no_close action.Close is = cc
+quiet_is_no_close Action.Close is = cc
 quiet_is_no_close _ is = refl
 
 pub given_quiet : (effects : Effects) (hs : List Happening) → happen_quietly hs ≡ true → given effects hs ≡ hs
@@ -90,7 +85,7 @@ step_given : (effects : Effects) (step : Step) (hs : List Happening)
     → given effects (step_happenings step ++ hs) ≡ step_happenings step ++ given effects hs
 step_given effects NoStep hs = refl
 step_given effects (StepEnds step ends) hs =
-    let last : List Happening = Acts ends action.EndForStep ∷ [] in
+    let last : List Happening = Acts ends Action.EndForStep ∷ [] in
     given-append effects (step.all ++ last) hs
     ∙ (ap (λ l. l ++ given (left effects (step.all ++ last)) hs) (given_behind effects step last)
     ∙ ap (λ e. (step.all ++ last) ++ given e hs) (left_behind effects step last))
@@ -98,7 +93,7 @@ step_given effects (StepEnds step ends) hs =
 step_left : (effects : Effects) (step : Step) (hs : List Happening) → left effects (step_happenings step ++ hs) ≡ left effects hs
 step_left effects NoStep hs = refl
 step_left effects (StepEnds step ends) hs =
-    let last : List Happening = Acts ends action.EndForStep ∷ [] in
+    let last : List Happening = Acts ends Action.EndForStep ∷ [] in
     left-append effects (step.all ++ last) hs ∙ ap (λ e. left e hs) (left_behind effects step last)
 
 -- Nested statements with such effects, and the effects that are left
@@ -132,14 +127,14 @@ pub record Put {b : Bool} (effects : Effects) (n : Nested b) : Type 0 where
 
 -- The happenings of a body and the end of its statement, with something between
 record Ended {b : Bool} (effects : Effects) (n : Nested b) (others : List Happening) (closes : Moment) : Type 0 where
-  same : given effects (happenings n ++ (others ++ Acts closes action.Close ∷ []))
-      ≡ happenings (put effects n).0 ++ (others ++ Acts (ends_at (next_effect (put effects n).1) closes) action.Close ∷ [])
-  rest : left effects (happenings n ++ (others ++ Acts closes action.Close ∷ [])) ≡ later_effects (put effects n).1
+  same : given effects (happenings n ++ (others ++ Acts closes Action.Close ∷ []))
+      ≡ happenings (put effects n).0 ++ (others ++ Acts (ends_at (next_effect (put effects n).1) closes) Action.Close ∷ [])
+  rest : left effects (happenings n ++ (others ++ Acts closes Action.Close ∷ [])) ≡ later_effects (put effects n).1
 
 ended : {b : Bool} (effects : Effects) (n : Nested b) (others : Quiet) (closes : Moment) → Put effects n
     → Ended effects n others.all closes
 ended effects n others closes p =
-    let close = λ (at : Moment). Acts at action.Close ∷ [] in
+    let close = λ (at : Moment). Acts at Action.Close ∷ [] in
     let x = put effects n in
     let hs = happenings n in
     record {
@@ -172,29 +167,29 @@ put_happens effects (Then first second) =
       rest = two.rest ∙ (ap (λ e. left e (happenings second)) one.rest ∙ sym (left-append effects hs (happenings second)));
     }
 put_happens effects (Case values ends) =
-    let last : List Happening = Acts ends action.EndCase ∷ [] in
+    let last : List Happening = Acts ends Action.EndCase ∷ [] in
     record { same = sym (given_behind effects values last); rest = sym (left_behind effects values last) }
 put_happens effects (If opens test body closes) =
     let e = ended effects body nothing closes (put_happens effects body) in
-    let hs = happenings body ++ Acts closes action.Close ∷ [] in
+    let hs = happenings body ++ Acts closes Action.Close ∷ [] in
     record {
-      same = sym (ap (λ l. Acts opens action.OpenIf ∷ l) (given_behind effects test hs ∙ ap (λ l. test.all ++ l) e.same));
+      same = sym (ap (λ l. Acts opens Action.OpenIf ∷ l) (given_behind effects test hs ∙ ap (λ l. test.all ++ l) e.same));
       rest = sym (left_behind effects test hs ∙ e.rest);
     }
 put_happens effects (IfElse opens test body joins word other closes) =
     let x = put effects body in
     let p = put_happens effects body in
     let e = ended x.1 other nothing closes (put_happens x.1 other) in
-    let last = happenings other ++ Acts closes action.Close ∷ [] in
-    let behind : List Happening = Acts joins action.Else ∷ (word.all ++ last) in
+    let last = happenings other ++ Acts closes Action.Close ∷ [] in
+    let behind : List Happening = Acts joins Action.Else ∷ (word.all ++ last) in
     let hs = happenings body ++ behind in
     record {
       same =
-          sym (ap (λ l. Acts opens action.OpenIf ∷ l) (given_behind effects test hs
+          sym (ap (λ l. Acts opens Action.OpenIf ∷ l) (given_behind effects test hs
           ∙ ap (λ l. test.all ++ l) (given-append effects (happenings body) behind
           ∙ (ap (λ l. l ++ given (left effects (happenings body)) behind) (sym p.same)
           ∙ (ap (λ r. happenings x.0 ++ given r behind) (sym p.rest)
-          ∙ ap (λ l. happenings x.0 ++ Acts joins action.Else ∷ l) (given_behind x.1 word last ∙ ap (λ l. word.all ++ l) e.same))))));
+          ∙ ap (λ l. happenings x.0 ++ Acts joins Action.Else ∷ l) (given_behind x.1 word last ∙ ap (λ l. word.all ++ l) e.same))))));
       rest =
           sym (left_behind effects test hs
           ∙ (left-append effects (happenings body) behind
@@ -202,38 +197,38 @@ put_happens effects (IfElse opens test body joins word other closes) =
     }
 put_happens effects (While opens test body closes) =
     let e = ended effects body nothing closes (put_happens effects body) in
-    let hs = happenings body ++ Acts closes action.Close ∷ [] in
+    let hs = happenings body ++ Acts closes Action.Close ∷ [] in
     record {
-      same = sym (ap (λ l. Acts opens action.OpenWhile ∷ l) (given_behind effects test hs ∙ ap (λ l. test.all ++ l) e.same));
+      same = sym (ap (λ l. Acts opens Action.OpenWhile ∷ l) (given_behind effects test hs ∙ ap (λ l. test.all ++ l) e.same));
       rest = sym (left_behind effects test hs ∙ e.rest);
     }
 put_happens effects (Do opens body word joins test closes) =
     let x = put effects body in
     let p = put_happens effects body in
-    let close = λ (at : Moment). Acts at action.Close ∷ [] in
-    let last = word.all ++ Acts joins action.Until ∷ (test.all ++ close closes) in
+    let close = λ (at : Moment). Acts at Action.Close ∷ [] in
+    let last = word.all ++ Acts joins Action.Until ∷ (test.all ++ close closes) in
     record {
       same =
-          sym (ap (λ l. Acts opens action.OpenDo ∷ l) (given-append effects (happenings body) last
+          sym (ap (λ l. Acts opens Action.OpenDo ∷ l) (given-append effects (happenings body) last
           ∙ (ap (λ l. l ++ given (left effects (happenings body)) last) (sym p.same)
           ∙ (ap (λ r. happenings x.0 ++ given r last) (sym p.rest)
-          ∙ ap (λ l. happenings x.0 ++ l) (given_behind x.1 word (Acts joins action.Until ∷ (test.all ++ close closes))
-          ∙ ap (λ l. word.all ++ Acts joins action.Until ∷ l) (given_behind x.1 test (close closes)))))));
+          ∙ ap (λ l. happenings x.0 ++ l) (given_behind x.1 word (Acts joins Action.Until ∷ (test.all ++ close closes))
+          ∙ ap (λ l. word.all ++ Acts joins Action.Until ∷ l) (given_behind x.1 test (close closes)))))));
       rest =
           sym (left-append effects (happenings body) last
           ∙ (ap (λ r. left r last) (sym p.rest)
-          ∙ (left_behind x.1 word (Acts joins action.Until ∷ (test.all ++ close closes)) ∙ left_behind x.1 test (close closes))));
+          ∙ (left_behind x.1 word (Acts joins Action.Until ∷ (test.all ++ close closes)) ∙ left_behind x.1 test (close closes))));
     }
 put_happens effects (For opens start joins test step bracket body closes) =
     let e = ended effects body nothing closes (put_happens effects body) in
-    let last = happenings body ++ Acts closes action.Close ∷ [] in
+    let last = happenings body ++ Acts closes Action.Close ∷ [] in
     let bracketed = bracket.all ++ last in
     let stepped = step_happenings step ++ bracketed in
-    let tested : List Happening = Acts joins action.ForTop ∷ (test.all ++ stepped) in
+    let tested : List Happening = Acts joins Action.ForTop ∷ (test.all ++ stepped) in
     record {
       same =
-          sym (ap (λ l. Acts opens action.OpenFor ∷ l) (given_behind effects start tested
-          ∙ ap (λ l. start.all ++ Acts joins action.ForTop ∷ l) (given_behind effects test stepped
+          sym (ap (λ l. Acts opens Action.OpenFor ∷ l) (given_behind effects start tested
+          ∙ ap (λ l. start.all ++ Acts joins Action.ForTop ∷ l) (given_behind effects test stepped
           ∙ ap (λ l. test.all ++ l) (step_given effects step bracketed
           ∙ ap (λ l. step_happenings step ++ l) (given_behind effects bracket last ∙ ap (λ l. bracket.all ++ l) e.same)))));
       rest =
@@ -242,20 +237,20 @@ put_happens effects (For opens start joins test step bracket body closes) =
     }
 put_happens effects (Objectloop opens loop ends joins bracket body closes) =
     let e = ended effects body nothing closes (put_happens effects body) in
-    let last = happenings body ++ Acts closes action.Close ∷ [] in
-    let looped : List Happening = Acts ends action.EndObjectloop ∷ Acts joins action.Loop ∷ (bracket.all ++ last) in
+    let last = happenings body ++ Acts closes Action.Close ∷ [] in
+    let looped : List Happening = Acts ends Action.EndObjectloop ∷ Acts joins Action.Loop ∷ (bracket.all ++ last) in
     record {
       same =
-          sym (ap (λ l. Acts opens action.OpenObjectloop ∷ l) (given_behind effects loop looped
-          ∙ ap (λ l. loop.all ++ Acts ends action.EndObjectloop ∷ Acts joins action.Loop ∷ l)
+          sym (ap (λ l. Acts opens Action.OpenObjectloop ∷ l) (given_behind effects loop looped
+          ∙ ap (λ l. loop.all ++ Acts ends Action.EndObjectloop ∷ Acts joins Action.Loop ∷ l)
           (given_behind effects bracket last ∙ ap (λ l. bracket.all ++ l) e.same)));
       rest = sym (left_behind effects loop looped ∙ (left_behind effects bracket last ∙ e.rest));
     }
 put_happens effects (Switch opens value cases brace closes) =
     let e = ended effects cases brace closes (put_happens effects cases) in
-    let hs = happenings cases ++ (brace.all ++ Acts closes action.Close ∷ []) in
+    let hs = happenings cases ++ (brace.all ++ Acts closes Action.Close ∷ []) in
     record {
-      same = sym (ap (λ l. Acts opens action.OpenSwitch ∷ l) (given_behind effects value hs ∙ ap (λ l. value.all ++ l) e.same));
+      same = sym (ap (λ l. Acts opens Action.OpenSwitch ∷ l) (given_behind effects value hs ∙ ap (λ l. value.all ++ l) e.same));
       rest = sym (left_behind effects value hs ∙ e.rest);
     }
 

@@ -1,12 +1,10 @@
 -- A statement, and an item at the top of a routine, ends with a token, behind which statements that hold it may be closed: no word waits
 -- for its report behind it.
-use Rattle.std.proofs.Common.{◌≡◌, ℕ, List, [], ◌∷◌, ◌++◌, Bool, true, false, ◌&&◌, ◌||◌, ◌-◌, None, refl, sym, ◌∙◌, ap, subst}
-use Rattle.std.specs.Prelude.{nat_lt}
+use Rattle.std.proofs.Common.{◌≡◌, ℕ, List, [], ◌∷◌, ◌++◌, Bool, true, false, ◌&&◌, ◌||◌, ◌-◌, None, refl, sym, ◌∙◌, ap, subst, nat_lt}
 use Rattle.std.proofs.lemmas.Bool.{agree_below, and_parts}
 use Rattle.inf_settings.specs.Bounds.{Limits}
 use Rattle.inf_scanner.specs.declared.tokens.Place.{Place}
 use Rattle.inf_machine.specs.declared.symbols.Symbol.{Symbol}
-use Rattle.inf_machine.specs.declared.symbols.Symbol.TheVariants.{Act, Rule, Token}
 use Rattle.inf_machine.specs.Grammar.{Did, Event, IsOneOf, Leads, Row, Took, action, here, row, token}
 use Rattle.inf_syntax.specs.Parts.{case_end, do_rest, else_part, end, for_rest, give_rest, if_rest, jump_rest, mark_statement, move_rest}
 use Rattle.inf_syntax.specs.Parts.{objectloop_rest, of_expression, print_rest, return_rest, statement, statement_3, statement_end}
@@ -22,18 +20,15 @@ use Rattle.inf_syntax.specs.Parts.{switch_item_22, switch_item_24, switch_item_2
 use Rattle.inf_syntax.specs.Parts.{switch_item_5, switch_item_7, switch_item_8, switch_more, switch_next, switch_next_1, switch_word}
 use Rattle.inf_syntax.specs.Parts.{switch_word_1, values, while_rest}
 use Rattle.inf_syntax.specs.declared.actions.Action.{Action}
-use Rattle.inf_syntax.specs.declared.actions.Action.TheVariants as action_of
 use Rattle.inf_grammar.specs.Language.{grammar}
 use Rattle.inf_unit.proofs.Cases.{of_both}
-use Rattle.inf_compilation.specs.Context.{Context}
-use Rattle.inf_compilation.specs.Actions.{Compilation}
-use Rattle.inf_compilation.specs.Nesting.{construct_closed, construct_ended}
+use Rattle.inf_compilation.specs.{Actions.Compilation, Context.Context, Nesting.construct_closed, Nesting.construct_ended}
 use Rattle.inf_reader.specs.Acting.{act}
 use Rattle.inf_trees.proofs.RuleRows.{is_among, keeps, passes}
 use Rattle.inf_routine_trees.specs.Bodies.{is_close}
 
-close_is : (a : Action) → is_close a ≡ true → a ≡ action_of.Close
-close_is action_of.Close is = refl
+close_is : (a : Action) → is_close a ≡ true → a ≡ Action.Close
+close_is Action.Close is = refl
 close_is _ is = cc
 
 -- whether the last of some events that is no closing is a token, where `b` says it of those before them
@@ -65,9 +60,9 @@ goes_on rule = is_among rule (else_part ∷ [])
 
 abbrev pub end_so : Bool → List (Symbol Action) → Bool
 end_so b [] = b
-end_so b (Token class ∷ symbols) = end_so true symbols
-end_so b (Act a ∷ symbols) = end_so (b && is_close a) symbols
-end_so b (Rule rule ∷ symbols) = end_so (ends rule || (b && goes_on rule)) symbols
+end_so b (Symbol.Token class ∷ symbols) = end_so true symbols
+end_so b (Symbol.Act a ∷ symbols) = end_so (b && is_close a) symbols
+end_so b (Symbol.Rule rule ∷ symbols) = end_so (ends rule || (b && goes_on rule)) symbols
 
 rows_end : agree_below (keeps ends (end_so false)) (λ rule. true) 251 ≡ true
 unfolding grammar ends goes_on
@@ -86,23 +81,23 @@ rule_behind false g symbols on is = on g is
 behind_any : (b : Bool) (symbols : List (Symbol Action)) → end_so false symbols ≡ true → end_so b symbols ≡ true
 behind_any false symbols is = is
 behind_any true [] is = cc
-behind_any true (Token class ∷ symbols) is = is
-behind_any true (Act a ∷ symbols) is = behind_any (is_close a) symbols is
-behind_any true (Rule rule ∷ symbols) is = rule_behind (ends rule) (goes_on rule) symbols (λ b. behind_any b symbols) is
+behind_any true (Symbol.Token class ∷ symbols) is = is
+behind_any true (Symbol.Act a ∷ symbols) is = behind_any (is_close a) symbols is
+behind_any true (Symbol.Rule rule ∷ symbols) is = rule_behind (ends rule) (goes_on rule) symbols (λ b. behind_any b symbols) is
 
 any_parts : (b : Bool) (parts symbols : List (Symbol Action)) → end_so false symbols ≡ true → end_so b (parts ++ symbols) ≡ true
 any_parts b [] symbols is = behind_any b symbols is
-any_parts b (Token class ∷ parts) symbols is = any_parts true parts symbols is
-any_parts b (Act a ∷ parts) symbols is = any_parts (b && is_close a) parts symbols is
-any_parts b (Rule rule ∷ parts) symbols is = any_parts (ends rule || (b && goes_on rule)) parts symbols is
+any_parts b (Symbol.Token class ∷ parts) symbols is = any_parts true parts symbols is
+any_parts b (Symbol.Act a ∷ parts) symbols is = any_parts (b && is_close a) parts symbols is
+any_parts b (Symbol.Rule rule ∷ parts) symbols is = any_parts (ends rule || (b && goes_on rule)) parts symbols is
 
 -- Symbols behind others that end so
 end-append : (b : Bool) (parts symbols : List (Symbol Action)) → end_so b parts ≡ true → end_so true symbols ≡ true
     → end_so b (parts ++ symbols) ≡ true
 end-append b [] symbols is behind = subst (λ x. end_so x symbols ≡ true) (sym is) behind
-end-append b (Token class ∷ parts) symbols is behind = end-append true parts symbols is behind
-end-append b (Act a ∷ parts) symbols is behind = end-append (b && is_close a) parts symbols is behind
-end-append b (Rule rule ∷ parts) symbols is behind = end-append (ends rule || (b && goes_on rule)) parts symbols is behind
+end-append b (Symbol.Token class ∷ parts) symbols is behind = end-append true parts symbols is behind
+end-append b (Symbol.Act a ∷ parts) symbols is behind = end-append (b && is_close a) parts symbols is behind
+end-append b (Symbol.Rule rule ∷ parts) symbols is behind = end-append (ends rule || (b && goes_on rule)) parts symbols is behind
 
 row_ends : (rule : ℕ) (r : Row Action) → IsOneOf r (grammar.rows_of rule) → (b : Bool) (symbols : List (Symbol Action))
     → end_so (ends rule || (b && goes_on rule)) symbols ≡ true → end_so b (r.parts ++ symbols) ≡ true
@@ -138,10 +133,10 @@ close_opening limits w =
     of_both (λ (v : Compilation). v.opening ≡ w.opening) (nat_lt 0 w.closed) (record w { closed = w.closed - 1 }) (construct_ended limits w)
     (λ e. refl) (λ e. ended_opening limits w)
 
-pub both_true : (b : Bool) (a : Action) → (b && is_close a) ≡ true → (b ≡ true) × (a ≡ action_of.Close)
+pub both_true : (b : Bool) (a : Action) → (b && is_close a) ≡ true → (b ≡ true) × (a ≡ Action.Close)
 both_true b a is = let both = and_parts b (is_close a) is in (both.0, close_is a both.1)
 
-pub act_opening : (limits : Limits) (context : Context) (place : Place) (a : Action) (w : Compilation) → a ≡ action_of.Close
+pub act_opening : (limits : Limits) (context : Context) (place : Place) (a : Action) (w : Compilation) → a ≡ Action.Close
     → w.opening ≡ None → (act limits context place a w).opening ≡ None
 act_opening limits context place a w is none =
     ap (λ b. (act limits context place b w).opening) is ∙ (close_opening limits w ∙ none)

@@ -4,43 +4,31 @@ use Rattle.std.proofs.Common.{append_assoc, append-nil, arith}
 use Rattle.std.proofs.lemmas.Bool.{and_from}
 use Rattle.inf_settings.specs.Bounds.{Limits}
 use Rattle.inf_scanner.specs.declared.tokens.Place.{Place}
-use Rattle.inf_machine.specs.declared.symbols.Symbol.{Symbol}
-use Rattle.inf_machine.specs.declared.symbols.Symbol.TheVariants.{Act, Rule}
-use Rattle.inf_machine.specs.Grammar.{Event, IsText}
-use Rattle.inf_syntax.specs.Parts.{ !close, !end_for_start, !end_for_step, !end_for_test, !for_top, !open_for, 'close_parenthesis'}
-use Rattle.inf_syntax.specs.Parts.{'colon', 'for', 'open_parenthesis', for_rest, for_rest_1, for_rest_2, for_rest_3, statement}
-use Rattle.inf_syntax.specs.Rows.{row}
-use Rattle.inf_syntax.specs.declared.actions.Action.{Action}
-use Rattle.inf_syntax.specs.declared.actions.Action.TheVariants as action_of
+use Rattle.inf_machine.specs.{Grammar.Event, Grammar.IsText, declared.symbols.Symbol.Symbol}
+use Rattle.inf_syntax.specs.{Rows.row, declared.actions.Action.Action}
+use Rattle.inf_syntax.specs.Parts.{ !close, !end_for_start, !end_for_step, !end_for_test, !for_top, !open_for, 'close_parenthesis', 'colon'}
+use Rattle.inf_syntax.specs.Parts.{'for', 'open_parenthesis', for_rest, for_rest_1, for_rest_2, for_rest_3, statement}
 use Rattle.inf_grammar.specs.Language.{grammar}
+use Rattle.inf_constructs.specs.{declared.constructs.Construct.Construct, declared.constructs.Kind.Kind}
 use Rattle.inf_constructs.specs.Constructs.{between, opened}
-use Rattle.inf_constructs.specs.declared.constructs.Construct.{Construct}
-use Rattle.inf_constructs.specs.declared.constructs.Kind.TheVariants as kind
 use Rattle.inf_unit.specs.Units.{Unit as UnitAtHand, no_unit}
-use Rattle.inf_compilation.specs.Context.{Context}
-use Rattle.inf_compilation.specs.Actions.{Compilation}
+use Rattle.inf_compilation.specs.{Actions.Compilation, Context.Context}
 use Rattle.inf_reader.specs.Acting.{act}
 use Rattle.inf_statement_laws.specs.Happenings.{Acts, Happening, Moment, Quiet, Takes, happen_quietly, is_quiet}
 use Rattle.inf_statement_laws.specs.Laid.{ended_as, holding, laid, opened_at, run, with_step_in}
-use Rattle.inf_statement_laws.specs.Nested.{For, Nested, NoStep, Plain, Step, StepEnds, happenings, step_happenings}
-use Rattle.inf_statement_laws.specs.Nested.{Then as After}
+use Rattle.inf_statement_laws.specs.Nested.{For, Nested, NoStep, Plain, Step, StepEnds, happenings, step_happenings, Then as After}
 use Rattle.inf_statement_laws.specs.Readings.{Seen, plainly_at}
-use Rattle.inf_statement_laws.proofs.Acts.{inside_act, is_inside, quiet_run, took_none}
-use Rattle.inf_statement_laws.proofs.Laying.{run_then}
-use Rattle.inf_statement_laws.proofs.Rules.{number}
+use Rattle.inf_statement_laws.proofs.{Acts.inside_act, Acts.is_inside, Acts.quiet_run, Acts.took_none, Laying.run_then, Rules.number}
 use Rattle.inf_language.specs.Texts.{atoms_of, happenings_before}
 use Rattle.inf_trees.specs.Trees.{Part}
-use Rattle.inf_trees.proofs.RuleRows.{of_rows}
-use Rattle.inf_trees.proofs.StatementsRead.{bracketed_units_are_trees}
-use Rattle.inf_trees.proofs.StatementTexts.{Rows}
+use Rattle.inf_trees.proofs.{RuleRows.of_rows, StatementTexts.Rows, StatementsRead.bracketed_units_are_trees}
 use Rattle.inf_trees.proofs.UnitsRead.{place_before, seen_parts}
 use Rattle.inf_routine_trees.specs.Bodies.{For as ForTree, MaybeWritten, Standing, maybe_done, maybe_seen, token_done, tree_laid}
 use Rattle.inf_routine_trees.specs.Bodies.{Tree, later_effects, next_effect, tree_seen, with_effect, with_effects, word_done}
 use Rattle.inf_routine_trees.proofs.Effects.{Effects, put, with_behind}
-use Rattle.inf_routine_trees.proofs.Pieces.{Worded, before_word, quiet-append, quiet_text}
-use Rattle.inf_simple_trees.proofs.Symbols.{ActFirst, PartsOf, TokenFirst, act_first, nothing_left, parts_of, token_first}
-use Rattle.inf_routine_trees.proofs.Pieces.{unit_quiet, unit_symbols, word_happens, worded}
+use Rattle.inf_routine_trees.proofs.Pieces.{Worded, before_word, quiet-append, quiet_text, unit_quiet, unit_symbols, word_happens, worded}
 use Rattle.inf_routine_trees.proofs.Trees.{AreAll, Below, BodyText, IsTree, body_text, moved_seen, word_closed, word_quiet}
+use Rattle.inf_simple_trees.proofs.Symbols.{ActFirst, PartsOf, TokenFirst, act_first, nothing_left, parts_of, token_first}
 
 -- A unit that may be missing, before another token at a place, with the action that ends it
 record MaybeText (limits : Limits) (end : Action) (place : Place) (seen : List Seen) (events : List (Event Action)) : Type 0 where
@@ -49,18 +37,18 @@ record MaybeText (limits : Limits) (end : Action) (place : Place) (seen : List S
   written : MaybeWritten unit
   happens : List Happening
   quiet : is_quiet end ≡ true → happen_quietly happens ≡ true
-  step : end ≡ action_of.EndForStep → Step
-  step_same : (is : end ≡ action_of.EndForStep) → step_happenings (step is) ≡ happens
+  step : end ≡ Action.EndForStep → Step
+  step_same : (is : end ≡ Action.EndForStep) → step_happenings (step is) ≡ happens
   same : happenings_before place events seen ≡ happens
   runs : (context : Context) (w : Compilation) → w.opening ≡ None
       → run limits context happens w ≡ maybe_done limits context end place unit w
   closed : (context : Context) (w : Compilation) → w.closed ≡ 0 → (run limits context happens w).closed ≡ 0
 
 present : (limits : Limits) (end : Action) (place : Place) (seen : List Seen) (events : List (Event Action))
-    → IsText grammar (unit_symbols ++ Act end ∷ []) (atoms_of seen) events → is_inside end ≡ true → AreAll seen
+    → IsText grammar (unit_symbols ++ Symbol.Act end ∷ []) (atoms_of seen) events → is_inside end ≡ true → AreAll seen
     → length seen + 1 < 4294967295 → MaybeText limits end place seen events
 present limits end place seen events text inside are_seen few =
-    let p = parts_of unit_symbols (Act end ∷ []) seen events text in
+    let p = parts_of unit_symbols (Symbol.Act end ∷ []) seen events text in
     let e = act_first end [] p.rest p.late p.of_rest in
     let n = nothing_left p.rest e.late e.text in
     let parts = seen_parts p.front p.rest (moved_seen (sym p.same) are_seen) in
@@ -109,11 +97,12 @@ absent limits end place seen events text =
     }
 
 maybe_text : (limits : Limits) (end : Action) (rule : ℕ)
-    → grammar.rows_of rule ≡ row (unit_symbols ++ Act end ∷ []) ∷ row [] ∷ [] → (place : Place) (seen : List Seen)
-    (events : List (Event Action)) → IsText grammar (Rule rule ∷ []) (atoms_of seen) events → is_inside end ≡ true → AreAll seen
+    → grammar.rows_of rule ≡ row (unit_symbols ++ Symbol.Act end ∷ []) ∷ row [] ∷ [] → (place : Place) (seen : List Seen)
+    (events : List (Event Action)) → IsText grammar (Symbol.Rule rule ∷ []) (atoms_of seen) events → is_inside end ≡ true → AreAll seen
     → length seen + 1 < 4294967295 → MaybeText limits end place seen events
 maybe_text limits end rule rows place seen events text inside are_seen few =
-    of_rows (MaybeText limits end place seen events) rule (row (unit_symbols ++ Act end ∷ []) ∷ row [] ∷ []) (atoms_of seen) events rows
+    of_rows (MaybeText limits end place seen events) rule (row (unit_symbols ++ Symbol.Act end ∷ []) ∷ row [] ∷ [])
+    (atoms_of seen) events rows
     ((λ t. present limits end place seen events t inside are_seen few), ((λ t. absent limits end place seen events t), tt)) text
 
 maybe_closed : {limits : Limits} {end : Action} {place : Place} {seen : List Seen} {events : List (Event Action)}
@@ -148,18 +137,18 @@ for_symbols = 'open_parenthesis' ∷ for_rest_1 ∷ behind_start
 -- The pieces of a `for` behind its word
 record ForText (limits : Limits) (stands : Standing) (next : Place) (seen : List Seen) (events : List (Event Action))
     (wd : Worded limits stands (for_rest ∷ []) seen events) : Type 0 where
-  o : ActFirst action_of.OpenFor for_symbols wd.rest wd.late
+  o : ActFirst Action.OpenFor for_symbols wd.rest wd.late
   t : TokenFirst (for_rest_1 ∷ behind_start) wd.rest o.late
   p : PartsOf (for_rest_1 ∷ []) behind_start t.rest t.late
-  j : ActFirst action_of.ForTop ('colon' ∷ for_rest_2 ∷ behind_test) p.rest p.late
+  j : ActFirst Action.ForTop ('colon' ∷ for_rest_2 ∷ behind_test) p.rest p.late
   c : TokenFirst (for_rest_2 ∷ behind_test) p.rest j.late
   q : PartsOf (for_rest_2 ∷ []) behind_test c.rest c.late
   d : TokenFirst (for_rest_3 ∷ behind_step) q.rest q.late
   r : PartsOf (for_rest_3 ∷ []) behind_step d.rest d.late
   e : TokenFirst (statement ∷ !close ∷ []) r.rest r.late
-  start : MaybeText limits action_of.EndForStart c.s.token.place p.front p.early
-  test : MaybeText limits action_of.EndForTest d.s.token.place q.front q.early
-  step : MaybeText limits action_of.EndForStep e.s.token.place r.front r.early
+  start : MaybeText limits Action.EndForStart c.s.token.place p.front p.early
+  test : MaybeText limits Action.EndForTest d.s.token.place q.front q.early
+  step : MaybeText limits Action.EndForStep e.s.token.place r.front r.early
   body : BodyText limits next e.rest e.late
 
 for_text : (limits : Limits) (n : ℕ) → Below limits n → (stands : Standing) (next : Place) (seen : List Seen)
@@ -169,13 +158,13 @@ for_text : (limits : Limits) (n : ℕ) → Below limits n → (stands : Standing
 for_text limits n below stands next seen events wd text are_seen few fewer =
     let all = moved_seen (sym wd.same) are_seen in
     let count : suc (length wd.rest) ≡ length seen = ap length wd.same in
-    let o = act_first action_of.OpenFor for_symbols wd.rest wd.late text in
+    let o = act_first Action.OpenFor for_symbols wd.rest wd.late text in
     let t = token_first (for_rest_1 ∷ behind_start) wd.rest o.late o.text in
     let t_count : suc (length t.rest) ≡ length wd.rest = ap length t.same in
     let seen_1 = moved_seen (sym t.same) all.1 in
     let p = parts_of (for_rest_1 ∷ []) behind_start t.rest t.late t.text in
     let seen_2 = seen_parts p.front p.rest (moved_seen (sym p.same) seen_1.1) in
-    let j = act_first action_of.ForTop ('colon' ∷ for_rest_2 ∷ behind_test) p.rest p.late p.of_rest in
+    let j = act_first Action.ForTop ('colon' ∷ for_rest_2 ∷ behind_test) p.rest p.late p.of_rest in
     let c = token_first (for_rest_2 ∷ behind_test) p.rest j.late j.text in
     let c_count : suc (length c.rest) ≡ length p.rest = ap length c.same in
     let seen_3 = moved_seen (sym c.same) seen_2.1 in
@@ -195,13 +184,13 @@ for_text limits n below stands next seen events wd text are_seen few fewer =
     let few_4 : length e.rest + 1 < 4294967295 = omega (arith, few_3, r.count, e_count) in
     let fewer_4 : length e.rest ≤ n = omega (arith, fewer, count, t_count, p.count, c_count, q.count, d_count, r.count, e_count) in
     let start =
-    maybe_text limits action_of.EndForStart (number for_rest_1) start_rows c.s.token.place p.front p.early p.of_front refl seen_2.0
+    maybe_text limits Action.EndForStart (number for_rest_1) start_rows c.s.token.place p.front p.early p.of_front refl seen_2.0
     (omega (arith, few_1, p.count)) in
     let test =
-    maybe_text limits action_of.EndForTest (number for_rest_2) test_rows d.s.token.place q.front q.early q.of_front refl seen_4.0
+    maybe_text limits Action.EndForTest (number for_rest_2) test_rows d.s.token.place q.front q.early q.of_front refl seen_4.0
     (omega (arith, few_2, q.count)) in
     let step =
-    maybe_text limits action_of.EndForStep (number for_rest_3) step_rows e.s.token.place r.front r.early r.of_front refl seen_6.0
+    maybe_text limits Action.EndForStep (number for_rest_3) step_rows e.s.token.place r.front r.early r.of_front refl seen_6.0
     (omega (arith, few_3, r.count)) in
     let body = body_text limits n below next e.rest e.late e.text seen_7.1 few_4 fewer_4 in
     record {
@@ -253,7 +242,7 @@ top_at x = plainly_at x.c.s.token.place
 
 abbrev last : {limits : Limits} {stands : Standing} {next : Place} {seen : List Seen} {events : List (Event Action)}
     {wd : Worded limits stands (for_rest ∷ []) seen events} → ForText limits stands next seen events wd → List Happening
-last {next = next} x = happenings x.body.nested ++ Acts (plainly_at next) action_of.Close ∷ []
+last {next = next} x = happenings x.body.nested ++ Acts (plainly_at next) Action.Close ∷ []
 
 abbrev behind_second : {limits : Limits} {stands : Standing} {next : Place} {seen : List Seen} {events : List (Event Action)}
     {wd : Worded limits stands (for_rest ∷ []) seen events} → ForText limits stands next seen events wd → List Happening
@@ -295,14 +284,14 @@ from_test {next = next} x =
 from_start : {limits : Limits} {stands : Standing} {next : Place} {seen : List Seen} {events : List (Event Action)}
     {wd : Worded limits stands (for_rest ∷ []) seen events} (x : ForText limits stands next seen events wd)
     → happenings_before next x.t.late x.t.rest
-    ≡ x.start.happens ++ Acts (top_at x) action_of.ForTop ∷ ((test_quiet x).all ++ behind_second x)
+    ≡ x.start.happens ++ Acts (top_at x) Action.ForTop ∷ ((test_quiet x).all ++ behind_second x)
 from_start {next = next} x =
     x.p.happen next
     ∙ (ap (λ y. happenings_before y x.p.early x.p.front ++ happenings_before next x.p.late x.p.rest) (x.c.place next)
     ∙ (ap (λ l. l ++ happenings_before next x.p.late x.p.rest) x.start.same
     ∙ ap (λ l. x.start.happens ++ l) (x.j.happen next
-    ∙ (ap (λ y. Acts (plainly_at y) action_of.ForTop ∷ happenings_before next x.j.late x.p.rest) (x.c.place next)
-    ∙ ap (λ l. Acts (top_at x) action_of.ForTop ∷ l) (x.c.happen next ∙ ap (λ l. Takes x.c.s.token x.c.s.behind ∷ l) (from_test x))))))
+    ∙ (ap (λ y. Acts (plainly_at y) Action.ForTop ∷ happenings_before next x.j.late x.p.rest) (x.c.place next)
+    ∙ ap (λ l. Acts (top_at x) Action.ForTop ∷ l) (x.c.happen next ∙ ap (λ l. Takes x.c.s.token x.c.s.behind ∷ l) (from_test x))))))
 
 for_same : (b : Bool) {limits : Limits} {stands : Standing} {next : Place} {seen : List Seen} {events : List (Event Action)}
     {wd : Worded limits stands (for_rest ∷ []) seen events} (x : ForText limits stands next seen events wd)
@@ -310,8 +299,8 @@ for_same : (b : Bool) {limits : Limits} {stands : Standing} {next : Place} {seen
 for_same b {stands = stands} {next} {wd = wd} x =
     wd.happen next
     ∙ ap (λ y. word_happens stands wd.word ++ y) (x.o.happen next
-    ∙ (ap (λ y. Acts (plainly_at y) action_of.OpenFor ∷ happenings_before next x.o.late wd.rest) (x.t.place next)
-    ∙ ap (λ y. Acts (opens x) action_of.OpenFor ∷ y) (x.t.happen next ∙ ap (λ y. Takes x.t.s.token x.t.s.behind ∷ y) (from_start x))))
+    ∙ (ap (λ y. Acts (plainly_at y) Action.OpenFor ∷ happenings_before next x.o.late wd.rest) (x.t.place next)
+    ∙ ap (λ y. Acts (opens x) Action.OpenFor ∷ y) (x.t.happen next ∙ ap (λ y. Takes x.t.s.token x.t.s.behind ∷ y) (from_start x))))
 
 for_all : {limits : Limits} {stands : Standing} {next : Place} {seen : List Seen} {events : List (Event Action)}
     {wd : Worded limits stands (for_rest ∷ []) seen events} (x : ForText limits stands next seen events wd)
@@ -340,7 +329,7 @@ for_lays : (b : Bool) (limits : Limits) (stands : Standing) (next : Place) (seen
 for_lays b limits stands next seen events wd x effects context w ahead none =
     let inner = put effects x.body.nested in
     let v = word_done limits context stands wd.word w in
-    let k = opened limits kind.For v.output in
+    let k = opened limits Kind.For v.output in
     let begins = opened_at context (opens x) k v in
     let closed_by = λ (top : Construct) (z : Compilation).
     let own = with_step_in z.constructs top in
@@ -351,17 +340,17 @@ for_lays b limits stands next seen events wd x effects context w ahead none =
     closed_by top.0 (run limits context (step_happenings (step_is x)) (run limits context (test_quiet x).all (holding (top_at x) top v.constructs z))) in
     let y = token_done context x.t.s begins in
     let y_closed = took_none context x.t.s.token begins ∙ word_closed wd context w ahead in
-    let started = maybe_done limits context action_of.EndForStart x.c.s.token.place x.start.unit y in
+    let started = maybe_done limits context Action.EndForStart x.c.s.token.place x.start.unit y in
     let started_closed = maybe_closed x.start context y refl y_closed in
     let top = between limits k.0 started.output in
     let held = holding (top_at x) top v.constructs started in
     let z = token_done context x.c.s held in
     let z_closed = took_none context x.c.s.token held ∙ started_closed in
-    let in_test = maybe_done limits context action_of.EndForTest x.d.s.token.place x.test.unit z in
+    let in_test = maybe_done limits context Action.EndForTest x.d.s.token.place x.test.unit z in
     let in_test_closed = maybe_closed x.test context z refl z_closed in
     let tested = token_done context x.d.s in_test in
     let tested_closed = took_none context x.d.s.token in_test ∙ in_test_closed in
-    let stepped = maybe_done limits context action_of.EndForStep x.e.s.token.place x.step.unit tested in
+    let stepped = maybe_done limits context Action.EndForStep x.e.s.token.place x.step.unit tested in
     let stepped_closed = maybe_closed x.step context tested refl tested_closed in
     let own = with_step_in stepped.constructs top.0 in
     let inside = record stepped { constructs = own ∷ v.constructs } in

@@ -3,23 +3,15 @@ use Rattle.std.proofs.Common.{◌≡◌, ℕ, zero, suc, ◌≤◌, List, [], �
 use Rattle.inf_settings.specs.Bounds.{Limits}
 use Rattle.inf_scanner.specs.declared.tokens.Place.{Place}
 use Rattle.inf_machine.specs.Grammar.{Event, IsText}
-use Rattle.inf_syntax.specs.Parts.{ !local, 'open_bracket', NAME, directive_1}
-use Rattle.inf_syntax.specs.Rows.{row}
-use Rattle.inf_syntax.specs.declared.actions.Action.{Action}
-use Rattle.inf_syntax.specs.declared.actions.Action.TheVariants as action_of
+use Rattle.inf_syntax.specs.{Parts.!local, Parts.'open_bracket', Parts.NAME, Parts.directive_1, Rows.row, declared.actions.Action.Action}
 use Rattle.inf_grammar.specs.Language.{grammar}
-use Rattle.inf_unit.specs.Units.{Unit as UnitAtHand, noted, taken}
-use Rattle.inf_unit.specs.declared.roles.Note.TheVariants as note
-use Rattle.inf_compilation.specs.Context.{Context}
-use Rattle.inf_compilation.specs.Actions.{Compilation}
-use Rattle.inf_statement_laws.specs.Laid.{passed, run}
-use Rattle.inf_statement_laws.specs.Readings.{Seen}
+use Rattle.inf_unit.specs.{Units.Unit as UnitAtHand, Units.noted, Units.taken, declared.roles.Note.Note}
+use Rattle.inf_compilation.specs.{Actions.Compilation, Context.Context}
+use Rattle.inf_statement_laws.specs.{Laid.passed, Laid.run, Readings.Seen}
 use Rattle.inf_statement_laws.proofs.Rules.{header_parts as header_symbols, number}
 use Rattle.inf_language.specs.Texts.{atoms_of, happenings_before}
 use Rattle.inf_trees.specs.Trees.{Part, Single, parts_told, told_at, with_parts}
-use Rattle.inf_trees.proofs.RuleRows.{of_rows}
-use Rattle.inf_trees.proofs.StatementTexts.{Rows}
-use Rattle.inf_trees.proofs.UnitsRead.{note_first, one_taken, told_at_opening}
+use Rattle.inf_trees.proofs.{RuleRows.of_rows, StatementTexts.Rows, UnitsRead.note_first, UnitsRead.one_taken, UnitsRead.told_at_opening}
 use Rattle.inf_simple_trees.proofs.Symbols.{act_first, nothing_left, token_first}
 use Rattle.inf_routine_trees.specs.Routines.{local_parts}
 
@@ -50,7 +42,7 @@ local_by : (limits : Limits) (n : ℕ)
     → length seen ≤ suc n → Locals limits seen events
 local_by limits n others seen events text few =
     let t = token_first (!local ∷ directive_1 ∷ []) seen events text in
-    let a = act_first action_of.Local (directive_1 ∷ []) t.rest t.late t.text in
+    let a = act_first Action.Local (directive_1 ∷ []) t.rest t.late t.text in
     let count : suc (length t.rest) ≡ length seen = ap length t.same in
     let on = others t.rest a.late a.text (omega (arith, few, count)) in
     record {
@@ -60,9 +52,9 @@ local_by limits n others seen events text few =
           ap (λ hs. run limits context hs (record w { unit = u })) (t.happen next)
           ∙ (ap (run limits context (happenings_before next t.late t.rest)) (one_taken context t.s u w none)
           ∙ (ap (λ es. run limits context (happenings_before next es t.rest) (record told { unit = v })) a.are
-          ∙ (note_first limits context next action_of.Local t.rest a.late (record told { unit = v })
-          (record told { unit = noted note.Local v }) (λ place. refl)
-          ∙ (on.runs context next (noted note.Local v) told (told_at_opening context v t.s.token w ∙ none)
+          ∙ (note_first limits context next Action.Local t.rest a.late (record told { unit = v })
+          (record told { unit = noted Note.Local v }) (λ place. refl)
+          ∙ (on.runs context next (noted Note.Local v) told (told_at_opening context v t.s.token w ∙ none)
           ∙ ap (λ l. record (parts_told context u (local_parts l) w) { unit = with_parts (local_parts l) u }) t.same))));
     }
 
@@ -98,7 +90,7 @@ pub record HeaderText (limits : Limits) (seen : List Seen) (events : List (Event
 pub header_text : (limits : Limits) (seen : List Seen) (events : List (Event Action)) → IsText grammar header_symbols (atoms_of seen) events
     → HeaderText limits seen events
 header_text limits seen events text =
-    let r = act_first action_of.Routine ('open_bracket' ∷ NAME ∷ directive_1 ∷ []) seen events text in
+    let r = act_first Action.Routine ('open_bracket' ∷ NAME ∷ directive_1 ∷ []) seen events text in
     let b = token_first (NAME ∷ directive_1 ∷ []) seen r.late r.text in
     let n = token_first (directive_1 ∷ []) b.rest b.late b.text in
     let l = locals_read limits (length n.rest) n.rest n.late n.text (omega arith) in
@@ -115,7 +107,7 @@ header_text limits seen events text =
           let none1 : w1.opening ≡ None = told_at_opening context u1 b.s.token w ∙ none in
           let none2 : w2.opening ≡ None = told_at_opening context u2 n.s.token w1 ∙ none1 in
           ap (λ es. run limits context (happenings_before next es seen) w) r.are
-          ∙ (note_first limits context next action_of.Routine seen r.late w w (λ place. refl)
+          ∙ (note_first limits context next Action.Routine seen r.late w w (λ place. refl)
           ∙ (ap (λ hs. run limits context hs w) (b.happen next)
           ∙ (ap (run limits context (happenings_before next b.late b.rest)) (one_taken context b.s w.unit w none)
           ∙ (ap (λ hs. run limits context hs (record w1 { unit = u1 })) (n.happen next)

@@ -3,43 +3,30 @@ use Rattle.std.proofs.Common.{◌≡◌, ℕ, zero, suc, ◌+◌, ◌≤◌, ◌
 use Rattle.std.proofs.Common.{append_assoc, arith}
 use Rattle.inf_settings.specs.Bounds.{Limits}
 use Rattle.inf_scanner.specs.declared.tokens.Place.{Place}
-use Rattle.inf_machine.specs.declared.symbols.Symbol.{Symbol}
-use Rattle.inf_machine.specs.Grammar.{Did, Event, IsText, Took, here}
+use Rattle.inf_machine.specs.{Grammar.Did, Grammar.Event, Grammar.IsText, Grammar.Took, Grammar.here, declared.symbols.Symbol.Symbol}
 use Rattle.inf_syntax.specs.Parts.{ !close, !end_until, !begin, !open_do, !outer, !until, 'close_brace', 'close_parenthesis', 'do'}
 use Rattle.inf_syntax.specs.Parts.{'open_brace', 'open_parenthesis', 'semicolon', 'until', do_rest, expression, mark_statement_1, statement}
 use Rattle.inf_syntax.specs.Rows.{row}
 use Rattle.inf_syntax.specs.declared.actions.Action.{Action}
-use Rattle.inf_syntax.specs.declared.actions.Action.TheVariants as action_of
 use Rattle.inf_grammar.specs.Language.{grammar}
-use Rattle.inf_constructs.specs.Constructs.{between, opened}
-use Rattle.inf_constructs.specs.declared.constructs.Kind.TheVariants as kind
-use Rattle.inf_compilation.specs.Context.{Context}
-use Rattle.inf_compilation.specs.Actions.{Compilation}
-use Rattle.inf_statement_laws.specs.Happenings.{Acts, Happening, Moment, Quiet, Takes}
-use Rattle.inf_statement_laws.specs.Laid.{ended_as, holding, laid, opened_at, run}
-use Rattle.inf_statement_laws.specs.Nested.{Do, Nested, Plain, happenings}
-use Rattle.inf_statement_laws.specs.Nested.{Then as After}
-use Rattle.inf_statement_laws.specs.Readings.{Seen, plainly_at}
-use Rattle.inf_statement_laws.proofs.Acts.{quiet_run}
-use Rattle.inf_statement_laws.proofs.Laying.{run_then}
-use Rattle.inf_statement_laws.proofs.Rules.{number}
-use Rattle.inf_language.specs.Texts.{atoms_of, happenings_before}
-use Rattle.inf_language.specs.Units.{TakeAll}
+use Rattle.inf_constructs.specs.{Constructs.between, Constructs.opened, declared.constructs.Kind.Kind}
+use Rattle.inf_compilation.specs.{Actions.Compilation, Context.Context}
+use Rattle.inf_statement_laws.specs.{Happenings.Acts, Happenings.Happening, Happenings.Moment, Happenings.Quiet, Happenings.Takes}
+use Rattle.inf_statement_laws.specs.{Laid.ended_as, Laid.holding, Laid.laid, Laid.opened_at, Laid.run, Nested.Do, Nested.Nested}
+use Rattle.inf_statement_laws.specs.{Nested.Plain, Nested.Then as After, Nested.happenings, Readings.Seen, Readings.plainly_at}
+use Rattle.inf_statement_laws.proofs.{Acts.quiet_run, Laying.run_then, Rules.number}
+use Rattle.inf_language.specs.{Texts.atoms_of, Texts.happenings_before, Units.TakeAll}
 use Rattle.inf_language.proofs.Derivations.{texts_take_all}
-use Rattle.inf_trees.proofs.RuleRows.{of_rows}
-use Rattle.inf_trees.proofs.StatementTexts.{Rows}
-use Rattle.inf_trees.proofs.UnitsRead.{place_before, seen_parts}
+use Rattle.inf_trees.proofs.{RuleRows.of_rows, StatementTexts.Rows, UnitsRead.place_before, UnitsRead.seen_parts}
 use Rattle.inf_routine_trees.specs.Bodies.{Block, Do as DoTree, Nothing, bracketed_seen, moment_before}
 use Rattle.inf_routine_trees.specs.Bodies.{Standing, Then, bracketed_done, later_effects, next_effect, opening_of, token_done, tree_laid}
 use Rattle.inf_routine_trees.specs.Bodies.{tree_seen, with_effect, with_effects, word_done}
-use Rattle.inf_routine_trees.proofs.Endings.{end_so, ends, last_took, text_ends}
-use Rattle.inf_routine_trees.proofs.Pieces.{Worded, before_word, bracketed_text, closed_text, test_happen, test_happens}
-use Rattle.inf_simple_trees.proofs.Symbols.{PartsOf, act_first, parts_of}
-use Rattle.inf_routine_trees.proofs.Pieces.{quiet-append, test_quiet, test_runs, word_happens, worded}
-use Rattle.inf_simple_trees.proofs.Symbols.{nothing_left, token_first}
-use Rattle.inf_routine_trees.proofs.Effects.{Effects, effects_seen, put, with_behind}
-use Rattle.inf_routine_trees.proofs.Wider.{wider, wider_laid, wider_put, wider_same}
+use Rattle.inf_routine_trees.proofs.{Effects.Effects, Effects.effects_seen, Effects.put, Effects.with_behind, Endings.end_so, Endings.ends}
+use Rattle.inf_routine_trees.proofs.{Endings.last_took, Endings.text_ends, Wider.wider, Wider.wider_laid, Wider.wider_put, Wider.wider_same}
+use Rattle.inf_routine_trees.proofs.Pieces.{Worded, before_word, bracketed_text, closed_text, test_happen, test_happens, quiet-append}
+use Rattle.inf_routine_trees.proofs.Pieces.{test_quiet, test_runs, word_happens, worded}
 use Rattle.inf_routine_trees.proofs.Trees.{AreAll, Below, IsTree, moved_seen, tree_closed, tree_opening, word_closed, word_quiet}
+use Rattle.inf_simple_trees.proofs.Symbols.{PartsOf, act_first, parts_of, nothing_left, token_first}
 
 pub statement_ends : end_so false (statement ∷ []) ≡ true
 unfolding ends
@@ -66,15 +53,15 @@ do_row_tree : {b : Bool} (limits : Limits) (n : ℕ) → Below limits n → (sta
 do_row_tree {b} limits n below stands next seen events wd text are_seen few fewer =
     let all = moved_seen (sym wd.same) are_seen in
     let count : suc (length wd.rest) ≡ length seen = ap length wd.same in
-    let o = act_first action_of.OpenDo do_symbols wd.rest wd.late text in
+    let o = act_first Action.OpenDo do_symbols wd.rest wd.late text in
     let p = parts_of (statement ∷ []) ('until' ∷ !until ∷ (until_front ++ 'semicolon' ∷ !close ∷ [])) wd.rest o.late o.text in
     let parts = seen_parts p.front p.rest (moved_seen (sym p.same) all.1) in
     let u = token_first (!until ∷ (until_front ++ 'semicolon' ∷ !close ∷ [])) p.rest p.late p.of_rest in
     let behind = moved_seen (sym u.same) parts.1 in
     let u_count : suc (length u.rest) ≡ length p.rest = ap length u.same in
-    let j = act_first action_of.Until (until_front ++ 'semicolon' ∷ !close ∷ []) u.rest u.late u.text in
+    let j = act_first Action.Until (until_front ++ 'semicolon' ∷ !close ∷ []) u.rest u.late u.text in
     let t =
-    bracketed_text limits action_of.EndUntil ('semicolon' ∷ !close ∷ []) u.rest j.late j.text behind.1
+    bracketed_text limits Action.EndUntil ('semicolon' ∷ !close ∷ []) u.rest j.late j.text behind.1
     (omega (arith, few, count, p.count, u_count)) in
     let s = token_first (!close ∷ []) t.rest t.late t.text in
     let c = closed_text s.rest s.late s.text in
@@ -88,16 +75,16 @@ do_row_tree {b} limits n below stands next seen events wd text are_seen few fewe
     let at = opening_of t.tree in
     let closes = plainly_at next in
     let word = word_happens stands wd.word in
-    let closing : List Happening = Acts closes action_of.Close ∷ [] in
+    let closing : List Happening = Acts closes Action.Close ∷ [] in
     let opens_are : plainly_at (place_before wd.rest next) ≡ opens =
     ap (λ l. plainly_at (place_before l next)) (sym p.same)
     ∙ (first_place next p.front p.rest u.s (u.place next) ∙ ap (λ l. moment_before l u.s) (sym inner.all)) in
     let until_happens : happenings_before next p.late p.rest
-    ≡ Takes u.s.token u.s.behind ∷ Acts at action_of.Until ∷ (q.all ++ closing) =
+    ≡ Takes u.s.token u.s.behind ∷ Acts at Action.Until ∷ (q.all ++ closing) =
     u.happen next
     ∙ ap (λ l. Takes u.s.token u.s.behind ∷ l) (j.happen next
-    ∙ (ap (λ x. Acts (plainly_at x) action_of.Until ∷ happenings_before next j.late u.rest) (t.place next)
-    ∙ ap (λ l. Acts at action_of.Until ∷ l) (test_happen t next
+    ∙ (ap (λ x. Acts (plainly_at x) Action.Until ∷ happenings_before next j.late u.rest) (t.place next)
+    ∙ ap (λ l. Acts at Action.Until ∷ l) (test_happen t next
     ∙ (ap (λ l. test_happens t ++ l) (s.happen next ∙ ap (λ l. Takes s.s.token s.s.behind ∷ l) (c.happen next))
     ∙ sym (append_assoc (test_happens t) last closing))))) in
     record {
@@ -113,8 +100,8 @@ do_row_tree {b} limits n below stands next seen events wd text are_seen few fewe
       same =
           sym (wd.happen next
           ∙ ap (λ l. word ++ l) (o.happen next
-          ∙ (ap (λ x. Acts x action_of.OpenDo ∷ happenings_before next o.late wd.rest) opens_are
-          ∙ ap (λ l. Acts opens action_of.OpenDo ∷ l) (p.happen next
+          ∙ (ap (λ x. Acts x Action.OpenDo ∷ happenings_before next o.late wd.rest) opens_are
+          ∙ ap (λ l. Acts opens Action.OpenDo ∷ l) (p.happen next
           ∙ (ap (λ l. l ++ happenings_before next p.late p.rest) (sym inner.same) ∙ ap (λ l. happenings inner.nested ++ l) until_happens)))));
       lays = λ effects context w ahead none.
           let body = put effects inner.nested in
@@ -123,7 +110,7 @@ do_row_tree {b} limits n below stands next seen events wd text are_seen few fewe
           let opens_as : opens ≡ moment_before (tree_seen body_tree.0) u.s =
           ap (λ l. moment_before l u.s) (sym (effects_seen effects inner.tree)) in
           let v = word_done limits context stands wd.word w in
-          let c = opened limits kind.Do v.output in
+          let c = opened limits Kind.Do v.output in
           let x = opened_at context opens c v in
           let v_open = word_closed wd context w ahead in
           let ended = λ (z : Compilation). let joined = between limits c.0 z.output in
@@ -132,7 +119,7 @@ do_row_tree {b} limits n below stands next seen events wd text are_seen few fewe
           let laid_from = λ (from : Moment). let first = token_done context u.s (tree_laid limits context body_tree.0 (opened_at context from c v)) in
           let to_test = between limits c.0 first.output in
           ended_as limits at to_test.0 v.constructs
-          (token_done context s.s (bracketed_done limits context action_of.EndUntil t.tree (holding at to_test v.constructs first))) in
+          (token_done context s.s (bracketed_done limits context Action.EndUntil t.tree (holding at to_test v.constructs first))) in
           let joined = between limits c.0 former.output in
           let y = holding at joined v.constructs former in
           with_behind limits context (next_effect body.1) holding_body w next

@@ -1,42 +1,29 @@
 -- A loop over objects is a tree.
-use Rattle.std.proofs.Common.{◌≡◌, ℕ, suc, ◌+◌, ◌≤◌, ◌<◌, List, [], ◌∷◌, ◌++◌, length, Bool, refl, sym, ◌∙◌, ap}
-use Rattle.std.proofs.Common.{append_assoc, arith}
+use Rattle.std.proofs.Common.{◌≡◌, ℕ, suc, ◌+◌, ◌≤◌, ◌<◌, List, [], ◌∷◌, ◌++◌, length, Bool, refl, sym, ◌∙◌, ap, append_assoc, arith}
 use Rattle.inf_settings.specs.Bounds.{Limits}
 use Rattle.inf_scanner.specs.declared.tokens.Place.{Place}
-use Rattle.inf_machine.specs.declared.symbols.Symbol.{Symbol}
-use Rattle.inf_machine.specs.Grammar.{Event, IsText}
-use Rattle.inf_syntax.specs.Parts.{ !close, !end_objectloop, !loop, !open_objectloop, 'close_parenthesis', 'objectloop'}
-use Rattle.inf_syntax.specs.Parts.{'open_parenthesis', objectloop_rest, statement}
-use Rattle.inf_syntax.specs.Rows.{row}
-use Rattle.inf_syntax.specs.declared.actions.Action.{Action}
-use Rattle.inf_syntax.specs.declared.actions.Action.TheVariants as action_of
+use Rattle.inf_machine.specs.{Grammar.Event, Grammar.IsText, declared.symbols.Symbol.Symbol}
+use Rattle.inf_syntax.specs.{Rows.row, declared.actions.Action.Action}
+use Rattle.inf_syntax.specs.Parts.{ !close, !end_objectloop, !loop, !open_objectloop, 'close_parenthesis', 'objectloop', 'open_parenthesis'}
+use Rattle.inf_syntax.specs.Parts.{objectloop_rest, statement}
 use Rattle.inf_grammar.specs.Language.{grammar}
-use Rattle.inf_constructs.specs.Constructs.{between, opened}
-use Rattle.inf_constructs.specs.declared.constructs.Kind.TheVariants as kind
-use Rattle.inf_constructs.specs.declared.constructs.Over.TheVariants as over
+use Rattle.inf_constructs.specs.{Constructs.between, Constructs.opened, declared.constructs.Kind.Kind, declared.constructs.Over.Over}
 use Rattle.inf_unit.specs.Units.{Unit as UnitAtHand, no_unit}
 use Rattle.inf_compilation.specs.Actions.{Compilation}
 use Rattle.inf_reader.specs.Acting.{act}
+use Rattle.inf_statement_laws.specs.{Nested.Objectloop, Nested.Plain, Nested.Then as After, Readings.Seen, Readings.plainly_at}
 use Rattle.inf_statement_laws.specs.Happenings.{Acts, Happening, Quiet, Takes}
 use Rattle.inf_statement_laws.specs.Laid.{ended_as, holding, laid, opened_at, run, with_kind_in}
-use Rattle.inf_statement_laws.specs.Nested.{Objectloop, Plain}
-use Rattle.inf_statement_laws.specs.Nested.{Then as After}
-use Rattle.inf_statement_laws.specs.Readings.{Seen, plainly_at}
-use Rattle.inf_statement_laws.proofs.Acts.{inside_act, quiet_run, took_none}
-use Rattle.inf_statement_laws.proofs.Rules.{number}
+use Rattle.inf_statement_laws.proofs.{Acts.inside_act, Acts.quiet_run, Acts.took_none, Rules.number}
 use Rattle.inf_language.specs.Texts.{atoms_of, happenings_before}
 use Rattle.inf_trees.specs.Trees.{all_seen}
-use Rattle.inf_trees.proofs.RuleRows.{of_rows}
-use Rattle.inf_trees.proofs.StatementsRead.{bracketed_units_are_trees}
-use Rattle.inf_trees.proofs.StatementTexts.{Rows}
-use Rattle.inf_trees.proofs.UnitsRead.{seen_parts}
+use Rattle.inf_trees.proofs.{RuleRows.of_rows, StatementTexts.Rows, StatementsRead.bracketed_units_are_trees, UnitsRead.seen_parts}
 use Rattle.inf_routine_trees.specs.Bodies.{Bracketed, Objectloop as LoopTree, Standing, opening_of, token_done}
 use Rattle.inf_routine_trees.specs.Bodies.{later_effects, next_effect, tree_laid, unit_done, with_effect, with_effects, word_done}
 use Rattle.inf_routine_trees.proofs.Effects.{put, with_behind}
-use Rattle.inf_routine_trees.proofs.Pieces.{Worded, before_word, quiet_text, unit_quiet, unit_symbols}
-use Rattle.inf_simple_trees.proofs.Symbols.{act_first, parts_of, token_first}
-use Rattle.inf_routine_trees.proofs.Pieces.{word_happens, worded}
+use Rattle.inf_routine_trees.proofs.Pieces.{Worded, before_word, quiet_text, unit_quiet, unit_symbols, word_happens, worded}
 use Rattle.inf_routine_trees.proofs.Trees.{AreAll, Below, IsTree, body_text, moved_seen, word_closed, word_quiet}
+use Rattle.inf_simple_trees.proofs.Symbols.{act_first, parts_of, token_first}
 
 abbrev behind_unit : List (Symbol Action)
 behind_unit = !end_objectloop ∷ !loop ∷ 'close_parenthesis' ∷ statement ∷ !close ∷ []
@@ -51,14 +38,14 @@ loop_row_tree : {b : Bool} (limits : Limits) (n : ℕ) → Below limits n → (s
 loop_row_tree {b} limits n below stands next seen events wd text are_seen few fewer =
     let all = moved_seen (sym wd.same) are_seen in
     let count : suc (length wd.rest) ≡ length seen = ap length wd.same in
-    let o = act_first action_of.OpenObjectloop loop_symbols wd.rest wd.late text in
+    let o = act_first Action.OpenObjectloop loop_symbols wd.rest wd.late text in
     let t = token_first (unit_symbols ++ behind_unit) wd.rest o.late o.text in
     let t_count : suc (length t.rest) ≡ length wd.rest = ap length t.same in
     let seen_1 = moved_seen (sym t.same) all.1 in
     let p = parts_of unit_symbols behind_unit t.rest t.late t.text in
     let seen_2 = seen_parts p.front p.rest (moved_seen (sym p.same) seen_1.1) in
-    let e = act_first action_of.EndObjectloop (!loop ∷ 'close_parenthesis' ∷ statement ∷ !close ∷ []) p.rest p.late p.of_rest in
-    let l = act_first action_of.Loop ('close_parenthesis' ∷ statement ∷ !close ∷ []) p.rest e.late e.text in
+    let e = act_first Action.EndObjectloop (!loop ∷ 'close_parenthesis' ∷ statement ∷ !close ∷ []) p.rest p.late p.of_rest in
+    let l = act_first Action.Loop ('close_parenthesis' ∷ statement ∷ !close ∷ []) p.rest e.late e.text in
     let c = token_first (statement ∷ !close ∷ []) p.rest l.late l.text in
     let c_count : suc (length c.rest) ≡ length p.rest = ap length c.same in
     let seen_3 = moved_seen (sym c.same) seen_2.1 in
@@ -93,33 +80,33 @@ loop_row_tree {b} limits n below stands next seen events wd text are_seen few fe
       same =
           sym (wd.happen next
           ∙ ap (λ x. word ++ x) (o.happen next
-          ∙ (ap (λ x. Acts (plainly_at x) action_of.OpenObjectloop ∷ happenings_before next o.late wd.rest) (t.place next)
-          ∙ ap (λ x. Acts opens action_of.OpenObjectloop ∷ x) (t.happen next
+          ∙ (ap (λ x. Acts (plainly_at x) Action.OpenObjectloop ∷ happenings_before next o.late wd.rest) (t.place next)
+          ∙ ap (λ x. Acts opens Action.OpenObjectloop ∷ x) (t.happen next
           ∙ ap (λ x. Takes t.s.token t.s.behind ∷ x) (p.happen next
           ∙ (ap (λ x. happenings_before x p.early p.front ++ happenings_before next p.late p.rest) (c.place next)
           ∙ ap (λ x. hs ++ x) (e.happen next
-          ∙ (ap (λ x. Acts (plainly_at x) action_of.EndObjectloop ∷ happenings_before next e.late p.rest) (c.place next)
-          ∙ ap (λ x. Acts at action_of.EndObjectloop ∷ x) (l.happen next
-          ∙ (ap (λ x. Acts (plainly_at x) action_of.Loop ∷ happenings_before next l.late p.rest) (c.place next)
-          ∙ ap (λ x. Acts at action_of.Loop ∷ x) (c.happen next
+          ∙ (ap (λ x. Acts (plainly_at x) Action.EndObjectloop ∷ happenings_before next e.late p.rest) (c.place next)
+          ∙ ap (λ x. Acts at Action.EndObjectloop ∷ x) (l.happen next
+          ∙ (ap (λ x. Acts (plainly_at x) Action.Loop ∷ happenings_before next l.late p.rest) (c.place next)
+          ∙ ap (λ x. Acts at Action.Loop ∷ x) (c.happen next
           ∙ ap (λ x. Takes c.s.token c.s.behind ∷ x) body.happen)))))))))));
       lays = λ effects context w ahead none.
           let inner = put effects body.nested in
           let holding_body = LoopTree stands wd.word loop (with_effects effects body.tree).0 in
           let v = word_done limits context stands wd.word w in
-          let d = opened limits (kind.Objects over.Nothing 0) v.output in
+          let d = opened limits (Kind.Objects Over.Nothing 0) v.output in
           let x = opened_at context opens d v in
           let runs : run limits context q.all x ≡ unit_done context loop x =
           (unit (token_done context t.s x).unit).does context place (token_done context t.s x) refl in
           let ended = λ (z : Compilation).
-          let looped = act limits context place action_of.EndObjectloop z in
+          let looped = act limits context place Action.EndObjectloop z in
           let joined = between limits (with_kind_in looped.constructs d.0) looped.output in
           ended_as limits closes joined.0 v.constructs
           (laid limits context inner.0 (token_done context c.s (holding at joined v.constructs looped))) in
           let read = unit_done context loop x in
           let read_closed =
           ap (λ (z : Compilation). z.closed) (sym runs) ∙ ((quiet_run limits context q.all x q.are).1 ∙ word_closed wd context w ahead) in
-          let looped = act limits context place action_of.EndObjectloop read in
+          let looped = act limits context place Action.EndObjectloop read in
           let joined = between limits (with_kind_in looped.constructs d.0) looped.output in
           let y = holding at joined v.constructs looped in
           with_behind limits context (next_effect inner.1) holding_body w next
@@ -129,7 +116,7 @@ loop_row_tree {b} limits n below stands next seen events wd text are_seen few fe
           ∙ (ap ended runs
           ∙ ap (λ z. ended_as limits closes joined.0 v.constructs z)
           (body.lays effects context (token_done context c.s y)
-          (took_none context c.s.token y ∙ inside_act limits context place action_of.EndObjectloop read refl read_closed) refl)))
+          (took_none context c.s.token y ∙ inside_act limits context place Action.EndObjectloop read refl read_closed) refl)))
           ∙ ap (λ r. tree_laid limits context (with_effect (next_effect r) holding_body) w) (body.rests effects);
       rests = λ effects. ap later_effects (body.rests effects);
     }

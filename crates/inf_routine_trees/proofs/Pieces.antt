@@ -1,33 +1,24 @@
 -- The pieces of statements that hold others: their tokens, events and happenings.
-use Rattle.std.proofs.Common.{◌≡◌, ℕ, suc, ◌+◌, ◌≤◌, ◌<◌, List, [], ◌∷◌, ◌++◌, length, true, refl, sym, ◌∙◌, ap, subst}
-use Rattle.std.proofs.Common.{append_assoc, arith}
+use Rattle.std.proofs.Common.{◌≡◌, ℕ, suc, ◌+◌, ◌≤◌, ◌<◌, List, [], ◌∷◌, ◌++◌, length, true, refl, sym, ◌∙◌, ap, subst, append_assoc, arith}
 use Rattle.std.proofs.lemmas.Bool.{and_from, and_parts}
 use Rattle.inf_settings.specs.Bounds.{Limits}
 use Rattle.inf_scanner.specs.declared.tokens.Place.{Place}
 use Rattle.inf_machine.specs.declared.symbols.Symbol.{Symbol}
-use Rattle.inf_machine.specs.declared.symbols.Symbol.TheVariants.{Act, Token}
 use Rattle.inf_machine.specs.Grammar.{Did, Event, IsText, Took, action, here, token}
 use Rattle.inf_syntax.specs.Parts.{ !begin, !close, !deeper, !maybe_deeper, !outer, 'close_parenthesis', 'open_parenthesis', expression}
 use Rattle.inf_syntax.specs.declared.actions.Action.{Action}
-use Rattle.inf_syntax.specs.declared.actions.Action.TheVariants as action_of
 use Rattle.inf_grammar.specs.Language.{grammar}
 use Rattle.inf_unit.specs.Units.{Unit as UnitAtHand, no_unit}
-use Rattle.inf_compilation.specs.Context.{Context}
-use Rattle.inf_compilation.specs.Actions.{Compilation}
+use Rattle.inf_compilation.specs.{Actions.Compilation, Context.Context}
 use Rattle.inf_expression_laws.specs.Gathered.{AreSeen}
+use Rattle.inf_statement_laws.specs.{Laid.run, Readings.Seen, Readings.plainly_at}
 use Rattle.inf_statement_laws.specs.Happenings.{Acts, AreOf, Happening, Takes, happen_quietly, happens_quietly, is_quiet}
-use Rattle.inf_statement_laws.specs.Laid.{run}
-use Rattle.inf_statement_laws.specs.Readings.{Seen, plainly_at}
-use Rattle.inf_statement_laws.proofs.Laying.{run_then}
-use Rattle.inf_statement_laws.proofs.Nesting.{quiet_parts, quiet_rule}
-use Rattle.inf_statement_laws.proofs.Rules.{all_quiet, is_quiet_rule}
-use Rattle.inf_statement_laws.proofs.Texts.{OfRule, deep}
-use Rattle.inf_language.specs.Texts.{atoms_of, happenings_before, tokens_of}
-use Rattle.inf_language.specs.Units.{TakeAll}
+use Rattle.inf_statement_laws.proofs.{Laying.run_then, Nesting.quiet_parts, Nesting.quiet_rule, Rules.all_quiet, Rules.is_quiet_rule}
+use Rattle.inf_statement_laws.proofs.{Texts.OfRule, Texts.deep}
+use Rattle.inf_language.specs.{Texts.atoms_of, Texts.happenings_before, Texts.tokens_of, Units.TakeAll}
 use Rattle.inf_language.proofs.Derivations.{texts_take_all}
 use Rattle.inf_trees.specs.Trees.{all_seen}
-use Rattle.inf_trees.proofs.StatementsRead.{bracketed_units_are_trees}
-use Rattle.inf_trees.proofs.UnitsRead.{place_before, seen_parts}
+use Rattle.inf_trees.proofs.{StatementsRead.bracketed_units_are_trees, UnitsRead.place_before, UnitsRead.seen_parts}
 use Rattle.inf_routine_trees.specs.Bodies.{AtTop, Bracketed, Inner, OfSwitch, Standing, UnitWritten, bracketed_done, bracketed_seen}
 use Rattle.inf_routine_trees.specs.Bodies.{token_done, unit_done, word_done}
 use Rattle.inf_simple_trees.proofs.Symbols.{act_first, parts_of, token_first}
@@ -86,11 +77,12 @@ pub record BracketedText (limits : Limits) (end : Action) (symbols : List (Symbo
       → run limits context (Takes tree.bracket.token tree.bracket.behind ∷ unit_happens) w ≡ unit_done context tree w
 
 pub bracketed_text : (limits : Limits) (end : Action) (symbols : List (Symbol Action)) (seen : List Seen) (events : List (Event Action))
-    → IsText grammar ('open_parenthesis' ∷ !begin ∷ !outer ∷ expression ∷ Act end ∷ 'close_parenthesis' ∷ symbols) (atoms_of seen) events
+    → IsText grammar ('open_parenthesis' ∷ !begin ∷ !outer ∷ expression ∷ Symbol.Act end ∷ 'close_parenthesis' ∷ symbols)
+    (atoms_of seen) events
     → AreSeen (atoms_of seen) (tokens_of seen) → length seen + 1 < 4294967295 → BracketedText limits end symbols seen events
 bracketed_text limits end symbols seen events text are_seen few =
-    let t = token_first (!begin ∷ !outer ∷ expression ∷ Act end ∷ 'close_parenthesis' ∷ symbols) seen events text in
-    let p = parts_of unit_symbols (Act end ∷ 'close_parenthesis' ∷ symbols) t.rest t.late t.text in
+    let t = token_first (!begin ∷ !outer ∷ expression ∷ Symbol.Act end ∷ 'close_parenthesis' ∷ symbols) seen events text in
+    let p = parts_of unit_symbols (Symbol.Act end ∷ 'close_parenthesis' ∷ symbols) t.rest t.late t.text in
     let b = act_first end ('close_parenthesis' ∷ symbols) p.rest p.late p.of_rest in
     let c = token_first symbols p.rest b.late b.text in
     let place = c.s.token.place in
@@ -173,8 +165,8 @@ before_word OfSwitch = !maybe_deeper ∷ []
 
 abbrev pub word_happens : Standing → Seen → List Happening
 word_happens AtTop word = Takes word.token word.behind ∷ []
-word_happens Inner word = Acts (plainly_at word.token.place) action_of.Deeper ∷ Takes word.token word.behind ∷ []
-word_happens OfSwitch word = Acts (plainly_at word.token.place) action_of.MaybeDeeper ∷ Takes word.token word.behind ∷ []
+word_happens Inner word = Acts (plainly_at word.token.place) Action.Deeper ∷ Takes word.token word.behind ∷ []
+word_happens OfSwitch word = Acts (plainly_at word.token.place) Action.MaybeDeeper ∷ Takes word.token word.behind ∷ []
 
 pub record Worded (limits : Limits) (stands : Standing) (symbols : List (Symbol Action)) (seen : List Seen) (events : List (Event Action))
     : Type 0 where
@@ -189,7 +181,7 @@ pub record Worded (limits : Limits) (stands : Standing) (symbols : List (Symbol 
       → run limits context (word_happens stands word) w ≡ word_done limits context stands word w
 
 pub worded : (limits : Limits) (stands : Standing) (class : ℕ) (symbols : List (Symbol Action)) (seen : List Seen)
-    (events : List (Event Action)) → IsText grammar (before_word stands ++ Token class ∷ symbols) (atoms_of seen) events
+    (events : List (Event Action)) → IsText grammar (before_word stands ++ Symbol.Token class ∷ symbols) (atoms_of seen) events
     → Worded limits stands symbols seen events
 worded limits AtTop class symbols seen events text =
     let t = token_first symbols seen events text in
@@ -204,7 +196,7 @@ worded limits AtTop class symbols seen events text =
       runs = λ context w. refl;
     }
 worded limits Inner class symbols seen events text =
-    let d = act_first action_of.Deeper (Token class ∷ symbols) seen events text in
+    let d = act_first Action.Deeper (Symbol.Token class ∷ symbols) seen events text in
     let t = token_first symbols seen d.late d.text in
     record {
       word = t.s;
@@ -214,13 +206,13 @@ worded limits Inner class symbols seen events text =
       text = t.text;
       happen = λ next.
           d.happen next
-          ∙ (ap (λ x. Acts (plainly_at x) action_of.Deeper ∷ happenings_before next d.late seen) (t.place next)
-          ∙ ap (λ l. Acts (plainly_at t.s.token.place) action_of.Deeper ∷ l) (t.happen next));
+          ∙ (ap (λ x. Acts (plainly_at x) Action.Deeper ∷ happenings_before next d.late seen) (t.place next)
+          ∙ ap (λ l. Acts (plainly_at t.s.token.place) Action.Deeper ∷ l) (t.happen next));
       quiet = refl;
       runs = λ context w. refl;
     }
 worded limits OfSwitch class symbols seen events text =
-    let d = act_first action_of.MaybeDeeper (Token class ∷ symbols) seen events text in
+    let d = act_first Action.MaybeDeeper (Symbol.Token class ∷ symbols) seen events text in
     let t = token_first symbols seen d.late d.text in
     record {
       word = t.s;
@@ -230,8 +222,8 @@ worded limits OfSwitch class symbols seen events text =
       text = t.text;
       happen = λ next.
           d.happen next
-          ∙ (ap (λ x. Acts (plainly_at x) action_of.MaybeDeeper ∷ happenings_before next d.late seen) (t.place next)
-          ∙ ap (λ l. Acts (plainly_at t.s.token.place) action_of.MaybeDeeper ∷ l) (t.happen next));
+          ∙ (ap (λ x. Acts (plainly_at x) Action.MaybeDeeper ∷ happenings_before next d.late seen) (t.place next)
+          ∙ ap (λ l. Acts (plainly_at t.s.token.place) Action.MaybeDeeper ∷ l) (t.happen next));
       quiet = refl;
       runs = λ context w. refl;
     }
@@ -240,7 +232,7 @@ worded limits OfSwitch class symbols seen events text =
 
 pub record Closed (seen : List Seen) (events : List (Event Action)) : Type 0 where
   pub none : seen ≡ []
-  pub happen : (next : Place) → happenings_before next events seen ≡ Acts (plainly_at next) action_of.Close ∷ []
+  pub happen : (next : Place) → happenings_before next events seen ≡ Acts (plainly_at next) Action.Close ∷ []
 
 closed_by : {atoms : List ℕ} {events : List (Event Action)} → IsText grammar (!close ∷ []) atoms events → (seen : List Seen)
     → atoms_of seen ≡ atoms → Closed seen events

@@ -4,39 +4,29 @@ use Rattle.std.proofs.Common.{append-nil, append_assoc, arith}
 use Rattle.inf_settings.specs.Bounds.{Limits}
 use Rattle.inf_scanner.specs.declared.tokens.Place.{Place}
 use Rattle.inf_machine.specs.declared.symbols.Symbol.{Symbol}
-use Rattle.inf_machine.specs.Grammar.{Event, IsOneOf, IsText, Took, first, here, token}
-use Rattle.inf_machine.specs.Grammar.{row as a_row}
+use Rattle.inf_machine.specs.Grammar.{Event, IsOneOf, IsText, Took, first, here, token, row as a_row}
+use Rattle.inf_syntax.specs.{Rows.row, declared.actions.Action.Action}
 use Rattle.inf_syntax.specs.Parts.{ !end_locals, !end_routine, !routine, 'close_bracket', 'open_bracket', 'semicolon', NAME, directive}
 use Rattle.inf_syntax.specs.Parts.{directive_1, directive_2}
-use Rattle.inf_syntax.specs.Rows.{row}
-use Rattle.inf_syntax.specs.declared.actions.Action.{Action}
-use Rattle.inf_syntax.specs.declared.actions.Action.TheVariants as action_of
 use Rattle.inf_grammar.specs.Language.{grammar}
 use Rattle.inf_reader.specs.Acting.{act}
 use Rattle.inf_expression_laws.proofs.OperatorRows.{free}
+use Rattle.inf_statement_laws.specs.{Laid.next_comes, Laid.run, Readings.Seen, Readings.plainly_at}
 use Rattle.inf_statement_laws.specs.Happenings.{Acts, Happening, Takes}
-use Rattle.inf_statement_laws.specs.Laid.{next_comes, run}
-use Rattle.inf_statement_laws.specs.Readings.{Seen, plainly_at}
-use Rattle.inf_statement_laws.proofs.Acts.{inside_act, quiet_run, took_none}
-use Rattle.inf_statement_laws.proofs.Laying.{run_then}
-use Rattle.inf_statement_laws.proofs.Rules.{header_parts, number, quiet_header}
+use Rattle.inf_statement_laws.proofs.{Acts.inside_act, Acts.quiet_run, Acts.took_none, Laying.run_then, Rules.header_parts, Rules.number}
+use Rattle.inf_statement_laws.proofs.{Rules.quiet_header}
 use Rattle.inf_language.specs.Texts.{atoms_of, happenings_before, happenings_of, tokens_of}
-use Rattle.inf_language.proofs.Derivations.{happenings-append, texts_take_all}
-use Rattle.inf_language.proofs.TextsActed.{texts_do_their_actions}
-use Rattle.inf_compilation.specs.Actions.{Compilation}
+use Rattle.inf_language.proofs.{Derivations.happenings-append, Derivations.texts_take_all, TextsActed.texts_do_their_actions}
+use Rattle.inf_compilation.specs.{Actions.Compilation, Context.Context}
 use Rattle.inf_trees.specs.Trees.{parts_told, with_parts}
 use Rattle.inf_trees.proofs.UnitsRead.{before-append, place_before, seen_parts}
-use Rattle.inf_compilation.specs.Context.{Context}
 use Rattle.inf_expression_laws.specs.Gathered.{AreSeen}
 use Rattle.inf_routine_trees.specs.Bodies.{Tree, TreeWritten, token_done}
 use Rattle.inf_routine_trees.specs.Routines.{Header, Routine, RoutinesAreTrees, header_parts as parts_of_header, routine_done}
 use Rattle.inf_routine_trees.specs.Routines.{routine_seen, routine_symbols, routine_with}
+use Rattle.inf_routine_trees.proofs.{BodyTrees.body_tree, Headers.header_text, Pieces.quiet_text, Trees.moved_seen, Trees.tree_runs}
 use Rattle.inf_routine_trees.proofs.Effects.{Effects, given, given-append, given_behind, none_effects, none_given}
-use Rattle.inf_routine_trees.proofs.BodyTrees.{body_tree}
-use Rattle.inf_routine_trees.proofs.Headers.{header_text}
-use Rattle.inf_routine_trees.proofs.Pieces.{quiet_text}
 use Rattle.inf_simple_trees.proofs.Symbols.{act_first, nothing_left, parts_of, token_first}
-use Rattle.inf_routine_trees.proofs.Trees.{moved_seen, tree_runs}
 
 -- A routine is a directive.
 
@@ -100,13 +90,14 @@ routine_runs limits seen events text are_seen few =
     let h =
     parts_of header_parts (!end_locals ∷ 'semicolon' ∷ directive_2 ∷ !end_routine ∷ 'close_bracket' ∷ 'semicolon' ∷ []) seen events text in
     let parts = seen_parts h.front h.rest (moved_seen (sym h.same) are_seen) in
-    let e = act_first action_of.EndLocals ('semicolon' ∷ directive_2 ∷ !end_routine ∷ 'close_bracket' ∷ 'semicolon' ∷ []) h.rest h.late h.of_rest in
+    let e =
+    act_first Action.EndLocals ('semicolon' ∷ directive_2 ∷ !end_routine ∷ 'close_bracket' ∷ 'semicolon' ∷ []) h.rest h.late h.of_rest in
     let s = token_first (directive_2 ∷ !end_routine ∷ 'close_bracket' ∷ 'semicolon' ∷ []) h.rest e.late e.text in
     let behind = moved_seen (sym s.same) parts.1 in
     let s_count : suc (length s.rest) ≡ length h.rest = ap length s.same in
     let b = parts_of (directive_2 ∷ []) (!end_routine ∷ 'close_bracket' ∷ 'semicolon' ∷ []) s.rest s.late s.text in
     let inside = seen_parts b.front b.rest (moved_seen (sym b.same) behind.1) in
-    let r = act_first action_of.EndRoutine ('close_bracket' ∷ 'semicolon' ∷ []) b.rest b.late b.of_rest in
+    let r = act_first Action.EndRoutine ('close_bracket' ∷ 'semicolon' ∷ []) b.rest b.late b.of_rest in
     let c = token_first ('semicolon' ∷ []) b.rest r.late r.text in
     let l = token_first [] c.rest c.late c.text in
     let n = nothing_left l.rest l.late l.text in
@@ -123,17 +114,17 @@ routine_runs limits seen events text are_seen few =
     let heads = plainly_at s.s.token.place in
     let ends = plainly_at place in
     let last : List Happening =
-    Acts ends action_of.EndRoutine ∷ Takes c.s.token c.s.behind ∷ Takes l.s.token l.s.behind ∷ [] in
+    Acts ends Action.EndRoutine ∷ Takes c.s.token c.s.behind ∷ Takes l.s.token l.s.behind ∷ [] in
     let all : happenings_before place events seen
-    ≡ header ++ Acts heads action_of.EndLocals ∷ Takes s.s.token s.s.behind ∷ (body_happens ++ last) =
+    ≡ header ++ Acts heads Action.EndLocals ∷ Takes s.s.token s.s.behind ∷ (body_happens ++ last) =
     h.happen place
     ∙ ap (λ x. header ++ x) (e.happen place
-    ∙ (ap (λ x. Acts (plainly_at x) action_of.EndLocals ∷ happenings_before place e.late h.rest) (s.place place)
-    ∙ ap (λ x. Acts heads action_of.EndLocals ∷ x) (s.happen place
+    ∙ (ap (λ x. Acts (plainly_at x) Action.EndLocals ∷ happenings_before place e.late h.rest) (s.place place)
+    ∙ ap (λ x. Acts heads Action.EndLocals ∷ x) (s.happen place
     ∙ ap (λ x. Takes s.s.token s.s.behind ∷ x) (b.happen place
     ∙ ap (λ x. body_happens ++ x) (r.happen place
-    ∙ (ap (λ x. Acts (plainly_at x) action_of.EndRoutine ∷ happenings_before place r.late b.rest) (c.place place)
-    ∙ ap (λ x. Acts ends action_of.EndRoutine ∷ x) (c.happen place
+    ∙ (ap (λ x. Acts (plainly_at x) Action.EndRoutine ∷ happenings_before place r.late b.rest) (c.place place)
+    ∙ ap (λ x. Acts ends Action.EndRoutine ∷ x) (c.happen place
     ∙ ap (λ x. Takes c.s.token c.s.behind ∷ x) (l.happen place ∙ ap (λ x. Takes l.s.token l.s.behind ∷ x) (n.happen place))))))))) in
     record {
       tree = tree;
@@ -149,19 +140,19 @@ routine_runs limits seen events text are_seen few =
       runs = λ effects context w ahead none.
           let parts = parts_of_header head in
           let named : Compilation = record (parts_told context w.unit parts w) { unit = with_parts parts w.unit } in
-          let headed = act limits context s.s.token.place action_of.EndLocals named in
+          let headed = act limits context s.s.token.place Action.EndLocals named in
           let ready = token_done context s.s headed in
           let read : run limits context header w ≡ named = names.runs context (place_before h.rest place) w none in
           let named_open = ap (λ (v : Compilation). v.closed) (sym read) ∙ ((quiet_run limits context header w quiet).1 ∙ ahead) in
           let inside_given = given effects body_happens in
-          let others : List Happening = Acts heads action_of.EndLocals ∷ Takes s.s.token s.s.behind ∷ (inside_given ++ last) in
-          let headed_open = inside_act limits context s.s.token.place action_of.EndLocals named refl named_open in
+          let others : List Happening = Acts heads Action.EndLocals ∷ Takes s.s.token s.s.behind ∷ (inside_given ++ last) in
+          let headed_open = inside_act limits context s.s.token.place Action.EndLocals named refl named_open in
           let ready_open = took_none context s.s.token headed ∙ headed_open in
           ap (λ hs. run limits context (given effects hs) w) (last_happens place seen events text ∙ all)
           ∙ (ap (λ hs. run limits context hs w)
           (given_behind effects (record { all = header; are = quiet })
-          (Acts heads action_of.EndLocals ∷ Takes s.s.token s.s.behind ∷ (body_happens ++ last))
-          ∙ ap (λ l. header ++ Acts heads action_of.EndLocals ∷ Takes s.s.token s.s.behind ∷ l) (given-append effects body_happens last))
+          (Acts heads Action.EndLocals ∷ Takes s.s.token s.s.behind ∷ (body_happens ++ last))
+          ∙ ap (λ l. header ++ Acts heads Action.EndLocals ∷ Takes s.s.token s.s.behind ∷ l) (given-append effects body_happens last))
           ∙ (run_then limits context header others w
           ∙ (ap (run limits context others) read
           ∙ (run_then limits context inside_given last ready

@@ -4,37 +4,26 @@ use Rattle.inf_settings.specs.Bounds.{Limits}
 use Rattle.inf_scanner.specs.declared.tokens.Place.{Place}
 use Rattle.inf_machine.specs.declared.symbols.Symbol.{Symbol}
 use Rattle.inf_machine.specs.Grammar.{Event, IsOneOf, IsText, Row, first, later}
+use Rattle.inf_syntax.specs.{Rows.row, declared.actions.Action.Action}
 use Rattle.inf_syntax.specs.Parts.{ !deeper, 'do', 'for', 'if', 'objectloop', 'switch', 'while', do_rest, first_case, for_rest, if_rest}
 use Rattle.inf_syntax.specs.Parts.{objectloop_rest, statement, statement_3, switch_item, switch_rest, while_rest}
-use Rattle.inf_syntax.specs.Rows.{row}
-use Rattle.inf_syntax.specs.declared.actions.Action.{Action}
 use Rattle.inf_grammar.specs.Language.{grammar}
-use Rattle.inf_statement_laws.specs.Laid.{laid}
-use Rattle.inf_statement_laws.specs.Nested.{Nested}
-use Rattle.inf_statement_laws.specs.Readings.{Seen}
+use Rattle.inf_statement_laws.specs.{Laid.laid, Nested.Nested, Readings.Seen}
 use Rattle.inf_statement_laws.proofs.Rules.{number}
 use Rattle.inf_language.specs.Texts.{atoms_of}
 use Rattle.inf_language.proofs.Derivations.{texts_take_all}
 use Rattle.inf_trees.specs.Statements.{other_statements}
-use Rattle.inf_trees.proofs.Expanded.{with_rows}
-use Rattle.inf_trees.proofs.StatementTexts.{Rows, statement_text}
+use Rattle.inf_trees.proofs.{Expanded.with_rows, StatementTexts.Rows, StatementTexts.statement_text}
 use Rattle.inf_simple_trees.specs.Simple.{holding_statements}
+use Rattle.inf_simple_trees.proofs.{FirstCases.first_case_text, SimpleRead.beside_statement, SimpleRead.simple_text, SimpleTexts.Another}
+use Rattle.inf_simple_trees.proofs.{SimpleTexts.OneUnit, SimpleTexts.SimpleText, SwitchItems.switch_item_text}
 use Rattle.inf_simple_trees.proofs.CaseTexts.{ACase, AStatement, Holds, ItemText, holding}
-use Rattle.inf_simple_trees.proofs.SimpleRead.{beside_statement, simple_text}
-use Rattle.inf_simple_trees.proofs.SimpleTexts.{Another, OneUnit, SimpleText}
-use Rattle.inf_simple_trees.proofs.SwitchItems.{switch_item_text}
 use Rattle.inf_routine_trees.specs.Bodies.{Inner, OfSwitch, Standing, StatementsAreLaidAsTrees}
-use Rattle.inf_routine_trees.proofs.CaseTrees.{case_tree}
-use Rattle.inf_routine_trees.proofs.Endings.{text_ends}
-use Rattle.inf_simple_trees.proofs.FirstCases.{first_case_text}
-use Rattle.inf_routine_trees.proofs.ForLoops.{for_tree}
-use Rattle.inf_routine_trees.proofs.Loops.{block_tree, do_tree, nonempty, statement_ends}
-use Rattle.inf_routine_trees.proofs.ObjectLoops.{loop_tree}
-use Rattle.inf_routine_trees.proofs.Pieces.{before_word}
-use Rattle.inf_routine_trees.proofs.Switches.{OfSymbol, first_ends, switch_ends, switch_tree}
+use Rattle.inf_routine_trees.proofs.{CaseTrees.case_tree, Effects.Effects, Effects.put, Endings.text_ends, ForLoops.for_tree}
+use Rattle.inf_routine_trees.proofs.{Loops.block_tree, Loops.do_tree, Loops.nonempty, Loops.statement_ends, ObjectLoops.loop_tree}
+use Rattle.inf_routine_trees.proofs.{Pieces.before_word, Switches.OfSymbol, Switches.first_ends, Switches.switch_ends, Switches.switch_tree}
+use Rattle.inf_routine_trees.proofs.{Wider.wider, Wider.wider_laid, Wider.wider_put, Wider.wider_same}
 use Rattle.inf_routine_trees.proofs.Trees.{AreAll, Below, IsTree, if_tree, simple_tree, plain_runs, while_tree}
-use Rattle.inf_routine_trees.proofs.Effects.{Effects, put}
-use Rattle.inf_routine_trees.proofs.Wider.{wider, wider_laid, wider_put, wider_same}
 
 -- a statement among which no case may stand, where one may
 wider_tree : {limits : Limits} {next : Place} {seen : List Seen} {events : List (Event Action)} → IsTree false limits next seen events

@@ -3,39 +3,26 @@ use Rattle.std.proofs.Common.{◌≡◌, ℕ, zero, suc, ◌+◌, ◌≤◌, ◌
 use Rattle.std.proofs.Common.{append_assoc, arith}
 use Rattle.inf_settings.specs.Bounds.{Limits}
 use Rattle.inf_scanner.specs.declared.tokens.Place.{Place}
-use Rattle.inf_machine.specs.declared.symbols.Symbol.{Symbol}
-use Rattle.inf_machine.specs.Grammar.{Event, IsText}
+use Rattle.inf_machine.specs.{Grammar.Event, Grammar.IsText, declared.symbols.Symbol.Symbol}
+use Rattle.inf_syntax.specs.{Rows.row, declared.actions.Action.Action}
 use Rattle.inf_syntax.specs.Parts.{ !begin, !close, !end_switch, !open_switch, !outer, 'close_brace', 'close_parenthesis', 'open_brace'}
 use Rattle.inf_syntax.specs.Parts.{'open_parenthesis', 'switch', expression, first_case, switch_item, switch_rest, switch_rest_1}
 use Rattle.inf_syntax.specs.Parts.{switch_rest_2}
-use Rattle.inf_syntax.specs.Rows.{row}
-use Rattle.inf_syntax.specs.declared.actions.Action.{Action}
-use Rattle.inf_syntax.specs.declared.actions.Action.TheVariants as action_of
 use Rattle.inf_grammar.specs.Language.{grammar}
-use Rattle.inf_constructs.specs.Constructs.{opened}
-use Rattle.inf_constructs.specs.declared.constructs.Case.TheVariants as case
-use Rattle.inf_constructs.specs.declared.constructs.Kind.TheVariants as kind
-use Rattle.inf_compilation.specs.Context.{Context}
-use Rattle.inf_compilation.specs.Actions.{Compilation}
-use Rattle.inf_statement_laws.specs.Happenings.{Acts, Happening, Quiet, Takes}
+use Rattle.inf_constructs.specs.{Constructs.opened, declared.constructs.Case.Case, declared.constructs.Kind.Kind}
+use Rattle.inf_compilation.specs.{Actions.Compilation, Context.Context}
+use Rattle.inf_statement_laws.specs.{Happenings.Acts, Happenings.Happening, Happenings.Quiet, Happenings.Takes, Nested.Plain, Nested.Switch}
+use Rattle.inf_statement_laws.specs.{Nested.Then as After, Nested.happenings, Readings.Seen, Readings.plainly_at}
 use Rattle.inf_statement_laws.specs.Laid.{ended_as, laid, opened_at, run, with_kind_in}
-use Rattle.inf_statement_laws.specs.Nested.{Plain, Switch, happenings}
-use Rattle.inf_statement_laws.specs.Nested.{Then as After}
-use Rattle.inf_statement_laws.specs.Readings.{Seen, plainly_at}
-use Rattle.inf_statement_laws.proofs.Acts.{quiet_run}
-use Rattle.inf_statement_laws.proofs.Laying.{run_then}
-use Rattle.inf_statement_laws.proofs.Rules.{number}
+use Rattle.inf_statement_laws.proofs.{Acts.quiet_run, Laying.run_then, Rules.number}
 use Rattle.inf_language.specs.Texts.{atoms_of, happenings_before}
 use Rattle.inf_language.proofs.Derivations.{texts_take_all}
-use Rattle.inf_trees.proofs.RuleRows.{of_rows}
-use Rattle.inf_trees.proofs.StatementTexts.{Rows}
-use Rattle.inf_trees.proofs.UnitsRead.{place_before, seen_parts}
+use Rattle.inf_trees.proofs.{RuleRows.of_rows, StatementTexts.Rows, UnitsRead.place_before, UnitsRead.seen_parts}
 use Rattle.inf_simple_trees.proofs.Symbols.{PartsOf, act_first, nothing_left, parts_of, token_first}
 use Rattle.inf_routine_trees.specs.Bodies.{Nothing, Standing, Switch as SwitchTree, Then, bracketed_done, bracketed_seen, opening_of}
 use Rattle.inf_routine_trees.specs.Bodies.{later_effects, next_effect, token_done, tree_laid, tree_seen, with_effect, with_effects, word_done}
-use Rattle.inf_routine_trees.proofs.Effects.{Effects, put, with_behind}
-use Rattle.inf_routine_trees.proofs.Endings.{end_so, ends, text_ends}
-use Rattle.inf_routine_trees.proofs.Loops.{nonempty}
+use Rattle.inf_routine_trees.proofs.{Effects.Effects, Effects.put, Effects.with_behind, Endings.end_so, Endings.ends, Endings.text_ends}
+use Rattle.inf_routine_trees.proofs.{Loops.nonempty}
 use Rattle.inf_routine_trees.proofs.Pieces.{Worded, before_word, bracketed_text, closed_text, quiet-append, test_happen, test_happens}
 use Rattle.inf_routine_trees.proofs.Pieces.{test_quiet, test_runs, word_happens, worded}
 use Rattle.inf_routine_trees.proofs.Trees.{AreAll, IsTree, moved_seen, tree_closed, tree_opening, word_closed, word_quiet}
@@ -193,9 +180,9 @@ module _ (limits : Limits) (n : ℕ) (items : OfSymbol switch_item limits n) whe
   switch_row_tree {b} first_cases stands next seen events wd text are_seen few fewer =
       let all = moved_seen (sym wd.same) are_seen in
       let count : suc (length wd.rest) ≡ length seen = ap length wd.same in
-      let o = act_first action_of.OpenSwitch switch_symbols wd.rest wd.late text in
+      let o = act_first Action.OpenSwitch switch_symbols wd.rest wd.late text in
       let t =
-      bracketed_text limits action_of.EndSwitch ('open_brace' ∷ switch_rest_1 ∷ 'close_brace' ∷ !close ∷ []) wd.rest o.late o.text all.1
+      bracketed_text limits Action.EndSwitch ('open_brace' ∷ switch_rest_1 ∷ 'close_brace' ∷ !close ∷ []) wd.rest o.late o.text all.1
       (omega (arith, few, count)) in
       let br = token_first (switch_rest_1 ∷ 'close_brace' ∷ !close ∷ []) t.rest t.late t.text in
       let br_count : suc (length br.rest) ≡ length t.rest = ap length br.same in
@@ -213,7 +200,7 @@ module _ (limits : Limits) (n : ℕ) (items : OfSymbol switch_item limits n) whe
       let opens = opening_of t.tree in
       let closes = plainly_at next in
       let word = word_happens stands wd.word in
-      let last : List Happening = Takes c.s.token c.s.behind ∷ Acts closes action_of.Close ∷ [] in
+      let last : List Happening = Takes c.s.token c.s.behind ∷ Acts closes Action.Close ∷ [] in
       record {
         tree = SwitchTree stands wd.word t.tree br.s inner.list.tree c.s;
         all =
@@ -227,8 +214,8 @@ module _ (limits : Limits) (n : ℕ) (items : OfSymbol switch_item limits n) whe
         same =
             sym (wd.happen next
             ∙ ap (λ x. word ++ x) (o.happen next
-            ∙ (ap (λ x. Acts (plainly_at x) action_of.OpenSwitch ∷ happenings_before next o.late wd.rest) (t.place next)
-            ∙ ap (λ x. Acts opens action_of.OpenSwitch ∷ x) (test_happen t next
+            ∙ (ap (λ x. Acts (plainly_at x) Action.OpenSwitch ∷ happenings_before next o.late wd.rest) (t.place next)
+            ∙ ap (λ x. Acts opens Action.OpenSwitch ∷ x) (test_happen t next
             ∙ (ap (λ x. test_happens t ++ x) (br.happen next
             ∙ ap (λ x. Takes br.s.token br.s.behind ∷ x) (p.happen next
             ∙ (ap (λ x. x ++ happenings_before next p.late p.rest) (sym inner.list.same)
@@ -239,9 +226,9 @@ module _ (limits : Limits) (n : ℕ) (items : OfSymbol switch_item limits n) whe
             let cases = put effects inner.list.nested in
             let holding_cases = SwitchTree stands wd.word t.tree br.s (with_effects effects inner.list.tree).0 c.s in
             let v = word_done limits context stands wd.word w in
-            let d = opened limits (kind.Switch case.Nothing false) v.output in
+            let d = opened limits (Kind.Switch Case.Nothing false) v.output in
             let x = opened_at context opens d v in
-            let y = token_done context br.s (bracketed_done limits context action_of.EndSwitch t.tree x) in
+            let y = token_done context br.s (bracketed_done limits context Action.EndSwitch t.tree x) in
             let reads : run limits context q.all x ≡ y =
             run_then limits context (test_happens t) brace x ∙ ap (token_done context br.s) (test_runs t context x) in
             let y_closed =

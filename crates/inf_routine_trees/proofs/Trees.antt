@@ -1,57 +1,36 @@
 -- Statements are trees, and have their effects.
 use Rattle.std.proofs.Common.{◌≡◌, ℕ, suc, ◌+◌, ◌≤◌, ◌<◌, List, [], ◌∷◌, ◌++◌, length, Bool, true, false, None, refl, sym, ◌∙◌, ap, subst}
-use Rattle.std.proofs.Common.{append-nil, arith}
-use Rattle.std.specs.Prelude.{if◌then◌else◌}
+use Rattle.std.proofs.Common.{append-nil, arith, if◌then◌else◌}
 use Rattle.std.proofs.lemmas.Bool.{and_from}
 use Rattle.inf_settings.specs.Bounds.{Limits}
 use Rattle.inf_scanner.specs.declared.tokens.Place.{Place}
-use Rattle.inf_machine.specs.declared.symbols.Symbol.{Symbol}
-use Rattle.inf_machine.specs.Grammar.{Did, Event, IsText, Took}
-use Rattle.inf_syntax.specs.Parts.{ !begin, !close, !else, !end_if, !end_while}
-use Rattle.inf_syntax.specs.Parts.{ !open_if, !open_while, !outer, 'close_parenthesis', 'else'}
-use Rattle.inf_syntax.specs.Parts.{'if', 'open_parenthesis', 'while'}
-use Rattle.inf_syntax.specs.Parts.{else_part, expression, if_rest, statement}
-use Rattle.inf_syntax.specs.Parts.{while_rest}
-use Rattle.inf_syntax.specs.Rows.{row, row_unless}
-use Rattle.inf_syntax.specs.declared.actions.Action.{Action}
-use Rattle.inf_syntax.specs.declared.actions.Action.TheVariants as action_of
+use Rattle.inf_machine.specs.{Grammar.Did, Grammar.Event, Grammar.IsText, Grammar.Took, declared.symbols.Symbol.Symbol}
+use Rattle.inf_syntax.specs.{Rows.row, Rows.row_unless, declared.actions.Action.Action}
+use Rattle.inf_syntax.specs.Parts.{ !begin, !close, !else, !end_if, !end_while, !open_if, !open_while, !outer, 'close_parenthesis', 'else'}
+use Rattle.inf_syntax.specs.Parts.{'if', 'open_parenthesis', 'while', else_part, expression, if_rest, statement, while_rest}
 use Rattle.inf_grammar.specs.Language.{grammar}
-use Rattle.inf_constructs.specs.Constructs.{between, opened}
-use Rattle.inf_constructs.specs.declared.constructs.Kind.TheVariants as kind
+use Rattle.inf_constructs.specs.{Constructs.between, Constructs.opened, declared.constructs.Kind.Kind}
 use Rattle.inf_unit.specs.Units.{Unit as UnitAtHand, begun, no_unit}
-use Rattle.inf_compilation.specs.Context.{Context}
-use Rattle.inf_compilation.specs.Actions.{Compilation}
+use Rattle.inf_compilation.specs.{Actions.Compilation, Context.Context}
 use Rattle.inf_expression_laws.specs.Gathered.{AreSeen}
-use Rattle.inf_statement_laws.specs.Happenings.{Acts, Quiet, Takes, happen_quietly, is_quiet}
-use Rattle.inf_statement_laws.specs.Laid.{ended_as, holding, laid, opened_at, run}
-use Rattle.inf_statement_laws.specs.Nested.{If, IfElse, Nested, Plain, While, happenings}
-use Rattle.inf_statement_laws.specs.Nested.{Then as After}
-use Rattle.inf_statement_laws.specs.Readings.{Seen, plainly_at}
-use Rattle.inf_statement_laws.proofs.Acts.{quiet_run}
-use Rattle.inf_statement_laws.proofs.Laying.{laid_as}
-use Rattle.inf_statement_laws.proofs.Rules.{number}
-use Rattle.inf_language.specs.Texts.{atoms_of, happenings_before, tokens_of}
-use Rattle.inf_language.specs.Units.{TakeAll}
+use Rattle.inf_statement_laws.specs.{Happenings.Acts, Happenings.Quiet, Happenings.Takes, Happenings.happen_quietly, Happenings.is_quiet}
+use Rattle.inf_statement_laws.specs.{Laid.ended_as, Laid.holding, Laid.laid, Laid.opened_at, Laid.run, Readings.Seen, Readings.plainly_at}
+use Rattle.inf_statement_laws.specs.Nested.{If, IfElse, Nested, Plain, While, happenings, Then as After}
+use Rattle.inf_statement_laws.proofs.{Acts.quiet_run, Laying.laid_as, Rules.number}
+use Rattle.inf_language.specs.{Texts.atoms_of, Texts.happenings_before, Texts.tokens_of, Units.TakeAll}
 use Rattle.inf_trees.specs.Statements.{statement_done}
-use Rattle.inf_trees.proofs.StatementsRead.{behind, parted}
-use Rattle.inf_trees.proofs.RuleRows.{of_rows}
-use Rattle.inf_trees.proofs.StatementTexts.{Rows, unit_end}
-use Rattle.inf_trees.proofs.UnitsRead.{place_before, seen_parts}
-use Rattle.inf_routine_trees.specs.Bodies.{Simple, Standing, Tree, TreeWritten, bracketed_done, bracketed_seen}
-use Rattle.inf_routine_trees.specs.Bodies.{later_effects, next_effect, opening_of, token_done, tree_laid, tree_seen, with_effect, with_effects}
-use Rattle.inf_routine_trees.specs.Bodies.{word_done}
-use Rattle.inf_routine_trees.specs.Bodies.{If as IfTree, IfElse as ElseTree, While as WhileTree}
+use Rattle.inf_trees.proofs.{RuleRows.of_rows, StatementTexts.Rows, StatementTexts.unit_end, StatementsRead.behind, StatementsRead.parted}
+use Rattle.inf_trees.proofs.{UnitsRead.place_before, UnitsRead.seen_parts}
+use Rattle.inf_routine_trees.specs.Bodies.{Simple, Standing, Tree, TreeWritten, bracketed_done, bracketed_seen, later_effects, next_effect}
+use Rattle.inf_routine_trees.specs.Bodies.{opening_of, token_done, tree_laid, tree_seen, with_effect, with_effects, word_done, If as IfTree}
+use Rattle.inf_routine_trees.specs.Bodies.{IfElse as ElseTree, While as WhileTree}
 use Rattle.inf_simple_trees.specs.Room.{have_room}
 use Rattle.inf_routine_trees.proofs.Effects.{Effects, given, none_behind, none_effects, none_given, put, put_happens, with_behind}
 use Rattle.inf_routine_trees.proofs.Endings.{last_took}
-use Rattle.inf_routine_trees.proofs.Pieces.{BracketedText, bracketed_text}
-use Rattle.inf_simple_trees.proofs.Symbols.{PartsOf, act_first, parts_of}
-use Rattle.inf_routine_trees.proofs.Pieces.{Worded, closed_text, test_happen, test_happens, test_quiet, test_runs}
-use Rattle.inf_simple_trees.proofs.Symbols.{token_first}
-use Rattle.inf_routine_trees.proofs.Pieces.{before_word, word_happens, worded}
-use Rattle.inf_simple_trees.proofs.SimpleRead.{IsRead, is_simple, parted_quiet}
-use Rattle.inf_simple_trees.proofs.SimpleTexts.{Reading}
-use Rattle.inf_simple_trees.proofs.UnitsGo.{AreQuiet}
+use Rattle.inf_routine_trees.proofs.Pieces.{BracketedText, bracketed_text, Worded, closed_text, test_happen, test_happens, test_quiet}
+use Rattle.inf_routine_trees.proofs.Pieces.{test_runs, before_word, word_happens, worded}
+use Rattle.inf_simple_trees.proofs.{SimpleRead.IsRead, SimpleRead.is_simple, SimpleRead.parted_quiet, SimpleTexts.Reading, UnitsGo.AreQuiet}
+use Rattle.inf_simple_trees.proofs.Symbols.{PartsOf, act_first, parts_of, token_first}
 
 -- Tokens are a tree, which lays what the happenings of some events lay, nested by their words, before another token at a place.
 pub record IsTree (b : Bool) (limits : Limits) (next : Place) (seen : List Seen) (events : List (Event Action)) : Type 0 where
@@ -123,11 +102,11 @@ pub simple_tree : {b : Bool} (limits : Limits) (next : Place) (seen : List Seen)
     → Reading front → IsText grammar (!begin ∷ (front ++ unit_end)) (atoms_of seen) events → AreSeen (atoms_of seen) (tokens_of seen)
     → length seen + 1 < 4294967295 → IsTree b limits next seen events
 simple_tree limits next seen events front reading text are_seen few =
-    let b = behind action_of.Begin (front ++ unit_end) (atoms_of seen) events text in
+    let b = behind Action.Begin (front ++ unit_end) (atoms_of seen) events text in
     let p = parted (IsRead limits) front seen b.rest b.text (λ tokens early t. reading limits tokens early t) in
     let simple = λ (u : UnitAtHand). is_simple limits u seen events b.rest b.are p are_seen few in
-    let late : List (Event Action) = Did action_of.EndStatement ∷ Took p.atom ∷ [] in
-    let are : events ≡ Did action_of.Begin ∷ (p.early ++ late) = b.are ∙ ap (λ l. Did action_of.Begin ∷ l) p.are in
+    let late : List (Event Action) = Did Action.EndStatement ∷ Took p.atom ∷ [] in
+    let are : events ≡ Did Action.Begin ∷ (p.early ++ late) = b.are ∙ ap (λ l. Did Action.Begin ∷ l) p.are in
     let quiet : AreQuiet events =
     subst AreQuiet (sym are) (refl, quiet_joined p.early late (parted_quiet limits seen b.rest p are_seen few) (refl, tt)) in
     let q : Quiet = record { all = happenings_before next events seen; are = happen_quiet next events seen quiet } in
@@ -181,7 +160,7 @@ pub record BodyText (limits : Limits) (next : Place) (seen : List Seen) (events 
   pub all : tree_seen tree ≡ seen
   pub written : TreeWritten tree
   pub nested : Nested false
-  pub happen : happenings_before next events seen ≡ happenings nested ++ Acts (plainly_at next) action_of.Close ∷ []
+  pub happen : happenings_before next events seen ≡ happenings nested ++ Acts (plainly_at next) Action.Close ∷ []
   pub lays : (effects : Effects) (context : Context) (w : Compilation) → w.closed ≡ 0 → w.opening ≡ None
       → laid limits context (put effects nested).0 w ≡ tree_laid limits context (with_effects effects tree).0 w
   pub rests : (effects : Effects) → (put effects nested).1 ≡ (with_effects effects tree).1
@@ -215,9 +194,9 @@ while_row_tree {b} limits n below stands next seen events wd text are_seen few f
     let all = moved_seen (sym wd.same) are_seen in
     let count : suc (length wd.rest) ≡ length seen = ap length wd.same in
     let o =
-    act_first action_of.OpenWhile
+    act_first Action.OpenWhile
     ('open_parenthesis' ∷ !begin ∷ !outer ∷ expression ∷ !end_while ∷ 'close_parenthesis' ∷ statement ∷ !close ∷ []) wd.rest wd.late text in
-    let t = bracketed_text limits action_of.EndWhile (statement ∷ !close ∷ []) wd.rest o.late o.text all.1 (omega (arith, few, count)) in
+    let t = bracketed_text limits Action.EndWhile (statement ∷ !close ∷ []) wd.rest o.late o.text all.1 (omega (arith, few, count)) in
     let body = body_text limits n below next t.rest t.late t.text t.seen_rest (omega (arith, few, count, t.fewer)) (omega (arith, fewer, count, t.fewer)) in
     let q : Quiet = record { all = test_happens t; are = test_quiet t refl } in
     let opens = opening_of t.tree in
@@ -231,13 +210,13 @@ while_row_tree {b} limits n below stands next seen events wd text are_seen few f
       same =
           sym (wd.happen next
           ∙ ap (λ l. word ++ l) (o.happen next
-          ∙ (ap (λ x. Acts (plainly_at x) action_of.OpenWhile ∷ happenings_before next o.late wd.rest) (t.place next)
-          ∙ ap (λ l. Acts opens action_of.OpenWhile ∷ l) (test_happen t next ∙ ap (λ l. test_happens t ++ l) body.happen))));
+          ∙ (ap (λ x. Acts (plainly_at x) Action.OpenWhile ∷ happenings_before next o.late wd.rest) (t.place next)
+          ∙ ap (λ l. Acts opens Action.OpenWhile ∷ l) (test_happen t next ∙ ap (λ l. test_happens t ++ l) body.happen))));
       lays = λ effects context w ahead none.
           let v = word_done limits context stands wd.word w in
-          let c = opened limits kind.While v.output in
+          let c = opened limits Kind.While v.output in
           let x = opened_at context opens c v in
-          let y = bracketed_done limits context action_of.EndWhile t.tree x in
+          let y = bracketed_done limits context Action.EndWhile t.tree x in
           let inner = put effects body.nested in
           let holding_body = WhileTree stands wd.word t.tree (with_effects effects body.tree).0 in
           with_behind limits context (next_effect inner.1) holding_body w next
@@ -267,10 +246,10 @@ while_tree {b} limits n below stands next seen events text are_seen few fewer =
 
 -- The rest of an `if` behind its body: its closing, or its `else`
 data ElseText (limits : Limits) (next : Place) (seen : List Seen) (events : List (Event Action)) : Type 0 where
-  Without : seen ≡ [] → happenings_before next events seen ≡ Acts (plainly_at next) action_of.Close ∷ [] → ElseText limits next seen events
+  Without : seen ≡ [] → happenings_before next events seen ≡ Acts (plainly_at next) Action.Close ∷ [] → ElseText limits next seen events
   With : (joins : Seen) (rest : List Seen) (late : List (Event Action)) → joins ∷ rest ≡ seen
       → happenings_before next events seen
-      ≡ Acts (plainly_at joins.token.place) action_of.Else ∷ Takes joins.token joins.behind ∷ happenings_before next late rest
+      ≡ Acts (plainly_at joins.token.place) Action.Else ∷ Takes joins.token joins.behind ∷ happenings_before next late rest
       → BodyText limits next rest late → ElseText limits next seen events
 
 else_rows : Rows else_part (row (!else ∷ 'else' ∷ statement ∷ !close ∷ []) ∷ row_unless 115 (!close ∷ []) ∷ [])
@@ -281,14 +260,14 @@ else_with : (limits : Limits) (n : ℕ) → Below limits n → (next : Place) (s
     → IsText grammar (!else ∷ 'else' ∷ statement ∷ !close ∷ []) (atoms_of seen) events → AreAll seen → length seen + 1 < 4294967295
     → length seen ≤ n → ElseText limits next seen events
 else_with limits n below next seen events text are_seen few fewer =
-    let e = act_first action_of.Else ('else' ∷ statement ∷ !close ∷ []) seen events text in
+    let e = act_first Action.Else ('else' ∷ statement ∷ !close ∷ []) seen events text in
     let t = token_first (statement ∷ !close ∷ []) seen e.late e.text in
     let count : suc (length t.rest) ≡ length seen = ap length t.same in
     let all = moved_seen (sym t.same) are_seen in
     With t.s t.rest t.late t.same
     (e.happen next
-    ∙ (ap (λ x. Acts (plainly_at x) action_of.Else ∷ happenings_before next e.late seen) (t.place next)
-    ∙ ap (λ l. Acts (plainly_at t.s.token.place) action_of.Else ∷ l) (t.happen next)))
+    ∙ (ap (λ x. Acts (plainly_at x) Action.Else ∷ happenings_before next e.late seen) (t.place next)
+    ∙ ap (λ l. Acts (plainly_at t.s.token.place) Action.Else ∷ l) (t.happen next)))
     (body_text limits n below next t.rest t.late t.text all.1 (omega (arith, few, count)) (omega (arith, fewer, count)))
 
 else_text : (limits : Limits) (n : ℕ) → Below limits n → (next : Place) (seen : List Seen) (events : List (Event Action))
@@ -310,8 +289,8 @@ record IfText (limits : Limits) (n : ℕ) (stands : Standing) (next : Place) (se
   wd : Worded limits stands (if_rest ∷ []) seen events
   former : List (Event Action)
   opened_first : (next : Place) → happenings_before next wd.late wd.rest
-      ≡ Acts (plainly_at (place_before wd.rest next)) action_of.OpenIf ∷ happenings_before next former wd.rest
-  test : BracketedText limits action_of.EndIf (statement ∷ else_part ∷ []) wd.rest former
+      ≡ Acts (plainly_at (place_before wd.rest next)) Action.OpenIf ∷ happenings_before next former wd.rest
+  test : BracketedText limits Action.EndIf (statement ∷ else_part ∷ []) wd.rest former
   parts : PartsOf (statement ∷ []) (else_part ∷ []) test.rest test.late
   body : IsTree false limits (place_before parts.rest next) parts.front parts.early
   seen_rest : AreAll parts.rest
@@ -325,8 +304,8 @@ if_text : (limits : Limits) (n : ℕ) → Below limits n → (stands : Standing)
 if_text limits n below stands next seen events wd text are_seen few fewer =
     let all = moved_seen (sym wd.same) are_seen in
     let count : suc (length wd.rest) ≡ length seen = ap length wd.same in
-    let o = act_first action_of.OpenIf (if_front ++ statement ∷ else_part ∷ []) wd.rest wd.late text in
-    let t = bracketed_text limits action_of.EndIf (statement ∷ else_part ∷ []) wd.rest o.late o.text all.1 (omega (arith, few, count)) in
+    let o = act_first Action.OpenIf (if_front ++ statement ∷ else_part ∷ []) wd.rest wd.late text in
+    let t = bracketed_text limits Action.EndIf (statement ∷ else_part ∷ []) wd.rest o.late o.text all.1 (omega (arith, few, count)) in
     let p = parts_of (statement ∷ []) (else_part ∷ []) t.rest t.late t.text in
     let seen_parts_2 = seen_parts p.front p.rest (moved_seen (sym p.same) t.seen_rest) in
     record {
@@ -347,13 +326,13 @@ if_happen : {limits : Limits} {n : ℕ} {stands : Standing} {next : Place} {seen
     (i : IfText limits n stands next seen events)
     → happenings_before next events seen
     ≡ word_happens stands i.wd.word
-    ++ Acts (opening_of i.test.tree) action_of.OpenIf
+    ++ Acts (opening_of i.test.tree) Action.OpenIf
     ∷ (test_happens i.test ++ (happenings i.body.nested ++ happenings_before next i.parts.late i.parts.rest))
 if_happen {stands = stands} {next} i =
     i.wd.happen next
     ∙ ap (λ l. word_happens stands i.wd.word ++ l) (i.opened_first next
-    ∙ (ap (λ x. Acts (plainly_at x) action_of.OpenIf ∷ happenings_before next i.former i.wd.rest) (i.test.place next)
-    ∙ ap (λ l. Acts (opening_of i.test.tree) action_of.OpenIf ∷ l) (test_happen i.test next
+    ∙ (ap (λ x. Acts (plainly_at x) Action.OpenIf ∷ happenings_before next i.former i.wd.rest) (i.test.place next)
+    ∙ ap (λ l. Acts (opening_of i.test.tree) Action.OpenIf ∷ l) (test_happen i.test next
     ∙ ap (λ l. test_happens i.test ++ l) (i.parts.happen next
     ∙ ap (λ l. l ++ happenings_before next i.parts.late i.parts.rest) (sym i.body.same)))))
 
@@ -375,12 +354,12 @@ if_by {b} limits n stands next seen events i (Without none happen) =
       nested = After (Plain (word_quiet i.wd)) (If opens q i.body.nested closes);
       same =
           sym (if_happen i
-          ∙ ap (λ l. word ++ Acts opens action_of.OpenIf ∷ (test_happens i.test ++ (happenings i.body.nested ++ l))) happen);
+          ∙ ap (λ l. word ++ Acts opens Action.OpenIf ∷ (test_happens i.test ++ (happenings i.body.nested ++ l))) happen);
       lays = λ effects context w ahead none.
           let v = word_done limits context stands i.wd.word w in
-          let c = opened limits kind.If v.output in
+          let c = opened limits Kind.If v.output in
           let x = opened_at context opens c v in
-          let y = bracketed_done limits context action_of.EndIf i.test.tree x in
+          let y = bracketed_done limits context Action.EndIf i.test.tree x in
           let inner = put effects i.body.nested in
           let holding_body = IfTree stands i.wd.word i.test.tree (with_effects effects i.body.tree).0 in
           with_behind limits context (next_effect inner.1) holding_body w next
@@ -411,13 +390,13 @@ if_by {b} limits n stands next seen events i (With joins rest late same happen o
       nested = After (Plain (word_quiet i.wd)) (IfElse opens q i.body.nested at word_2 other.nested closes);
       same =
           sym (if_happen i
-          ∙ ap (λ l. word ++ Acts opens action_of.OpenIf ∷ (test_happens i.test ++ (happenings i.body.nested ++ l)))
-          (happen ∙ ap (λ l. Acts at action_of.Else ∷ Takes joins.token joins.behind ∷ l) other.happen));
+          ∙ ap (λ l. word ++ Acts opens Action.OpenIf ∷ (test_happens i.test ++ (happenings i.body.nested ++ l)))
+          (happen ∙ ap (λ l. Acts at Action.Else ∷ Takes joins.token joins.behind ∷ l) other.happen));
       lays = λ effects context w ahead none.
           let v = word_done limits context stands i.wd.word w in
-          let c = opened limits kind.If v.output in
+          let c = opened limits Kind.If v.output in
           let x = opened_at context opens c v in
-          let y = bracketed_done limits context action_of.EndIf i.test.tree x in
+          let y = bracketed_done limits context Action.EndIf i.test.tree x in
           let tested = test_closed i.test refl context x (word_closed i.wd context w ahead) in
           let inner = put effects i.body.nested in
           let inner_tree = with_effects effects i.body.tree in

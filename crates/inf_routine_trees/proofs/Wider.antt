@@ -1,11 +1,10 @@
 -- A nested statement in which no case may stand, where one may.
 use Rattle.std.proofs.Common.{◌≡◌, ◌++◌, Bool, false, refl, ◌∙◌, ap}
 use Rattle.inf_settings.specs.Bounds.{Limits}
-use Rattle.inf_compilation.specs.Context.{Context}
-use Rattle.inf_compilation.specs.Actions.{Compilation}
+use Rattle.inf_compilation.specs.{Actions.Compilation, Context.Context}
 use Rattle.inf_statement_laws.specs.Laid.{laid}
-use Rattle.inf_routine_trees.proofs.Effects.{Effects, put}
 use Rattle.inf_statement_laws.specs.Nested.{Do, For, If, IfElse, Nested, Objectloop, Plain, Switch, Then, While, happenings}
+use Rattle.inf_routine_trees.proofs.Effects.{Effects, put}
 
 pub wider : (b : Bool) → Nested false → Nested b
 wider b (Plain plain) = Plain plain

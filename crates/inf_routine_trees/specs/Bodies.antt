@@ -5,22 +5,16 @@ use Rattle.std.specs.Prelude.{None}
 use Rattle.inf_settings.specs.Bounds.{Limits}
 use Rattle.inf_scanner.specs.declared.tokens.Place.{Place}
 use Rattle.inf_machine.specs.Grammar.{Event, IsText}
-use Rattle.inf_syntax.specs.Parts.{directive_2, statement}
-use Rattle.inf_syntax.specs.declared.actions.Action.{Action}
-use Rattle.inf_syntax.specs.declared.actions.Action.TheVariants as action
+use Rattle.inf_syntax.specs.{Parts.directive_2, Parts.statement, declared.actions.Action.Action}
 use Rattle.inf_grammar.specs.Language.{grammar}
-use Rattle.inf_constructs.specs.Constructs.{between, opened}
+use Rattle.inf_constructs.specs.{Constructs.between, Constructs.opened, declared.constructs.Kind.Kind, declared.constructs.Over.Over}
 use Rattle.inf_constructs.specs.declared.constructs.Case.TheVariants as case
-use Rattle.inf_constructs.specs.declared.constructs.Kind.TheVariants as kind
-use Rattle.inf_constructs.specs.declared.constructs.Over.TheVariants as over
 use Rattle.inf_unit.specs.Units.{Unit as UnitAtHand, begun, no_unit}
-use Rattle.inf_compilation.specs.Context.{Context}
-use Rattle.inf_compilation.specs.Actions.{Compilation, took}
+use Rattle.inf_compilation.specs.{Actions.Compilation, Actions.took, Context.Context}
 use Rattle.inf_reader.specs.Acting.{act}
 use Rattle.inf_expression_laws.specs.Gathered.{AreSeen}
-use Rattle.inf_statement_laws.specs.Happenings.{Between, Moment, Quiet}
+use Rattle.inf_statement_laws.specs.{Happenings.Between, Happenings.Moment, Happenings.Quiet, Readings.Seen, Readings.plainly_at}
 use Rattle.inf_statement_laws.specs.Laid.{ended_as, holding, next_comes, opened_at, passed, run, with_kind_in, with_step_in}
-use Rattle.inf_statement_laws.specs.Readings.{Seen, plainly_at}
 use Rattle.inf_language.specs.Texts.{atoms_of, happenings_before, tokens_of}
 use Rattle.inf_trees.specs.Statements.{Statement, statement_done, with_unit}
 use Rattle.inf_trees.specs.Trees.{AreWritten, Part, all_seen, parts_told, with_parts}
@@ -146,8 +140,8 @@ token_done context s w = next_comes (passed s.behind (took context s.token w))
 -- the word of a statement that holds others
 abbrev pub before_taken : Limits → Context → Standing → Place → Compilation → Compilation
 before_taken limits context AtTop place w = w
-before_taken limits context Inner place w = act limits context place action.Deeper w
-before_taken limits context OfSwitch place w = act limits context place action.MaybeDeeper w
+before_taken limits context Inner place w = act limits context place Action.Deeper w
+before_taken limits context OfSwitch place w = act limits context place Action.MaybeDeeper w
 
 abbrev pub word_done : Limits → Context → Standing → Seen → Compilation → Compilation
 word_done limits context stands word w = token_done context word (before_taken limits context stands word.token.place w)
@@ -195,59 +189,60 @@ tree_laid limits context (Simple statement one_by_one) w =
     else run limits context one_by_one.all w
 tree_laid limits context (Case start values one_by_one colon) w =
     let read = values_done limits context values one_by_one (started limits context start w) in
-    token_done context colon (act limits context colon.token.place action.EndCase read)
+    token_done context colon (act limits context colon.token.place Action.EndCase read)
 tree_laid limits context (Block brace inside closing) w =
     token_done context closing (tree_laid limits context inside (token_done context brace w))
 tree_laid limits context (If stands word test body) w =
     let v = word_done limits context stands word w in
-    let c = opened limits kind.If v.output in
+    let c = opened limits Kind.If v.output in
     ended_as limits (opening_of test) c.0 v.constructs
-    (tree_laid limits context body (bracketed_done limits context action.EndIf test (opened_at context (opening_of test) c v)))
+    (tree_laid limits context body (bracketed_done limits context Action.EndIf test (opened_at context (opening_of test) c v)))
 tree_laid limits context (IfElse stands word test body joins other) w =
     let v = word_done limits context stands word w in
-    let c = opened limits kind.If v.output in
+    let c = opened limits Kind.If v.output in
     let first =
-    tree_laid limits context body (bracketed_done limits context action.EndIf test (opened_at context (opening_of test) c v)) in
+    tree_laid limits context body (bracketed_done limits context Action.EndIf test (opened_at context (opening_of test) c v)) in
     let joined = between limits c.0 first.output in
     ended_as limits (opening_of test) joined.0 v.constructs
     (tree_laid limits context other (token_done context joins (holding (opening_of test) joined v.constructs first)))
 tree_laid limits context (While stands word test body) w =
     let v = word_done limits context stands word w in
-    let c = opened limits kind.While v.output in
+    let c = opened limits Kind.While v.output in
     ended_as limits (opening_of test) c.0 v.constructs
-    (tree_laid limits context body (bracketed_done limits context action.EndWhile test (opened_at context (opening_of test) c v)))
+    (tree_laid limits context body (bracketed_done limits context Action.EndWhile test (opened_at context (opening_of test) c v)))
 tree_laid limits context (Do stands word body joins test semicolon) w =
     let v = word_done limits context stands word w in
-    let c = opened limits kind.Do v.output in
+    let c = opened limits Kind.Do v.output in
     let first = token_done context joins (tree_laid limits context body (opened_at context (moment_before (tree_seen body) joins) c v)) in
     let joined = between limits c.0 first.output in
     ended_as limits (opening_of test) joined.0 v.constructs
-    (token_done context semicolon (bracketed_done limits context action.EndUntil test (holding (opening_of test) joined v.constructs first)))
+    (token_done context semicolon (bracketed_done limits context Action.EndUntil test
+    (holding (opening_of test) joined v.constructs first)))
 tree_laid limits context (For stands word bracket start first test second step closing body) w =
     let v = word_done limits context stands word w in
     let at = plainly_at bracket.token.place in
-    let c = opened limits kind.For v.output in
+    let c = opened limits Kind.For v.output in
     let started =
-    maybe_done limits context action.EndForStart first.token.place start (token_done context bracket (opened_at context at c v)) in
+    maybe_done limits context Action.EndForStart first.token.place start (token_done context bracket (opened_at context at c v)) in
     let top = between limits c.0 started.output in
     let tested =
-    maybe_done limits context action.EndForTest second.token.place test (token_done context first (holding at top v.constructs started)) in
-    let stepped = maybe_done limits context action.EndForStep closing.token.place step (token_done context second tested) in
+    maybe_done limits context Action.EndForTest second.token.place test (token_done context first (holding at top v.constructs started)) in
+    let stepped = maybe_done limits context Action.EndForStep closing.token.place step (token_done context second tested) in
     let own = with_step_in stepped.constructs top.0 in
     ended_as limits at own v.constructs
     (tree_laid limits context body (token_done context closing (record stepped { constructs = own ∷ v.constructs })))
 tree_laid limits context (Objectloop stands word loop body) w =
     let v = word_done limits context stands word w in
-    let c = opened limits (kind.Objects over.Nothing 0) v.output in
+    let c = opened limits (Kind.Objects Over.Nothing 0) v.output in
     let looped =
-    act limits context loop.closing.token.place action.EndObjectloop (unit_done context loop (opened_at context (opening_of loop) c v)) in
+    act limits context loop.closing.token.place Action.EndObjectloop (unit_done context loop (opened_at context (opening_of loop) c v)) in
     let joined = between limits (with_kind_in looped.constructs c.0) looped.output in
     ended_as limits (opening_of loop) joined.0 v.constructs
     (tree_laid limits context body (token_done context loop.closing (holding (opening_of loop) joined v.constructs looped)))
 tree_laid limits context (Switch stands word value brace cases closing) w =
     let v = word_done limits context stands word w in
-    let c = opened limits (kind.Switch case.Nothing false) v.output in
-    let read = bracketed_done limits context action.EndSwitch value (opened_at context (opening_of value) c v) in
+    let c = opened limits (Kind.Switch case.Nothing false) v.output in
+    let read = bracketed_done limits context Action.EndSwitch value (opened_at context (opening_of value) c v) in
     let inside = token_done context closing (tree_laid limits context cases (token_done context brace read)) in
     ended_as limits (opening_of value) (with_kind_in inside.constructs c.0) v.constructs inside
 tree_laid limits context (With statement behind) w = passed behind (tree_laid limits context statement w)
@@ -256,7 +251,7 @@ tree_laid limits context (With statement behind) w = passed behind (tree_laid li
 
 -- whether an action ends a statement that holds others
 abbrev pub is_close : Action → Bool
-is_close action.Close = true
+is_close Action.Close = true
 is_close _ = false
 
 -- The effects of conditional directives that close statements ahead, one for each statement that holds others, in the order of their ends:

@@ -1,21 +1,16 @@
 -- A routine as a tree: its header with the names of its locals, its statements as trees, and its end.
 use Rattle.std.specs.Prelude.{◌≡◌, ◌+◌, ◌<◌, List, [], ◌∷◌, ◌++◌, length, Option}
 use Rattle.inf_settings.specs.Bounds.{Limits}
-use Rattle.inf_machine.specs.declared.symbols.Symbol.{Symbol}
-use Rattle.inf_machine.specs.Grammar.{Event, IsText}
+use Rattle.inf_machine.specs.{Grammar.Event, Grammar.IsText, declared.symbols.Symbol.Symbol}
 use Rattle.inf_syntax.specs.Parts.{ !end_locals, !end_routine, !routine, 'close_bracket', 'open_bracket', 'semicolon', NAME, directive}
 use Rattle.inf_syntax.specs.Parts.{directive_1, directive_2}
 use Rattle.inf_syntax.specs.declared.actions.Action.{Action}
-use Rattle.inf_syntax.specs.declared.actions.Action.TheVariants as action
 use Rattle.inf_grammar.specs.Language.{grammar}
-use Rattle.inf_unit.specs.declared.roles.Note.TheVariants as note
-use Rattle.inf_compilation.specs.Context.{Context}
-use Rattle.inf_compilation.specs.Actions.{Compilation}
+use Rattle.inf_unit.specs.declared.roles.Note.{Note}
+use Rattle.inf_compilation.specs.{Actions.Compilation, Context.Context}
 use Rattle.inf_reader.specs.Acting.{act}
 use Rattle.inf_expression_laws.specs.Gathered.{AreSeen}
-use Rattle.inf_statement_laws.specs.Happenings.{Between}
-use Rattle.inf_statement_laws.specs.Laid.{next_comes}
-use Rattle.inf_statement_laws.specs.Readings.{Seen, all_taken}
+use Rattle.inf_statement_laws.specs.{Happenings.Between, Laid.next_comes, Readings.Seen, Readings.all_taken}
 use Rattle.inf_language.specs.Texts.{NoneClosesAhead, atoms_of, tokens_of}
 use Rattle.inf_trees.specs.Trees.{Noted, Part, Single, parts_told, with_parts}
 use Rattle.inf_routine_trees.specs.Bodies.{Tree, TreeWritten, token_done, tree_laid, tree_seen, with_effects}
@@ -30,7 +25,7 @@ pub record Header : Type 0 where
 -- The unit of a header: its bracket, its name, and each name of a local, which is noted as one.
 abbrev pub local_parts : List Seen → List Part
 local_parts [] = []
-local_parts (s ∷ locals) = Single s ∷ Noted note.Local ∷ local_parts locals
+local_parts (s ∷ locals) = Single s ∷ Noted Note.Local ∷ local_parts locals
 
 abbrev pub header_parts : Header → List Part
 header_parts h = Single h.bracket ∷ Single h.name ∷ local_parts h.locals
@@ -52,13 +47,13 @@ routine_seen r = header_seen r.header ++ (tree_seen r.body ++ r.closing ∷ r.la
 abbrev pub header_done : Limits → Context → Header → Compilation → Compilation
 header_done limits context h w =
     let named = record (parts_told context w.unit (header_parts h) w) { unit = with_parts (header_parts h) w.unit } in
-    token_done context h.semicolon (act limits context h.semicolon.token.place action.EndLocals named)
+    token_done context h.semicolon (act limits context h.semicolon.token.place Action.EndLocals named)
 
 -- The effect of a routine: its header, its statements, and its end, which acts before the closing bracket.
 abbrev pub routine_done : Limits → Context → Routine → Compilation → Compilation
 routine_done limits context r w =
     let inside = tree_laid limits context r.body (header_done limits context r.header w) in
-    token_done context r.last (token_done context r.closing (act limits context r.closing.token.place action.EndRoutine inside))
+    token_done context r.last (token_done context r.closing (act limits context r.closing.token.place Action.EndRoutine inside))
 
 -- a routine with effects of conditional directives behind the ends of its statements
 abbrev pub routine_with : List (Option Between) → Routine → Routine

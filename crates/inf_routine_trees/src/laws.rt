@@ -1,7 +1,6 @@
 //! Laws that statements and routines, read token by token, have the effects of trees.
 ghost use Rattle.inf_settings.specs.Bounds.{Limits};
-ghost use Rattle.inf_routine_trees.specs.Bodies.{BodiesAreLaidAsTrees, StatementsAreLaidAsTrees};
-ghost use Rattle.inf_routine_trees.specs.Routines.{RoutinesAreTrees};
+ghost use Rattle.inf_routine_trees.specs.{Bodies.BodiesAreLaidAsTrees, Bodies.StatementsAreLaidAsTrees, Routines.RoutinesAreTrees};
 
 /// Shows that each text of a statement is a tree, of units, and of statements that hold others, and that taking its tokens lays
 /// what the tree lays as a whole (Designer's Manual, fourth edition, sections 1.7 and 1.8).

@@ -1,6 +1,6 @@
 //! Actions and parsing routines.
 ghost use Rattle.std.specs.Prelude.{◌≡◌};
-ghost use Rattle.inf_settings.specs.declared.setting.Setting.TheVariants as setting;
+ghost use Rattle.inf_settings.specs.declared.setting.Setting.{Setting};
 
 use crate::tables::{Table, answers, unknown};
 use inf_area::{Area, Refs, WriteFault};
@@ -60,7 +60,7 @@ pub(crate) fn answer(alloc: Global, line: &str) -> Result<String, AllocError> {
 
 /// Returns the answer to a line of actions, of which there may be `limit`.
 fn answer_under<B: Bounds>(alloc: Global, limit: usize, line: &[u8]) -> Result<String, AllocError>
-    requires { limit ≡ B.most setting.Actions }
+    requires { limit ≡ B.most Setting.Actions }
 {
     answers(alloc, &mut Actions::<B>::new(alloc, limit), text_of(line))
 }

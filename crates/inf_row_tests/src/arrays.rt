@@ -1,6 +1,6 @@
 //! Arrays and global variables.
 ghost use Rattle.std.specs.Prelude.{◌≡◌};
-ghost use Rattle.inf_settings.specs.declared.setting.Setting.TheVariants as setting;
+ghost use Rattle.inf_settings.specs.declared.setting.Setting.{Setting};
 
 use crate::tables::{Table, answers, unknown};
 use crate::values::{pair_at, value_of};
@@ -101,7 +101,7 @@ pub(crate) fn answer(alloc: Global, line: &str) -> Result<String, AllocError> {
 
 /// Returns the answer to a line of arrays, which may have `limit` bytes.
 fn answer_under<B: Bounds>(alloc: Global, limit: usize, line: &[u8]) -> Result<String, AllocError>
-    requires { limit ≡ B.most setting.Arrays }
+    requires { limit ≡ B.most Setting.Arrays }
 {
     answers(alloc, &mut Arrays::<B>::new(alloc, limit), text_of(line))
 }

@@ -1,6 +1,6 @@
 //! Dictionaries.
 ghost use Rattle.std.specs.Prelude.{◌≡◌};
-ghost use Rattle.inf_settings.specs.declared.setting.Setting.TheVariants as setting;
+ghost use Rattle.inf_settings.specs.declared.setting.Setting.{Setting};
 
 use crate::tables::{Table, answers, unknown};
 use inf_area::{Area, Refs, WriteFault};
@@ -128,7 +128,7 @@ pub(crate) fn answer(alloc: Global, line: &str) -> Result<String, AllocError> {
 
 /// Returns the answer to a line of a dictionary, which may have `limit` words.
 fn answer_under<B: Bounds>(alloc: Global, limit: usize, line: &[u8]) -> Result<String, AllocError>
-    requires { limit ≡ B.most setting.DictionaryEntries }
+    requires { limit ≡ B.most Setting.DictionaryEntries }
 {
     answers(
         alloc,

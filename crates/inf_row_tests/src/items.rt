@@ -1,6 +1,5 @@
 //! Items of routines, as they are written.
-ghost use Rattle.inf_opcode.specs.Instructions.{IsProper};
-ghost use Rattle.inf_opcode.specs.PartsOf.{parts_of};
+ghost use Rattle.inf_opcode.specs.{Instructions.IsProper, PartsOf.parts_of};
 ghost use Rattle.inf_assembler.specs.Routines.{IsOpen, Were, contents_of, moment_of};
 
 use crate::proper::is_proper;

@@ -1,7 +1,7 @@
 //! Routines of expressions, and their answers.
 ghost use Rattle.std.specs.Prelude.{◌≡◌};
 ghost use Rattle.inf_code.specs.Code.{code_limits};
-ghost use Rattle.inf_settings.specs.declared.setting.Setting.TheVariants as setting;
+ghost use Rattle.inf_settings.specs.declared.setting.Setting.{Setting};
 ghost use Rattle.inf_row_tests.specs.Most.{AreUsual};
 
 use crate::expressions::{HERE, trees};
@@ -147,7 +147,7 @@ fn output_for<B: Bounds>(
     names: Symbols<Place, B>,
 ) -> Result<Output<B>, AllocError>
     requires code { limits ≡ code_limits B.most }
-    requires strings { 262144 ≡ B.most setting.Strings }
+    requires strings { 262144 ≡ B.most Setting.Strings }
     requires others { AreUsual B.most }
 {
     let code = Code::new(alloc, limits, Scale::Four)?;
@@ -184,9 +184,9 @@ fn answer_under<B: Bounds>(
     way: Way,
     spelled: &[u8],
 ) -> Result<String, AllocError>
-    requires names { most.names ≡ B.most setting.Symbols }
+    requires names { most.names ≡ B.most Setting.Symbols }
     requires code { most.code ≡ code_limits B.most }
-    requires strings { 262144 ≡ B.most setting.Strings }
+    requires strings { 262144 ≡ B.most Setting.Strings }
     requires others { AreUsual B.most }
 {
     let mut names = Symbols::<Place, B>::new(alloc, most.names, false, NameHashing::new(b""));

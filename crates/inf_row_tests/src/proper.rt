@@ -1,7 +1,6 @@
 //! Whether the instruction set has an instruction.
 ghost use Rattle.std.specs.Prelude.{◌≡◌, true};
-ghost use Rattle.inf_opcode.specs.Instructions.{IsProper, fits_variable, has_no_offset};
-ghost use Rattle.inf_opcode.specs.PartsOf.{parts_of};
+ghost use Rattle.inf_opcode.specs.{Instructions.IsProper, Instructions.fits_variable, Instructions.has_no_offset, PartsOf.parts_of};
 
 use inf_opcode::{Instruction, Operand};
 

@@ -1,6 +1,6 @@
 //! Verbs and their lines.
 ghost use Rattle.std.specs.Prelude.{◌≡◌};
-ghost use Rattle.inf_settings.specs.declared.setting.Setting.TheVariants as setting;
+ghost use Rattle.inf_settings.specs.declared.setting.Setting.{Setting};
 
 use crate::line_tokens::tokens_of;
 use crate::tables::{Table, answers, unknown};
@@ -123,8 +123,8 @@ fn answer_under<B: Bounds>(
     space: usize,
     line: &[u8],
 ) -> Result<String, AllocError>
-    requires verbs { limit ≡ B.most setting.Verbs }
-    requires bytes { space ≡ B.most setting.GrammarLines }
+    requires verbs { limit ≡ B.most Setting.Verbs }
+    requires bytes { space ≡ B.most Setting.GrammarLines }
 {
     answers(
         alloc,

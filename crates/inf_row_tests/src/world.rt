@@ -1,6 +1,6 @@
 //! Worlds: attributes, properties, objects and classes.
 ghost use Rattle.std.specs.Prelude.{◌≡◌};
-ghost use Rattle.inf_settings.specs.declared.setting.Setting.TheVariants as setting;
+ghost use Rattle.inf_settings.specs.declared.setting.Setting.{Setting};
 
 use crate::tables::{Table, answers, unknown};
 use crate::values::value_of;
@@ -237,8 +237,8 @@ pub(crate) fn answer(alloc: Global, line: &str) -> Result<String, AllocError> {
 
 /// Returns the answer to a line of a world under limits.
 fn answer_under<B: Bounds>(alloc: Global, limits: Limits, line: &[u8]) -> Result<String, AllocError>
-    requires objects { limits.objects ≡ B.most setting.Objects }
-    requires bytes { limits.property_bytes ≡ B.most setting.PropertyTables }
+    requires objects { limits.objects ≡ B.most Setting.Objects }
+    requires bytes { limits.property_bytes ≡ B.most Setting.PropertyTables }
 {
     answers(alloc, &mut World::<B>::new(alloc, limits), text_of(line))
 }

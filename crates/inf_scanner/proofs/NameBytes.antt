@@ -1,6 +1,5 @@
 -- The table of the bytes that may be in names.
-use Rattle.std.proofs.Common.{◌≡◌, ℕ, ◌+◌, ◌<◌, zero, suc, Bool, ◌∙◌, ap, arith}
-use Rattle.std.specs.Prelude.{slice_index_or}
+use Rattle.std.proofs.Common.{◌≡◌, ℕ, ◌+◌, ◌<◌, zero, suc, Bool, ◌∙◌, ap, arith, slice_index_or}
 use Rattle.inf_scanner.specs.Runs.{is_name_byte, name_bytes, names_from}
 
 from : (n b i : ℕ) (d : Bool) → i < n → slice_index_or (names_from n b) i d ≡ is_name_byte (b + i)

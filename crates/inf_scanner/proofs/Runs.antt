@@ -1,25 +1,14 @@
 -- A run of bytes that leave a state as it is has the effect of its bytes one after another.
 use Rattle.std.proofs.Common.{◌≡◌, ℕ, suc, zero, ◌+◌, ◌-◌, ◌<◌, ◌≤◌, ◌⊎◌, inl, inr, List, [], ◌∷◌, ◌++◌, length, take, drop, cond, not}
 use Rattle.std.proofs.Common.{◌||◌, ◌&&◌, ◌==◌, nat_le, nat_lt, Bool, true, false, Option, Some, None, refl, sym, ap, subst, ◌∙◌, arith}
-use Rattle.std.proofs.Common.{append-nil, append_assoc, length-append}
-use Rattle.std.specs.List.{prefix_len}
+use Rattle.std.proofs.Common.{append-nil, append_assoc, length-append, slice_get}
 use Rattle.std.proofs.lemmas.Bool.{cond-true, cond-false, cases_lt, lt-ltb, le-ltb, eqb-true, le-leb, lt-leb}
-use Rattle.inf_characters.specs.Characters.{is_line_end, is_white}
-use Rattle.inf_characters.specs.declared.characters.CharSet.{CharSet}
-use Rattle.inf_characters.specs.declared.characters.CharSet.TheVariants as charset
-use Rattle.std.specs.Prelude.{slice_get}
-use Rattle.inf_scanner.specs.Kept.{Kept, with_byte}
-use Rattle.inf_scanner.specs.Lines.{past}
-use Rattle.inf_scanner.specs.Marks.{longer_mark}
-use Rattle.inf_scanner.specs.Runs.{is_blank, is_name_byte, is_plain, stays, with_bytes}
+use Rattle.std.specs.List.{prefix_len}
+use Rattle.inf_characters.specs.{Characters.is_line_end, Characters.is_white, declared.characters.CharSet.CharSet}
+use Rattle.inf_scanner.specs.{Kept.Kept, Kept.with_byte, Lines.past, Marks.longer_mark, Runs.is_blank, Runs.is_name_byte, Runs.is_plain}
+use Rattle.inf_scanner.specs.{Runs.stays, Runs.with_bytes, declared.lines.Lines.Lines, declared.scanner.ByteStep.ByteStep}
+use Rattle.inf_scanner.specs.{declared.scanner.Ending.Ending, declared.scanner.State.State, declared.tokens.Mark.Mark}
 use Rattle.inf_scanner.specs.Scanning.{Sight, find, is_digit, is_gap, is_letter, is_run_byte, marked, most, step_of}
-use Rattle.inf_scanner.specs.declared.lines.Lines.{Lines}
-use Rattle.inf_scanner.specs.declared.scanner.Ending.TheVariants as ending
-use Rattle.inf_scanner.specs.declared.scanner.State.{State}
-use Rattle.inf_scanner.specs.declared.scanner.State.TheVariants as state
-use Rattle.inf_scanner.specs.declared.scanner.ByteStep.{ByteStep}
-use Rattle.inf_scanner.specs.declared.scanner.ByteStep.TheVariants as step_to
-use Rattle.inf_scanner.specs.declared.tokens.Mark.{Mark}
 use Rattle.inf_scanner.proofs.Quoted.{after}
 
 -- no byte passes a test that fails for all
@@ -45,22 +34,22 @@ no_end : (s : State) (b : ℕ) → stays s b ≡ true → is_line_end b ≡ fals
 no_end s b passes = neither (b == 10) (b == 13) (other (stays s) b 10 (at_10 s) passes) (other (stays s) b 13 (at_13 s) passes)
   where
     at_10 : (s : State) → stays s 10 ≡ false
-    at_10 state.Gap = refl
-    at_10 state.Comment = refl
-    at_10 (state.Run n) = refl
-    at_10 (state.Mark m) = refl
-    at_10 state.Text = refl
-    at_10 (state.Quote false) = refl
-    at_10 (state.Quote true) = refl
+    at_10 State.Gap = refl
+    at_10 State.Comment = refl
+    at_10 (State.Run n) = refl
+    at_10 (State.Mark m) = refl
+    at_10 State.Text = refl
+    at_10 (State.Quote false) = refl
+    at_10 (State.Quote true) = refl
 
     at_13 : (s : State) → stays s 13 ≡ false
-    at_13 state.Gap = refl
-    at_13 state.Comment = refl
-    at_13 (state.Run n) = refl
-    at_13 (state.Mark m) = refl
-    at_13 state.Text = refl
-    at_13 (state.Quote false) = refl
-    at_13 (state.Quote true) = refl
+    at_13 State.Gap = refl
+    at_13 State.Comment = refl
+    at_13 (State.Run n) = refl
+    at_13 (State.Mark m) = refl
+    at_13 State.Text = refl
+    at_13 (State.Quote false) = refl
+    at_13 (State.Quote true) = refl
 
 abbrev calm : Lines → Lines
 calm lines = record { line = lines.line; after_return = false }
@@ -83,35 +72,36 @@ name_runs true y z e = refl
 name_runs false true z e = refl
 name_runs false false z e = cc
 
-run_on : (set : CharSet) (n : Bool) (b : ℕ) → is_name_byte b ≡ true → step_of set (state.Run n) b ≡ step_to.Keep (state.Run n)
+run_on : (set : CharSet) (n : Bool) (b : ℕ) → is_name_byte b ≡ true → step_of set (State.Run n) b ≡ ByteStep.Keep (State.Run n)
 run_on set n b passes =
-    cond-true (is_run_byte b) (step_to.Keep (state.Run (n || b == 36))) (step_to.Behind (ending.Run n))
+    cond-true (is_run_byte b) (ByteStep.Keep (State.Run (n || b == 36))) (ByteStep.Behind (Ending.Run n))
     (name_runs (is_letter b || is_digit b) (b == 95) (b == 36) passes)
-    ∙ ap (λ t. step_to.Keep (state.Run (n || t))) (other is_name_byte b 36 refl passes)
-    ∙ ap (λ t. step_to.Keep (state.Run t)) (or_none n)
+    ∙ ap (λ t. ByteStep.Keep (State.Run (n || t))) (other is_name_byte b 36 refl passes)
+    ∙ ap (λ t. ByteStep.Keep (State.Run t)) (or_none n)
 
-text_on : (set : CharSet) (b : ℕ) → is_plain b ≡ true → step_of set state.Text b ≡ step_to.Keep state.Text
-text_on set b passes = cond-false (b == 34) (step_to.Close ending.Text) (step_to.Keep state.Text) (other is_plain b 34 refl passes)
+text_on : (set : CharSet) (b : ℕ) → is_plain b ≡ true → step_of set State.Text b ≡ ByteStep.Keep State.Text
+text_on set b passes = cond-false (b == 34) (ByteStep.Close Ending.Text) (ByteStep.Keep State.Text) (other is_plain b 34 refl passes)
 
-quote_on : (set : CharSet) (b : ℕ) → is_plain b ≡ true → step_of set (state.Quote false) b ≡ step_to.Keep (state.Quote false)
+quote_on : (set : CharSet) (b : ℕ) → is_plain b ≡ true → step_of set (State.Quote false) b ≡ ByteStep.Keep (State.Quote false)
 quote_on set b passes =
-    cond-false (is_line_end b) (step_to.Behind ending.Unclosed)
-    (cond (b == 39 && not false) (step_to.Close ending.Quote) (step_to.Keep (state.Quote (b == 64)))) (no_end state.Text b passes)
-    ∙ ap (λ t. cond (t && not false) (step_to.Close ending.Quote) (step_to.Keep (state.Quote (b == 64)))) (other is_plain b 39 refl passes)
-    ∙ ap (λ t. step_to.Keep (state.Quote t)) (other is_plain b 64 refl passes)
+    cond-false (is_line_end b) (ByteStep.Behind Ending.Unclosed)
+    (cond (b == 39 && not false) (ByteStep.Close Ending.Quote) (ByteStep.Keep (State.Quote (b == 64)))) (no_end State.Text b passes)
+    ∙ ap (λ t. cond (t && not false) (ByteStep.Close Ending.Quote) (ByteStep.Keep (State.Quote (b == 64))))
+    (other is_plain b 39 refl passes)
+    ∙ ap (λ t. ByteStep.Keep (State.Quote t)) (other is_plain b 64 refl passes)
 
-comment_on : (set : CharSet) (b : ℕ) → is_plain b ≡ true → step_of set state.Comment b ≡ step_to.Skip state.Comment
-comment_on set b passes = ap (λ s. step_to.Skip s) (cond-false (is_line_end b) state.Gap state.Comment (no_end state.Text b passes))
+comment_on : (set : CharSet) (b : ℕ) → is_plain b ≡ true → step_of set State.Comment b ≡ ByteStep.Skip State.Comment
+comment_on set b passes = ap (λ s. ByteStep.Skip s) (cond-false (is_line_end b) State.Gap State.Comment (no_end State.Text b passes))
 
 blank_white : (set : CharSet) (b : ℕ) → is_blank b ≡ true → is_white set b ≡ true
-blank_white charset.Ascii b passes = by (b == 32) (b == 9) (b == 12) (is_line_end b) passes
+blank_white CharSet.Ascii b passes = by (b == 32) (b == 9) (b == 12) (is_line_end b) passes
   where
     by : (x y z w : Bool) → (x || y || z) ≡ true → (x || y || z || w) ≡ true
     by true y z w e = refl
     by false true z w e = refl
     by false false true w e = refl
     by false false false w e = cc
-blank_white charset.Latin1 b passes = by (b == 32) (b == 9) (b == 12) (is_line_end b) (b == 160) passes
+blank_white CharSet.Latin1 b passes = by (b == 32) (b == 9) (b == 12) (is_line_end b) (b == 160) passes
   where
     by : (x y z w v : Bool) → (x || y || z) ≡ true → (x || y || z || w || v) ≡ true
     by true y z w v e = refl
@@ -119,7 +109,7 @@ blank_white charset.Latin1 b passes = by (b == 32) (b == 9) (b == 12) (is_line_e
     by false false true w v e = refl
     by false false false w v e = cc
 
-gap_on : (set : CharSet) (b : ℕ) → is_blank b ≡ true → step_of set state.Gap b ≡ step_to.Skip state.Gap
+gap_on : (set : CharSet) (b : ℕ) → is_blank b ≡ true → step_of set State.Gap b ≡ ByteStep.Skip State.Gap
 gap_on set b passes = cond-true (is_white set b) _ _ (blank_white set b passes)
 
 -- One byte that leaves the state as it is
@@ -139,7 +129,7 @@ abbrev skipped : ℕ → Sight → Sight
 skipped b seen = seen_on seen seen.kept
 
 keeps : (set : CharSet) (limit : ℕ) (s : State) (b : ℕ) (bs : List ℕ) (seen : Sight) → marked s seen ≡ seen →
-    step_of set s b ≡ step_to.Keep s → stays s b ≡ true
+    step_of set s b ≡ ByteStep.Keep s → stays s b ≡ true
     → find set limit s seen (b ∷ bs) ≡ find set limit s (with_kept (most limit s) b seen) bs
 keeps set limit s b bs seen same step passes =
     ap (λ (x : Sight). after set limit (step_of set s b) b x bs) same
@@ -148,29 +138,29 @@ keeps set limit s b bs seen same step passes =
     (past_calm b seen.lines (no_end s b passes))
 
 run_kept : (set : CharSet) (limit : ℕ) (s : State) → is_gap s ≡ false → Steps set limit s (with_kept (most limit s))
-run_kept set limit state.Gap fails b bs seen passes = cc
-run_kept set limit state.Comment fails b bs seen passes = cc
-run_kept set limit (state.Run n) fails b bs seen passes = keeps set limit (state.Run n) b bs seen refl (run_on set n b passes) passes
-run_kept set limit (state.Mark m) fails b bs seen passes = cc
-run_kept set limit state.Text fails b bs seen passes = keeps set limit state.Text b bs seen refl (text_on set b passes) passes
-run_kept set limit (state.Quote false) fails b bs seen passes =
-    keeps set limit (state.Quote false) b bs seen refl (quote_on set b passes) passes
-run_kept set limit (state.Quote true) fails b bs seen passes = cc
+run_kept set limit State.Gap fails b bs seen passes = cc
+run_kept set limit State.Comment fails b bs seen passes = cc
+run_kept set limit (State.Run n) fails b bs seen passes = keeps set limit (State.Run n) b bs seen refl (run_on set n b passes) passes
+run_kept set limit (State.Mark m) fails b bs seen passes = cc
+run_kept set limit State.Text fails b bs seen passes = keeps set limit State.Text b bs seen refl (text_on set b passes) passes
+run_kept set limit (State.Quote false) fails b bs seen passes =
+    keeps set limit (State.Quote false) b bs seen refl (quote_on set b passes) passes
+run_kept set limit (State.Quote true) fails b bs seen passes = cc
 
 -- before a token, the line that was noted for its first byte makes no difference
 first_free : (set : CharSet) (limit : ℕ) (s : State) (first other : ℕ) (kept : Kept) (lines : Lines) (bs : List ℕ) → is_gap s ≡ true
     → find set limit s (record { first = first; kept = kept; lines = lines }) bs ≡ find set limit s
     (record { first = other; kept = kept; lines = lines }) bs
-first_free set limit state.Gap first other kept lines [] gap = refl
-first_free set limit state.Gap first other kept lines (b ∷ bs) gap = refl
-first_free set limit state.Comment first other kept lines [] gap = refl
-first_free set limit state.Comment first other kept lines (b ∷ bs) gap = refl
-first_free set limit (state.Run n) first other kept lines bs gap = cc
-first_free set limit (state.Mark m) first other kept lines bs gap = cc
-first_free set limit state.Text first other kept lines bs gap = cc
-first_free set limit (state.Quote a) first other kept lines bs gap = cc
+first_free set limit State.Gap first other kept lines [] gap = refl
+first_free set limit State.Gap first other kept lines (b ∷ bs) gap = refl
+first_free set limit State.Comment first other kept lines [] gap = refl
+first_free set limit State.Comment first other kept lines (b ∷ bs) gap = refl
+first_free set limit (State.Run n) first other kept lines bs gap = cc
+first_free set limit (State.Mark m) first other kept lines bs gap = cc
+first_free set limit State.Text first other kept lines bs gap = cc
+first_free set limit (State.Quote a) first other kept lines bs gap = cc
 
-skips : (set : CharSet) (limit : ℕ) (s : State) (b : ℕ) (bs : List ℕ) (seen : Sight) → is_gap s ≡ true → step_of set s b ≡ step_to.Skip s →
+skips : (set : CharSet) (limit : ℕ) (s : State) (b : ℕ) (bs : List ℕ) (seen : Sight) → is_gap s ≡ true → step_of set s b ≡ ByteStep.Skip s →
     stays s b ≡ true
     → find set limit s seen (b ∷ bs) ≡ find set limit s (skipped b seen) bs
 skips set limit s b bs seen gap step passes =
@@ -180,12 +170,12 @@ skips set limit s b bs seen gap step passes =
     ∙ first_free set limit s (marked s seen).first seen.first seen.kept (calm seen.lines) bs gap
 
 run_skipped : (set : CharSet) (limit : ℕ) (s : State) → is_gap s ≡ true → Steps set limit s skipped
-run_skipped set limit state.Gap gap b bs seen passes = skips set limit state.Gap b bs seen refl (gap_on set b passes) passes
-run_skipped set limit state.Comment gap b bs seen passes = skips set limit state.Comment b bs seen refl (comment_on set b passes) passes
-run_skipped set limit (state.Run n) gap b bs seen passes = cc
-run_skipped set limit (state.Mark m) gap b bs seen passes = cc
-run_skipped set limit state.Text gap b bs seen passes = cc
-run_skipped set limit (state.Quote a) gap b bs seen passes = cc
+run_skipped set limit State.Gap gap b bs seen passes = skips set limit State.Gap b bs seen refl (gap_on set b passes) passes
+run_skipped set limit State.Comment gap b bs seen passes = skips set limit State.Comment b bs seen refl (comment_on set b passes) passes
+run_skipped set limit (State.Run n) gap b bs seen passes = cc
+run_skipped set limit (State.Mark m) gap b bs seen passes = cc
+run_skipped set limit State.Text gap b bs seen passes = cc
+run_skipped set limit (State.Quote a) gap b bs seen passes = cc
 
 -- Runs
 
@@ -339,39 +329,40 @@ name_black set b passes = by set
     five false false false false v e f g h i = i
 
     by : (set : CharSet) → is_white set b ≡ false
-    by charset.Ascii =
+    by CharSet.Ascii =
         four (b == 32) (b == 9) (b == 12) (is_line_end b) (is_none 32 refl) (is_none 9 refl) (is_none 12 refl)
         (neither (b == 10) (b == 13) (is_none 10 refl) (is_none 13 refl))
-    by charset.Latin1 =
+    by CharSet.Latin1 =
         five (b == 32) (b == 9) (b == 12) (is_line_end b) (b == 160) (is_none 32 refl) (is_none 9 refl) (is_none 12 refl)
         (neither (b == 10) (b == 13) (is_none 10 refl) (is_none 13 refl)) (is_none 160 refl)
 
-name_first : (set : CharSet) (b : ℕ) → is_name_byte b ≡ true → step_of set state.Gap b ≡ step_to.Keep (state.Run (is_digit b))
+name_first : (set : CharSet) (b : ℕ) → is_name_byte b ≡ true → step_of set State.Gap b ≡ ByteStep.Keep (State.Run (is_digit b))
 name_first set b passes =
     cond-false (is_white set b) _ _ (name_black set b passes)
     ∙ cond-true (is_run_byte b) _ _ (name_runs (is_letter b || is_digit b) (b == 95) (b == 36) passes)
-    ∙ ap (λ t. step_to.Keep (state.Run (is_digit b || t))) (other is_name_byte b 36 refl passes)
-    ∙ ap (λ t. step_to.Keep (state.Run t)) (or_none (is_digit b))
+    ∙ ap (λ t. ByteStep.Keep (State.Run (is_digit b || t))) (other is_name_byte b 36 refl passes)
+    ∙ ap (λ t. ByteStep.Keep (State.Run t)) (or_none (is_digit b))
 
 -- a name or number is found from its first byte on
 pub found_name : (set : CharSet) (limit b : ℕ) (behind rest : List ℕ) (seen : Sight) → slice_get behind 0 ≡ Some b → is_name_byte b ≡ true
-    → find set limit (state.Run (is_digit b)) (marked state.Gap seen) (behind ++ rest) ≡ find set limit state.Gap seen (behind ++ rest)
+    → find set limit (State.Run (is_digit b)) (marked State.Gap seen) (behind ++ rest) ≡ find set limit State.Gap seen (behind ++ rest)
 found_name set limit b [] rest seen is passes = cc
 found_name set limit b (x ∷ behind) rest seen is passes = by x is
   where
-    by : (x : ℕ) → Some x ≡ Some b → find set limit (state.Run (is_digit b)) (marked state.Gap seen) (x ∷ (behind ++ rest)) ≡ find set limit
-        state.Gap seen (x ∷ (behind ++ rest))
+    by : (x : ℕ) → Some x ≡ Some b → find set limit (State.Run (is_digit b)) (marked State.Gap seen) (x ∷ (behind ++ rest)) ≡ find set limit
+        State.Gap seen (x ∷ (behind ++ rest))
     by x is =
         let same : x ≡ b = cc in
-        subst (λ (y : ℕ). find set limit (state.Run (is_digit b)) (marked state.Gap seen) (y ∷ (behind ++ rest)) ≡ find set limit state.Gap
+        subst (λ (y : ℕ). find set limit (State.Run (is_digit b)) (marked State.Gap seen) (y ∷ (behind ++ rest)) ≡ find set limit State.Gap
         seen (y ∷ (behind ++ rest))) (sym same)
-        (ap (λ (s : ByteStep). after set limit s b (marked state.Gap seen) (behind ++ rest))
+        (ap (λ (s : ByteStep). after set limit s b (marked State.Gap seen) (behind ++ rest))
         (run_on set (is_digit b) b passes ∙ sym (name_first set b passes)))
 
 -- a mark that is the front of no other ends at once
 pub found_mark : (set : CharSet) (limit : ℕ) (m : Mark) (seen : Sight) (bs : List ℕ) → ((b : ℕ) → longer_mark m b ≡ None)
-    → record { ending = ending.Mark m; seen = seen; rest = bs } ≡ find set limit (state.Mark m) seen bs
+    → record { ending = Ending.Mark m; seen = seen; rest = bs } ≡ find set limit (State.Mark m) seen bs
 found_mark set limit m seen [] whole = refl
 found_mark set limit m seen (b ∷ bs) whole =
-    sym (ap (λ (o : Option Mark). after set limit (elim o [ Some x ↦ step_to.Keep (state.Mark x) | None ↦ step_to.Behind (ending.Mark m) ])
+    sym (ap (λ (o : Option Mark). after set limit
+    (elim o [ Some x ↦ ByteStep.Keep (State.Mark x) | None ↦ ByteStep.Behind (Ending.Mark m) ])
     b seen bs) (whole b))

@@ -3,25 +3,15 @@ use Rattle.std.proofs.Common.{◌≡◌, ◌⊎◌, inl, inr, ℕ, suc, zero, �
 use Rattle.std.proofs.Common.{Bool, true, false, Option, Some, None, refl, sym, ap, subst, ◌∙◌, arith, length-append}
 use Rattle.std.proofs.lemmas.Bool.{and_parts, and_from, cond-true, cond-false, cond_both, eqb-true, ne_eqb, or_from, or_left, or_right}
 use Rattle.std.proofs.lemmas.List.{append_cancel_right}
-use Rattle.inf_characters.specs.Characters.{is_line_end, is_white}
-use Rattle.inf_characters.specs.declared.characters.CharSet.{CharSet}
-use Rattle.inf_characters.specs.declared.characters.CharSet.TheVariants as charset
+use Rattle.inf_characters.specs.{Characters.is_line_end, Characters.is_white, declared.characters.CharSet.CharSet}
 use Rattle.inf_scanner.proofs.Quoted.{after}
-use Rattle.inf_scanner.specs.Kept.{nothing_kept, with_byte}
-use Rattle.inf_scanner.specs.Lines.{first_line, past}
-use Rattle.inf_scanner.specs.Marks.{first_mark}
+use Rattle.inf_scanner.proofs.Tails.{Tail, first_bytes, kept_more, kept_nothing, mark_tail, quote_tail, run_tail, text_tail}
+use Rattle.inf_scanner.specs.{Kept.nothing_kept, Kept.with_byte, Lines.first_line, Lines.past, Marks.first_mark, Tokens.Read}
+use Rattle.inf_scanner.specs.{Tokens.next_token, declared.lines.Lines.Lines, declared.scanner.ByteStep.ByteStep}
+use Rattle.inf_scanner.specs.{declared.scanner.Ending.Ending, declared.scanner.State.State, declared.tokens.Mark.Mark}
 use Rattle.inf_scanner.specs.Scanning.{Sight, Found, is_run_byte, begins_number, begun, find, kept, marked, passed}
 use Rattle.inf_scanner.specs.SpellingLaws.{AreSpelled, IsSpelled, LinesAreCounted, Piece, SourcesAreSpelledOnce, Spans, begins_gap}
-use Rattle.inf_scanner.specs.SpellingLaws.{begins_with, is_gap, is_nothing, joined, kept_of, lines_ended, most_of, past_all}
-use Rattle.inf_scanner.specs.Tokens.{Read, next_token}
-use Rattle.inf_scanner.specs.declared.lines.Lines.{Lines}
-use Rattle.inf_scanner.specs.declared.scanner.Ending.TheVariants as ending
-use Rattle.inf_scanner.specs.declared.scanner.State.{State}
-use Rattle.inf_scanner.specs.declared.scanner.State.TheVariants as state
-use Rattle.inf_scanner.specs.declared.scanner.ByteStep.{ByteStep}
-use Rattle.inf_scanner.specs.declared.scanner.ByteStep.TheVariants as step_to
-use Rattle.inf_scanner.specs.declared.tokens.Mark.{Mark}
-use Rattle.inf_scanner.proofs.Tails.{Tail, first_bytes, kept_more, kept_nothing, mark_tail, quote_tail, run_tail, text_tail}
+use Rattle.inf_scanner.specs.SpellingLaws.{begins_with, are_gaps, is_nothing, joined, kept_of, lines_ended, most_of, past_all}
 
 -- From a gap to the end of the token behind it
 
@@ -30,7 +20,7 @@ record Gapped (set : CharSet) (limit : ℕ) (f : Found) (in_comment : Bool) (bs 
   span : List ℕ
   bytes : List ℕ
   whole : bs ≡ gap ++ (span ++ f.rest)
-  fits : is_gap set in_comment gap (span ++ f.rest) ≡ true
+  fits : are_gaps set in_comment gap (span ++ f.rest) ≡ true
   spans : Spans set f.ending bytes span f.rest
   keeps : f.seen.kept ≡ kept_of (most_of limit f.ending) bytes
   begins : f.seen.first ≡ (past_all gap lines).line
@@ -59,7 +49,7 @@ here set limit f b front bs lines starts is t =
 
 -- a gap with one more byte in front
 wider : (set : CharSet) (limit : ℕ) (f : Found) (c d : Bool) (b : ℕ) (bs : List ℕ) (lines : Lines) →
-    ((gap behind : List ℕ) → is_gap set c (b ∷ gap) behind ≡ is_gap set d gap behind) → Gapped set limit f d bs (past b lines) →
+    ((gap behind : List ℕ) → are_gaps set c (b ∷ gap) behind ≡ are_gaps set d gap behind) → Gapped set limit f d bs (past b lines) →
     Gapped set limit f c (b ∷ bs) lines
 wider set limit f c d b bs lines same g = record {
   gap = b ∷ g.gap;
@@ -76,25 +66,25 @@ wider set limit f c d b bs lines same g = record {
 }
 
 white_is_no_mark : (set : CharSet) (b : ℕ) → is_white set b ≡ true → b == 33 ≡ false
-white_is_no_mark charset.Ascii b white = ne_eqb b 33 (λ e. let f : false ≡ true = ap (is_white charset.Ascii) (sym e) ∙ white in cc)
-white_is_no_mark charset.Latin1 b white = ne_eqb b 33 (λ e. let f : false ≡ true = ap (is_white charset.Latin1) (sym e) ∙ white in cc)
+white_is_no_mark CharSet.Ascii b white = ne_eqb b 33 (λ e. let f : false ≡ true = ap (is_white CharSet.Ascii) (sym e) ∙ white in cc)
+white_is_no_mark CharSet.Latin1 b white = ne_eqb b 33 (λ e. let f : false ≡ true = ap (is_white CharSet.Latin1) (sym e) ∙ white in cc)
 
 run_is_no_mark : (b : ℕ) → is_run_byte b ≡ true → b == 33 ≡ false
 run_is_no_mark b run = ne_eqb b 33 (λ e. let f : false ≡ true = ap is_run_byte (sym e) ∙ run in cc)
 
 white_gap : (set : CharSet) (b : ℕ) (gap behind : List ℕ) → is_white set b ≡ true →
-    is_gap set false (b ∷ gap) behind ≡ is_gap set false gap behind
+    are_gaps set false (b ∷ gap) behind ≡ are_gaps set false gap behind
 white_gap set b gap behind white =
-    cond-false (b == 33) (is_gap set true gap behind) (is_white set b && is_gap set false gap behind) (white_is_no_mark set b white)
-    ∙ ap (λ w. w && is_gap set false gap behind) white
+    cond-false (b == 33) (are_gaps set true gap behind) (is_white set b && are_gaps set false gap behind) (white_is_no_mark set b white)
+    ∙ ap (λ w. w && are_gaps set false gap behind) white
 
 comment_gap : (set : CharSet) (b : ℕ) (gap behind : List ℕ) → b == 33 ≡ true →
-    is_gap set false (b ∷ gap) behind ≡ is_gap set true gap behind
-comment_gap set b gap behind is = cond-true (b == 33) (is_gap set true gap behind) (is_white set b && is_gap set false gap behind) is
+    are_gaps set false (b ∷ gap) behind ≡ are_gaps set true gap behind
+comment_gap set b gap behind is = cond-true (b == 33) (are_gaps set true gap behind) (is_white set b && are_gaps set false gap behind) is
 
 abbrev gap_state : Bool → State
-gap_state true = state.Comment
-gap_state false = state.Gap
+gap_state true = State.Comment
+gap_state false = State.Gap
 
 abbrev GapSpelled : CharSet → ℕ → List ℕ → Type 0
 GapSpelled set limit bs =
@@ -102,10 +92,10 @@ GapSpelled set limit bs =
 
 at_mark : (set : CharSet) (limit : ℕ) (b : ℕ) (bs : List ℕ) (seen : Sight) → begins_gap set b ≡ false → seen.kept ≡ nothing_kept →
     (o : Option Mark) → first_mark b ≡ o
-    → Gapped set limit (after set limit (elim o [ Some m ↦ step_to.Keep (state.Mark m) | None ↦ step_to.Close ending.Unfit ]) b
-    (marked state.Gap seen) bs) false (b ∷ bs) seen.lines
+    → Gapped set limit (after set limit (elim o [ Some m ↦ ByteStep.Keep (State.Mark m) | None ↦ ByteStep.Close Ending.Unfit ]) b
+    (marked State.Gap seen) bs) false (b ∷ bs) seen.lines
 at_mark set limit b bs seen starts k (Some m) e = here set limit _ b (b ∷ []) bs seen.lines starts refl
-    (mark_tail set limit bs m (kept 32 b (marked state.Gap seen)) (b ∷ []) (sym (first_bytes b m e))
+    (mark_tail set limit bs m (kept 32 b (marked State.Gap seen)) (b ∷ []) (sym (first_bytes b m e))
     (ap (with_byte 32 b) k ∙ ap (with_byte 32 b) (kept_nothing 32) ∙ kept_more 32 b []))
 at_mark set limit b bs seen starts k None e = record {
   gap = [];
@@ -122,9 +112,9 @@ at_mark set limit b bs seen starts k None e = record {
 }
 
 in_gap : (set : CharSet) (limit : ℕ) (b : ℕ) (bs : List ℕ) → GapSpelled set limit bs → (seen : Sight) → seen.kept ≡ nothing_kept
-    → Gapped set limit (find set limit state.Gap seen (b ∷ bs)) false (b ∷ bs) seen.lines
+    → Gapped set limit (find set limit State.Gap seen (b ∷ bs)) false (b ∷ bs) seen.lines
 in_gap set limit b bs later seen k =
-    let now : Sight = marked state.Gap seen in
+    let now : Sight = marked State.Gap seen in
     let P : ByteStep → Type 0 = λ s. Gapped set limit (after set limit s b now bs) false (b ∷ bs) seen.lines in
     cond_both (is_white set b) _ _ P
     (λ white. wider set limit _ false false b bs seen.lines (λ gap behind. white_gap set b gap behind white) (later false (passed b now) k))
@@ -146,14 +136,14 @@ in_gap set limit b bs later seen k =
     (λ _. at_mark set limit b bs seen (or_from (is_white set b) (b == 33) no_white no_comment) k (first_mark b) refl)))))
 
 in_comment : (set : CharSet) (limit : ℕ) (b : ℕ) (bs : List ℕ) → GapSpelled set limit bs → (seen : Sight) → seen.kept ≡ nothing_kept
-    → Gapped set limit (find set limit state.Comment seen (b ∷ bs)) true (b ∷ bs) seen.lines
+    → Gapped set limit (find set limit State.Comment seen (b ∷ bs)) true (b ∷ bs) seen.lines
 in_comment set limit b bs later seen k =
-    let now : Sight = marked state.Comment seen in
-    cond_both (is_line_end b) state.Gap state.Comment
+    let now : Sight = marked State.Comment seen in
+    cond_both (is_line_end b) State.Gap State.Comment
     (λ s. Gapped set limit (find set limit s (passed b now) bs) true (b ∷ bs) seen.lines)
-    (λ yes. wider set limit _ true false b bs seen.lines (λ gap behind. ap (λ c. is_gap set (not c) gap behind) yes)
+    (λ yes. wider set limit _ true false b bs seen.lines (λ gap behind. ap (λ c. are_gaps set (not c) gap behind) yes)
     (later false (passed b now) k))
-    (λ no. wider set limit _ true true b bs seen.lines (λ gap behind. ap (λ c. is_gap set (not c) gap behind) no)
+    (λ no. wider set limit _ true true b bs seen.lines (λ gap behind. ap (λ c. are_gaps set (not c) gap behind) no)
     (later true (passed b now) k))
 
 at_end_of : (set : CharSet) (limit : ℕ) (c : Bool) (seen : Sight) → seen.kept ≡ nothing_kept →
@@ -203,7 +193,7 @@ next_spelled set limit lines rest more =
     record {
       piece = record { gap = g.gap; span = g.span; read = next_token set limit lines rest };
       is = record {
-        ending = (find set limit state.Gap (begun lines) rest).ending;
+        ending = (find set limit State.Gap (begun lines) rest).ending;
         bytes = g.bytes;
         is_read = refl;
         is_told = refl;
@@ -253,20 +243,20 @@ record SameParts (gap other rest behind : List ℕ) : Type 0 where
   gaps : gap ≡ other
   rests : rest ≡ behind
 
-no_gap_byte : (set : CharSet) (b : ℕ) (gap behind : List ℕ) → is_gap set false (b ∷ gap) behind ≡ true → begins_gap set b ≡ true
+no_gap_byte : (set : CharSet) (b : ℕ) (gap behind : List ℕ) → are_gaps set false (b ∷ gap) behind ≡ true → begins_gap set b ≡ true
 no_gap_byte set b gap behind fits = by (b == 33) refl
   where
     by : (t : Bool) → b == 33 ≡ t → begins_gap set b ≡ true
     by true t = or_right (is_white set b) (b == 33) t
     by false t =
-        let white : is_white set b && is_gap set false gap behind ≡ true =
-        sym (cond-false (b == 33) (is_gap set true gap behind) (is_white set b && is_gap set false gap behind) t) ∙ fits in
-        or_left (is_white set b) (b == 33) (and_parts (is_white set b) (is_gap set false gap behind) white).0
+        let white : is_white set b && are_gaps set false gap behind ≡ true =
+        sym (cond-false (b == 33) (are_gaps set true gap behind) (is_white set b && are_gaps set false gap behind) t) ∙ fits in
+        or_left (is_white set b) (b == 33) (and_parts (is_white set b) (are_gaps set false gap behind) white).0
 
 -- a gap ends where it stops
-no_longer_gap : (set : CharSet) (c : Bool) (b : ℕ) (gap rest behind : List ℕ) → is_gap set c [] rest ≡ true →
+no_longer_gap : (set : CharSet) (c : Bool) (b : ℕ) (gap rest behind : List ℕ) → are_gaps set c [] rest ≡ true →
     begins_with (begins_gap set) rest ≡ false
-    → is_gap set c (b ∷ gap) behind ≡ true → rest ≡ (b ∷ gap) ++ behind → ⊥
+    → are_gaps set c (b ∷ gap) behind ≡ true → rest ≡ (b ∷ gap) ++ behind → ⊥
 no_longer_gap set true b gap rest behind ends stops fits same = let f : false ≡ true = sym (ap is_nothing same) ∙ ends in cc
 no_longer_gap set false b gap rest behind ends stops fits same =
     let f : true ≡ false = sym (no_gap_byte set b gap behind fits) ∙ sym (ap (begins_with (begins_gap set)) same) ∙ stops in cc
@@ -282,21 +272,22 @@ abbrev opens : Bool → ℕ → Bool
 opens true b = not (is_line_end b)
 opens false b = b == 33
 
-gap_behind : (set : CharSet) (c : Bool) (b : ℕ) (gap behind : List ℕ) → is_gap set c (b ∷ gap) behind ≡ true →
-    is_gap set (opens c b) gap behind ≡ true
+gap_behind : (set : CharSet) (c : Bool) (b : ℕ) (gap behind : List ℕ) → are_gaps set c (b ∷ gap) behind ≡ true →
+    are_gaps set (opens c b) gap behind ≡ true
 gap_behind set true b gap behind fits = fits
 gap_behind set false b gap behind fits = by (b == 33) refl
   where
-    by : (t : Bool) → b == 33 ≡ t → is_gap set (b == 33) gap behind ≡ true
+    by : (t : Bool) → b == 33 ≡ t → are_gaps set (b == 33) gap behind ≡ true
     by true t =
-        ap (λ c. is_gap set c gap behind) t
-        ∙ sym (cond-true (b == 33) (is_gap set true gap behind) (is_white set b && is_gap set false gap behind) t) ∙ fits
+        ap (λ c. are_gaps set c gap behind) t
+        ∙ sym (cond-true (b == 33) (are_gaps set true gap behind) (is_white set b && are_gaps set false gap behind) t) ∙ fits
     by false t =
-        let white : is_white set b && is_gap set false gap behind ≡ true =
-        sym (cond-false (b == 33) (is_gap set true gap behind) (is_white set b && is_gap set false gap behind) t) ∙ fits in
-        ap (λ c. is_gap set c gap behind) t ∙ (and_parts (is_white set b) (is_gap set false gap behind) white).1
+        let white : is_white set b && are_gaps set false gap behind ≡ true =
+        sym (cond-false (b == 33) (are_gaps set true gap behind) (is_white set b && are_gaps set false gap behind) t) ∙ fits in
+        ap (λ c. are_gaps set c gap behind) t ∙ (and_parts (is_white set b) (are_gaps set false gap behind) white).1
 
-same_parts : (set : CharSet) (c : Bool) (gap other rest behind : List ℕ) → is_gap set c gap rest ≡ true → is_gap set c other behind ≡ true
+same_parts : (set : CharSet) (c : Bool) (gap other rest behind : List ℕ) → are_gaps set c gap rest ≡ true →
+    are_gaps set c other behind ≡ true
     → begins_with (begins_gap set) rest ≡ false → begins_with (begins_gap set) behind ≡ false → gap ++ rest ≡ other ++ behind → SameParts
     gap other rest behind
 same_parts set c [] [] rest behind fits others stops ends same = record { gaps = refl; rests = same }
@@ -307,7 +298,7 @@ same_parts set c (b ∷ gap) [] rest behind fits others stops ends same =
 same_parts set c (a ∷ gap) (b ∷ other) rest behind fits others stops ends same =
     let first : a ≡ b = first_same a b _ _ same in
     let more = same_parts set (opens c a) gap other rest behind (gap_behind set c a gap rest fits)
-    (ap (λ x. is_gap set (opens c x) other behind) first ∙ gap_behind set c b other behind others) stops ends (rest_same a b _ _ same) in
+    (ap (λ x. are_gaps set (opens c x) other behind) first ∙ gap_behind set c b other behind others) stops ends (rest_same a b _ _ same) in
     record { gaps = ap (λ x. x ∷ gap) first ∙ ap (λ g. b ∷ g) more.gaps; rests = more.rests }
 
 same_piece : (set : CharSet) (limit : ℕ) (lines : Lines) (rest : List ℕ) (p q : Piece) → IsSpelled set limit lines rest p →

@@ -2,24 +2,17 @@
 use Rattle.std.proofs.Common.{◌≡◌, ◌⊎◌, inl, inr, ℕ, suc, zero, ◌+◌, ◌<◌, ◌≤◌, List, [], ◌∷◌, ◌++◌, length, take, cond, not, ◌||◌, ◌&&◌}
 use Rattle.std.proofs.Common.{◌==◌, nat_lt, Bool, true, false, Option, Some, None, refl, sym, ap, ◌∙◌, arith, append-nil, append_assoc}
 use Rattle.std.proofs.Common.{length-append}
-use Rattle.std.specs.List.{list_all}
 use Rattle.std.proofs.lemmas.Bool.{and_parts, and_from, cond-true, cond-false, cond_both, cases_lt, lt-ltb, le-ltb, eqb-true, not-true}
 use Rattle.std.proofs.lemmas.Bool.{not_from_false}
 use Rattle.std.proofs.lemmas.List.{take_all, length-take-le, take-append-le}
-use Rattle.inf_characters.specs.Characters.{is_line_end}
-use Rattle.inf_characters.specs.declared.characters.CharSet.{CharSet}
+use Rattle.std.specs.List.{list_all}
+use Rattle.inf_characters.specs.{Characters.is_line_end, declared.characters.CharSet.CharSet}
 use Rattle.inf_scanner.proofs.Quoted.{after}
-use Rattle.inf_scanner.specs.Kept.{Kept, nothing_kept, with_byte}
-use Rattle.inf_scanner.specs.Lines.{past}
-use Rattle.inf_scanner.specs.Marks.{first_mark, longer_mark, mark_bytes}
+use Rattle.inf_scanner.specs.{Kept.Kept, Kept.nothing_kept, Kept.with_byte, Lines.past, Marks.first_mark, Marks.longer_mark}
+use Rattle.inf_scanner.specs.{Marks.mark_bytes, declared.lines.Lines.Lines, declared.scanner.ByteStep.ByteStep}
+use Rattle.inf_scanner.specs.{declared.scanner.Ending.Ending, declared.scanner.State.State, declared.tokens.Mark.Mark}
 use Rattle.inf_scanner.specs.Scanning.{Sight, Found, is_run_byte, find, kept}
 use Rattle.inf_scanner.specs.SpellingLaws.{Spans, ends_at, is_in_quote, kept_of, most_of, past_all}
-use Rattle.inf_scanner.specs.declared.lines.Lines.{Lines}
-use Rattle.inf_scanner.specs.declared.scanner.Ending.TheVariants as ending
-use Rattle.inf_scanner.specs.declared.scanner.State.TheVariants as state
-use Rattle.inf_scanner.specs.declared.scanner.ByteStep.TheVariants as step_to
-use Rattle.inf_scanner.specs.declared.tokens.Mark.{Mark}
-use Rattle.inf_scanner.specs.declared.tokens.Mark.TheVariants as mark
 
 -- The bytes that are kept
 
@@ -105,31 +98,31 @@ no_more m bytes e = cc
 
 pub first_bytes : (b : ℕ) (m : Mark) → first_mark b ≡ Some m → mark_bytes m ≡ b ∷ []
 first_bytes b m =
-    pick b 45 [] mark.Minus m _ refl (pick b 43 [] mark.Plus m _ refl (pick b 42 [] mark.Times m _ refl (pick b 47 [] mark.Divide m _ refl
-    (pick b 37 [] mark.Remainder m _ refl (pick b 38 [] mark.BitAnd m _ refl (pick b 124 [] mark.BitOr m _ refl
-    (pick b 126 [] mark.BitNot m _ refl
-    (pick b 61 [] mark.Assign m _ refl (pick b 62 [] mark.Greater m _ refl (pick b 60 [] mark.Less m _ refl
-    (pick b 44 [] mark.Comma m _ refl
-    (pick b 59 [] mark.Semicolon m _ refl (pick b 58 [] mark.Colon m _ refl (pick b 40 [] mark.OpenParenthesis m _ refl
-    (pick b 41 [] mark.CloseParenthesis m _ refl
-    (pick b 91 [] mark.OpenBracket m _ refl (pick b 93 [] mark.CloseBracket m _ refl
-    (pick b 123 [] mark.OpenBrace m _ refl (pick b 125 [] mark.CloseBrace m _ refl
-    (pick b 46 [] mark.Dot m _ refl (pick b 35 [] mark.Hash m _ refl (pick b 63 [] mark.Question m _ refl (pick b 64 [] mark.At m _ refl
+    pick b 45 [] Mark.Minus m _ refl (pick b 43 [] Mark.Plus m _ refl (pick b 42 [] Mark.Times m _ refl (pick b 47 [] Mark.Divide m _ refl
+    (pick b 37 [] Mark.Remainder m _ refl (pick b 38 [] Mark.BitAnd m _ refl (pick b 124 [] Mark.BitOr m _ refl
+    (pick b 126 [] Mark.BitNot m _ refl
+    (pick b 61 [] Mark.Assign m _ refl (pick b 62 [] Mark.Greater m _ refl (pick b 60 [] Mark.Less m _ refl
+    (pick b 44 [] Mark.Comma m _ refl
+    (pick b 59 [] Mark.Semicolon m _ refl (pick b 58 [] Mark.Colon m _ refl (pick b 40 [] Mark.OpenParenthesis m _ refl
+    (pick b 41 [] Mark.CloseParenthesis m _ refl
+    (pick b 91 [] Mark.OpenBracket m _ refl (pick b 93 [] Mark.CloseBracket m _ refl
+    (pick b 123 [] Mark.OpenBrace m _ refl (pick b 125 [] Mark.CloseBrace m _ refl
+    (pick b 46 [] Mark.Dot m _ refl (pick b 35 [] Mark.Hash m _ refl (pick b 63 [] Mark.Question m _ refl (pick b 64 [] Mark.At m _ refl
     (no_more m (b ∷ [])))))))))))))))))))))))))
 
 longer_bytes : (m : Mark) (b : ℕ) (x : Mark) → longer_mark m b ≡ Some x → mark_bytes x ≡ mark_bytes m ++ b ∷ []
-longer_bytes mark.Minus b x = pick b 45 (45 ∷ []) mark.Decrement x _ refl (pick b 62 (45 ∷ []) mark.Arrow x _ refl (no_more x _))
-longer_bytes mark.Decrement b x = pick b 62 (45 ∷ 45 ∷ []) mark.LongArrow x _ refl (no_more x _)
-longer_bytes mark.Plus b x = pick b 43 (43 ∷ []) mark.Increment x _ refl (no_more x _)
-longer_bytes mark.BitAnd b x = pick b 38 (38 ∷ []) mark.LogicalAnd x _ refl (no_more x _)
-longer_bytes mark.BitOr b x = pick b 124 (124 ∷ []) mark.LogicalOr x _ refl (no_more x _)
-longer_bytes mark.BitNot b x = pick b 126 (126 ∷ []) mark.LogicalNot x _ refl (pick b 61 (126 ∷ []) mark.NotEqual x _ refl (no_more x _))
-longer_bytes mark.Assign b x = pick b 61 (61 ∷ []) mark.Equal x _ refl (no_more x _)
-longer_bytes mark.Greater b x =
-    pick b 61 (62 ∷ []) mark.GreaterOrEqual x _ refl (pick b 62 (62 ∷ []) mark.DoubleGreater x _ refl (no_more x _))
-longer_bytes mark.Less b x = pick b 61 (60 ∷ []) mark.LessOrEqual x _ refl (pick b 60 (60 ∷ []) mark.DoubleLess x _ refl (no_more x _))
-longer_bytes mark.Dot b x = pick b 38 (46 ∷ []) mark.DotAnd x _ refl (pick b 35 (46 ∷ []) mark.DotHash x _ refl (no_more x _))
-longer_bytes mark.Hash b x = pick b 35 (35 ∷ []) mark.DoubleHash x _ refl (no_more x _)
+longer_bytes Mark.Minus b x = pick b 45 (45 ∷ []) Mark.Decrement x _ refl (pick b 62 (45 ∷ []) Mark.Arrow x _ refl (no_more x _))
+longer_bytes Mark.Decrement b x = pick b 62 (45 ∷ 45 ∷ []) Mark.LongArrow x _ refl (no_more x _)
+longer_bytes Mark.Plus b x = pick b 43 (43 ∷ []) Mark.Increment x _ refl (no_more x _)
+longer_bytes Mark.BitAnd b x = pick b 38 (38 ∷ []) Mark.LogicalAnd x _ refl (no_more x _)
+longer_bytes Mark.BitOr b x = pick b 124 (124 ∷ []) Mark.LogicalOr x _ refl (no_more x _)
+longer_bytes Mark.BitNot b x = pick b 126 (126 ∷ []) Mark.LogicalNot x _ refl (pick b 61 (126 ∷ []) Mark.NotEqual x _ refl (no_more x _))
+longer_bytes Mark.Assign b x = pick b 61 (61 ∷ []) Mark.Equal x _ refl (no_more x _)
+longer_bytes Mark.Greater b x =
+    pick b 61 (62 ∷ []) Mark.GreaterOrEqual x _ refl (pick b 62 (62 ∷ []) Mark.DoubleGreater x _ refl (no_more x _))
+longer_bytes Mark.Less b x = pick b 61 (60 ∷ []) Mark.LessOrEqual x _ refl (pick b 60 (60 ∷ []) Mark.DoubleLess x _ refl (no_more x _))
+longer_bytes Mark.Dot b x = pick b 38 (46 ∷ []) Mark.DotAnd x _ refl (pick b 35 (46 ∷ []) Mark.DotHash x _ refl (no_more x _))
+longer_bytes Mark.Hash b x = pick b 35 (35 ∷ []) Mark.DoubleHash x _ refl (no_more x _)
 longer_bytes _ b x = no_more x _
 
 -- From inside a token to its end
@@ -163,7 +156,7 @@ on set limit f front bs lines first b t = record {
 
 pub run_tail : (set : CharSet) (limit : ℕ) (bs : List ℕ) (n : Bool) (seen : Sight) (bytes : List ℕ) → 0 < length bytes →
     list_all is_run_byte bytes ≡ true → seen.kept ≡ kept_of 32 bytes →
-    Tail set limit (find set limit (state.Run n) seen bs) bytes bs seen.lines seen.first
+    Tail set limit (find set limit (State.Run n) seen bs) bytes bs seen.lines seen.first
 run_tail set limit [] n seen bytes some all k = record {
   more = [];
   span = bytes;
@@ -176,7 +169,7 @@ run_tail set limit [] n seen bytes some all k = record {
   begins = refl;
 }
 run_tail set limit (b ∷ bs) n seen bytes some all k =
-    cond_both (is_run_byte b) (step_to.Keep (state.Run (n || b == 36))) (step_to.Behind (ending.Run n))
+    cond_both (is_run_byte b) (ByteStep.Keep (State.Run (n || b == 36))) (ByteStep.Behind (Ending.Run n))
     (λ s. Tail set limit (after set limit s b seen bs) bytes (b ∷ bs) seen.lines seen.first)
     (λ yes. on set limit _ bytes bs seen.lines seen.first b
     (run_tail set limit bs (n || b == 36) (kept 32 b seen) (bytes ++ b ∷ []) (omega (arith, length-append bytes (b ∷ [])))
@@ -195,13 +188,14 @@ run_tail set limit (b ∷ bs) n seen bytes some all k =
 
 abbrev pub MarkTail : CharSet → ℕ → List ℕ → Type 0
 MarkTail set limit bs = (m : Mark) (seen : Sight) (bytes : List ℕ) → bytes ≡ mark_bytes m → seen.kept ≡ kept_of 32 bytes → Tail set limit
-    (find set limit (state.Mark m) seen bs) bytes bs seen.lines seen.first
+    (find set limit (State.Mark m) seen bs) bytes bs seen.lines seen.first
 
 mark_step : (set : CharSet) (limit : ℕ) (bs : List ℕ) (b : ℕ) → MarkTail set limit bs → MarkTail set limit (b ∷ bs)
 mark_step set limit bs b later m seen bytes is k = by (longer_mark m b) refl
   where
     by : (o : Option Mark) → longer_mark m b ≡ o → Tail set limit
-        (after set limit (elim o [ Some x ↦ step_to.Keep (state.Mark x) | None ↦ step_to.Behind (ending.Mark m) ]) b seen bs) bytes (b ∷ bs)
+        (after set limit (elim o [ Some x ↦ ByteStep.Keep (State.Mark x) | None ↦ ByteStep.Behind (Ending.Mark m) ]) b seen bs)
+        bytes (b ∷ bs)
         seen.lines seen.first
     by (Some x) e = on set limit _ bytes bs seen.lines seen.first b
         (later x (kept 32 b seen) (bytes ++ b ∷ []) (ap (λ bs. bs ++ b ∷ []) is ∙ sym (longer_bytes m b x e))
@@ -233,7 +227,7 @@ mark_tail set limit [] m seen bytes is k = record {
 mark_tail set limit (b ∷ bs) m seen bytes is k = mark_step set limit bs b (mark_tail set limit bs) m seen bytes is k
 
 pub text_tail : (set : CharSet) (limit : ℕ) (bs : List ℕ) (seen : Sight) (bytes : List ℕ) → list_all (λ b. not (b == 34)) bytes ≡ true →
-    seen.kept ≡ kept_of limit bytes → Tail set limit (find set limit state.Text seen bs) (34 ∷ bytes) bs seen.lines seen.first
+    seen.kept ≡ kept_of limit bytes → Tail set limit (find set limit State.Text seen bs) (34 ∷ bytes) bs seen.lines seen.first
 text_tail set limit [] seen bytes none k = record {
   more = [];
   span = 34 ∷ bytes;
@@ -246,7 +240,7 @@ text_tail set limit [] seen bytes none k = record {
   begins = refl;
 }
 text_tail set limit (b ∷ bs) seen bytes none k =
-    cond_both (b == 34) (step_to.Close ending.Text) (step_to.Keep state.Text)
+    cond_both (b == 34) (ByteStep.Close Ending.Text) (ByteStep.Keep State.Text)
     (λ s. Tail set limit (after set limit s b seen bs) (34 ∷ bytes) (b ∷ bs) seen.lines seen.first)
     (λ yes. record {
       more = b ∷ [];
@@ -265,7 +259,7 @@ text_tail set limit (b ∷ bs) seen bytes none k =
 
 pub quote_tail : (set : CharSet) (limit : ℕ) (bs : List ℕ) (a : Bool) (seen : Sight) (bytes : List ℕ) → is_in_quote false bytes ≡ true →
     ends_at false bytes ≡ a → seen.kept ≡ kept_of limit bytes →
-    Tail set limit (find set limit (state.Quote a) seen bs) (39 ∷ bytes) bs seen.lines seen.first
+    Tail set limit (find set limit (State.Quote a) seen bs) (39 ∷ bytes) bs seen.lines seen.first
 quote_tail set limit [] a seen bytes inside at k = record {
   more = [];
   span = 39 ∷ bytes;
@@ -278,8 +272,8 @@ quote_tail set limit [] a seen bytes inside at k = record {
   begins = refl;
 }
 quote_tail set limit (b ∷ bs) a seen bytes inside at k =
-    cond_both (is_line_end b) (step_to.Behind ending.Unclosed)
-    (cond (b == 39 && not a) (step_to.Close ending.Quote) (step_to.Keep (state.Quote (b == 64))))
+    cond_both (is_line_end b) (ByteStep.Behind Ending.Unclosed)
+    (cond (b == 39 && not a) (ByteStep.Close Ending.Quote) (ByteStep.Keep (State.Quote (b == 64))))
     (λ s. Tail set limit (after set limit s b seen bs) (39 ∷ bytes) (b ∷ bs) seen.lines seen.first)
     (λ yes. record {
       more = [];
@@ -292,7 +286,7 @@ quote_tail set limit (b ∷ bs) a seen bytes inside at k =
       passes = refl;
       begins = refl;
     })
-    (λ no_end. cond_both (b == 39 && not a) (step_to.Close ending.Quote) (step_to.Keep (state.Quote (b == 64)))
+    (λ no_end. cond_both (b == 39 && not a) (ByteStep.Close Ending.Quote) (ByteStep.Keep (State.Quote (b == 64)))
     (λ s. Tail set limit (after set limit s b seen bs) (39 ∷ bytes) (b ∷ bs) seen.lines seen.first)
     (λ yes. let parts = and_parts (b == 39) (not a) yes in record {
       more = b ∷ [];

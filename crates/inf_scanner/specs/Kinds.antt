@@ -1,24 +1,12 @@
 -- The kind of a token, by its bytes (Designer's Manual, fourth edition, sections 1.4 and 1.11).
+use Rattle.std.specs.{Str.bytes_eq, declared.alloc.AllocError.AllocError}
 use Rattle.std.specs.Prelude.{ℕ, ◌+◌, ◌-◌, ◌*◌, List, [], ◌∷◌, length, take, drop, Bool, true, false, ◌&&◌, ◌||◌, ◌==◌, nat_le, nat_lt}
 use Rattle.std.specs.Prelude.{if◌then◌else◌, Option, Some, None, Result, Ok, Err}
-use Rattle.inf_characters.specs.declared.characters.CharSet.{CharSet}
-use Rattle.inf_characters.specs.declared.reading.Mode.TheVariants as mode
-use Rattle.inf_characters.specs.declared.reading.TextFault.{TextFault}
-use Rattle.inf_characters.specs.declared.reading.TextFault.TheVariants as fault
-use Rattle.inf_characters.specs.declared.texts.TextItem.{TextItem}
-use Rattle.inf_characters.specs.declared.texts.TextItem.TheVariants as item
+use Rattle.inf_characters.specs.{Reading.text_of, declared.characters.CharSet.CharSet, declared.reading.Mode.Mode}
+use Rattle.inf_characters.specs.{declared.reading.TextFault.TextFault, declared.texts.TextItem.TextItem}
 use Rattle.inf_text.specs.Packing.{dictionary_bytes}
-use Rattle.inf_characters.specs.Reading.{text_of}
-use Rattle.inf_scanner.specs.Kept.{Kept}
-use Rattle.inf_scanner.specs.declared.scanner.Ending.{Ending}
-use Rattle.inf_scanner.specs.declared.scanner.Ending.TheVariants as ending
-use Rattle.std.specs.Str.{bytes_eq}
-use Rattle.std.specs.declared.alloc.AllocError.{AllocError}
-use Rattle.inf_scanner.specs.declared.kinds.Sign.{Sign}
-use Rattle.inf_scanner.specs.declared.kinds.Sign.TheVariants as sign
-use Rattle.inf_scanner.specs.declared.tokens.TokenKind.{TokenKind}
-use Rattle.inf_scanner.specs.declared.tokens.TokenKind.TheVariants as kind
-use Rattle.inf_scanner.specs.declared.tokens.BadToken.TheVariants as bad
+use Rattle.inf_scanner.specs.{Kept.Kept, declared.kinds.Sign.Sign, declared.scanner.Ending.Ending, declared.tokens.BadToken.BadToken}
+use Rattle.inf_scanner.specs.{declared.tokens.TokenKind.TokenKind}
 
 -- the value of a digit in base 2, 10 or 16
 abbrev pub digit_of : ℕ → ℕ → Option ℕ
@@ -52,19 +40,19 @@ number_of [] = None
 number_of (b ∷ bs) = if b == 36 then behind_dollar bs else value_of 10 (b ∷ bs)
 
 abbrev pub number_kind : Option ℕ → TokenKind
-number_kind (Some n) = kind.Number n
-number_kind None = kind.Bad bad.Number
+number_kind (Some n) = TokenKind.Number n
+number_kind None = TokenKind.Bad BadToken.Number
 
 -- the kind of a text or a quote that cannot be read
 abbrev pub refused : TextFault → TokenKind
-refused fault.UnknownEscape = kind.Bad bad.UnknownEscape
-refused fault.NoZscii = kind.Bad bad.NoZscii
-refused fault.BadCode = kind.Bad bad.BadCode
-refused fault.Memory = kind.Bad bad.BadCode
+refused TextFault.UnknownEscape = TokenKind.Bad BadToken.UnknownEscape
+refused TextFault.NoZscii = TokenKind.Bad BadToken.NoZscii
+refused TextFault.BadCode = TokenKind.Bad BadToken.BadCode
+refused TextFault.Memory = TokenKind.Bad BadToken.BadCode
 
 -- the result of a call for a text or a quote that cannot be read
 abbrev pub refusal : TextFault → Result TokenKind AllocError
-refusal fault.Memory = Err (record {})
+refusal TextFault.Memory = Err (record {})
 refusal f = Ok (refused f)
 
 -- the kind of a text, if it can be read
@@ -73,20 +61,20 @@ read_by kind (Ok items) = kind items
 read_by kind (Err f) = refused f
 
 abbrev pub text_kind : CharSet → List ℕ → TokenKind
-text_kind set bytes = read_by (λ _. kind.Text) (text_of set mode.Text bytes)
+text_kind set bytes = read_by (λ _. TokenKind.Text) (text_of set Mode.Text bytes)
 
 abbrev pub word_of : Bool → List TextItem → TokenKind
-word_of is_plural items = kind.Word (record { text = dictionary_bytes items; is_plural = is_plural })
+word_of is_plural items = TokenKind.Word (record { text = dictionary_bytes items; is_plural = is_plural })
 
 -- the kind of a quote, by the sign behind its text: a single character without a sign is itself
 abbrev pub quoted_kind : Sign → List TextItem → TokenKind
-quoted_kind sign.Plural items = word_of true items
-quoted_kind sign.Single items = word_of false items
-quoted_kind sign.None (item.Character c ∷ []) = kind.Char c
-quoted_kind sign.None items = word_of false items
+quoted_kind Sign.Plural items = word_of true items
+quoted_kind Sign.Single items = word_of false items
+quoted_kind Sign.None (TextItem.Character c ∷ []) = TokenKind.Char c
+quoted_kind Sign.None items = word_of false items
 
 abbrev pub signed_kind : CharSet → Sign → List ℕ → TokenKind
-signed_kind set s bytes = read_by (quoted_kind s) (text_of set mode.Quote bytes)
+signed_kind set s bytes = read_by (quoted_kind s) (text_of set Mode.Quote bytes)
 
 -- the last `n` bytes; and below, all bytes but these
 abbrev pub last : ℕ → List ℕ → List ℕ
@@ -98,18 +86,18 @@ front n bytes = take (length bytes - n) bytes
 -- the kind of a token with these bytes between single quotes: the sign `//` or `//p` at the end makes it a word
 abbrev pub quote_kind : CharSet → List ℕ → TokenKind
 quote_kind set bytes =
-    if length bytes == 0 then kind.Bad bad.EmptyQuote else
-    if bytes_eq (last 3 bytes) (47 ∷ 47 ∷ 112 ∷ []) then signed_kind set sign.Plural (front 3 bytes) else
-    if bytes_eq (last 2 bytes) (47 ∷ 47 ∷ []) then signed_kind set sign.Single (front 2 bytes) else
-    signed_kind set sign.None bytes
+    if length bytes == 0 then TokenKind.Bad BadToken.EmptyQuote else
+    if bytes_eq (last 3 bytes) (47 ∷ 47 ∷ 112 ∷ []) then signed_kind set Sign.Plural (front 3 bytes) else
+    if bytes_eq (last 2 bytes) (47 ∷ 47 ∷ []) then signed_kind set Sign.Single (front 2 bytes) else
+    signed_kind set Sign.None bytes
 
 -- the kind of a token, by its ending and the bytes that are kept of it
 abbrev pub kind_of : CharSet → Ending → Kept → TokenKind
-kind_of set ending.End k = kind.End
-kind_of set ending.Unfit k = kind.Bad bad.Unfit
-kind_of set (ending.Mark m) k = kind.Mark m
-kind_of set (ending.Run false) k = if k.is_cut then kind.Bad bad.LongName else kind.Name
-kind_of set (ending.Run true) k = if k.is_cut then kind.Bad bad.Number else number_kind (number_of k.bytes)
-kind_of set ending.Unclosed k = if k.is_cut then kind.Bad bad.TooLong else kind.Bad bad.Unclosed
-kind_of set ending.Text k = if k.is_cut then kind.Bad bad.TooLong else text_kind set k.bytes
-kind_of set ending.Quote k = if k.is_cut then kind.Bad bad.TooLong else quote_kind set k.bytes
+kind_of set Ending.End k = TokenKind.End
+kind_of set Ending.Unfit k = TokenKind.Bad BadToken.Unfit
+kind_of set (Ending.Mark m) k = TokenKind.Mark m
+kind_of set (Ending.Run false) k = if k.is_cut then TokenKind.Bad BadToken.LongName else TokenKind.Name
+kind_of set (Ending.Run true) k = if k.is_cut then TokenKind.Bad BadToken.Number else number_kind (number_of k.bytes)
+kind_of set Ending.Unclosed k = if k.is_cut then TokenKind.Bad BadToken.TooLong else TokenKind.Bad BadToken.Unclosed
+kind_of set Ending.Text k = if k.is_cut then TokenKind.Bad BadToken.TooLong else text_kind set k.bytes
+kind_of set Ending.Quote k = if k.is_cut then TokenKind.Bad BadToken.TooLong else quote_kind set k.bytes

@@ -2,10 +2,7 @@
 use Rattle.std.specs.Prelude.{ℕ, zero, suc, ◌-◌, List, [], ◌∷◌, ◌++◌, length, take, Bool, true, false, not, ◌||◌, ◌==◌, nat_le}
 use Rattle.std.specs.Prelude.{if◌then◌else◌}
 use Rattle.inf_characters.specs.Characters.{is_line_end}
-use Rattle.inf_scanner.specs.Kept.{Kept}
-use Rattle.inf_scanner.specs.Scanning.{is_digit, is_letter}
-use Rattle.inf_scanner.specs.declared.scanner.State.{State}
-use Rattle.inf_scanner.specs.declared.scanner.State.TheVariants as state
+use Rattle.inf_scanner.specs.{Kept.Kept, Scanning.is_digit, Scanning.is_letter, declared.scanner.State.State}
 
 -- white space that ends no line, in both character sets
 abbrev pub is_blank : ℕ → Bool
@@ -30,13 +27,13 @@ is_plain b = not (is_line_end b || b == 34 || b == 39 || b == 64)
 
 -- tells whether a byte is known to leave the state as it is, and to end no line
 abbrev pub stays : State → ℕ → Bool
-stays state.Gap b = is_blank b
-stays state.Comment b = is_plain b
-stays (state.Run is_number) b = is_name_byte b
-stays (state.Mark m) b = false
-stays state.Text b = is_plain b
-stays (state.Quote false) b = is_plain b
-stays (state.Quote true) b = false
+stays State.Gap b = is_blank b
+stays State.Comment b = is_plain b
+stays (State.Run is_number) b = is_name_byte b
+stays (State.Mark m) b = false
+stays State.Text b = is_plain b
+stays (State.Quote false) b = is_plain b
+stays (State.Quote true) b = false
 
 -- the bytes that are kept, at most `most`, once more bytes have come
 abbrev pub with_bytes : ℕ → List ℕ → Kept → Kept

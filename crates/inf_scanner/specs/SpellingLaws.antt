@@ -2,17 +2,10 @@
 use Rattle.std.specs.Prelude.{◌≡◌, ℕ, ◌+◌, ◌<◌, ◌⊎◌, List, [], ◌∷◌, ◌++◌, length, take, Bool, true, false, not, ◌&&◌, ◌||◌, ◌==◌, nat_lt}
 use Rattle.std.specs.Prelude.{if◌then◌else◌, None}
 use Rattle.std.specs.List.{list_all}
-use Rattle.inf_characters.specs.Characters.{is_line_end, is_white}
-use Rattle.inf_characters.specs.declared.characters.CharSet.{CharSet}
-use Rattle.inf_scanner.specs.Kept.{Kept}
-use Rattle.inf_scanner.specs.Kinds.{kind_of}
-use Rattle.inf_scanner.specs.Lines.{first_line, past}
-use Rattle.inf_scanner.specs.Marks.{longer_mark, mark_bytes}
-use Rattle.inf_scanner.specs.Scanning.{is_run_byte}
-use Rattle.inf_scanner.specs.Tokens.{Read, next_token}
-use Rattle.inf_scanner.specs.declared.lines.Lines.{Lines}
-use Rattle.inf_scanner.specs.declared.scanner.Ending.{Ending}
-use Rattle.inf_scanner.specs.declared.scanner.Ending.TheVariants as ending
+use Rattle.inf_characters.specs.{Characters.is_line_end, Characters.is_white, declared.characters.CharSet.CharSet}
+use Rattle.inf_scanner.specs.{Kept.Kept, Kinds.kind_of, Lines.first_line, Lines.past, Marks.longer_mark, Marks.mark_bytes}
+use Rattle.inf_scanner.specs.{Scanning.is_run_byte, Tokens.Read, Tokens.next_token, declared.lines.Lines.Lines}
+use Rattle.inf_scanner.specs.{declared.scanner.Ending.Ending}
 
 -- tells whether there is a first byte that passes a test
 abbrev pub begins_with : (ℕ → Bool) → List ℕ → Bool
@@ -25,10 +18,10 @@ is_nothing (b ∷ bs) = false
 
 -- Tells whether bytes are white space and whole comments, in front of other bytes. A comment goes from its exclamation mark to the end
 -- of the line, or to the end of the source, where no byte is behind it.
-abbrev pub is_gap : CharSet → Bool → List ℕ → List ℕ → Bool
-is_gap set in_comment [] behind = not in_comment || is_nothing behind
-is_gap set true (b ∷ bs) behind = is_gap set (not (is_line_end b)) bs behind
-is_gap set false (b ∷ bs) behind = if b == 33 then is_gap set true bs behind else is_white set b && is_gap set false bs behind
+abbrev pub are_gaps : CharSet → Bool → List ℕ → List ℕ → Bool
+are_gaps set in_comment [] behind = not in_comment || is_nothing behind
+are_gaps set true (b ∷ bs) behind = are_gaps set (not (is_line_end b)) bs behind
+are_gaps set false (b ∷ bs) behind = if b == 33 then are_gaps set true bs behind else is_white set b && are_gaps set false bs behind
 
 -- tells whether a byte begins a gap
 abbrev pub begins_gap : CharSet → ℕ → Bool
@@ -48,29 +41,29 @@ ends_at after_at (b ∷ bs) = ends_at (b == 64) bs
 -- no mark is this one and the byte behind it
 abbrev pub no_longer : List ℕ → Ending → Type 0
 no_longer [] e = Unit {0}
-no_longer (b ∷ behind) (ending.Mark m) = longer_mark m b ≡ None
+no_longer (b ∷ behind) (Ending.Mark m) = longer_mark m b ≡ None
 no_longer (b ∷ behind) e = Unit {0}
 
 -- The span of a token with these bytes, in front of other bytes: a run or a mark is as long as it can be; a text or a quote has
 -- its quotes besides, and one that is not closed goes to the end of the source, or of the line.
 abbrev pub Spans : CharSet → Ending → List ℕ → List ℕ → List ℕ → Type 0
-Spans set (ending.Run n) bytes span behind =
+Spans set (Ending.Run n) bytes span behind =
     (span ≡ bytes) × (0 < length bytes) × (list_all is_run_byte bytes ≡ true) × (begins_with is_run_byte behind ≡ false)
-Spans set (ending.Mark m) bytes span behind = (span ≡ bytes) × (bytes ≡ mark_bytes m) × no_longer behind (ending.Mark m)
-Spans set ending.Text bytes span behind = (span ≡ 34 ∷ (bytes ++ 34 ∷ [])) × (list_all (λ b. not (b == 34)) bytes ≡ true)
-Spans set ending.Quote bytes span behind =
+Spans set (Ending.Mark m) bytes span behind = (span ≡ bytes) × (bytes ≡ mark_bytes m) × no_longer behind (Ending.Mark m)
+Spans set Ending.Text bytes span behind = (span ≡ 34 ∷ (bytes ++ 34 ∷ [])) × (list_all (λ b. not (b == 34)) bytes ≡ true)
+Spans set Ending.Quote bytes span behind =
     (span ≡ 39 ∷ (bytes ++ 39 ∷ [])) × (is_in_quote false bytes ≡ true) × (ends_at false bytes ≡ false)
-Spans set ending.Unclosed bytes span behind =
+Spans set Ending.Unclosed bytes span behind =
     ((span ≡ 34 ∷ bytes) × (list_all (λ b. not (b == 34)) bytes ≡ true) × (behind ≡ []))
     ⊎ ((span ≡ 39 ∷ bytes) × (is_in_quote false bytes ≡ true) × (is_nothing behind || begins_with is_line_end behind ≡ true))
-Spans set ending.Unfit bytes span behind = (length span ≡ 1) × (bytes ≡ [])
-Spans set ending.End bytes span behind = (span ≡ []) × (bytes ≡ []) × (behind ≡ [])
+Spans set Ending.Unfit bytes span behind = (length span ≡ 1) × (bytes ≡ [])
+Spans set Ending.End bytes span behind = (span ≡ []) × (bytes ≡ []) × (behind ≡ [])
 
 -- the number of bytes that are kept of a token
 abbrev pub most_of : ℕ → Ending → ℕ
-most_of limit ending.Text = limit
-most_of limit ending.Quote = limit
-most_of limit ending.Unclosed = limit
+most_of limit Ending.Text = limit
+most_of limit Ending.Quote = limit
+most_of limit Ending.Unclosed = limit
 most_of limit _ = 32
 
 -- the bytes that are kept of a token, at most `most`, and whether it has more
@@ -101,7 +94,7 @@ pub record IsSpelled (set : CharSet) (limit : ℕ) (lines : Lines) (rest : List 
   pub is_read : p.read ≡ next_token set limit lines rest
   pub is_told : p.read.kind ≡ kind_of set ending p.read.kept
   pub whole : rest ≡ p.gap ++ (p.span ++ p.read.rest)
-  pub gap_fits : is_gap set false p.gap (p.span ++ p.read.rest) ≡ true
+  pub gap_fits : are_gaps set false p.gap (p.span ++ p.read.rest) ≡ true
   pub span_fits : Spans set ending bytes p.span p.read.rest
   pub keeps : p.read.kept ≡ kept_of (most_of limit ending) bytes
   pub begins : p.read.line ≡ (past_all p.gap lines).line

@@ -1,12 +1,8 @@
 -- The tokens of a source, with their lines.
 use Rattle.std.specs.Prelude.{ℕ, List}
 use Rattle.inf_characters.specs.declared.characters.CharSet.{CharSet}
-use Rattle.inf_scanner.specs.Kept.{Kept}
-use Rattle.inf_scanner.specs.Kinds.{kind_of}
-use Rattle.inf_scanner.specs.Scanning.{Found, begun, find}
-use Rattle.inf_scanner.specs.declared.lines.Lines.{Lines}
-use Rattle.inf_scanner.specs.declared.scanner.State.TheVariants as state
-use Rattle.inf_scanner.specs.declared.tokens.TokenKind.{TokenKind}
+use Rattle.inf_scanner.specs.{Kept.Kept, Kinds.kind_of, Scanning.Found, Scanning.begun, Scanning.find, declared.lines.Lines.Lines}
+use Rattle.inf_scanner.specs.{declared.scanner.State.State, declared.tokens.TokenKind.TokenKind}
 
 -- A token that was read: its kind, the line of its first byte, its bytes that are kept, and the lines and the bytes behind it.
 pub record Read : Type 0 where
@@ -22,4 +18,4 @@ read_of set f =
 
 -- the next token of these bytes, which begin on this line; at the end of the source the end, again and again
 abbrev pub next_token : CharSet → ℕ → Lines → List ℕ → Read
-next_token set limit lines rest = read_of set (find set limit state.Gap (begun lines) rest)
+next_token set limit lines rest = read_of set (find set limit State.Gap (begun lines) rest)

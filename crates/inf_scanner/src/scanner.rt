@@ -1,9 +1,8 @@
 //! Tokens byte by byte: each byte is skipped, is kept, or ends the token.
 ghost use Rattle.std.specs.Prelude.{◌≡◌, ℕ, ◌+◌, ◌<◌, ◌≤◌, ◌^◌, ◌++◌, List, drop, length, true, IfOk, IfSome, IsErr, OnErr};
-ghost use Rattle.inf_characters.specs.declared.characters.CharSet.{CharSet as Set};
-ghost use Rattle.inf_scanner.specs.Lines.{first_line};
 ghost use Rattle.std.specs.List.{prefix_len};
-ghost use Rattle.inf_scanner.specs.Runs.{is_blank, is_name_byte, is_plain, name_bytes, stays};
+ghost use Rattle.inf_characters.specs.declared.characters.CharSet.{CharSet as Set};
+ghost use Rattle.inf_scanner.specs.{Lines.first_line, Runs.is_blank, Runs.is_name_byte, Runs.is_plain, Runs.name_bytes, Runs.stays};
 ghost use Rattle.inf_scanner.specs.Scanning.{is_run_byte, begins_number, step_of, begin, at_end, most, is_gap, turn, sight, marked, begun};
 ghost use Rattle.inf_scanner.specs.Scanning.{ended_at, find, found_after, goes_on, is_behind, is_on, is_open, is_quoted, most_behind};
 ghost use Rattle.inf_scanner.specs.Scanning.{Sight};

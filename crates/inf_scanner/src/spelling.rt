@@ -1,7 +1,6 @@
 //! The bytes of the token at hand, as far as they are kept.
 ghost use Rattle.std.specs.Prelude.{◌≡◌, ◌<◌, IfOk, IsErr, OnOk};
-ghost use Rattle.inf_scanner.specs.Kept.{nothing_kept, with_byte};
-ghost use Rattle.inf_scanner.specs.Runs.{with_bytes};
+ghost use Rattle.inf_scanner.specs.{Kept.nothing_kept, Kept.with_byte, Runs.with_bytes};
 
 use std::alloc::{AllocError, Global};
 use std::marker::Model;

@@ -1,54 +1,41 @@
 -- The amounts that the settings bound stay under them.
-use Rattle.std.specs.Prelude.{min, nat_lt, is_none, ◌||◌}
-use Rattle.std.proofs.Common.{◌≡◌, ℕ, ◌≤◌, Bool, true, false, cond, List, [], ◌∷◌, length, Option, Some, None, refl, sym, ap, subst, ◌∙◌}
-use Rattle.std.proofs.Common.{arith}
-use Rattle.std.proofs.Math.Nat.{min-eq_left}
-use Rattle.std.proofs.lemmas.Bool.{ltb-false}
+use Rattle.std.proofs.Common.{min, nat_lt, is_none, ◌||◌, ◌≡◌, ℕ, ◌≤◌, Bool, true, false, cond, List, [], ◌∷◌, length, Option, Some, None}
+use Rattle.std.proofs.Common.{refl, sym, ap, subst, ◌∙◌, arith}
+use Rattle.std.proofs.{Math.Nat.min-eq_left, lemmas.Bool.ltb-false}
 use Rattle.inf_sources.specs.Quoted.{is_quoted_kind}
-use Rattle.inf_scanner.specs.declared.tokens.BadToken.TheVariants as bad
-use Rattle.inf_scanner.specs.declared.tokens.TokenKind.{TokenKind}
-use Rattle.inf_scanner.specs.declared.tokens.TokenKind.TheVariants as kind
-use Rattle.inf_conditionals.specs.declared.filtered.Filtered.{Filtered}
-use Rattle.inf_conditionals.specs.declared.filtered.Site.{Site}
+use Rattle.inf_scanner.specs.{declared.tokens.BadToken.BadToken, declared.tokens.TokenKind.TokenKind}
+use Rattle.inf_conditionals.specs.{declared.filtered.Filtered.Filtered, declared.filtered.Site.Site}
 use Rattle.inf_letters.specs.Letters.{warns}
+use Rattle.inf_settings.specs.{declared.setting.Setting.Setting, declared.settings.Settings.Settings}
 use Rattle.inf_settings.specs.Settings.{all_settings, number_of}
-use Rattle.inf_settings.specs.declared.setting.Setting.{Setting}
-use Rattle.inf_settings.specs.declared.setting.Setting.TheVariants.{LowStrings, Objects, PropertyTables, References}
-use Rattle.inf_settings.specs.declared.settings.Settings.{Settings}
 use Rattle.inf_unit.proofs.Cases.{of_both}
-use Rattle.inf_unit.specs.Messages.{FileNames, none_reported, with_full}
-use Rattle.inf_unit.specs.Tokens.{SourceToken}
-use Rattle.inf_reader.specs.Reading.{ReaderState, has_ended_at}
-use Rattle.inf_reader.specs.Standing.{standing}
-use Rattle.inf_reader.specs.declared.progress.Progress.{Progress}
-use Rattle.inf_session.specs.Choices.{Choices, chosen, most_quoted}
-use Rattle.inf_session.specs.Session.{begun_with, tables_full}
-use Rattle.inf_ending.specs.Ending.{first_place}
-use Rattle.inf_session.specs.Taking.{quoted_behind, quoted_bytes, quoted_of_kind}
+use Rattle.inf_unit.specs.{Messages.FileNames, Messages.none_reported, Messages.with_full, Tokens.SourceToken}
+use Rattle.inf_reader.specs.{Reading.ReaderState, Reading.has_ended_at, Standing.standing, declared.progress.Progress.Progress}
+use Rattle.inf_session.specs.{Choices.Choices, Choices.chosen, Choices.most_quoted, Session.begun_with, Session.tables_full}
+use Rattle.inf_session.specs.{Taking.quoted_behind, Taking.quoted_bytes, Taking.quoted_of_kind, Uses.is_compared_later}
+use Rattle.inf_session.specs.{declared.session.Session.Session, declared.setup.Setup.Setup}
 use Rattle.inf_session.specs.Standing.{AreWithin, HasObjects, IsBounded, ended, held, told_count, told_counts, used_by}
-use Rattle.inf_session.specs.Uses.{is_compared_later}
-use Rattle.inf_session.specs.declared.session.Session.{Session}
-use Rattle.inf_session.specs.declared.setup.Setup.{Setup}
+use Rattle.inf_ending.specs.Ending.{first_place}
 
 -- The longest quoted token
 
 kind_within : (k : TokenKind) (bytes : List ℕ) (most : ℕ) → (is_quoted_kind k ≡ true → length bytes ≤ most) → quoted_of_kind k bytes ≤ most
-kind_within kind.Name bytes most few = omega arith
-kind_within (kind.Number n) bytes most few = omega arith
-kind_within kind.Text bytes most few = few refl
-kind_within (kind.Char c) bytes most few = few refl
-kind_within (kind.Word w) bytes most few = few refl
-kind_within (kind.Mark m) bytes most few = omega arith
-kind_within (kind.Bad bad.Unfit) bytes most few = omega arith
-kind_within (kind.Bad bad.Unclosed) bytes most few = few refl
-kind_within (kind.Bad bad.EmptyQuote) bytes most few = few refl
-kind_within (kind.Bad bad.Number) bytes most few = omega arith
-kind_within (kind.Bad bad.LongName) bytes most few = omega arith
-kind_within (kind.Bad bad.UnknownEscape) bytes most few = few refl
-kind_within (kind.Bad bad.NoZscii) bytes most few = few refl
-kind_within (kind.Bad bad.BadCode) bytes most few = few refl
-kind_within (kind.Bad bad.TooLong) bytes most few = few refl
-kind_within kind.End bytes most few = omega arith
+kind_within TokenKind.Name bytes most few = omega arith
+kind_within (TokenKind.Number n) bytes most few = omega arith
+kind_within TokenKind.Text bytes most few = few refl
+kind_within (TokenKind.Char c) bytes most few = few refl
+kind_within (TokenKind.Word w) bytes most few = few refl
+kind_within (TokenKind.Mark m) bytes most few = omega arith
+kind_within (TokenKind.Bad BadToken.Unfit) bytes most few = omega arith
+kind_within (TokenKind.Bad BadToken.Unclosed) bytes most few = few refl
+kind_within (TokenKind.Bad BadToken.EmptyQuote) bytes most few = few refl
+kind_within (TokenKind.Bad BadToken.Number) bytes most few = omega arith
+kind_within (TokenKind.Bad BadToken.LongName) bytes most few = omega arith
+kind_within (TokenKind.Bad BadToken.UnknownEscape) bytes most few = few refl
+kind_within (TokenKind.Bad BadToken.NoZscii) bytes most few = few refl
+kind_within (TokenKind.Bad BadToken.BadCode) bytes most few = few refl
+kind_within (TokenKind.Bad BadToken.TooLong) bytes most few = few refl
+kind_within TokenKind.End bytes most few = omega arith
 
 pub quoted_within : (site : Site) (j : Filtered) (t : SourceToken) (quoted most : ℕ) →
     (is_quoted_kind t.kind ≡ true → length t.bytes ≤ most) → quoted ≤ most
@@ -91,17 +78,17 @@ none_then false limit others e = (refl, e)
 
 first_fits : (o : Choices) (names : FileNames) → (begun_with o names).work.report.counts.is_over ≡ false → HasObjects o.settings
 first_fits o names going =
-    let objects = number_of Objects o.settings in
-    let bytes = number_of PropertyTables o.settings in
-    let refs = number_of References o.settings in
-    let low = number_of LowStrings o.settings in
+    let objects = number_of Setting.Objects o.settings in
+    let bytes = number_of Setting.PropertyTables o.settings in
+    let refs = number_of Setting.References o.settings in
+    let low = number_of Setting.LowStrings o.settings in
     let none = none_told (tables_full o.settings) names (warns o.letters) going in
-    let behind_low = cond (nat_lt refs 4) (Some References) None in
-    let behind_bytes = cond (nat_lt low 2) (Some LowStrings) behind_low in
-    let first = none_then (nat_lt objects 4) Objects (cond (nat_lt bytes 30) (Some PropertyTables) behind_bytes) none in
-    let second = none_then (nat_lt bytes 30) PropertyTables behind_bytes first.1 in
-    let third = none_then (nat_lt low 2) LowStrings behind_low second.1 in
-    let fourth = none_then (nat_lt refs 4) References None third.1 in
+    let behind_low = cond (nat_lt refs 4) (Some Setting.References) None in
+    let behind_bytes = cond (nat_lt low 2) (Some Setting.LowStrings) behind_low in
+    let first = none_then (nat_lt objects 4) Setting.Objects (cond (nat_lt bytes 30) (Some Setting.PropertyTables) behind_bytes) none in
+    let second = none_then (nat_lt bytes 30) Setting.PropertyTables behind_bytes first.1 in
+    let third = none_then (nat_lt low 2) Setting.LowStrings behind_low second.1 in
+    let fourth = none_then (nat_lt refs 4) Setting.References None third.1 in
     (ltb-false objects 4 first.0, ltb-false bytes 30 second.0, ltb-false low 2 third.0, ltb-false refs 4 fourth.0)
 
 pub bounded_first : {B : Type 0} (p : Setup) (progress : Progress B) (names : FileNames) → standing progress ≡ begun_with (chosen p) names

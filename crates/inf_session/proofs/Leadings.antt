@@ -2,22 +2,18 @@
 use Rattle.std.proofs.Common.{◌≡◌, ◌⊎◌, inl, inr, ℕ, suc, zero, ◌+◌, ◌<◌, ◌||◌, List, [], ◌∷◌, ◌++◌, Bool, true, false, Option}
 use Rattle.std.proofs.Common.{cond, refl, sym, ap, subst, ◌∙◌, append_assoc, append-nil, arith}
 use Rattle.inf_settings.specs.Bounds.{Limits}
-use Rattle.inf_devices.specs.Files.{Openings, Sources}
-use Rattle.inf_devices.specs.Sinks.{Takes}
+use Rattle.inf_devices.specs.{Files.Openings, Files.Sources, Sinks.Takes}
 use Rattle.inf_unit.proofs.Cases.{of_both}
+use Rattle.inf_sources.specs.{Open.Open, Open.opened_since, declared.open_files.Included.Included}
 use Rattle.inf_sources.specs.Inclusions.{Inclusion, Nesting, Opens, OpensNone, OpensTooMany, Waiting, inclusion}
-use Rattle.inf_sources.specs.Open.{Open, opened_since}
-use Rattle.inf_sources.specs.declared.open_files.Included.{Included}
-use Rattle.inf_sources.specs.declared.open_files.Included.TheVariants as answer
 use Rattle.inf_unit.specs.Directives.{Request, Nothing, Include, End, Characters}
 use Rattle.inf_reader.specs.Reading.{is_mode_ended}
 use Rattle.inf_scanner.specs.declared.tokens.Place.{Place}
 use Rattle.inf_session.specs.Choices.{Choices}
-use Rattle.inf_session.specs.Leading.{CutsShort, GivenUp, NotTried, OpensAll, OpensWithin, StopsFor, StopsAtInclusion, Writes}
-use Rattle.inf_ending.specs.Delivered.{IsFront}
-use Rattle.inf_session.specs.Leading.{WroteAll}
+use Rattle.inf_session.specs.Leading.{CutsShort, GivenUp, NotTried, OpensAll, OpensWithin, StopsFor, StopsAtInclusion, Writes, WroteAll}
 use Rattle.inf_session.specs.Session.{State, answered, asked_nothing, file_closed, followed, has_ended, carried_out, included_by, is_parted}
 use Rattle.inf_session.specs.Session.{is_resting, left, left_by, none_included, part, piece_closed, rested, run, stepped, turn}
+use Rattle.inf_ending.specs.Delivered.{IsFront}
 use Rattle.inf_ending.proofs.Delivering.{takes_none, takes_then}
 
 -- Fronts
@@ -50,9 +46,9 @@ left_told : (s : State) → SameTold s (left s)
 left_told s = left_by_told s.nesting.waiting (file_closed s)
 
 none_told : (unit : Place) (text : List ℕ) (why : Included) (s : State) → SameTold s (none_included unit text why s)
-none_told unit text answer.Entered s = refl
-none_told unit text answer.NotThere s = refl
-none_told unit text answer.TooDeep s = refl
+none_told unit text Included.Entered s = refl
+none_told unit text Included.NotThere s = refl
+none_told unit text Included.TooDeep s = refl
 
 included_told : (sources : Sources) (o : Choices) (unit : Place) (text : List ℕ) (i : Inclusion) (s : State) →
     SameTold s (included_by sources o unit text i s)

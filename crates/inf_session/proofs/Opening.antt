@@ -6,28 +6,20 @@ use Rattle.inf_characters.specs.declared.characters.CharSet.{CharSet}
 use Rattle.inf_scanner.specs.declared.tokens.Place.{Place}
 use Rattle.inf_unit.proofs.Cases.{of_both}
 use Rattle.inf_unit.specs.Directives.{Request, Characters, Include}
-use Rattle.inf_reader.specs.Reading.{is_mode_ended}
-use Rattle.inf_reader.specs.declared.recovery.Recovery.{Recovery}
-use Rattle.inf_reader.specs.declared.recovery.Recovery.TheVariants as mode
+use Rattle.inf_reader.specs.{Reading.is_mode_ended, declared.recovery.Recovery.Recovery}
+use Rattle.inf_sources.specs.declared.{faults.IncludeFault.IncludeFault, open_file.Conditional.Conditional, open_files.Included.Included}
 use Rattle.inf_sources.specs.Inclusions.{Inclusion, Nesting, OpenedInVain, Opens, OpensNone, inclusion, nested_by}
 use Rattle.inf_sources.specs.Open.{Open, nesting, opened_since}
-use Rattle.inf_sources.specs.declared.open_file.Conditional.{Conditional}
-use Rattle.inf_sources.specs.declared.faults.IncludeFault.TheVariants as vain
-use Rattle.inf_sources.specs.declared.open_files.Included.{Included}
-use Rattle.inf_sources.specs.declared.open_files.Included.TheVariants as answer
-use Rattle.inf_session.specs.Choices.{Choices}
-use Rattle.inf_session.specs.Leading.{OpensWithin}
+use Rattle.inf_session.specs.{Choices.Choices, Leading.OpensWithin, Standing.state, declared.session.Session.Session}
 use Rattle.inf_session.specs.Session.{State, answered, asked_nothing, followed, has_ended, carried_out, included, included_by, is_resting}
 use Rattle.inf_session.specs.Session.{left, none_included, piece_closed, rested, stepped, turn}
-use Rattle.inf_session.specs.Standing.{state}
-use Rattle.inf_session.specs.declared.session.Session.{Session}
 
 -- An inclusion
 
 none_opened : (unit : Place) (text : List ℕ) (why : Included) (s : State) → (none_included unit text why s).nesting ≡ s.nesting
-none_opened unit text answer.Entered s = refl
-none_opened unit text answer.NotThere s = refl
-none_opened unit text answer.TooDeep s = refl
+none_opened unit text Included.Entered s = refl
+none_opened unit text Included.NotThere s = refl
+none_opened unit text Included.TooDeep s = refl
 
 included_opens : (sources : Sources) (o : Choices) (unit : Place) (text : List ℕ) (set : CharSet) (limit : ℕ)
     (conditionals : List Conditional) (is_system : Bool) (i : Inclusion) (s : State)
@@ -54,7 +46,7 @@ tried sources o unit text set limit conditionals is_system start old new before 
 -- an inclusion could not be tried, or its file is one too many
 pub in_vain : {B : Type 0} (sources : Sources) (o : Choices) (unit : Place) (text : List ℕ) (start old : Openings) (before : Session B)
     (openings : List (List ℕ))
-    → OpenedInVain vain.Device (inclusion sources o.directories text (nesting sources start old before.open_files))
+    → OpenedInVain IncludeFault.Device (inclusion sources o.directories text (nesting sources start old before.open_files))
     (nesting sources start old before.open_files) openings
     → OpensWithin (included sources o unit text) (state sources start old before) openings
 in_vain sources o unit text start old before openings (inl same) = inl (λ told. same)
@@ -64,11 +56,11 @@ in_vain sources o unit text start old before openings (inr t) =
 
 -- The request of a directive
 
-pub not_ended : (m : Recovery) → (m ≡ mode.Ended → ⊥) → is_mode_ended m ≡ false
-not_ended mode.Reads h = refl
-not_ended mode.SkipsDirective h = refl
-not_ended mode.SkipsRoutine h = refl
-not_ended mode.Ended h = absurd (h refl)
+pub not_ended : (m : Recovery) → (m ≡ Recovery.Ended → ⊥) → is_mode_ended m ≡ false
+not_ended Recovery.Reads h = refl
+not_ended Recovery.SkipsDirective h = refl
+not_ended Recovery.SkipsRoutine h = refl
+not_ended Recovery.Ended h = absurd (h refl)
 
 pub heeds : (sources : Sources) (o : Choices) (unit : Place) (text : List ℕ) (s : State) → s.work.report.counts.is_over ≡ false →
     is_mode_ended s.reading.mode ≡ false

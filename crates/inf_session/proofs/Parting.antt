@@ -1,15 +1,9 @@
 -- The results of steps, of a source and of the veneer behind it, and the number of steps that are left.
-use Rattle.std.specs.Prelude.{◌&&◌, is_none}
-use Rattle.std.proofs.Common.{◌≡◌, ◌⊎◌, inl, inr, suc, ◌+◌, ◌-◌, ◌<◌, ◌≤◌, Bool, true, false, cond, Result, Ok, Err, IfOk, refl, sym, ap}
-use Rattle.std.proofs.Common.{subst, ◌∙◌, arith}
-use Rattle.inf_session.specs.Choices.{chosen, most_quoted}
+use Rattle.std.proofs.Common.{◌&&◌, is_none, ◌≡◌, ◌⊎◌, inl, inr, suc, ◌+◌, ◌-◌, ◌<◌, ◌≤◌, Bool, true, false, cond, Result, Ok, Err, IfOk}
+use Rattle.std.proofs.Common.{refl, sym, ap, subst, ◌∙◌, arith}
+use Rattle.inf_session.specs.{Choices.chosen, Choices.most_quoted, Veneer.most_texts, Veneer.next_text, Weights.steps_left, Weights.weight}
+use Rattle.inf_session.specs.{declared.session.Session.Session, declared.session.Step.Step, declared.setup.Setup.Setup}
 use Rattle.inf_session.specs.Standing.{HasObjects, IsBounded, came_to, ended, is_done, is_fatal, next_of}
-use Rattle.inf_session.specs.Veneer.{most_texts, next_text}
-use Rattle.inf_session.specs.Weights.{steps_left, weight}
-use Rattle.inf_session.specs.declared.session.Session.{Session}
-use Rattle.inf_session.specs.declared.session.Step.{Step}
-use Rattle.inf_session.specs.declared.session.Step.TheVariants as step
-use Rattle.inf_session.specs.declared.setup.Setup.{Setup}
 
 -- Whether something is left
 
@@ -26,12 +20,12 @@ done_by s e none = done_is s e ∙ none
 pub none_next : {B : Type 0} (s : Session B) → is_fatal s ≡ true → is_none (next_of s) ≡ true
 none_next s e = ap (λ b. is_none (next_text b s.passed s.progress.work.output.names)) e
 
-fatal_by : (b : Bool) (x : Step) → x ≡ cond b step.Fatal step.More → (x ≡ step.More → ⊥) → b ≡ true
+fatal_by : (b : Bool) (x : Step) → x ≡ cond b Step.Fatal Step.More → (x ≡ Step.More → ⊥) → b ≡ true
 fatal_by true x e more = refl
 fatal_by false x e more = absurd (more e)
 
 -- a part of the source that does not go on ended with a fatal message
-pub part_ends : {B : Type 0} (t : Session B) (x : Step) → x ≡ came_to false t → (x ≡ step.More → ⊥) → ended t ≡ true → is_done t ≡ true
+pub part_ends : {B : Type 0} (t : Session B) (x : Step) → x ≡ came_to false t → (x ≡ Step.More → ⊥) → ended t ≡ true → is_done t ≡ true
 part_ends t x came more over = done_by t over (none_next t (fatal_by (is_fatal t) x came more))
 
 pub if_ok_two : {T E : Type 0} (r : Result T E) (P Q R : T → Type 0) → ((x : T) → P x → Q x → R x) → IfOk r P → IfOk r Q → IfOk r R

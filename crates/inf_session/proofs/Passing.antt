@@ -3,12 +3,9 @@ use Rattle.std.proofs.Common.{◌≡◌, ℕ, Option, None, sym, ap, ◌∙◌}
 use Rattle.inf_settings.specs.Bounds.{Limits}
 use Rattle.inf_unit.specs.Tokens.{SourceToken}
 use Rattle.inf_compilation.specs.Context.{Context}
+use Rattle.inf_conditionals.specs.{Open.Conditions, Open.silent, Said.Said, declared.filtered.Site.Site}
 use Rattle.inf_conditionals.specs.Judging.{Behind, judged, kept}
-use Rattle.inf_conditionals.specs.Open.{Conditions, silent}
-use Rattle.inf_conditionals.specs.Said.{Said}
-use Rattle.inf_conditionals.specs.declared.filtered.Site.{Site}
-use Rattle.inf_reader.specs.Handing.{judged_taken, said_told, site_of}
-use Rattle.inf_reader.specs.Reading.{ReaderState, step}
+use Rattle.inf_reader.specs.{Handing.judged_taken, Handing.said_told, Handing.site_of, Reading.ReaderState, Reading.step}
 use Rattle.inf_session.specs.Taking.{Taken, quoted_behind, token_taken}
 
 -- the state behind a token whose result among conditionals is known

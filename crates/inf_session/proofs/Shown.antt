@@ -1,8 +1,7 @@
 -- The text of an inclusion that can name a file is of ASCII.
 use Rattle.std.proofs.Common.{◌≡◌, ℕ, zero, suc, ◌==◌, nat_lt, List, [], ◌∷◌, length, Bool, true, false, not, ◌&&◌, cond, refl, arith}
-use Rattle.std.specs.List.{list_all}
-use Rattle.std.specs.Str.{IsAscii}
 use Rattle.std.proofs.lemmas.Bool.{eqb-true, ltb-true}
+use Rattle.std.specs.{List.list_all, Str.IsAscii}
 use Rattle.inf_lexer.specs.Names.{can_name, is_fit}
 
 -- the first of two tests holds where both do, and the second

@@ -2,26 +2,17 @@
 use Rattle.std.proofs.Common.{◌≡◌, ℕ, List, [], ◌∷◌, ◌++◌, length, drop, reverse, get_or, Bool, Option, refl, sym, ap, subst, ◌∙◌}
 use Rattle.std.proofs.Common.{append_assoc, Result, Ok, Err, IfErr}
 use Rattle.inf_settings.specs.Bounds.{Limits}
-use Rattle.inf_devices.specs.Files.{Openings, Sources, opened}
-use Rattle.inf_sources.specs.Cursors.{Cursor}
+use Rattle.inf_devices.specs.{Files.Openings, Files.Sources, Files.opened, Sinks.Takes}
+use Rattle.inf_sources.specs.{Cursors.Cursor, declared.open_file.OpenFile.OpenFile}
 use Rattle.inf_sources.specs.Inclusions.{Nesting, Waiting, closed, resumed}
 use Rattle.inf_sources.specs.Open.{AreNested, IsNested, Open, cursor_of, lexers_of, nesting, rest_of, waiting_at}
-use Rattle.inf_sources.specs.declared.open_file.OpenFile.{OpenFile}
 use Rattle.inf_sources.proofs.Places.{innermost_of, reverse_last}
-use Rattle.inf_devices.specs.Sinks.{Takes}
-use Rattle.inf_conditionals.specs.Ends.{file_ended, file_told, with_among}
-use Rattle.inf_conditionals.specs.Open.{Conditions}
+use Rattle.inf_conditionals.specs.{Ends.file_ended, Ends.file_told, Ends.with_among, Open.Conditions}
 use Rattle.inf_unit.specs.Messages.{Reported, flushed}
-use Rattle.inf_reader.specs.declared.recovery.Recovery.TheVariants as mode
-use Rattle.inf_session.specs.Choices.{Choices}
-use Rattle.inf_ending.specs.Faults.{Caused, IfRead, fault_of}
-use Rattle.inf_session.specs.Leading.{CutsShort, Writes}
+use Rattle.inf_reader.specs.declared.recovery.Recovery.{Recovery}
+use Rattle.inf_session.specs.{Choices.Choices, Leading.CutsShort, Leading.Writes, Standing.state, declared.session.Session.Session}
 use Rattle.inf_session.specs.Session.{State, file_closed, followed, left, left_by, stepped, told_out, turn}
-use Rattle.inf_session.specs.Standing.{state}
-use Rattle.inf_ending.specs.declared.faults.Fault.{Fault}
-use Rattle.inf_ending.specs.declared.faults.Halt.{Halt}
-use Rattle.inf_session.specs.declared.session.Session.{Session}
-use Rattle.inf_ending.specs.declared.faults.Fault.TheVariants as fault
+use Rattle.inf_ending.specs.{Faults.Caused, Faults.IfRead, Faults.fault_of, declared.faults.Fault.Fault, declared.faults.Halt.Halt}
 
 -- Files that wait
 
@@ -63,7 +54,7 @@ abbrev pub going_on : Nesting → Conditions → Bool → State → State
 going_on n c is_system s = record s {
   nesting = n;
   conditions = c;
-  reading = record s.reading { mode = mode.Reads };
+  reading = record s.reading { mode = Recovery.Reads };
   work = record s.work { is_system = is_system };
 }
 
@@ -107,10 +98,10 @@ stays s n c r ended told e none =
 
 pub caused_more : (f : Fault) (P Q : List ℕ → Type 0) (A B : Type 0) → ((name : List ℕ) → P name → Q name) → (A → B) → Caused f P A →
     Caused f Q B
-caused_more fault.Memory P Q A B h k p = tt
-caused_more (fault.Read name) P Q A B h k p = h _ p
-caused_more fault.Messages P Q A B h k p = k p
-caused_more (fault.Story n) P Q A B h k p = p
+caused_more Fault.Memory P Q A B h k p = tt
+caused_more (Fault.Read name) P Q A B h k p = h _ p
+caused_more Fault.Messages P Q A B h k p = k p
+caused_more (Fault.Story n) P Q A B h k p = p
 
 pub if_caused_more : {T : Type 0} (r : Result T Fault) (P Q : List ℕ → Type 0) (A B : Type 0) → ((name : List ℕ) → P name → Q name) →
     (A → B)
@@ -119,10 +110,10 @@ if_caused_more (Ok x) P Q A B h k p = tt
 if_caused_more (Err f) P Q A B h k p = caused_more f P Q A B h k p
 
 pub read_more : (f : Fault) (P Q : List ℕ → Type 0) → ((name : List ℕ) → P name → Q name) → IfRead f P → IfRead f Q
-read_more fault.Memory P Q h p = tt
-read_more (fault.Read name) P Q h p = h _ p
-read_more fault.Messages P Q h p = tt
-read_more (fault.Story n) P Q h p = tt
+read_more Fault.Memory P Q h p = tt
+read_more (Fault.Read name) P Q h p = h _ p
+read_more Fault.Messages P Q h p = tt
+read_more (Fault.Story n) P Q h p = tt
 
 pub if_read_more : {T : Type 0} (r : Result T Fault) (P Q : List ℕ → Type 0) → ((name : List ℕ) → P name → Q name) →
     IfErr r (λ f. IfRead f P) → IfErr r (λ f. IfRead f Q)
@@ -131,10 +122,10 @@ if_read_more (Err f) P Q h p = read_more f P Q h p
 
 -- a fault of reading that has its cause
 pub read_caused : (f : Fault) (P Q : List ℕ → Type 0) (A : Type 0) → ((name : List ℕ) → P name → Q name) → Caused f P A → IfRead f Q
-read_caused fault.Memory P Q A h p = tt
-read_caused (fault.Read name) P Q A h p = h _ p
-read_caused fault.Messages P Q A h p = tt
-read_caused (fault.Story n) P Q A h p = tt
+read_caused Fault.Memory P Q A h p = tt
+read_caused (Fault.Read name) P Q A h p = h _ p
+read_caused Fault.Messages P Q A h p = tt
+read_caused (Fault.Story n) P Q A h p = tt
 
 -- the fault that is told for a turn that was given up
 
@@ -151,10 +142,10 @@ if_halt_read (Err halt) lost P Q h p = read_more (fault_of halt lost) P Q h p
 
 pub read_both : (f : Fault) (A : Type 0) (P Q : List ℕ → Type 0) → ((name : List ℕ) → A → P name → Q name)
     → IfRead f (λ name. A) → IfRead f P → IfRead f Q
-read_both fault.Memory A P Q h a p = tt
-read_both (fault.Read name) A P Q h a p = h _ a p
-read_both fault.Messages A P Q h a p = tt
-read_both (fault.Story n) A P Q h a p = tt
+read_both Fault.Memory A P Q h a p = tt
+read_both (Fault.Read name) A P Q h a p = h _ a p
+read_both Fault.Messages A P Q h a p = tt
+read_both (Fault.Story n) A P Q h a p = tt
 
 -- A turn, with its messages
 

@@ -1,34 +1,26 @@
 -- Where the reading of the rest of the veneer leads, and the lines that it writes.
-use Rattle.std.specs.Prelude.{slice_get, nat_le, is_some, ◌==◌}
-use Rattle.std.specs.List.{list_all}
-use Rattle.std.proofs.Common.{◌≡◌, ℕ, suc, zero, ◌-◌, ◌+◌, ◌<◌, ◌≤◌, List, [], ◌++◌, length, Bool, true, false, Option, Some, None}
-use Rattle.std.proofs.Common.{unwrap_or}
-use Rattle.std.proofs.Common.{cond, refl, sym, ap, subst, ◌∙◌, append_assoc, append-nil, arith}
-use Rattle.std.proofs.lemmas.Bool.{leb-true}
-use Rattle.std.proofs.lemmas.List.Sums.{AllPass-from_list_all}
+use Rattle.std.proofs.Common.{slice_get, nat_le, is_some, ◌==◌, ◌≡◌, ℕ, suc, zero, ◌-◌, ◌+◌, ◌<◌, ◌≤◌, List, [], ◌++◌, length, Bool, true}
+use Rattle.std.proofs.Common.{false, Option, Some, None, unwrap_or, cond, refl, sym, ap, subst, ◌∙◌, append_assoc, append-nil, arith}
+use Rattle.std.proofs.{lemmas.Bool.leb-true, lemmas.List.Sums.AllPass-from_list_all}
 use Rattle.std.proofs.lemmas.Option.{get_or_from_slice_get, slice_get_within}
+use Rattle.std.specs.List.{list_all}
 use Rattle.inf_settings.specs.Bounds.{Limits}
 use Rattle.inf_scanner.specs.declared.tokens.Place.{Place}
 use Rattle.inf_names.specs.Symbols.{Table}
-use Rattle.inf_devices.specs.Sinks.{Takes}
+use Rattle.inf_devices.specs.{Files.Openings, Files.Sources, Sinks.Takes}
 use Rattle.inf_sources.specs.Inclusions.{Nesting}
-use Rattle.inf_devices.specs.Files.{Openings, Sources}
 use Rattle.inf_characters.specs.declared.characters.CharSet.{CharSet}
 use Rattle.inf_text_lexer.specs.TextReaders.{TextReader, at_line}
 use Rattle.inf_unit.specs.Messages.{veneer_file}
-use Rattle.inf_session.specs.Standing.{state}
-use Rattle.inf_session.specs.declared.session.Session.{Session}
-use Rattle.inf_unit.proofs.Cases.{of_both}
-use Rattle.inf_veneer.specs.Texts.{all_names, all_texts, name_of, numbered, text_of}
-use Rattle.inf_session.specs.Choices.{Choices, most_quoted}
-use Rattle.inf_session.specs.Leading.{CutsShort, Writes}
-use Rattle.inf_ending.specs.Delivered.{IsFront}
-use Rattle.inf_session.specs.Session.{State, has_ended, rested, stepped, told_out}
+use Rattle.inf_session.specs.{Choices.Choices, Choices.most_quoted, Leading.CutsShort, Leading.Writes, Session.State, Session.has_ended}
+use Rattle.inf_session.specs.{Session.rested, Session.stepped, Session.told_out, Standing.state, declared.session.Session.Session}
 use Rattle.inf_session.specs.Veneer.{first_wanted, in_text, is_wanted, most_texts, next_supplied, next_text, supplied, supplied_at}
 use Rattle.inf_session.specs.Veneer.{supplied_by, text_begun, text_front, text_read, text_turns, veneer_text}
-use Rattle.inf_session.proofs.Leadings.{front_same, front_then, rested_told}
+use Rattle.inf_unit.proofs.Cases.{of_both}
+use Rattle.inf_veneer.specs.Texts.{all_names, all_texts, name_of, numbered, text_of}
+use Rattle.inf_ending.specs.Delivered.{IsFront}
+use Rattle.inf_session.proofs.{Leadings.front_same, Leadings.front_then, Leadings.rested_told, Standings.emptied}
 use Rattle.inf_ending.proofs.Delivering.{takes_none, takes_then}
-use Rattle.inf_session.proofs.Standings.{emptied}
 
 -- Names and texts are short
 

@@ -1,27 +1,17 @@
 -- The state behind a token, by the results of the calls of its turn.
 use Rattle.std.proofs.Common.{◌≡◌, ◌≤◌, ℕ, List, Bool, true, length, refl, ap, ◌∙◌}
 use Rattle.inf_settings.specs.Bounds.{Limits}
-use Rattle.inf_scanner.specs.declared.tokens.Place.{Place}
-use Rattle.inf_scanner.specs.declared.tokens.TokenKind.{TokenKind}
-use Rattle.inf_sources.specs.Cursors.{behind, read}
-use Rattle.inf_sources.specs.Inclusions.{Nesting}
-use Rattle.inf_unit.specs.Messages.{Reported}
-use Rattle.inf_unit.specs.Tokens.{SourceToken}
-use Rattle.inf_conditionals.specs.Judging.{Behind, judged}
-use Rattle.inf_conditionals.specs.Open.{Conditions, silent}
+use Rattle.inf_scanner.specs.{declared.tokens.Place.Place, declared.tokens.TokenKind.TokenKind}
+use Rattle.inf_sources.specs.{Cursors.behind, Cursors.read, Inclusions.Nesting, Quoted.is_quoted_kind}
+use Rattle.inf_unit.specs.{Messages.Reported, Tokens.SourceToken}
+use Rattle.inf_conditionals.specs.{Judging.Behind, Judging.judged, Open.Conditions, Open.silent, declared.filtered.Site.Site}
 use Rattle.inf_output.specs.Output.{Out}
 use Rattle.inf_reader.specs.Handing.{is_between, judged_taken, said_told, site_of}
-use Rattle.inf_reader.specs.Reading.{ReaderState}
-use Rattle.inf_session.specs.Choices.{Choices}
-use Rattle.inf_compilation.specs.Context.{Context}
-use Rattle.inf_conditionals.specs.declared.filtered.Site.{Site}
-use Rattle.inf_reader.specs.Reading.{is_mode_ended}
-use Rattle.inf_scanner.specs.declared.tokens.TokenKind.TheVariants as kind
-use Rattle.inf_session.proofs.Bounds.{quoted_within}
-use Rattle.inf_session.proofs.Stepping.{end_ends}
+use Rattle.inf_reader.specs.Reading.{ReaderState, is_mode_ended}
+use Rattle.inf_session.specs.{Choices.Choices, Taking.Taken, Taking.quoted_behind, Taking.token_at, Taking.token_taken}
 use Rattle.inf_session.specs.Session.{State, context_of, stand_of, stepped, token_of}
-use Rattle.inf_session.specs.Taking.{Taken, quoted_behind, token_at, token_taken}
-use Rattle.inf_sources.specs.Quoted.{is_quoted_kind}
+use Rattle.inf_compilation.specs.Context.{Context}
+use Rattle.inf_session.proofs.{Bounds.quoted_within, Stepping.end_ends}
 
 -- the state behind a token
 abbrev pub with_taken : State → Nesting → Taken → State
@@ -87,7 +77,8 @@ taken_within limits context t c s quoted most few before =
     quoted_within site (judged site s.work.output t c).judged t quoted most few before
 
 -- at the end of a file reading ends
-pub taken_ends : (limits : Limits) (context : Context) (t : SourceToken) (c : Conditions) (s : ReaderState) (quoted : ℕ) → t.kind ≡ kind.End
+pub taken_ends : (limits : Limits) (context : Context) (t : SourceToken) (c : Conditions) (s : ReaderState) (quoted : ℕ) →
+    t.kind ≡ TokenKind.End
     → is_mode_ended (token_taken limits context t c s quoted).stand.reading.mode ≡ true
 taken_ends limits context t c s quoted is =
     let site = site_of context.settings s.reading in

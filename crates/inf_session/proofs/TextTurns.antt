@@ -1,49 +1,34 @@
 -- The turns of the tokens of a text in memory, one after another.
-use Rattle.std.specs.Prelude.{Result}
-use Rattle.std.proofs.Common.{◌≡◌, ℕ, suc, zero, ◌-◌, ◌<◌, ◌≤◌, List, [], ◌∷◌, length, length-take, Bool, true, false, Option, Some, None}
-use Rattle.std.proofs.Common.{OnOk}
-use Rattle.std.proofs.Common.{cond, refl, sym, ap, subst, ◌∙◌, arith}
+use Rattle.std.proofs.Common.{Result, ◌≡◌, ℕ, suc, zero, ◌-◌, ◌<◌, ◌≤◌, List, [], ◌∷◌, length, length-take, Bool, true, false, Option, Some}
+use Rattle.std.proofs.Common.{None, OnOk, cond, refl, sym, ap, subst, ◌∙◌, arith}
 use Rattle.std.proofs.lemmas.Bool.{cond_both, le-leb}
 use Rattle.inf_characters.specs.declared.characters.CharSet.{CharSet}
 use Rattle.inf_settings.specs.Bounds.{Limits}
-use Rattle.inf_scanner.specs.Kept.{Kept}
-use Rattle.inf_scanner.specs.Kinds.{kind_of, number_kind, number_of}
-use Rattle.inf_scanner.specs.SpellingLaws.{Piece, most_of}
-use Rattle.inf_scanner.specs.TokenLaws.{is_run}
-use Rattle.inf_scanner.specs.Tokens.{Read, next_token}
-use Rattle.inf_scanner.specs.declared.lines.Lines.{Lines}
-use Rattle.inf_scanner.specs.declared.scanner.Ending.{Ending}
-use Rattle.inf_scanner.specs.declared.scanner.Ending.TheVariants as ending
-use Rattle.inf_scanner.specs.declared.tokens.BadToken.TheVariants as bad
-use Rattle.inf_scanner.specs.declared.tokens.Token.{Token}
-use Rattle.inf_scanner.specs.declared.tokens.TokenKind.{TokenKind}
-use Rattle.inf_scanner.specs.declared.tokens.TokenKind.TheVariants as kind
-use Rattle.inf_scanner.proofs.SpellingLaws.{next_spelled}
-use Rattle.inf_scanner.proofs.TokenLaws.{runs_are_short}
-use Rattle.inf_sources.specs.Inclusions.{Nesting}
-use Rattle.inf_sources.specs.Quoted.{is_quoted_kind}
+use Rattle.inf_scanner.specs.{Kept.Kept, Kinds.kind_of, Kinds.number_kind, Kinds.number_of, SpellingLaws.Piece, SpellingLaws.most_of}
+use Rattle.inf_scanner.specs.{TokenLaws.is_run, Tokens.Read, Tokens.next_token, declared.lines.Lines.Lines, declared.scanner.Ending.Ending}
+use Rattle.inf_scanner.specs.{declared.tokens.BadToken.BadToken, declared.tokens.Token.Token, declared.tokens.TokenKind.TokenKind}
+use Rattle.inf_scanner.proofs.{SpellingLaws.next_spelled, TokenLaws.runs_are_short}
+use Rattle.inf_sources.specs.{Inclusions.Nesting, Quoted.is_quoted_kind}
 use Rattle.inf_text_lexer.specs.TextReaders.{TextReader, behind, next_of, token_of as text_token}
-use Rattle.inf_unit.specs.Atoms.{is_short}
-use Rattle.inf_unit.specs.Tokens.{SourceToken}
+use Rattle.inf_unit.specs.{Atoms.is_short, Tokens.SourceToken}
 use Rattle.inf_compilation.specs.Context.{Context}
 use Rattle.inf_reader.specs.Handing.{is_between}
-use Rattle.inf_session.specs.Choices.{Choices}
+use Rattle.inf_session.specs.{Choices.Choices, Taking.Taken, Taking.token_at, Taking.token_taken, Veneer.in_text, Veneer.text_cursor}
+use Rattle.inf_session.specs.{Veneer.text_turns}
 use Rattle.inf_session.specs.Session.{State, context_of, has_ended, is_resting, piece_closed, rested, stand_of, stepped}
-use Rattle.inf_session.specs.Taking.{Taken, token_at, token_taken}
-use Rattle.inf_session.specs.Veneer.{in_text, text_cursor, text_turns}
 use Rattle.inf_session.proofs.Taking.{step_is, token_is, with_taken}
 
 -- The bytes that are kept of a token
 
 short_by : (k : TokenKind) (bytes : List ℕ) → (is_run k ≡ true → length bytes ≤ 32) → is_short k bytes ≡ true
-short_by kind.Name bytes few = le-leb (length bytes) 32 (few refl)
-short_by (kind.Number n) bytes few = refl
-short_by kind.Text bytes few = refl
-short_by (kind.Char c) bytes few = refl
-short_by (kind.Word w) bytes few = refl
-short_by (kind.Mark m) bytes few = refl
-short_by (kind.Bad b) bytes few = refl
-short_by kind.End bytes few = refl
+short_by TokenKind.Name bytes few = le-leb (length bytes) 32 (few refl)
+short_by (TokenKind.Number n) bytes few = refl
+short_by TokenKind.Text bytes few = refl
+short_by (TokenKind.Char c) bytes few = refl
+short_by (TokenKind.Word w) bytes few = refl
+short_by (TokenKind.Mark m) bytes few = refl
+short_by (TokenKind.Bad b) bytes few = refl
+short_by TokenKind.End bytes few = refl
 
 -- a name is short
 pub text_short : (before after : TextReader) (token : Token) → token ≡ text_token before.file (next_of before)
@@ -63,19 +48,19 @@ unquoted limit e k none is = let f : false ≡ true = sym none ∙ is in cc
 
 -- a quoted token is one that began with a quote
 quoted_only : (set : CharSet) (limit : ℕ) (e : Ending) (k : Kept) → is_quoted_kind (kind_of set e k) ≡ true → most_of limit e ≡ limit
-quoted_only set limit ending.End k is = cc
-quoted_only set limit ending.Unfit k is = cc
-quoted_only set limit (ending.Mark m) k is = cc
-quoted_only set limit (ending.Run false) k is =
-    unquoted limit (ending.Run false) (kind_of set (ending.Run false) k)
-    (cond_both k.is_cut (kind.Bad bad.LongName) kind.Name (λ x. is_quoted_kind x ≡ false) (λ _. refl) (λ _. refl)) is
-quoted_only set limit (ending.Run true) k is =
-    unquoted limit (ending.Run true) (kind_of set (ending.Run true) k)
-    (cond_both k.is_cut (kind.Bad bad.Number) (number_kind (number_of k.bytes)) (λ x. is_quoted_kind x ≡ false) (λ _. refl)
+quoted_only set limit Ending.End k is = cc
+quoted_only set limit Ending.Unfit k is = cc
+quoted_only set limit (Ending.Mark m) k is = cc
+quoted_only set limit (Ending.Run false) k is =
+    unquoted limit (Ending.Run false) (kind_of set (Ending.Run false) k)
+    (cond_both k.is_cut (TokenKind.Bad BadToken.LongName) TokenKind.Name (λ x. is_quoted_kind x ≡ false) (λ _. refl) (λ _. refl)) is
+quoted_only set limit (Ending.Run true) k is =
+    unquoted limit (Ending.Run true) (kind_of set (Ending.Run true) k)
+    (cond_both k.is_cut (TokenKind.Bad BadToken.Number) (number_kind (number_of k.bytes)) (λ x. is_quoted_kind x ≡ false) (λ _. refl)
     (λ _. number_unquoted (number_of k.bytes))) is
-quoted_only set limit ending.Unclosed k is = refl
-quoted_only set limit ending.Text k is = refl
-quoted_only set limit ending.Quote k is = refl
+quoted_only set limit Ending.Unclosed k is = refl
+quoted_only set limit Ending.Text k is = refl
+quoted_only set limit Ending.Quote k is = refl
 
 next_few : (set : CharSet) (limit : ℕ) (lines : Lines) (bytes : List ℕ) → is_quoted_kind (next_token set limit lines bytes).kind ≡ true
     → length (next_token set limit lines bytes).kept.bytes ≤ limit

@@ -1,13 +1,10 @@
 -- The open files behind a turn to another character set.
 use Rattle.std.proofs.Common.{◌≡◌, ◌+◌, ℕ, suc, List, [], ◌∷◌, length, map, refl, sym, ap, subst, ◌∙◌, arith}
 use Rattle.inf_characters.specs.declared.characters.CharSet.{CharSet}
-use Rattle.inf_devices.specs.Files.{Openings, Sources}
-use Rattle.inf_devices.specs.declared.files.Files.{Ghosts as Files}
+use Rattle.inf_devices.specs.{Files.Openings, Files.Sources, declared.files.Files.Ghosts as Files}
 use Rattle.inf_lexer.specs.Entering.{OpensOn}
-use Rattle.inf_sources.specs.Calls.{AreCounted, Went, given_each}
-use Rattle.inf_sources.specs.Choosing.{file_with, open_with}
-use Rattle.inf_sources.specs.Open.{AllGiven, IsNested, Open}
-use Rattle.inf_sources.specs.declared.open_file.OpenFile.{OpenFile}
+use Rattle.inf_sources.specs.{Calls.AreCounted, Calls.Went, Calls.given_each, Choosing.file_with, Choosing.open_with, Open.AllGiven}
+use Rattle.inf_sources.specs.{Open.IsNested, Open.Open, declared.open_file.OpenFile.OpenFile}
 use Rattle.inf_sources.proofs.Calls.{went_none}
 
 -- the number of files that wait stays

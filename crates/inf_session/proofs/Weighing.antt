@@ -3,9 +3,8 @@ use Rattle.std.proofs.Common.{◌≡◌, ◌⊎◌, inl, inr, ℕ, suc, zero, �
 use Rattle.std.proofs.Common.{true, false, sym, ap, subst, ◌∙◌, arith, refl, length-append}
 use Rattle.inf_characters.specs.declared.characters.CharSet.{CharSet}
 use Rattle.inf_lexer.specs.Readers.{Reader}
+use Rattle.inf_sources.specs.{Open.Open, Open.lexers_of, declared.open_file.OpenFile.OpenFile}
 use Rattle.inf_sources.specs.Choosing.{file_with, open_with, reader_with}
-use Rattle.inf_sources.specs.Open.{Open, lexers_of}
-use Rattle.inf_sources.specs.declared.open_file.OpenFile.{OpenFile}
 use Rattle.inf_session.specs.Weights.{Enters, GoesOn, Leaves, Stays, Turns, room, scale, weigh_from, weight}
 
 -- scales are linear, so the larger weighs more

@@ -2,17 +2,14 @@
 use Rattle.std.specs.Prelude.{◌≡◌, ℕ, ◌-◌, ◌<◌, ◌⊎◌, List, ◌++◌, map, Option, false}
 use Rattle.inf_settings.specs.Bounds.{Limits}
 use Rattle.inf_scanner.specs.declared.tokens.Place.{Place}
-use Rattle.inf_devices.specs.Files.{Openings, Sources}
+use Rattle.inf_devices.specs.{Files.Openings, Files.Sources, Sinks.Takes}
 use Rattle.inf_lexer.specs.Unread.{unread}
-use Rattle.inf_sources.specs.Cursors.{Cursor, Unfinished}
+use Rattle.inf_sources.specs.{Cursors.Cursor, Cursors.Unfinished, declared.faults.IncludeFault.IncludeFault}
 use Rattle.inf_sources.specs.Inclusions.{Nesting, OpenedInVain, OpensTooMany, cursors, inclusion, innermost_name}
 use Rattle.inf_sources.specs.Open.{Open, files_of, lexers, opened_since}
-use Rattle.inf_sources.specs.declared.faults.IncludeFault.TheVariants as fault
 use Rattle.inf_unit.specs.Directives.{Include}
-use Rattle.inf_devices.specs.Sinks.{Takes}
 use Rattle.inf_reader.specs.Reading.{is_mode_ended}
-use Rattle.inf_session.specs.Choices.{Choices}
-use Rattle.inf_session.specs.Session.{State, has_ended, run, stepped}
+use Rattle.inf_session.specs.{Choices.Choices, Session.State, Session.has_ended, Session.run, Session.stepped}
 use Rattle.inf_ending.specs.Delivered.{IsFront}
 
 -- One step of reading leads from the state before to the state now, whatever was written before, and wrote these lines.
@@ -57,7 +54,7 @@ pub record StopsInToken (failed : Type 0) (sources : Sources) (s : State) (start
 pub record NotTried (failed : Type 0) (sources : Sources) (directories : List (List ℕ)) (text : List ℕ) (n : Nesting)
     (openings : List (List ℕ)) : Type 0 where
   pub cause : failed ⊎ OpensTooMany (inclusion sources directories text n) n openings
-  pub openings_are : OpenedInVain fault.Device (inclusion sources directories text n) n openings
+  pub openings_are : OpenedInVain IncludeFault.Device (inclusion sources directories text n) n openings
 
 -- Reading was given up behind a token that ends a directive, which asks for a file with the name `name`.
 pub record StopsAtInclusion (failed : Type 0) (sources : Sources) (o : Choices) (s : State) (openings : List (List ℕ)) (name : List ℕ) :

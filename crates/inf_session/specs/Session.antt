@@ -4,34 +4,22 @@
 -- edition, sections 38 and 39.
 use Rattle.std.specs.Prelude.{◌≡◌, ℕ, List, [], ◌∷◌, ◌++◌, nat_lt, Option, Some, None, Bool, true, false, ◌&&◌, ◌||◌}
 use Rattle.std.specs.Prelude.{if◌then◌else◌, zero, suc}
-use Rattle.inf_settings.specs.Bounds.{Limits}
+use Rattle.inf_settings.specs.{Bounds.Limits, Settings.number_of, declared.setting.Setting.Setting, declared.settings.Settings.Settings}
 use Rattle.inf_scanner.specs.declared.tokens.Place.{Place}
 use Rattle.inf_devices.specs.Files.{Sources}
+use Rattle.inf_conditionals.specs.{Judging.is_none_pending, Judging.may_part, Open.Conditions, Open.no_conditions}
 use Rattle.inf_conditionals.specs.Ends.{file_ended, file_told, piece_ended, piece_told, with_among}
-use Rattle.inf_conditionals.specs.Judging.{is_none_pending, may_part}
-use Rattle.inf_conditionals.specs.Open.{Conditions, no_conditions}
 use Rattle.inf_report.specs.Messages.{Message, NoInclude, TooManyFiles}
 use Rattle.inf_letters.specs.Letters.{set_of}
-use Rattle.inf_sources.specs.Choosing.{nesting_with}
-use Rattle.inf_sources.specs.Cursors.{behind, read}
-use Rattle.inf_sources.specs.Heading.{past_head}
+use Rattle.inf_sources.specs.{Choosing.nesting_with, Cursors.behind, Cursors.read, Heading.past_head, declared.open_files.Included.Included}
 use Rattle.inf_sources.specs.Inclusions.{Inclusion, Nesting, Opens, OpensNone, Waiting, inclusion, main_opened, resumed, with_opened}
-use Rattle.inf_sources.specs.declared.open_files.Included.{Included}
-use Rattle.inf_sources.specs.declared.open_files.Included.TheVariants as answer
-use Rattle.inf_compilation.specs.Actions.{Compilation, letters_chosen}
-use Rattle.inf_compilation.specs.Context.{Context}
+use Rattle.inf_compilation.specs.{Actions.Compilation, Actions.letters_chosen, Context.Context}
 use Rattle.inf_unit.specs.Directives.{Request, Nothing, Include, End, Characters}
-use Rattle.inf_settings.specs.Settings.{number_of}
-use Rattle.inf_settings.specs.declared.setting.Setting.{Setting}
-use Rattle.inf_settings.specs.declared.settings.Settings.{Settings}
-use Rattle.inf_settings.specs.declared.setting.Setting.TheVariants.{LowStrings, Objects, PropertyTables, References}
 use Rattle.inf_unit.specs.Messages.{FileNames, flushed, location, with_fatal, with_full}
 use Rattle.inf_unit.specs.Tokens.{SourceToken}
-use Rattle.inf_reader.specs.Handing.{is_between}
+use Rattle.inf_reader.specs.{Handing.is_between, declared.recovery.Recovery.Recovery}
 use Rattle.inf_reader.specs.Reading.{Reading, ReaderState, begun_stand, has_ended_at, is_mode_ended}
-use Rattle.inf_reader.specs.declared.recovery.Recovery.TheVariants as mode
-use Rattle.inf_session.specs.Choices.{Choices, most_quoted}
-use Rattle.inf_session.specs.Taking.{token_at, token_taken}
+use Rattle.inf_session.specs.{Choices.Choices, Choices.most_quoted, Taking.token_at, Taking.token_taken}
 use Rattle.inf_ending.specs.Ending.{first_place}
 
 -- The files that are open, each with the bytes that are still to come of it; the conditionals; how the next token is read; the
@@ -51,10 +39,10 @@ pub record State : Type 0 where
 -- four objects, whose property tables have 30 bytes and their addresses four references, and a low string of two bytes.
 abbrev pub tables_full : Settings → Option Setting
 tables_full settings =
-    if nat_lt (number_of Objects settings) 4 then Some Objects else
-    if nat_lt (number_of PropertyTables settings) 30 then Some PropertyTables else
-    if nat_lt (number_of LowStrings settings) 2 then Some LowStrings else
-    if nat_lt (number_of References settings) 4 then Some References else None
+    if nat_lt (number_of Setting.Objects settings) 4 then Some Setting.Objects else
+    if nat_lt (number_of Setting.PropertyTables settings) 30 then Some Setting.PropertyTables else
+    if nat_lt (number_of Setting.LowStrings settings) 2 then Some Setting.LowStrings else
+    if nat_lt (number_of Setting.References settings) 4 then Some Setting.References else None
 
 -- the reading of the first token of a main source, and the work before it, for which the chosen letters hold
 abbrev pub begun_with : Choices → FileNames → ReaderState
@@ -129,7 +117,7 @@ left_by [] s = s
 left_by (w ∷ waiting) s = record s {
   nesting = resumed (w ∷ waiting) s.nesting;
   conditions = with_among w.conditionals s.conditions;
-  reading = record s.reading { mode = mode.Reads };
+  reading = record s.reading { mode = Recovery.Reads };
   work = record s.work { is_system = w.is_system };
 }
 
@@ -142,9 +130,9 @@ refused_with unit m s = record s { work = record s.work { report = with_fatal (l
 
 -- the state where the reason is told why no file is opened for a text
 abbrev pub none_included : Place → List ℕ → Included → State → State
-none_included unit text answer.Entered s = s
-none_included unit text answer.NotThere s = refused_with unit (NoInclude text) s
-none_included unit text answer.TooDeep s = refused_with unit TooManyFiles s
+none_included unit text Included.Entered s = s
+none_included unit text Included.NotThere s = refused_with unit (NoInclude text) s
+none_included unit text Included.TooDeep s = refused_with unit TooManyFiles s
 
 -- the state in a file that was entered: no conditional is open, and no routine may be replaced yet
 abbrev pub file_begun : State → State

@@ -1,23 +1,14 @@
 -- The state for which the code's session stands, with a reader that keeps to its sources.
 use Rattle.std.specs.Prelude.{◌≡◌, ℕ, ◌≤◌, List, Bool, false, ◌&&◌, ◌||◌, if◌then◌else◌, min, ◌∷◌, Option, is_none}
 use Rattle.inf_conditionals.specs.Judging.{is_none_pending, may_part}
-use Rattle.inf_reader.specs.Handing.{is_between}
+use Rattle.inf_reader.specs.{Handing.is_between, Reading.has_ended_at, Standing.reading, Standing.standing}
 use Rattle.inf_devices.specs.Files.{Openings, Sources}
 use Rattle.inf_sources.specs.Open.{nesting}
+use Rattle.inf_settings.specs.{declared.setting.Setting.Setting, declared.settings.Settings.Settings}
 use Rattle.inf_settings.specs.Settings.{all_settings, number_of}
-use Rattle.inf_settings.specs.declared.setting.Setting.{Setting}
-use Rattle.inf_settings.specs.declared.setting.Setting.TheVariants.{LowStrings, Objects, PropertyTables, References}
-use Rattle.inf_settings.specs.declared.settings.Settings.{Settings}
 use Rattle.inf_compilation.specs.Works.{work as work_of}
-use Rattle.inf_reader.specs.Reading.{has_ended_at}
-use Rattle.inf_reader.specs.Standing.{reading, standing}
-use Rattle.inf_session.specs.Choices.{chosen, most_quoted}
-use Rattle.inf_session.specs.Session.{State}
-use Rattle.inf_session.specs.Uses.{all_used, is_compared_later}
-use Rattle.inf_session.specs.Veneer.{next_text}
-use Rattle.inf_session.specs.declared.session.Session.{Session}
-use Rattle.inf_session.specs.declared.session.Step.{Step}
-use Rattle.inf_session.specs.declared.session.Step.TheVariants as step
+use Rattle.inf_session.specs.{Choices.chosen, Choices.most_quoted, Session.State, Uses.all_used, Uses.is_compared_later, Veneer.next_text}
+use Rattle.inf_session.specs.{declared.session.Session.Session, declared.session.Step.Step}
 
 -- The state for a session, where the openings were `start` before the main source was opened, and are `now` now; the messages
 -- `told` were written.
@@ -56,8 +47,9 @@ is_done s = ended s && is_none (next_of s)
 -- the first four objects and the first low string alone pass no setting
 abbrev pub HasObjects : Settings → Type 0
 HasObjects settings =
-    (4 ≤ number_of Objects settings) × (30 ≤ number_of PropertyTables settings) × (2 ≤ number_of LowStrings settings) ×
-    (4 ≤ number_of References settings)
+    (4 ≤ number_of Setting.Objects settings) × (30 ≤ number_of Setting.PropertyTables settings) ×
+    (2 ≤ number_of Setting.LowStrings settings) ×
+    (4 ≤ number_of Setting.References settings)
 
 -- The bounds that hold wherever a source is read: no quoted token so far was longer than it may be, and, unless a fatal message
 -- came, there is room for the first four objects.
@@ -81,7 +73,7 @@ parted s = ended s || (is_between (reading s.progress.reader) && may_part s.cond
 
 -- the result of a step that ended here: a fatal message; or the end, where nothing was left to be read before; or a part
 abbrev pub came_to : {B : Type 0} → Bool → Session B → Step
-came_to had_ended s = if is_fatal s then step.Fatal else if had_ended then step.End else step.More
+came_to had_ended s = if is_fatal s then Step.Fatal else if had_ended then Step.End else Step.More
 
 -- Counts so far of all that the settings bound, none of which is cut.
 abbrev pub used_by : {B : Type 0} → Session B → List ℕ

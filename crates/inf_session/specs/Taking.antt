@@ -1,19 +1,12 @@
 -- The taking of a token that was read.
 use Rattle.std.specs.Prelude.{ℕ, List, length, nat_lt, is_none, Bool, ◌&&◌, ◌||◌, if◌then◌else◌}
 use Rattle.inf_settings.specs.Bounds.{Limits}
-use Rattle.inf_scanner.specs.declared.tokens.BadToken.TheVariants as bad
-use Rattle.inf_scanner.specs.declared.tokens.Place.{Place}
-use Rattle.inf_scanner.specs.declared.tokens.TokenKind.{TokenKind}
-use Rattle.inf_scanner.specs.declared.tokens.TokenKind.TheVariants as kind
+use Rattle.inf_scanner.specs.{declared.tokens.BadToken.BadToken, declared.tokens.Place.Place, declared.tokens.TokenKind.TokenKind}
 use Rattle.inf_unit.specs.Tokens.{SourceToken}
-use Rattle.inf_compilation.specs.Actions.{Compilation, is_class}
-use Rattle.inf_compilation.specs.Context.{Context}
-use Rattle.inf_conditionals.specs.Judging.{judged}
+use Rattle.inf_compilation.specs.{Actions.Compilation, Actions.is_class, Context.Context}
+use Rattle.inf_conditionals.specs.{Judging.judged, declared.filtered.Filtered.Filtered, declared.filtered.Site.Site}
 use Rattle.inf_conditionals.specs.Open.{Conditions, silent}
-use Rattle.inf_conditionals.specs.declared.filtered.Filtered.{Filtered}
-use Rattle.inf_conditionals.specs.declared.filtered.Site.{Site}
-use Rattle.inf_reader.specs.Handing.{judged_taken, said_told, site_of}
-use Rattle.inf_reader.specs.Reading.{ReaderState}
+use Rattle.inf_reader.specs.{Handing.judged_taken, Handing.said_told, Handing.site_of, Reading.ReaderState}
 
 -- a token that comes to a place of the reading: at the front of a piece a name may be that of a class
 abbrev pub token_at : Bool → TokenKind → List ℕ → Place → Compilation → SourceToken
@@ -22,15 +15,15 @@ token_at is_between kind bytes place w =
 
 -- the number of bytes between the quotes of a token that has quotes: of one that is too long as many as it may have
 abbrev pub quoted_of_kind : TokenKind → List ℕ → ℕ
-quoted_of_kind kind.Text bytes = length bytes
-quoted_of_kind (kind.Char c) bytes = length bytes
-quoted_of_kind (kind.Word w) bytes = length bytes
-quoted_of_kind (kind.Bad bad.Unclosed) bytes = length bytes
-quoted_of_kind (kind.Bad bad.EmptyQuote) bytes = length bytes
-quoted_of_kind (kind.Bad bad.UnknownEscape) bytes = length bytes
-quoted_of_kind (kind.Bad bad.NoZscii) bytes = length bytes
-quoted_of_kind (kind.Bad bad.BadCode) bytes = length bytes
-quoted_of_kind (kind.Bad bad.TooLong) bytes = length bytes
+quoted_of_kind TokenKind.Text bytes = length bytes
+quoted_of_kind (TokenKind.Char c) bytes = length bytes
+quoted_of_kind (TokenKind.Word w) bytes = length bytes
+quoted_of_kind (TokenKind.Bad BadToken.Unclosed) bytes = length bytes
+quoted_of_kind (TokenKind.Bad BadToken.EmptyQuote) bytes = length bytes
+quoted_of_kind (TokenKind.Bad BadToken.UnknownEscape) bytes = length bytes
+quoted_of_kind (TokenKind.Bad BadToken.NoZscii) bytes = length bytes
+quoted_of_kind (TokenKind.Bad BadToken.BadCode) bytes = length bytes
+quoted_of_kind (TokenKind.Bad BadToken.TooLong) bytes = length bytes
 quoted_of_kind _ bytes = 0
 
 abbrev pub quoted_bytes : SourceToken → ℕ

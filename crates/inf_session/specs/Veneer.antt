@@ -2,12 +2,9 @@
 use Rattle.std.specs.Prelude.{ℕ, ◌-◌, List, [], length, max, Bool, true, false, if◌then◌else◌, Option, Some, None, unwrap_or, zero, suc}
 use Rattle.inf_settings.specs.Bounds.{Limits}
 use Rattle.inf_scanner.specs.declared.tokens.Place.{Place}
-use Rattle.inf_names.specs.Symbols.{Table, found_in}
-use Rattle.inf_names.specs.declared.symbols.Found.{Found}
-use Rattle.inf_names.specs.declared.symbols.Found.TheVariants as found
+use Rattle.inf_names.specs.{Symbols.Table, Symbols.found_in, declared.symbols.Found.Found}
 use Rattle.inf_conditionals.specs.Open.{no_conditions}
-use Rattle.inf_reader.specs.Reading.{between}
-use Rattle.inf_reader.specs.declared.recovery.Recovery.TheVariants as mode
+use Rattle.inf_reader.specs.{Reading.between, declared.recovery.Recovery.Recovery}
 use Rattle.inf_session.specs.Choices.{Choices, most_quoted}
 use Rattle.inf_session.specs.Session.{State, has_ended, rested, stepped, told_out}
 use Rattle.inf_sources.specs.Cursors.{Cursor}
@@ -20,10 +17,10 @@ abbrev pub most_texts : ℕ
 most_texts = 23
 
 abbrev pub is_used : Found Place → Bool
-is_used found.Used = true
-is_used (found.Declared m place) = false
-is_used (found.System m) = false
-is_used found.Unknown = false
+is_used Found.Used = true
+is_used (Found.Declared m place) = false
+is_used (Found.System m) = false
+is_used Found.Unknown = false
 
 abbrev pub is_wanted_as : Option (List ℕ) → Table Place → Bool
 is_wanted_as None names = false
@@ -50,7 +47,7 @@ in_text l s = record s { nesting = record s.nesting { cursor = text_cursor l } }
 abbrev pub text_begun : State → State
 text_begun s = record s {
   conditions = record no_conditions { declared = s.work.output.names.declared };
-  reading = between mode.Reads;
+  reading = between Recovery.Reads;
   work = record s.work { most_tokens = max s.work.most_tokens s.conditions.most_tokens; is_system = false };
   is_over = false;
 }

@@ -3,11 +3,8 @@
 use Rattle.std.specs.Prelude.{◌≡◌, ℕ, ◌+◌, ◌-◌, ◌*◌, ◌<◌, List, [], ◌∷◌, ◌++◌, length, Bool, false, if◌then◌else◌, zero, suc}
 use Rattle.inf_lexer.specs.Readers.{Reader}
 use Rattle.inf_characters.specs.declared.characters.CharSet.{CharSet}
-use Rattle.inf_sources.specs.Choosing.{open_with}
-use Rattle.inf_sources.specs.Open.{Open, lexers_of}
-use Rattle.inf_session.specs.Standing.{ended}
-use Rattle.inf_session.specs.Veneer.{most_texts}
-use Rattle.inf_session.specs.declared.session.Session.{Session}
+use Rattle.inf_sources.specs.{Choosing.open_with, Open.Open, Open.lexers_of}
+use Rattle.inf_session.specs.{Standing.ended, Veneer.most_texts, declared.session.Session.Session}
 
 -- the most that a lexer can still take, with one for leaving its file
 abbrev pub room : Reader → ℕ

@@ -1,27 +1,20 @@
 //! The reading of a main source and of the files that it includes.
-ghost use Rattle.std.specs.Prelude.{◌≡◌, ℕ, ◌<◌, ◌≤◌, ◌⊎◌, List, Ok, OnOk, OnErr, IfErr, IfOk};
-ghost use Rattle.std.specs.Prelude.{IsErrOf, IsTrue, None, false, true, length};
+ghost use Rattle.std.specs.Prelude.{◌≡◌, ℕ, ◌<◌, ◌≤◌, ◌⊎◌, List, Ok, OnOk, OnErr, IfErr, IfOk, IsErrOf, IsTrue, None, false, true, length};
 ghost use Rattle.inf_devices.specs.Files.{Openings, Rose, Sources};
-ghost use Rattle.inf_reader.specs.Reading.{has_ended_at, is_mode_ended};
-ghost use Rattle.inf_reader.specs.Standing.{standing};
+ghost use Rattle.inf_reader.specs.{Reading.has_ended_at, Reading.is_mode_ended, Standing.standing};
 ghost use Rattle.inf_lexer.specs.Names.{can_name};
-ghost use Rattle.inf_sources.specs.Calls.{Honestly, IsUnreadable, StaysFit, Went};
-ghost use Rattle.inf_sources.specs.Open.{nesting, opened_since};
-ghost use Rattle.inf_session.specs.Choices.{chosen, most_quoted};
+ghost use Rattle.inf_sources.specs.{Calls.Honestly, Calls.IsUnreadable, Calls.StaysFit, Calls.Went, Open.nesting, Open.opened_since};
+ghost use Rattle.inf_session.specs.{Choices.chosen, Choices.most_quoted, Weights.GoesOn, Weights.room, Weights.weight};
+ghost use Rattle.inf_session.specs.Leading.{CutsShort, GivenUp, NotTried, OpensAll, OpensWithin, StopsFor, StopsAtInclusion, StopsInToken};
+ghost use Rattle.inf_session.specs.Leading.{Writes};
+ghost use Rattle.inf_session.specs.Session.{begun_with, followed, carried_out, included, left, part, rested, run, stepped, turn};
+ghost use Rattle.inf_session.specs.Standing.{AreWithin, IsBounded, IsSet, came_to, ended, held, is_fatal, parted, resting, state, used_by};
 ghost use Rattle.inf_ending.specs.Faults.{Caused, HaltHidesNone, HidesNoFailure, IfRead, fault_of};
 ghost use Rattle.inf_ending.specs.Delivered.{Appends, Delivers, EndsCleanOf, TakesFront, story_in};
 ghost use Rattle.inf_ending.specs.Ending.{finished};
-ghost use Rattle.inf_settings.specs.Bounds.{AreSet};
-ghost use Rattle.inf_settings.specs.Settings.{all_settings};
+ghost use Rattle.inf_settings.specs.{Bounds.AreSet, Settings.all_settings};
 ghost use Rattle.inf_compilation.specs.Works.{work as work_of};
-ghost use Rattle.inf_session.specs.Leading.{CutsShort, GivenUp, NotTried, OpensAll, OpensWithin, StopsFor, StopsAtInclusion, StopsInToken};
-ghost use Rattle.inf_session.specs.Leading.{Writes};
 ghost use Rattle.inf_conditionals.specs.Open.{no_conditions};
-ghost use Rattle.inf_session.specs.Session.{begun_with, followed, carried_out, included, left, part, rested};
-ghost use Rattle.inf_session.specs.Session.{run, stepped, turn};
-ghost use Rattle.inf_session.specs.Standing.{AreWithin, IsBounded, IsSet, came_to, ended, held, is_fatal, parted, resting, state};
-ghost use Rattle.inf_session.specs.Standing.{used_by};
-ghost use Rattle.inf_session.specs.Weights.{GoesOn, room, weight};
 
 use crate::setup::Setup;
 use crate::tokens::take;

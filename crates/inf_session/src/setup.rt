@@ -2,8 +2,7 @@
 ghost use Rattle.std.specs.Prelude.{◌≡◌, IfOk};
 ghost use Rattle.inf_settings.specs.Bounds.{AreSet};
 ghost use Rattle.inf_reader.specs.Standing.{standing};
-ghost use Rattle.inf_session.specs.Choices.{chosen};
-ghost use Rattle.inf_session.specs.Session.{begun_with, tables_full};
+ghost use Rattle.inf_session.specs.{Choices.chosen, Session.begun_with, Session.tables_full};
 
 use inf_ending::ending::FIRST_LINE;
 use inf_letters::Letters;

@@ -1,16 +1,11 @@
 //! The steps of a session.
 ghost use Rattle.std.specs.Prelude.{◌≡◌, ℕ, ◌<◌, ◌⊎◌, IfErr, IfOk, Ok, OnErr, OnOk, false, length, true};
 ghost use Rattle.inf_devices.specs.Files.{Openings, Rose, Sources};
-ghost use Rattle.inf_sources.specs.Calls.{Honestly, IsUnreadable, StaysFit, Went};
-ghost use Rattle.inf_sources.specs.Open.{opened_since};
-ghost use Rattle.inf_session.specs.Choices.{chosen};
-ghost use Rattle.inf_ending.specs.Delivered.{Appends};
-ghost use Rattle.inf_ending.specs.Faults.{Caused, HidesNoFailure, IfRead};
+ghost use Rattle.inf_sources.specs.{Calls.Honestly, Calls.IsUnreadable, Calls.StaysFit, Calls.Went, Open.opened_since};
+ghost use Rattle.inf_session.specs.{Choices.chosen, Session.part, Session.run, Veneer.next_supplied, Weights.steps_left};
 ghost use Rattle.inf_session.specs.Leading.{CutsShort, GivenUp, OpensAll, Writes};
-ghost use Rattle.inf_session.specs.Session.{part, run};
 ghost use Rattle.inf_session.specs.Standing.{IsBounded, IsSet, came_to, ended, is_done, parted, state};
-ghost use Rattle.inf_session.specs.Veneer.{next_supplied};
-ghost use Rattle.inf_session.specs.Weights.{steps_left};
+ghost use Rattle.inf_ending.specs.{Delivered.Appends, Faults.Caused, Faults.HidesNoFailure, Faults.IfRead};
 
 use crate::session::{Session, Step};
 use inf_devices::files::Files;

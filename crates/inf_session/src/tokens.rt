@@ -1,13 +1,10 @@
 //! The taking of a token that was read.
 ghost use Rattle.std.specs.Prelude.{◌≡◌, IfOk, is_some, true};
-ghost use Rattle.inf_compilation.specs.Context.{handed};
-ghost use Rattle.inf_compilation.specs.Works.{work as work_of};
+ghost use Rattle.inf_compilation.specs.{Context.handed, Works.work as work_of};
 ghost use Rattle.inf_conditionals.specs.declared.filtered.Filtered.{Filtered as Judged};
-ghost use Rattle.inf_reader.specs.Handing.{is_between, site_of};
-ghost use Rattle.inf_reader.specs.Standing.{standing};
+ghost use Rattle.inf_reader.specs.{Handing.is_between, Handing.site_of, Standing.standing};
 ghost use Rattle.inf_session.specs.Taking.{quoted_behind, quoted_bytes, token_at, token_taken};
-ghost use Rattle.inf_unit.specs.Atoms.{is_short};
-ghost use Rattle.inf_unit.specs.Spelled.{spelled};
+ghost use Rattle.inf_unit.specs.{Atoms.is_short, Spelled.spelled};
 
 use inf_compilation::compilation::Compilation;
 use inf_compilation::context::Context;

@@ -2,14 +2,11 @@
 ghost use Rattle.std.specs.Prelude.{◌≡◌, ℕ, ◌≤◌, ◌<◌, ◌⊎◌, List, IfErr, IfOk, IfSome, Ok, OnErr};
 ghost use Rattle.std.specs.Prelude.{OnOk, false, is_none, is_some, length, true};
 ghost use Rattle.inf_devices.specs.Files.{Openings, Rose, Sources};
-ghost use Rattle.inf_session.specs.Choices.{chosen, most_quoted};
-ghost use Rattle.inf_ending.specs.Delivered.{Appends};
-ghost use Rattle.inf_ending.specs.Faults.{Caused, HidesNoFailure};
-ghost use Rattle.inf_session.specs.Leading.{CutsShort, Writes};
-ghost use Rattle.inf_session.specs.Session.{rested, stepped};
-ghost use Rattle.inf_session.specs.Standing.{came_to, ended, next_of, state};
+ghost use Rattle.inf_session.specs.{Choices.chosen, Choices.most_quoted, Leading.CutsShort, Leading.Writes, Session.rested};
+ghost use Rattle.inf_session.specs.{Session.stepped, Standing.came_to, Standing.ended, Standing.next_of, Standing.state};
 ghost use Rattle.inf_session.specs.Veneer.{in_text, is_wanted, most_texts, next_supplied, supplied, text_begun, text_read, text_turns};
 ghost use Rattle.inf_session.specs.Veneer.{veneer_text};
+ghost use Rattle.inf_ending.specs.{Delivered.Appends, Faults.Caused, Faults.HidesNoFailure};
 
 use crate::session::{Session, Step};
 use crate::tokens::take;

@@ -1,8 +1,7 @@
 -- Decimal numbers that stop at the greatest one.
+use Rattle.std.proofs.{lemmas.Bool.Decides.nat_tests, lemmas.List.drop_all}
 use Rattle.std.proofs.Common.{◌≡◌, ℕ, suc, ◌+◌, ◌-◌, ◌*◌, ◌<◌, ◌≤◌, ◌&&◌, ◌∙◌, Bool, true, false, cond, nat_le, min, List, [], ◌∷◌, length}
 use Rattle.std.proofs.Common.{get_or, drop, drop-cons, add-one, Some, None, refl, ap, sym, arith}
-use Rattle.std.proofs.lemmas.Bool.Decides.{nat_tests}
-use Rattle.std.proofs.lemmas.List.{drop_all}
 use Rattle.inf_settings.specs.Words.{capped, decimal_from, decimal_of, greatest}
 
 step_capped : (n m d : ℕ) → min n greatest ≡ min m greatest → min (n * 10 + d) greatest ≡ min (m * 10 + d) greatest

@@ -1,8 +1,6 @@
 -- A setting is looked for by its name.
-use Rattle.std.proofs.Common.{◌≡◌, ℕ, ◌+◌, ◌<◌, false, List, length, get_or, drop, drop-cons, add-one, refl}
-use Rattle.std.specs.Str.{bytes_eq}
-use Rattle.inf_settings.specs.Settings.{name_of, named_among}
-use Rattle.inf_settings.specs.declared.setting.Setting.{Setting}
+use Rattle.std.proofs.Common.{◌≡◌, ℕ, ◌+◌, ◌<◌, false, List, length, get_or, drop, drop-cons, add-one, refl, bytes_eq}
+use Rattle.inf_settings.specs.{Settings.name_of, Settings.named_among, declared.setting.Setting.Setting}
 
 -- a setting of another name is passed over
 pub named_next : (name : List ℕ) (settings : List Setting) (i : ℕ) (d : Setting) → i < length settings →

@@ -1,9 +1,6 @@
 -- The limits of a compilation, which a type stands for.
 use Rattle.std.specs.Prelude.{◌≡◌, ℕ}
-use Rattle.inf_settings.specs.Settings.{number_of}
-use Rattle.inf_settings.specs.declared.setting.Setting.{Setting}
-use Rattle.inf_settings.specs.declared.setting.Setting.TheVariants.{Arrays}
-use Rattle.inf_settings.specs.declared.settings.Settings.{Settings}
+use Rattle.inf_settings.specs.{Settings.number_of, declared.setting.Setting.Setting, declared.settings.Settings.Settings}
 
 -- the limit of each setting
 abbrev pub Limits : Type 0
@@ -19,5 +16,5 @@ limits_of settings = λ s. number_of s settings
 
 -- the greatest limits that numbers of the program can hold: the size of arrays is a number of 64 bits, all others have 32
 abbrev pub unbounded : Limits
-unbounded Arrays = 18446744073709551615
+unbounded Setting.Arrays = 18446744073709551615
 unbounded s = 4294967295

@@ -1,8 +1,6 @@
 //! The limits of a compilation, as a type.
 ghost use Rattle.std.specs.Prelude.{◌≡◌, ℕ};
-ghost use Rattle.inf_settings.specs.declared.setting.Setting.{Setting as Bounding};
-ghost use Rattle.inf_settings.specs.Bounds.{AreSet, unbounded};
-ghost use Rattle.inf_settings.specs.Settings.{number_of};
+ghost use Rattle.inf_settings.specs.{Bounds.AreSet, Bounds.unbounded, Settings.number_of, declared.setting.Setting.Setting as Bounding};
 
 use crate::setting::Setting;
 use crate::settings::Settings;

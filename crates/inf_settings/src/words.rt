@@ -1,7 +1,6 @@
 //! Words that set a setting.
 ghost use Rattle.std.specs.Prelude.{◌≡◌, ◌<◌, IfSome, length, option_map};
-ghost use Rattle.inf_settings.specs.Words.{assignment_of, capped, decimal_of, sign_in};
-ghost use Rattle.inf_settings.specs.Assignments.{told};
+ghost use Rattle.inf_settings.specs.{Assignments.told, Words.assignment_of, Words.capped, Words.decimal_of, Words.sign_in};
 
 /// A name and a number, which a word of a command assigns.
 #[derive(Clone, Copy, Debug, PartialEq, Eq)]

@@ -1,36 +1,29 @@
 -- The texts of cases, by their first values and what stands behind these; or of statements that begin with a value.
 use Rattle.std.proofs.Common.{◌≡◌, ℕ, List, [], ◌∷◌, ◌++◌, true, refl}
-use Rattle.inf_machine.specs.Decided.{is_within}
-use Rattle.inf_machine.specs.declared.symbols.Symbol.{Symbol}
-use Rattle.inf_machine.specs.declared.symbols.Symbol.TheVariants.{Rule, Token}
-use Rattle.inf_machine.specs.Grammar.{Event, IsOneOf, IsText, first, later, token}
-use Rattle.inf_machine.specs.Grammar.{row as a_row}
+use Rattle.inf_machine.specs.{Decided.is_within, declared.symbols.Symbol.Symbol}
+use Rattle.inf_machine.specs.Grammar.{Event, IsOneOf, IsText, first, later, token, row as a_row}
 use Rattle.inf_machine.proofs.Sets.{has_within}
+use Rattle.inf_syntax.specs.{Rows.row, declared.actions.Action.Action}
 use Rattle.inf_syntax.specs.Parts.{NAME, TEXT, 'default', 'comma', 'minus', OPERAND, BEGINNAME, 'if', 'while', 'do', 'for', 'objectloop'}
 use Rattle.inf_syntax.specs.Parts.{'switch', 'print', 'print_ret', 'remove', 'spaces', 'break', 'continue', 'quit', 'rtrue', 'rfalse'}
-use Rattle.inf_syntax.specs.Parts.{'new_line', 'else', 'colon', 'to', CASENAME, !outer, !name, !negate, !comma, !text, !begin}
-use Rattle.inf_syntax.specs.Parts.{ !outer_maybe, !print_text, !outer_sure, !default, !outer_word, !end_case, !to, !maybe_deeper}
-use Rattle.inf_syntax.specs.Parts.{expression_tail, assign, prefixed, neg, bracketed, plain_prim, entry, after_prim, after_unary}
-use Rattle.inf_syntax.specs.Parts.{operator, inner_operator, outer_operator, statement, statement_1, statement_2, statement_4}
-use Rattle.inf_syntax.specs.Parts.{statement_5, plain_word, end, statement_end, text_statement, text_statement_1, text_more, if_rest}
-use Rattle.inf_syntax.specs.Parts.{while_rest, do_rest, for_rest, objectloop_rest, switch_rest, style_rest, case_end, top_word}
-use Rattle.inf_syntax.specs.Parts.{top_word_1, top_range, top_values, top_more, top_next, values, values_1, case_value, range}
-use Rattle.inf_syntax.specs.Parts.{switch_item_5, switch_word, switch_word_1, switch_more, outer_more, switch_next}
-use Rattle.inf_syntax.specs.Rows.{row}
-use Rattle.inf_syntax.specs.declared.actions.Action.{Action}
+use Rattle.inf_syntax.specs.Parts.{'new_line', 'else', 'colon', 'to', CASENAME, !outer, !name, !negate, !comma, !text, !begin, !outer_maybe}
+use Rattle.inf_syntax.specs.Parts.{ !print_text, !outer_sure, !default, !outer_word, !end_case, !to, !maybe_deeper, expression_tail, assign}
+use Rattle.inf_syntax.specs.Parts.{prefixed, neg, bracketed, plain_prim, entry, after_prim, after_unary, operator, inner_operator}
+use Rattle.inf_syntax.specs.Parts.{outer_operator, statement, statement_1, statement_2, statement_4, statement_5, plain_word, end}
+use Rattle.inf_syntax.specs.Parts.{statement_end, text_statement, text_statement_1, text_more, if_rest, while_rest, do_rest, for_rest}
+use Rattle.inf_syntax.specs.Parts.{objectloop_rest, switch_rest, style_rest, case_end, top_word, top_word_1, top_range, top_values}
+use Rattle.inf_syntax.specs.Parts.{top_more, top_next, values, values_1, case_value, range, switch_item_5, switch_word, switch_word_1}
+use Rattle.inf_syntax.specs.Parts.{switch_more, outer_more, switch_next}
 use Rattle.inf_grammar.specs.Language.{grammar}
 use Rattle.inf_expression_laws.proofs.OperatorRows.{NotCalled, free, no_expression_tail}
 use Rattle.inf_statement_laws.proofs.Rules.{number}
-use Rattle.inf_trees.proofs.Expanded.{with_rows}
-use Rattle.inf_trees.proofs.RuleRows.{of_rows}
+use Rattle.inf_trees.proofs.{Expanded.with_rows, RuleRows.of_rows, TopTexts.top_more_rows, ValueForms.by_row}
 use Rattle.inf_trees.proofs.StatementTexts.{Rows, end_rows, last_rows, statement_parts, statement_rows, unit_end}
-use Rattle.inf_trees.proofs.TopTexts.{top_more_rows}
-use Rattle.inf_trees.proofs.ValueForms.{by_row}
-use Rattle.inf_trees.proofs.CaseValues.{named_prim, named_range, no_range, no_value, other_is_prim, prim_entry, tail_more, top_values_listed}
-use Rattle.inf_trees.proofs.CaseValues.{value_more, values_listed, with_range}
-use Rattle.inf_simple_trees.proofs.CommaLists.{Cased, Listed, Stated, switch_listed, top_listed}
+use Rattle.inf_trees.proofs.CaseValues.{named_prim, named_range, no_range, no_value, other_is_prim, prim_entry, tail_more}
+use Rattle.inf_trees.proofs.CaseValues.{top_values_listed, value_more, values_listed, with_range}
 use Rattle.inf_trees.proofs.Operators.{apart_first, inner_operator_is, no_after_prim, operator_prim, outer_prim, starts_apart}
 use Rattle.inf_trees.proofs.Rests.{Behind, Cut, behind_token, swapped}
+use Rattle.inf_simple_trees.proofs.CommaLists.{Cased, Listed, Stated, switch_listed, top_listed}
 use Rattle.inf_simple_trees.proofs.SimpleTexts.{Reading}
 use Rattle.inf_simple_trees.proofs.Values.{default_alone, expression_first, more_values, outer_before, token_before, word_first}
 
@@ -41,8 +34,8 @@ case_symbols = !end_case ∷ 'colon' ∷ []
 pub data CaseStart : List (Symbol Action) → Type 0 where
   Begun : CaseStart (!begin ∷ [])
   Directly : CaseStart []
-  TopWord : {class : ℕ} → CaseStart (Token class ∷ [])
-  SwitchWord : {class : ℕ} → CaseStart (!maybe_deeper ∷ Token class ∷ [])
+  TopWord : {class : ℕ} → CaseStart (Symbol.Token class ∷ [])
+  SwitchWord : {class : ℕ} → CaseStart (!maybe_deeper ∷ Symbol.Token class ∷ [])
 
 -- the statements that hold others, with what stands before their words
 abbrev pub holding : List (Symbol Action) → List (List (Symbol Action))
@@ -127,13 +120,13 @@ end_apart = refl
 
 -- a token of one class is one of a wider class
 pub reclassed : {class : ℕ} (wider : ℕ) {K : List (Symbol Action)} {atoms : List ℕ} {events : List (Event Action)}
-    → is_within (grammar.atoms_of class) (grammar.atoms_of wider) ≡ true → IsText grammar (Token class ∷ K) atoms events
-    → IsText grammar (Token wider ∷ K) atoms events
+    → is_within (grammar.atoms_of class) (grammar.atoms_of wider) ≡ true → IsText grammar (Symbol.Token class ∷ K) atoms events
+    → IsText grammar (Symbol.Token wider ∷ K) atoms events
 reclassed {class} wider within (token {atom = atom} h leads) =
     token (has_within (grammar.atoms_of class) (grammar.atoms_of wider) atom within h) leads
 
 pub named_entry : {class : ℕ} {K : List (Symbol Action)} {atoms : List ℕ} {events : List (Event Action)}
-    → is_within (grammar.atoms_of class) (grammar.atoms_of 85) ≡ true → IsText grammar (Token class ∷ !name ∷ K) atoms events
+    → is_within (grammar.atoms_of class) (grammar.atoms_of 85) ≡ true → IsText grammar (Symbol.Token class ∷ !name ∷ K) atoms events
     → IsText grammar (entry ∷ K) atoms events
 named_entry within t = prim_entry (named_prim (reclassed 85 within t))
 
@@ -313,7 +306,7 @@ module _ {atoms : List ℕ} {events : List (Event Action)} where
       text
 
   pub behind_operand : (rule : ℕ) → grammar.rows_of rule ≡ row (case_end ∷ []) ∷ row (end ∷ []) ∷ row (switch_more ∷ []) ∷ []
-      → IsText grammar (Rule rule ∷ []) atoms events → Rest atoms events
+      → IsText grammar (Symbol.Rule rule ∷ []) atoms events → Rest atoms events
   behind_operand rule rows text =
       of_rows (Rest atoms events) rule (row (case_end ∷ []) ∷ row (end ∷ []) ∷ row (switch_more ∷ []) ∷ []) atoms events rows
       ((λ t. Goes (ByOthers (InCase (at_end t)))), ((λ t. Ends t), ((λ t. Goes (by_switch_more t)), tt))) text
@@ -359,12 +352,12 @@ module _ (before X : List (Symbol Action))
 
 pub named_statement : {class : ℕ} {atoms : List ℕ} {events : List (Event Action)}
     → is_within (grammar.atoms_of class) (grammar.atoms_of 88) ≡ true
-    → IsText grammar (!begin ∷ !outer ∷ Token class ∷ !name ∷ after_prim ∷ statement_end ∷ []) atoms events
+    → IsText grammar (!begin ∷ !outer ∷ Symbol.Token class ∷ !name ∷ after_prim ∷ statement_end ∷ []) atoms events
     → IsText grammar (statement ∷ []) atoms events
 named_statement {class} within t =
     let K = !name ∷ after_prim ∷ statement_end ∷ [] in
     statement_by (!begin ∷ !outer ∷ BEGINNAME ∷ K) (later (later first))
-    (swapped (!begin ∷ !outer ∷ []) (Token class ∷ K) (BEGINNAME ∷ K) (λ rest late s. reclassed 88 within s) t)
+    (swapped (!begin ∷ !outer ∷ []) (Symbol.Token class ∷ K) (BEGINNAME ∷ K) (λ rest late s. reclassed 88 within s) t)
 
 pub plain_statement : {atoms : List ℕ} {events : List (Event Action)}
     → IsText grammar (!begin ∷ !outer ∷ plain_prim ∷ after_prim ∷ statement_end ∷ []) atoms events → IsText grammar (statement ∷ []) atoms events
@@ -411,7 +404,7 @@ module _ (before : List (Symbol Action)) {atoms : List ℕ} {events : List (Even
 
 -- The words of statements that are values
 
-pub word_before : (class : ℕ) → Reading (Token class ∷ !outer_word ∷ !name ∷ more_values)
+pub word_before : (class : ℕ) → Reading (Symbol.Token class ∷ !outer_word ∷ !name ∷ more_values)
 word_before class = token_before class (!outer_word ∷ !name ∷ more_values) word_first
 
 abbrev pub word_rest : List (Symbol Action)
@@ -442,10 +435,10 @@ module _ {atoms : List ℕ} {events : List (Event Action)} where
 module _ (before : List (Symbol Action)) (W : Symbol Action)
     (as_rest : (rest : List ℕ) (late : List (Event Action)) → IsText grammar (W ∷ []) rest late → IsText grammar word_rest rest late)
     {atoms : List ℕ} {events : List (Event Action)} where
-  pub begun_word : {class : ℕ} → IsText grammar (!begin ∷ Token class ∷ W ∷ []) atoms events → ItemText before atoms events
+  pub begun_word : {class : ℕ} → IsText grammar (!begin ∷ Symbol.Token class ∷ W ∷ []) atoms events → ItemText before atoms events
   begun_word {class} t =
-      ACase (!begin ∷ []) (Token class ∷ !outer_word ∷ !name ∷ more_values) Begun (word_before class)
-      (swapped (!begin ∷ Token class ∷ []) (W ∷ []) word_rest as_rest t)
+      ACase (!begin ∷ []) (Symbol.Token class ∷ !outer_word ∷ !name ∷ more_values) Begun (word_before class)
+      (swapped (!begin ∷ Symbol.Token class ∷ []) (W ∷ []) word_rest as_rest t)
 
   pub plain_word_case : IsText grammar (!begin ∷ plain_word ∷ W ∷ []) atoms events → ItemText before atoms events
   plain_word_case text =
@@ -457,10 +450,11 @@ module _ (before : List (Symbol Action)) (W : Symbol Action)
       )
       text
 
-  pub two_words : (rule one two : ℕ) → grammar.rows_of rule ≡ row (Token one ∷ []) ∷ row (Token two ∷ []) ∷ []
-      → IsText grammar (!begin ∷ Rule rule ∷ W ∷ []) atoms events → ItemText before atoms events
+  pub two_words : (rule one two : ℕ) → grammar.rows_of rule ≡ row (Symbol.Token one ∷ []) ∷ row (Symbol.Token two ∷ []) ∷ []
+      → IsText grammar (!begin ∷ Symbol.Rule rule ∷ W ∷ []) atoms events → ItemText before atoms events
   two_words rule one two rows text =
-      with_rows (ItemText before atoms events) (!begin ∷ []) rule (W ∷ []) (row (Token one ∷ []) ∷ row (Token two ∷ []) ∷ []) atoms events rows
+      with_rows (ItemText before atoms events) (!begin ∷ []) rule (W ∷ []) (row (Symbol.Token one ∷ []) ∷ row (Symbol.Token two ∷ []) ∷ [])
+      atoms events rows
       ((λ t. begun_word t), ((λ t. begun_word t), tt)) text
 
   pub else_case : IsText grammar (!outer ∷ 'else' ∷ W ∷ []) atoms events → ItemText before atoms events

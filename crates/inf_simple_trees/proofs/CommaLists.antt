@@ -1,28 +1,21 @@
 -- Values with commas between them, behind a first one: they are those of a case, or the rest of an expression, as the token behind them
 -- tells.
 use Rattle.std.proofs.Common.{◌≡◌, ℕ, zero, suc, ◌+◌, ◌≤◌, List, [], ◌∷◌, length, true, refl, sym, subst, arith}
-use Rattle.inf_machine.specs.declared.symbols.Symbol.{Symbol}
-use Rattle.inf_machine.specs.declared.symbols.Symbol.TheVariants.{Rule}
-use Rattle.inf_machine.specs.Grammar.{Did, Event, IsText, action, first}
-use Rattle.inf_syntax.specs.Parts.{ !comma, !name, !negate, !to, 'comma', 'minus', 'to', OPERAND, address_tail}
-use Rattle.inf_syntax.specs.Parts.{after_prim, after_unary, assign, case_end, case_value, case_value_1, end, entry, expression_tail}
-use Rattle.inf_syntax.specs.Parts.{inner_operator, minus_following, neg, operator, other_assign, other_prim, outer_following, outer_following_1}
-use Rattle.inf_syntax.specs.Parts.{outer_operator, post_tail, prefixed, prim, range, statement_end, step_prefix, step_tail, switch_following}
-use Rattle.inf_syntax.specs.Parts.{switch_next, switch_next_1, switch_next_2, top_following, top_following_1, top_next, top_values}
-use Rattle.inf_syntax.specs.Parts.{values, values_1}
-use Rattle.inf_syntax.specs.Rows.{row}
-use Rattle.inf_syntax.specs.declared.actions.Action.{Action}
-use Rattle.inf_syntax.specs.declared.actions.Action.TheVariants as action_of
+use Rattle.inf_machine.specs.{Grammar.Did, Grammar.Event, Grammar.IsText, Grammar.action, Grammar.first, declared.symbols.Symbol.Symbol}
+use Rattle.inf_syntax.specs.{Rows.row, declared.actions.Action.Action}
+use Rattle.inf_syntax.specs.Parts.{ !comma, !name, !negate, !to, 'comma', 'minus', 'to', OPERAND, address_tail, after_prim, after_unary}
+use Rattle.inf_syntax.specs.Parts.{assign, case_end, case_value, case_value_1, end, entry, expression_tail, inner_operator}
+use Rattle.inf_syntax.specs.Parts.{minus_following, neg, operator, other_assign, other_prim, outer_following, outer_following_1}
+use Rattle.inf_syntax.specs.Parts.{outer_operator, post_tail, prefixed, prim, range, statement_end, step_prefix, step_tail}
+use Rattle.inf_syntax.specs.Parts.{switch_following, switch_next, switch_next_1, switch_next_2, top_following, top_following_1, top_next}
+use Rattle.inf_syntax.specs.Parts.{top_values, values, values_1}
 use Rattle.inf_grammar.specs.Language.{grammar}
 use Rattle.inf_expression_laws.proofs.OperatorRows.{NotCalled, no_expression_tail}
 use Rattle.inf_statement_laws.proofs.Rules.{number}
-use Rattle.inf_trees.proofs.Expanded.{with_rows}
-use Rattle.inf_trees.proofs.RuleRows.{of_rows}
-use Rattle.inf_trees.proofs.StatementTexts.{end_rows, last_rows, unit_end}
-use Rattle.inf_trees.proofs.StatementsRead.{behind}
-use Rattle.inf_trees.proofs.Operators.{apart_first, inner_after, inner_operator_is, no_after_prim, no_after_unary}
-use Rattle.inf_trees.proofs.Operators.{no_inner, operator_prim, outer_apart, outer_prim, outer_unary, starts_apart}
-use Rattle.inf_trees.proofs.Rests.{Behind, Cut, behind_token, cut, swapped}
+use Rattle.inf_trees.proofs.{Expanded.with_rows, Rests.Behind, Rests.Cut, Rests.behind_token, Rests.cut, Rests.swapped, RuleRows.of_rows}
+use Rattle.inf_trees.proofs.{StatementTexts.end_rows, StatementTexts.last_rows, StatementTexts.unit_end, StatementsRead.behind}
+use Rattle.inf_trees.proofs.Operators.{apart_first, inner_after, inner_operator_is, no_after_prim, no_after_unary, no_inner, operator_prim}
+use Rattle.inf_trees.proofs.Operators.{outer_apart, outer_prim, outer_unary, starts_apart}
 use Rattle.inf_trees.proofs.CaseValues.{next_rows, minus_rows, twice_rows, minus_following_rows, following_rows, outer_rows}
 use Rattle.inf_trees.proofs.CaseValues.{last_following_rows, top_rows, top_following_rows, top_last_rows, other_assign_rows, named_prim}
 use Rattle.inf_trees.proofs.CaseValues.{other_is_prim, prim_entry, minus_entry, with_range, no_range, a_value, value_more, no_value}
@@ -59,7 +52,7 @@ prim_front K text =
       as_outer = λ L t. prim_assign (c.in_place (after_prim ∷ L) (outer_prim t));
     }
 
-pub negated_rest : {rest : List ℕ} {late events : List (Event Action)} (K : List (Symbol Action)) → late ≡ Did action_of.Negate ∷ events
+pub negated_rest : {rest : List ℕ} {late events : List (Event Action)} (K : List (Symbol Action)) → late ≡ Did Action.Negate ∷ events
     → IsText grammar K rest events → IsText grammar (!negate ∷ K) rest late
 negated_rest {rest} K are t = subst (λ l. IsText grammar (!negate ∷ K) rest l) (sym are) (action t)
 
@@ -67,7 +60,7 @@ minus_front : {atoms : List ℕ} {events : List (Event Action)} (K : List (Symbo
     → IsText grammar ('minus' ∷ prim ∷ !negate ∷ K) atoms events → Fronted K atoms events
 minus_front K text =
     let c = cut ('minus' ∷ prim ∷ []) (!negate ∷ K) text in
-    let m = behind action_of.Negate K c.rest c.late c.of_rest in
+    let m = behind Action.Negate K c.rest c.late c.of_rest in
     record {
       rest = c.rest;
       late = m.rest;
@@ -137,7 +130,7 @@ module _ (next : Symbol Action) (n : ℕ) (on : Fewer next n) {atoms : List ℕ}
 
   last_by : {K : List (Symbol Action)} (f : Fronted K atoms events) (rule : ℕ)
       → grammar.rows_of rule ≡ row (case_end ∷ []) ∷ row ('comma' ∷ next ∷ []) ∷ row (end ∷ []) ∷ []
-      → IsText grammar (!comma ∷ Rule rule ∷ []) f.rest f.late → Listed atoms events
+      → IsText grammar (!comma ∷ Symbol.Rule rule ∷ []) f.rest f.late → Listed atoms events
   last_by f rule rows r =
       with_rows (Listed atoms events) (!comma ∷ []) rule [] (row (case_end ∷ []) ∷ row ('comma' ∷ next ∷ []) ∷ row (end ∷ []) ∷ [])
       f.rest f.late rows (

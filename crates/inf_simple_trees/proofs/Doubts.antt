@@ -6,36 +6,26 @@ use Rattle.inf_settings.specs.Bounds.{Limits}
 use Rattle.inf_scanner.specs.declared.tokens.Place.{Place}
 use Rattle.inf_machine.specs.Grammar.{Did, Event, IsOneOf, IsText, Took, first, later}
 use Rattle.inf_machine.specs.declared.symbols.Symbol.{Symbol}
-use Rattle.inf_syntax.specs.Parts.{ !outer_sure, !text, TEXT, prim}
-use Rattle.inf_syntax.specs.declared.actions.Action.{Action}
-use Rattle.inf_syntax.specs.declared.actions.Action.TheVariants as action_of
+use Rattle.inf_syntax.specs.{Parts.!outer_sure, Parts.!text, Parts.TEXT, Parts.prim, declared.actions.Action.Action}
 use Rattle.inf_grammar.specs.Language.{grammar}
 use Rattle.inf_expressions.specs.Sources.{Source}
 use Rattle.inf_gathering.specs.Gatherings.{Gathering}
 use Rattle.inf_unit.specs.Tokens.{SourceToken}
 use Rattle.inf_unit.specs.Units.{Unit as UnitAtHand, acted, depth_behind, long_at, outer_tokens, taken}
-use Rattle.inf_compilation.specs.Context.{Context, longest}
-use Rattle.inf_compilation.specs.Actions.{Compilation, stopped}
+use Rattle.inf_compilation.specs.{Actions.Compilation, Actions.stopped, Context.Context, Context.longest}
 use Rattle.inf_reader.specs.Acting.{act}
+use Rattle.inf_expression_laws.specs.{Laws.forms, Precedence.Written, Precedence.primaries}
 use Rattle.inf_expression_laws.specs.Gathered.{AreSeen, read_by, with_source}
-use Rattle.inf_expression_laws.specs.Laws.{forms}
-use Rattle.inf_expression_laws.specs.Precedence.{Written, primaries}
 use Rattle.inf_expression_laws.proofs.ExpressionsRead.{expressions_are_read}
-use Rattle.inf_statement_laws.specs.Laid.{passed, run}
-use Rattle.inf_statement_laws.specs.Readings.{Seen}
+use Rattle.inf_statement_laws.specs.{Laid.passed, Laid.run, Readings.Seen}
 use Rattle.inf_statement_laws.proofs.Laying.{run_then}
-use Rattle.inf_language.specs.Constants.{brackets_behind, length_told}
+use Rattle.inf_language.specs.{Constants.brackets_behind, Constants.length_told, Units.AllSteps, Units.TakeAll}
 use Rattle.inf_language.specs.Texts.{atoms_of, happenings_before, tokens_of}
-use Rattle.inf_language.specs.Units.{AllSteps, TakeAll}
-use Rattle.inf_language.proofs.Derivations.{texts_take_all}
-use Rattle.inf_language.proofs.ExpressionsTold.{fields_stay}
-use Rattle.inf_language.proofs.TextsSplit.{split}
+use Rattle.inf_language.proofs.{Derivations.texts_take_all, ExpressionsTold.fields_stay, TextsSplit.split}
 use Rattle.inf_trees.specs.Trees.{Doubtful, front_told, told_at, tokens_told, with_front, with_outer, with_value, without_outer}
-use Rattle.inf_trees.proofs.Beside.{acted_gathers}
-use Rattle.inf_trees.proofs.StatementsRead.{behind}
-use Rattle.inf_trees.proofs.StatementTexts.{OnlySteps}
-use Rattle.inf_trees.proofs.UnitsRead.{at, before-append, note_first, place_before, ready, seen_parts, told_beside, tokens_count, tokens_opening}
-use Rattle.inf_trees.proofs.UnitsRead.{value_reads}
+use Rattle.inf_trees.proofs.{Beside.acted_gathers, StatementTexts.OnlySteps, StatementsRead.behind}
+use Rattle.inf_trees.proofs.UnitsRead.{at, before-append, note_first, place_before, ready, seen_parts, told_beside, tokens_count}
+use Rattle.inf_trees.proofs.UnitsRead.{tokens_opening, value_reads}
 use Rattle.inf_trees.proofs.ValueForms.{form_of, other_prim_text}
 use Rattle.inf_simple_trees.proofs.UnitsGo.{Going, steps_quiet}
 
@@ -84,7 +74,7 @@ pub record IsDoubted (front tokens : List Seen) (early steps : List (Event Actio
   pub only_steps : AllSteps steps
   pub valued : (u : UnitAtHand) → AreSeen (atoms_of (front ++ tokens)) (tokens_of (front ++ tokens)) → u.is_over ≡ false
       → u.begun ≤ length u.tokens → length (u.tokens ++ tokens_of (front ++ tokens)) < 4294967295
-      → Valued level (atoms_of (front ++ tokens)) (early ++ Did action_of.OuterSure ∷ steps) (tokens_of (front ++ tokens)) u
+      → Valued level (atoms_of (front ++ tokens)) (early ++ Did Action.OuterSure ∷ steps) (tokens_of (front ++ tokens)) u
 
 -- Behind the first tokens
 
@@ -127,7 +117,7 @@ sized_beside context (Some place) u w = refl
 
 -- The action by which it is known reports the number of its tokens.
 sure_acts : (limits : Limits) (context : Context) (place : Place) (u : UnitAtHand) (front : List Seen) (g : Gathering) (w : Compilation)
-    → act limits context place action_of.OuterSure (record w { unit = doubted u front g })
+    → act limits context place Action.OuterSure (record w { unit = doubted u front g })
     ≡ record (front_told context (with_front (tokens_of front) (ready u)) w) { unit = sure u front g }
 sure_acts limits context place u front g w = sized_beside context (long_at (longest context) (sure u front g)) (sure u front g) w
 
@@ -139,7 +129,7 @@ length_opening context (Some place) count w = refl
 -- The unit with the expression
 
 valued_reads : (u : UnitAtHand) (front tokens : List Seen) (early steps : List (Event Action)) → (d : IsDoubted front tokens early steps)
-    → (v : Valued d.level (atoms_of (front ++ tokens)) (early ++ Did action_of.OuterSure ∷ steps) (tokens_of (front ++ tokens)) (maybe u))
+    → (v : Valued d.level (atoms_of (front ++ tokens)) (early ++ Did Action.OuterSure ∷ steps) (tokens_of (front ++ tokens)) (maybe u))
     → read_by steps (tokens_of tokens) (sure u front (early_gathering u front early))
     ≡ with_value (tokens_of front ++ tokens_of tokens) v.value (ready u)
 valued_reads u front tokens early steps d v =
@@ -148,10 +138,11 @@ valued_reads u front tokens early steps d v =
     let g = early_gathering u front early in
     let x = maybe u in
     let r = read_by steps (tokens_of tokens) (sure u front g) in
-    let same : read_by (early ++ Did action_of.OuterSure ∷ steps) (tokens_of (front ++ tokens)) x ≡ r =
-    ap (λ l. read_by (early ++ Did action_of.OuterSure ∷ steps) l x) all_are
-    ∙ (read-append early (Did action_of.OuterSure ∷ steps) front (tokens_of tokens) x d.all_early
-    ∙ ap (λ (y : UnitAtHand). read_by steps (tokens_of tokens) (acted action_of.OuterSure y)) (front_read u front early d.only_early d.all_early)) in
+    let same : read_by (early ++ Did Action.OuterSure ∷ steps) (tokens_of (front ++ tokens)) x ≡ r =
+    ap (λ l. read_by (early ++ Did Action.OuterSure ∷ steps) l x) all_are
+    ∙ (read-append early (Did Action.OuterSure ∷ steps) front (tokens_of tokens) x d.all_early
+    ∙ ap (λ (y : UnitAtHand). read_by steps (tokens_of tokens) (acted Action.OuterSure y))
+    (front_read u front early d.only_early d.all_early)) in
     let depth = brackets-append (tokens_of front) (tokens_of tokens) u.depth in
     let base = with_outer (ready u) in
     value_reads all v.value u r
@@ -168,7 +159,7 @@ doubted_does : (limits : Limits) (context : Context) (next : Place) (u : UnitAtH
     → let v = with_front (tokens_of front) (ready u) in
     let told = tokens_told context v tokens (front_told context v (tokens_told context (without_outer (ready u)) front w)) in
     run limits context
-    (happenings_before next (Did action_of.OuterMaybe ∷ (early ++ Did action_of.OuterSure ∷ (steps ++ late))) (front ++ (tokens ++ rest)))
+    (happenings_before next (Did Action.OuterMaybe ∷ (early ++ Did Action.OuterSure ∷ (steps ++ late))) (front ++ (tokens ++ rest)))
     (record w { unit = ready u })
     ≡ run limits context (happenings_before next late rest)
     (record told { unit = with_value (tokens_of front ++ tokens_of tokens) value (ready u) })
@@ -176,7 +167,7 @@ doubted_does limits context next u front tokens rest early steps late value leve
     let x = maybe u in
     let v = with_front (tokens_of front) (ready u) in
     let g = early_gathering u front early in
-    let behind = Did action_of.OuterSure ∷ (steps ++ late) in
+    let behind = Did Action.OuterSure ∷ (steps ++ late) in
     let told = tokens_told context (without_outer (ready u)) front w in
     let known = front_told context v told in
     let one = place_before (tokens ++ rest) next in
@@ -188,12 +179,12 @@ doubted_does limits context next u front tokens rest early steps late value leve
     ∙ ap (λ (y : Compilation). record y { unit = doubted u front g })
     (maybe_told context u u.tokens u.depth (length u.tokens) front w)) in
     let told_none : told.opening ≡ None = tokens_opening context (without_outer (ready u)) front w ∙ none in
-    note_first limits context next action_of.OuterMaybe (front ++ (tokens ++ rest)) (early ++ behind) (record w { unit = ready u })
+    note_first limits context next Action.OuterMaybe (front ++ (tokens ++ rest)) (early ++ behind) (record w { unit = ready u })
     (record w { unit = x }) (λ place. refl)
     ∙ (ap (λ hs. run limits context hs (record w { unit = x })) (before-append next early behind front (tokens ++ rest) d.all_early)
     ∙ (run_then limits context (happenings_before one early front) (happenings_before next behind (tokens ++ rest)) (record w { unit = x })
     ∙ (ap (run limits context (happenings_before next behind (tokens ++ rest))) first_told
-    ∙ (note_first limits context next action_of.OuterSure (tokens ++ rest) (steps ++ late) (record told { unit = doubted u front g })
+    ∙ (note_first limits context next Action.OuterSure (tokens ++ rest) (steps ++ late) (record told { unit = doubted u front g })
     (record known { unit = sure u front g }) (λ place. sure_acts limits context place u front g told)
     ∙ (ap (λ hs. run limits context hs (record known { unit = sure u front g })) (before-append next steps late tokens rest d.all_steps)
     ∙ (run_then limits context (happenings_before two steps tokens) (happenings_before next late rest) (record known { unit = sure u front g })
@@ -205,7 +196,7 @@ doubted_does limits context next u front tokens rest early steps late value leve
 
 pub doubted_expression : (limits : Limits) (front tokens rest : List Seen) (early steps late : List (Event Action))
     → IsDoubted front tokens early steps → Going limits rest late
-    → Going limits (front ++ (tokens ++ rest)) (Did action_of.OuterMaybe ∷ (early ++ Did action_of.OuterSure ∷ (steps ++ late)))
+    → Going limits (front ++ (tokens ++ rest)) (Did Action.OuterMaybe ∷ (early ++ Did Action.OuterSure ∷ (steps ++ late)))
 doubted_expression limits front tokens rest early steps late d on u are_seen begun few =
     let all = tokens_of front ++ tokens_of tokens in
     let all_are : tokens_of (front ++ tokens) ≡ all = map-append (λ (s : Seen). s.token) front tokens in
@@ -225,8 +216,11 @@ doubted_expression limits front tokens rest early steps late d on u are_seen beg
     record {
       parts = Doubtful d.level front tokens v.value ∷ more.parts;
       same = ap (λ l. (front ++ tokens) ++ l) more.same ∙ joined;
-      quiet =
-          (refl, steps_quiet early (Did action_of.OuterSure ∷ (steps ++ late)) d.only_early (refl, steps_quiet steps late d.only_steps more.quiet));
+      quiet = (
+        refl,
+        steps_quiet early (Did Action.OuterSure ∷ (steps ++ late)) d.only_early
+            (refl, steps_quiet steps late d.only_steps more.quiet),
+      );
       written = (v.written, more.written);
       does = λ context next w none room.
           let w1 = with_front (tokens_of front) (ready u) in
@@ -278,7 +272,7 @@ pub record Doubt (seen : List Seen) (events : List (Event Action)) : Type 0 wher
   pub early : List (Event Action)
   pub steps : List (Event Action)
   pub same : front ++ tokens ≡ seen
-  pub are : events ≡ early ++ Did action_of.OuterSure ∷ steps
+  pub are : events ≡ early ++ Did Action.OuterSure ∷ steps
   pub is : IsDoubted front tokens early steps
 
 form_valued : (symbols : List (Symbol Action)) (level : ℕ) → IsOneOf (form_of symbols level) forms
@@ -294,9 +288,9 @@ pub formed_doubt : (xs ys : List (Symbol Action)) (level : ℕ) → IsOneOf (for
     → IsText grammar (xs ++ !outer_sure ∷ ys) (atoms_of seen) events → Doubt seen events
 formed_doubt xs ys level is_form only_xs only_ys seen events text =
     let parts = split text refl xs (!outer_sure ∷ ys) refl in
-    let b = behind action_of.OuterSure ys parts.rest parts.late parts.of_rest in
+    let b = behind Action.OuterSure ys parts.rest parts.late parts.of_rest in
     let l = apart parts.front parts.rest seen parts.atoms_are in
-    let are : events ≡ parts.early ++ Did action_of.OuterSure ∷ b.rest = parts.events_are ∙ ap (λ x. parts.early ++ x) b.are in
+    let are : events ≡ parts.early ++ Did Action.OuterSure ∷ b.rest = parts.events_are ∙ ap (λ x. parts.early ++ x) b.are in
     record {
       front = l.front;
       tokens = l.tokens;
@@ -312,7 +306,7 @@ formed_doubt xs ys level is_form only_xs only_ys seen events text =
         only_steps = only_ys parts.rest b.rest b.text;
         valued = λ u are_seen over begun few.
             form_valued (xs ++ !outer_sure ∷ ys) level is_form (atoms_of (l.front ++ l.tokens))
-            (parts.early ++ Did action_of.OuterSure ∷ b.rest)
+            (parts.early ++ Did Action.OuterSure ∷ b.rest)
             (subst (λ es. IsText grammar (xs ++ !outer_sure ∷ ys) (atoms_of (l.front ++ l.tokens)) es) are
             (subst (λ x. IsText grammar (xs ++ !outer_sure ∷ ys) (atoms_of x) events) (sym l.same) text)) u
             (tokens_of (l.front ++ l.tokens)) are_seen over begun few;
@@ -320,8 +314,8 @@ formed_doubt xs ys level is_form only_xs only_ys seen events text =
     }
 
 -- A text that is an operand
-pub text_doubt : (s : Seen) (atom : ℕ) → IsText grammar (TEXT ∷ !text ∷ []) (s.atom ∷ []) (Took atom ∷ Did action_of.Text ∷ [])
-    → IsDoubted (s ∷ []) [] (Took atom ∷ []) (Did action_of.Text ∷ [])
+pub text_doubt : (s : Seen) (atom : ℕ) → IsText grammar (TEXT ∷ !text ∷ []) (s.atom ∷ []) (Took atom ∷ Did Action.Text ∷ [])
+    → IsDoubted (s ∷ []) [] (Took atom ∷ []) (Did Action.Text ∷ [])
 text_doubt s atom text = record {
   level = primaries;
   all_early = tt;
@@ -330,8 +324,8 @@ text_doubt s atom text = record {
   only_steps = (refl, tt);
   valued = λ u are_seen over begun few.
       let e =
-      form_valued (prim ∷ []) primaries (later (later (later (later first)))) (s.atom ∷ []) (Took atom ∷ Did action_of.Text ∷ [])
-      (other_prim_text (TEXT ∷ !text ∷ []) (s.atom ∷ []) (Took atom ∷ Did action_of.Text ∷ []) (later first) text) u (s.token ∷ []) are_seen
+      form_valued (prim ∷ []) primaries (later (later (later (later first)))) (s.atom ∷ []) (Took atom ∷ Did Action.Text ∷ [])
+      (other_prim_text (TEXT ∷ !text ∷ []) (s.atom ∷ []) (Took atom ∷ Did Action.Text ∷ []) (later first) text) u (s.token ∷ []) are_seen
       over begun few in
       record { value = e.value; written = e.written; gathered = e.gathered; all = e.all };
 }

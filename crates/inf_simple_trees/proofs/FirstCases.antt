@@ -1,23 +1,17 @@
 -- The first case of a `switch`.
 use Rattle.std.proofs.Common.{◌≡◌, ℕ, List, [], ◌∷◌, true, refl}
-use Rattle.inf_machine.specs.Decided.{is_within}
-use Rattle.inf_machine.specs.Grammar.{Event, IsText}
+use Rattle.inf_machine.specs.{Decided.is_within, Grammar.Event, Grammar.IsText}
+use Rattle.inf_syntax.specs.{Rows.row, declared.actions.Action.Action}
 use Rattle.inf_syntax.specs.Parts.{'default', 'comma', 'minus', NOTDEFAULT, !outer, !name, !negate, !comma, !default, prim, other_prim}
 use Rattle.inf_syntax.specs.Parts.{entry, case_end, first_case, first_case_1, first_case_2, first_case_3, first_case_4, values, values_1}
 use Rattle.inf_syntax.specs.Parts.{case_value, range}
-use Rattle.inf_syntax.specs.Rows.{row}
-use Rattle.inf_syntax.specs.declared.actions.Action.{Action}
 use Rattle.inf_grammar.specs.Language.{grammar}
 use Rattle.inf_statement_laws.proofs.Rules.{number}
-use Rattle.inf_trees.proofs.Expanded.{with_rows}
-use Rattle.inf_trees.proofs.RuleRows.{of_rows}
-use Rattle.inf_trees.proofs.StatementTexts.{Rows}
-use Rattle.inf_trees.proofs.Rests.{swapped}
+use Rattle.inf_trees.proofs.{Expanded.with_rows, Rests.swapped, RuleRows.of_rows, StatementTexts.Rows}
 use Rattle.inf_trees.proofs.CaseValues.{minus_entry, other_is_prim, prim_entry, values_listed}
-use Rattle.inf_simple_trees.proofs.Values.{expression_first}
+use Rattle.inf_simple_trees.proofs.{SwitchItems.InSwitch, SwitchItems.switch_before, Values.expression_first}
 use Rattle.inf_simple_trees.proofs.CaseTexts.{ACase, Directly, by_more_values, by_range, by_values, case_rest, default_case}
 use Rattle.inf_simple_trees.proofs.CaseTexts.{default_within_names, named_entry, value_case}
-use Rattle.inf_simple_trees.proofs.SwitchItems.{InSwitch, switch_before}
 
 -- Rows, by evaluation
 

@@ -4,35 +4,25 @@ use Rattle.std.proofs.Common.{append_assoc, append-nil, arith}
 use Rattle.std.proofs.lemmas.List.{length-append}
 use Rattle.inf_settings.specs.Bounds.{Limits}
 use Rattle.inf_machine.specs.declared.symbols.Symbol.{Symbol}
-use Rattle.inf_machine.specs.declared.symbols.Symbol.TheVariants.{Act, Token}
 use Rattle.inf_machine.specs.Grammar.{Did, Event, IsOneOf, IsText, Took, action, first, here, later, token}
+use Rattle.inf_syntax.specs.{Rows.row, declared.actions.Action.Action}
 use Rattle.inf_syntax.specs.Parts.{ !bracket, !bracketed, !comma, !name, !outer, !outer_end, !outer_maybe, !outer_sure, !print_rule}
 use Rattle.inf_syntax.specs.Parts.{ !print_text, !print_value, !rule, !text, 'close_parenthesis', 'comma', 'minus', 'open_parenthesis'}
 use Rattle.inf_syntax.specs.Parts.{ !negate, OPERAND, RESERVED, TEXT, after_prim, after_unary, assign, bracket_item, bracket_name}
 use Rattle.inf_syntax.specs.Parts.{bracket_name_1, bracket_name_2, expression_tail, item, item_1, item_2, neg, operator, other_assign}
 use Rattle.inf_syntax.specs.Parts.{other_operator, prefixed, prim, print_rest_1, ruled}
-use Rattle.inf_syntax.specs.Rows.{row}
-use Rattle.inf_syntax.specs.declared.actions.Action.{Action}
-use Rattle.inf_syntax.specs.declared.actions.Action.TheVariants as action_of
 use Rattle.inf_grammar.specs.Language.{grammar}
-use Rattle.inf_unit.specs.Units.{depth_behind, noted}
-use Rattle.inf_unit.specs.declared.roles.Note.TheVariants as note
-use Rattle.inf_expression_laws.specs.Laws.{forms}
-use Rattle.inf_expression_laws.specs.Precedence.{assignments, primaries}
+use Rattle.inf_unit.specs.{Units.depth_behind, Units.noted, declared.roles.Note.Note}
+use Rattle.inf_expression_laws.specs.{Laws.forms, Precedence.assignments, Precedence.primaries}
 use Rattle.inf_statement_laws.specs.Readings.{Seen}
 use Rattle.inf_statement_laws.proofs.Rules.{number}
 use Rattle.inf_language.specs.Texts.{atoms_of}
 use Rattle.inf_language.proofs.TextsSplit.{split}
-use Rattle.inf_trees.proofs.Expanded.{with_rows}
-use Rattle.inf_trees.proofs.RuleRows.{of_rows}
-use Rattle.inf_trees.proofs.StatementsRead.{behind}
-use Rattle.inf_trees.proofs.StatementTexts.{Rows}
-use Rattle.inf_trees.proofs.UnitsRead.{ready}
+use Rattle.inf_trees.proofs.{Expanded.with_rows, RuleRows.of_rows, StatementTexts.Rows, StatementsRead.behind, UnitsRead.ready}
 use Rattle.inf_trees.proofs.ValueForms.{HasForm, by_row, form_of, is_value, values_have_forms}
-use Rattle.inf_simple_trees.proofs.Doubts.{apart, doubted_expression, formed_doubt}
-use Rattle.inf_simple_trees.proofs.Symbols.{act_first, token_first}
-use Rattle.inf_simple_trees.proofs.PrintRules.{rule_events, ruled_value}
 use Rattle.inf_trees.proofs.StepRules.{have_steps, is_step_rule, only_steps}
+use Rattle.inf_simple_trees.proofs.{PrintRules.rule_events, PrintRules.ruled_value, Symbols.act_first, Symbols.token_first}
+use Rattle.inf_simple_trees.proofs.Doubts.{apart, doubted_expression, formed_doubt}
 use Rattle.inf_simple_trees.proofs.UnitsGo.{AText, Going, alone, alone_goes, expressed, moved, note_goes, noted_goes, nothing, value_acts}
 
 -- Tokens are parts of a unit, whatever parts follow them.
@@ -43,10 +33,11 @@ Leading limits tokens events =
 -- A value that is printed
 
 value_printed : (limits : Limits) (rest : List Seen) (late : List (Event Action)) → Going limits rest late
-    → Going limits rest (Did action_of.PrintValue ∷ late)
+    → Going limits rest (Did Action.PrintValue ∷ late)
 value_printed limits rest late on u are_seen begun few =
-    let v = noted note.PrintValue u in
-    noted_goes limits action_of.PrintValue note.PrintValue u v rest late refl refl (λ context place w. value_acts limits context place (ready u) w)
+    let v = noted Note.PrintValue u in
+    noted_goes limits Action.PrintValue Note.PrintValue u v rest late refl refl
+    (λ context place w. value_acts limits context place (ready u) w)
     (on v are_seen begun few)
 
 -- a text of an action alone
@@ -54,7 +45,8 @@ record IsLast (a : Action) (atoms : List ℕ) (events : List (Event Action)) : T
   none : atoms ≡ []
   are : events ≡ Did a ∷ []
 
-last_action : (a : Action) {atoms : List ℕ} {events : List (Event Action)} → IsText grammar (Act a ∷ []) atoms events → IsLast a atoms events
+last_action : (a : Action) {atoms : List ℕ} {events : List (Event Action)} → IsText grammar (Symbol.Act a ∷ []) atoms events →
+    IsLast a atoms events
 last_action a (action here) = record { none = refl; are = refl }
 
 item_is_value : is_value (number item_2) ≡ true
@@ -64,19 +56,19 @@ item_is_value = refl
 sure_item : (limits : Limits) (tokens : List Seen) (events : List (Event Action))
     → IsText grammar (!outer ∷ item_2 ∷ !print_value ∷ []) (atoms_of tokens) events → Leading limits tokens events
 sure_item limits tokens events text rest late on =
-    let b = behind action_of.Outer (item_2 ∷ !print_value ∷ []) (atoms_of tokens) events text in
+    let b = behind Action.Outer (item_2 ∷ !print_value ∷ []) (atoms_of tokens) events text in
     let parts = split b.text refl (item_2 ∷ []) (!print_value ∷ []) refl in
-    let last = last_action action_of.PrintValue parts.of_rest in
+    let last = last_action Action.PrintValue parts.of_rest in
     let front : parts.front ≡ atoms_of tokens =
     sym (append-nil parts.front) ∙ (ap (λ l. parts.front ++ l) (sym last.none) ∙ sym parts.atoms_are) in
     let form =
     values_have_forms (atoms_of tokens) parts.early (number item_2) item_is_value
     (subst (λ l. IsText grammar (item_2 ∷ []) l parts.early) front parts.of_front) in
-    let are : events ≡ Did action_of.Outer ∷ (parts.early ++ Did action_of.PrintValue ∷ []) =
-    b.are ∙ ap (λ x. Did action_of.Outer ∷ x) (parts.events_are ∙ ap (λ x. parts.early ++ x) last.are) in
+    let are : events ≡ Did Action.Outer ∷ (parts.early ++ Did Action.PrintValue ∷ []) =
+    b.are ∙ ap (λ x. Did Action.Outer ∷ x) (parts.events_are ∙ ap (λ x. parts.early ++ x) last.are) in
     moved limits refl
-    (ap (λ x. Did action_of.Outer ∷ x) (sym (append_assoc parts.early (Did action_of.PrintValue ∷ []) late)) ∙ ap (λ x. x ++ late) (sym are))
-    (expressed limits tokens rest parts.early (Did action_of.PrintValue ∷ late) form (value_printed limits rest late on))
+    (ap (λ x. Did Action.Outer ∷ x) (sym (append_assoc parts.early (Did Action.PrintValue ∷ []) late)) ∙ ap (λ x. x ++ late) (sym are))
+    (expressed limits tokens rest parts.early (Did Action.PrintValue ∷ late) form (value_printed limits rest late on))
 
 -- a value of which it is known only behind its first tokens that it is an expression
 doubted_item : (limits : Limits) (xs ys : List (Symbol Action)) (level : ℕ) → IsOneOf (form_of (xs ++ !outer_sure ∷ ys) level) forms
@@ -85,35 +77,37 @@ doubted_item : (limits : Limits) (xs ys : List (Symbol Action)) (level : ℕ) �
     → Leading limits tokens events
 doubted_item limits xs ys level is_form x y tokens events text rest late on =
     let symbols = xs ++ !outer_sure ∷ ys in
-    let b = behind action_of.OuterMaybe (symbols ++ !print_value ∷ []) (atoms_of tokens) events text in
+    let b = behind Action.OuterMaybe (symbols ++ !print_value ∷ []) (atoms_of tokens) events text in
     let parts = split b.text refl symbols (!print_value ∷ []) refl in
-    let last = last_action action_of.PrintValue parts.of_rest in
+    let last = last_action Action.PrintValue parts.of_rest in
     let front : parts.front ≡ atoms_of tokens =
     sym (append-nil parts.front) ∙ (ap (λ l. parts.front ++ l) (sym last.none) ∙ sym parts.atoms_are) in
     let d =
     formed_doubt xs ys level is_form (λ a es t. only_steps t x) (λ a es t. only_steps t y) tokens parts.early
     (subst (λ l. IsText grammar symbols l parts.early) front parts.of_front) in
-    let steps = Did action_of.OuterSure ∷ d.steps in
-    let last_event = Did action_of.PrintValue ∷ [] in
-    let are : events ≡ Did action_of.OuterMaybe ∷ ((d.early ++ steps) ++ last_event) =
-    b.are ∙ ap (λ l. Did action_of.OuterMaybe ∷ l) (parts.events_are ∙ (ap (λ l. parts.early ++ l) last.are ∙ ap (λ l. l ++ last_event) d.are)) in
-    let joined : d.early ++ (steps ++ Did action_of.PrintValue ∷ late) ≡ ((d.early ++ steps) ++ last_event) ++ late =
-    sym (append_assoc d.early steps (Did action_of.PrintValue ∷ late)) ∙ sym (append_assoc (d.early ++ steps) last_event late) in
+    let steps = Did Action.OuterSure ∷ d.steps in
+    let last_event = Did Action.PrintValue ∷ [] in
+    let are : events ≡ Did Action.OuterMaybe ∷ ((d.early ++ steps) ++ last_event) =
+    b.are
+    ∙ ap (λ l. Did Action.OuterMaybe ∷ l) (parts.events_are ∙ (ap (λ l. parts.early ++ l) last.are ∙ ap (λ l. l ++ last_event) d.are)) in
+    let joined : d.early ++ (steps ++ Did Action.PrintValue ∷ late) ≡ ((d.early ++ steps) ++ last_event) ++ late =
+    sym (append_assoc d.early steps (Did Action.PrintValue ∷ late)) ∙ sym (append_assoc (d.early ++ steps) last_event late) in
     moved limits (sym (append_assoc d.front d.tokens rest) ∙ ap (λ l. l ++ rest) d.same)
-    (ap (λ l. Did action_of.OuterMaybe ∷ l) joined ∙ ap (λ l. l ++ late) (sym are))
-    (doubted_expression limits d.front d.tokens rest d.early d.steps (Did action_of.PrintValue ∷ late) d.is (value_printed limits rest late on))
+    (ap (λ l. Did Action.OuterMaybe ∷ l) joined ∙ ap (λ l. l ++ late) (sym are))
+    (doubted_expression limits d.front d.tokens rest d.early d.steps (Did Action.PrintValue ∷ late) d.is
+    (value_printed limits rest late on))
 
 -- A text that is printed
 
 pub text_printed : (limits : Limits) (s : Seen) (atom : ℕ) (rest : List Seen) (late : List (Event Action)) → Going limits rest late
-    → Going limits (s ∷ rest) (Did action_of.OuterMaybe ∷ Took atom ∷ Did action_of.PrintText ∷ late)
+    → Going limits (s ∷ rest) (Did Action.OuterMaybe ∷ Took atom ∷ Did Action.PrintText ∷ late)
 text_printed limits s atom rest late on u are_seen begun few =
-    let v = noted (note.Outer false) u in
+    let v = noted (Note.Outer false) u in
     let x = record v { tokens = v.tokens ++ s.token ∷ []; depth = depth_behind s.token.kind v.depth } in
     let count = length-append u.tokens (s.token ∷ []) in
-    noted_goes limits action_of.OuterMaybe (note.Outer false) u v (s ∷ rest) (Took atom ∷ Did action_of.PrintText ∷ late) refl refl
+    noted_goes limits Action.OuterMaybe (Note.Outer false) u v (s ∷ rest) (Took atom ∷ Did Action.PrintText ∷ late) refl refl
     (λ context place w room. refl)
-    (alone_goes limits s atom v rest (Did action_of.PrintText ∷ late)
+    (alone_goes limits s atom v rest (Did Action.PrintText ∷ late)
     (note_goes limits AText x rest late
     (λ g items code outer. on (record x { gathering = g; items = items; code = code; outer = outer }) are_seen.1 (omega (arith, begun, count))
     (omega (arith, few, count)))))
@@ -148,19 +142,20 @@ value_symbols = prim ∷ after_prim ∷ !print_rule ∷ []
 
 rule_leads : (ends : Bool) (limits : Limits) (bracket name closing : Seen) (one two three : ℕ) (tokens : List Seen)
     (events : List (Event Action)) → IsText grammar value_symbols (atoms_of tokens) events
-    → Leading limits (bracket ∷ name ∷ closing ∷ tokens) (rule_events ends one two three (Did action_of.Outer ∷ events))
+    → Leading limits (bracket ∷ name ∷ closing ∷ tokens) (rule_events ends one two three (Did Action.Outer ∷ events))
 rule_leads ends limits bracket name closing one two three tokens events text rest late on =
     let parts = split text refl (prim ∷ after_prim ∷ []) (!print_rule ∷ []) refl in
-    let last = last_action action_of.PrintRule parts.of_rest in
+    let last = last_action Action.PrintRule parts.of_rest in
     let front : parts.front ≡ atoms_of tokens =
     sym (append-nil parts.front) ∙ (ap (λ l. parts.front ++ l) (sym last.none) ∙ sym parts.atoms_are) in
     let form =
     value_form (atoms_of tokens) parts.early (subst (λ l. IsText grammar (prim ∷ after_prim ∷ []) l parts.early) front parts.of_front) in
-    let are : events ≡ parts.early ++ Did action_of.PrintRule ∷ [] = parts.events_are ∙ ap (λ x. parts.early ++ x) last.are in
-    let behind : parts.early ++ Did action_of.PrintRule ∷ late ≡ events ++ late =
-    sym (append_assoc parts.early (Did action_of.PrintRule ∷ []) late) ∙ ap (λ l. l ++ late) (sym are) in
+    let are : events ≡ parts.early ++ Did Action.PrintRule ∷ [] = parts.events_are ∙ ap (λ x. parts.early ++ x) last.are in
+    let behind : parts.early ++ Did Action.PrintRule ∷ late ≡ events ++ late =
+    sym (append_assoc parts.early (Did Action.PrintRule ∷ []) late) ∙ ap (λ l. l ++ late) (sym are) in
     moved limits refl
-    (ap (λ l. rule_events ends one two three (Did action_of.Outer ∷ l)) behind ∙ rule-append ends one two three (Did action_of.Outer ∷ events) late)
+    (ap (λ l. rule_events ends one two three (Did Action.Outer ∷ l)) behind ∙ rule-append ends one two three
+    (Did Action.Outer ∷ events) late)
     (ruled_value ends limits bracket name closing one two three tokens rest parts.early late form on)
   where
     rule-append : (e : Bool) (a b c : ℕ) (xs ys : List (Event Action)) → rule_events e a b c (xs ++ ys) ≡ rule_events e a b c xs ++ ys
@@ -188,24 +183,24 @@ reserved_item limits tokens events text =
     let outer = !outer ∷ value_symbols in
     let last = 'close_parenthesis' ∷ !rule ∷ outer in
     let name = RESERVED ∷ !name ∷ last in
-    let a = act_first action_of.OuterMaybe ('open_parenthesis' ∷ !bracket ∷ !outer_end ∷ name) tokens events text in
+    let a = act_first Action.OuterMaybe ('open_parenthesis' ∷ !bracket ∷ !outer_end ∷ name) tokens events text in
     let t = token_first (!bracket ∷ !outer_end ∷ name) tokens a.late a.text in
-    let b = act_first action_of.Bracket (!outer_end ∷ name) t.rest t.late t.text in
-    let e = act_first action_of.OuterEnd name t.rest b.late b.text in
+    let b = act_first Action.Bracket (!outer_end ∷ name) t.rest t.late t.text in
+    let e = act_first Action.OuterEnd name t.rest b.late b.text in
     let n = token_first (!name ∷ last) t.rest e.late e.text in
-    let g = act_first action_of.Name last n.rest n.late n.text in
+    let g = act_first Action.Name last n.rest n.late n.text in
     let c = token_first (!rule ∷ outer) n.rest g.late g.text in
-    let r = act_first action_of.Rule outer c.rest c.late c.text in
-    let o = act_first action_of.Outer value_symbols c.rest r.late r.text in
+    let r = act_first Action.Rule outer c.rest c.late c.text in
+    let o = act_first Action.Outer value_symbols c.rest r.late r.text in
     led limits (ap (λ l. t.s ∷ l) (ap (λ l. n.s ∷ l) c.same ∙ n.same) ∙ t.same)
     (a.are
-    ∙ ap (λ l. Did action_of.OuterMaybe ∷ l) (t.are
+    ∙ ap (λ l. Did Action.OuterMaybe ∷ l) (t.are
     ∙ ap (λ l. Took t.atom ∷ l) (b.are
-    ∙ ap (λ l. Did action_of.Bracket ∷ l) (e.are
-    ∙ ap (λ l. Did action_of.OuterEnd ∷ l) (n.are
+    ∙ ap (λ l. Did Action.Bracket ∷ l) (e.are
+    ∙ ap (λ l. Did Action.OuterEnd ∷ l) (n.are
     ∙ ap (λ l. Took n.atom ∷ l) (g.are
-    ∙ ap (λ l. Did action_of.Name ∷ l) (c.are
-    ∙ ap (λ l. Took c.atom ∷ l) (r.are ∙ ap (λ l. Did action_of.Rule ∷ l) o.are))))))))
+    ∙ ap (λ l. Did Action.Name ∷ l) (c.are
+    ∙ ap (λ l. Took c.atom ∷ l) (r.are ∙ ap (λ l. Did Action.Rule ∷ l) o.are))))))))
     (rule_leads true limits t.s n.s c.s t.atom n.atom c.atom c.rest o.late o.text)
 
 named_item : (limits : Limits) (tokens : List Seen) (events : List (Event Action)) → IsText grammar named_rule (atoms_of tokens) events
@@ -214,22 +209,22 @@ named_item limits tokens events text =
     let outer = !outer ∷ value_symbols in
     let last = 'close_parenthesis' ∷ !rule ∷ outer in
     let name = OPERAND ∷ !name ∷ last in
-    let a = act_first action_of.OuterMaybe ('open_parenthesis' ∷ !bracket ∷ name) tokens events text in
+    let a = act_first Action.OuterMaybe ('open_parenthesis' ∷ !bracket ∷ name) tokens events text in
     let t = token_first (!bracket ∷ name) tokens a.late a.text in
-    let b = act_first action_of.Bracket name t.rest t.late t.text in
+    let b = act_first Action.Bracket name t.rest t.late t.text in
     let n = token_first (!name ∷ last) t.rest b.late b.text in
-    let g = act_first action_of.Name last n.rest n.late n.text in
+    let g = act_first Action.Name last n.rest n.late n.text in
     let c = token_first (!rule ∷ outer) n.rest g.late g.text in
-    let r = act_first action_of.Rule outer c.rest c.late c.text in
-    let o = act_first action_of.Outer value_symbols c.rest r.late r.text in
+    let r = act_first Action.Rule outer c.rest c.late c.text in
+    let o = act_first Action.Outer value_symbols c.rest r.late r.text in
     led limits (ap (λ l. t.s ∷ l) (ap (λ l. n.s ∷ l) c.same ∙ n.same) ∙ t.same)
     (a.are
-    ∙ ap (λ l. Did action_of.OuterMaybe ∷ l) (t.are
+    ∙ ap (λ l. Did Action.OuterMaybe ∷ l) (t.are
     ∙ ap (λ l. Took t.atom ∷ l) (b.are
-    ∙ ap (λ l. Did action_of.Bracket ∷ l) (n.are
+    ∙ ap (λ l. Did Action.Bracket ∷ l) (n.are
     ∙ ap (λ l. Took n.atom ∷ l) (g.are
-    ∙ ap (λ l. Did action_of.Name ∷ l) (c.are
-    ∙ ap (λ l. Took c.atom ∷ l) (r.are ∙ ap (λ l. Did action_of.Rule ∷ l) o.are)))))))
+    ∙ ap (λ l. Did Action.Name ∷ l) (c.are
+    ∙ ap (λ l. Took c.atom ∷ l) (r.are ∙ ap (λ l. Did Action.Rule ∷ l) o.are)))))))
     (rule_leads false limits t.s n.s c.s t.atom n.atom c.atom c.rest o.late o.text)
 
 -- The rows of an item
@@ -441,7 +436,7 @@ items_go (suc n) limits seen events text few =
 
 -- the items of a statement behind its word
 pub print_goes : (limits : Limits) (class : ℕ) {atoms : List ℕ} {events : List (Event Action)}
-    → IsText grammar (Token class ∷ item ∷ print_rest_1 ∷ []) atoms events → (seen : List Seen) → atoms_of seen ≡ atoms
+    → IsText grammar (Symbol.Token class ∷ item ∷ print_rest_1 ∷ []) atoms events → (seen : List Seen) → atoms_of seen ≡ atoms
     → Going limits seen events
 print_goes limits class (token h leads) [] is = cc
 print_goes limits class (token {atom = atom} {events = late} h leads) (s ∷ seen) is =

@@ -4,37 +4,30 @@ use Rattle.std.proofs.lemmas.List.{length-append}
 use Rattle.inf_settings.specs.Bounds.{Limits}
 use Rattle.inf_machine.specs.declared.symbols.Symbol.{Symbol}
 use Rattle.inf_machine.specs.Grammar.{Did, Event, IsOneOf, IsText, first, later}
+use Rattle.inf_syntax.specs.{Rows.row, declared.actions.Action.Action}
 use Rattle.inf_syntax.specs.Parts.{ !begin, !deeper, 'close_brace', 'double_greater', 'double_less', 'give', 'greater', 'less'}
 use Rattle.inf_syntax.specs.Parts.{'open_brace', 'string', act, mark_statement_1, statement_3, string_rest, top_item_11, top_item_12}
 use Rattle.inf_syntax.specs.Parts.{ !name, !outer, !outer_maybe, !outer_word, !print_text, 'comma', 'default', 'do', 'else', 'for', 'if'}
-use Rattle.inf_syntax.specs.Parts.{'jump', 'move', 'objectloop', 'return', 'style', 'switch', 'while', CASENAME, TEXT, case_end, plain_word}
-use Rattle.inf_syntax.specs.Parts.{print_rest, statement_4, top_item_10, top_item_18, top_item_2, top_item_20, top_item_5, top_item_6}
-use Rattle.inf_syntax.specs.Parts.{top_item_7, top_item_8, top_item_9, top_next, top_range, top_values, top_word}
-use Rattle.inf_syntax.specs.Rows.{row}
-use Rattle.inf_syntax.specs.declared.actions.Action.{Action}
-use Rattle.inf_syntax.specs.declared.actions.Action.TheVariants as action_of
+use Rattle.inf_syntax.specs.Parts.{'jump', 'move', 'objectloop', 'return', 'style', 'switch', 'while', CASENAME, TEXT, case_end}
+use Rattle.inf_syntax.specs.Parts.{plain_word, print_rest, statement_4, top_item_10, top_item_18, top_item_2, top_item_20, top_item_5}
+use Rattle.inf_syntax.specs.Parts.{top_item_6, top_item_7, top_item_8, top_item_9, top_next, top_range, top_values, top_word}
 use Rattle.inf_grammar.specs.Language.{grammar}
 use Rattle.inf_unit.specs.Units.{Unit as UnitAtHand, begun, no_unit}
 use Rattle.inf_expression_laws.specs.Gathered.{AreSeen}
-use Rattle.inf_statement_laws.specs.Laid.{run}
-use Rattle.inf_statement_laws.specs.Readings.{Seen}
+use Rattle.inf_statement_laws.specs.{Laid.run, Readings.Seen}
 use Rattle.inf_statement_laws.proofs.Rules.{number}
 use Rattle.inf_language.specs.Texts.{atoms_of, happenings_before, tokens_of}
 use Rattle.inf_language.proofs.Derivations.{seen_front}
-use Rattle.inf_trees.specs.Statements.{other_statements}
-use Rattle.inf_trees.specs.Statements.{other_items as items_beside}
-use Rattle.inf_trees.proofs.Expanded.{with_rows}
-use Rattle.inf_trees.proofs.Semicolons.{last_seen, opens_nothing}
+use Rattle.inf_trees.specs.Statements.{other_statements, other_items as items_beside}
+use Rattle.inf_trees.proofs.{Expanded.with_rows, Semicolons.last_seen, Semicolons.opens_nothing, TopTexts.item_text, UnitTexts.AnyNotes}
+use Rattle.inf_trees.proofs.{UnitTexts.OperandEnds}
 use Rattle.inf_trees.proofs.StatementsRead.{Parted, behind, few_before, parted, statement_runs}
 use Rattle.inf_trees.proofs.StatementTexts.{Flat, Formed, Others, Printed, StatementText, statement_text, unit_end}
-use Rattle.inf_trees.proofs.TopTexts.{item_text}
-use Rattle.inf_trees.proofs.UnitTexts.{OperandEnds}
 use Rattle.inf_simple_trees.specs.Simple.{IsSimple, IsSimpleOr, Other, Simple, SimpleStatementsAreTrees, holding_statements, other_items}
 use Rattle.inf_simple_trees.proofs.SimpleTexts.{Another, OneUnit, SimpleText, act_flat, act_twice_flat, by_give, by_line, by_print_word}
 use Rattle.inf_simple_trees.proofs.SimpleTexts.{by_string, by_text_more, ended, flat_reading, formed_reading, print_words, printed_reading}
 use Rattle.inf_simple_trees.proofs.SimpleTexts.{top_print_rows, top_print_words, top_string_rows}
 use Rattle.inf_simple_trees.proofs.UnitsGo.{AreQuiet, Going}
-use Rattle.inf_trees.proofs.UnitTexts.{AnyNotes}
 
 -- Which text a statement is
 
@@ -131,7 +124,7 @@ abbrev pub IsRead : Limits → List Seen → List (Event Action) → Type 0
 IsRead limits tokens events = Going limits tokens events
 
 pub is_simple : (limits : Limits) (u : UnitAtHand) (seen : List Seen) (events behind : List (Event Action))
-    → events ≡ Did action_of.Begin ∷ behind → Parted (IsRead limits) seen behind → AreSeen (atoms_of seen) (tokens_of seen)
+    → events ≡ Did Action.Begin ∷ behind → Parted (IsRead limits) seen behind → AreSeen (atoms_of seen) (tokens_of seen)
     → length seen + 1 < 4294967295 → IsSimple limits u seen events
 is_simple limits u seen events behind are p are_seen few =
     let seen_again = subst (λ x. AreSeen (atoms_of x) (tokens_of x)) (sym p.same) are_seen in
@@ -146,7 +139,7 @@ is_simple limits u seen events behind are p are_seen few =
           let before = record w { unit = u } in
           ap (λ l. run limits context (happenings_before next events l) before) (sym p.same)
           ∙ (ap (λ es. run limits context (happenings_before next es (p.tokens ++ p.semicolon ∷ [])) before) are
-          ∙ (ap (λ es. run limits context (happenings_before next (Did action_of.Begin ∷ es) (p.tokens ++ p.semicolon ∷ [])) before) p.are
+          ∙ (ap (λ es. run limits context (happenings_before next (Did Action.Begin ∷ es) (p.tokens ++ p.semicolon ∷ [])) before) p.are
           ∙ statement_runs limits context next u p.tokens p.semicolon p.early p.atom w r.parts
           (r.does context p.semicolon.token.place before none room) p.all
           (opens_nothing p.semicolon p.is_semicolon (last_seen p.tokens p.semicolon seen_again))));
@@ -164,7 +157,7 @@ by_simple : (limits : Limits) (others : List (List (Symbol Action))) (u : UnitAt
     → SimpleText others (atoms_of seen) events → AreSeen (atoms_of seen) (tokens_of seen) → length seen + 1 < 4294967295
     → IsSimpleOr limits others u seen events
 by_simple limits others u seen events (OneUnit front reading text) are_seen few =
-    let b = behind action_of.Begin (front ++ unit_end) (atoms_of seen) events text in
+    let b = behind Action.Begin (front ++ unit_end) (atoms_of seen) events text in
     Simple (is_simple limits u seen events b.rest b.are
     (parted (IsRead limits) front seen b.rest b.text (λ tokens early t. reading limits tokens early t)) are_seen few)
 by_simple limits others u seen events (Another symbols is_other text) are_seen few = Other symbols is_other text

@@ -1,38 +1,27 @@
 -- The text of a statement of one unit: how the tokens before its end are read as a unit; or another statement.
-use Rattle.std.proofs.Common.{◌≡◌, ℕ, ◌+◌, List, [], ◌∷◌, ◌++◌, Bool, true, false, refl, sym, ◌∙◌, ap, subst, append_assoc}
+use Rattle.std.proofs.Common.{◌≡◌, ℕ, ◌+◌, List, [], ◌∷◌, ◌++◌, Bool, true, false, refl, sym, ◌∙◌, ap, subst, append_assoc, append-nil}
 use Rattle.std.specs.Prelude.{if◌then◌else◌}
-use Rattle.std.proofs.Common.{append-nil}
 use Rattle.inf_settings.specs.Bounds.{Limits}
 use Rattle.inf_machine.specs.declared.symbols.Symbol.{Symbol}
-use Rattle.inf_machine.specs.declared.symbols.Symbol.TheVariants.{Rule, Token}
 use Rattle.inf_machine.specs.Grammar.{Did, Event, IsOneOf, IsText, Took, action, first, here, later, token}
-use Rattle.inf_syntax.specs.Parts.{ !asm_text, !begin, !outer, !outer_end, !outer_maybe, !outer_sure, !print_text, !text, 'at'}
-use Rattle.inf_syntax.specs.Parts.{'comma', 'double_greater', 'double_less', 'give', 'greater', 'less', 'print', 'print_ret', 'string', !comma}
+use Rattle.inf_syntax.specs.{Rows.row, declared.actions.Action.Action}
+use Rattle.inf_syntax.specs.Parts.{ !asm_text, !begin, !outer, !outer_end, !outer_maybe, !outer_sure, !print_text, !text, 'at', 'comma'}
+use Rattle.inf_syntax.specs.Parts.{'double_greater', 'double_less', 'give', 'greater', 'less', 'print', 'print_ret', 'string', !comma}
 use Rattle.inf_syntax.specs.Parts.{NAME, TEXT, act, assembly, assembly_1, assembly_2, assembly_3, assign, end, expression_tail, give_rest}
 use Rattle.inf_syntax.specs.Parts.{give_rest_1, item, operands, operator, post, print_rest, print_rest_1, statement_4, statement_end}
 use Rattle.inf_syntax.specs.Parts.{store_or_branch, string_rest, text_more, top_item_11, top_item_12, top_item_20, top_word}
-use Rattle.inf_syntax.specs.Rows.{row}
-use Rattle.inf_syntax.specs.declared.actions.Action.{Action}
-use Rattle.inf_syntax.specs.declared.actions.Action.TheVariants as action_of
 use Rattle.inf_grammar.specs.Language.{grammar}
-use Rattle.inf_unit.specs.Opcodes.{takes_text}
+use Rattle.inf_unit.specs.{Opcodes.takes_text, declared.items.Item.Item, declared.roles.Note.Note}
 use Rattle.inf_unit.specs.Units.{Unit as UnitAtHand, bytes_at, depth_behind, last_leaf, leaf_gathered, next_place, noted, with_item}
-use Rattle.inf_unit.specs.declared.items.Item.TheVariants as item_of
-use Rattle.inf_unit.specs.declared.roles.Note.TheVariants as note
-use Rattle.inf_expression_laws.specs.Laws.{forms}
-use Rattle.inf_expression_laws.specs.Precedence.{commas}
+use Rattle.inf_expression_laws.specs.{Laws.forms, Precedence.commas}
 use Rattle.inf_statement_laws.specs.Readings.{Seen}
 use Rattle.inf_statement_laws.proofs.Rules.{number}
 use Rattle.inf_language.specs.Texts.{atoms_of}
-use Rattle.inf_trees.proofs.Expanded.{with_rows}
-use Rattle.inf_trees.proofs.StatementsRead.{behind}
+use Rattle.inf_trees.proofs.{Expanded.with_rows, StatementsRead.behind, StepRules.have_steps, StepRules.is_step_rule, StepRules.only_steps}
+use Rattle.inf_trees.proofs.{UnitsRead.ready, ValueForms.HasForm, ValueForms.form_of, ValueForms.is_value}
 use Rattle.inf_trees.proofs.StatementTexts.{OnlySteps, Rows, unit_end, with_end}
 use Rattle.inf_trees.proofs.UnitTexts.{AnyNotes, Kinds, is_flat, is_unit, parsed}
-use Rattle.inf_trees.proofs.UnitsRead.{ready}
-use Rattle.inf_trees.proofs.ValueForms.{HasForm, form_of, is_value}
-use Rattle.inf_simple_trees.proofs.Doubts.{doubted_expression, formed_doubt, text_doubt}
-use Rattle.inf_simple_trees.proofs.Items.{print_goes, text_printed}
-use Rattle.inf_trees.proofs.StepRules.{have_steps, is_step_rule, only_steps}
+use Rattle.inf_simple_trees.proofs.{Doubts.doubted_expression, Doubts.formed_doubt, Doubts.text_doubt, Items.print_goes, Items.text_printed}
 use Rattle.inf_simple_trees.proofs.UnitsGo.{Going, alone, alone_goes, expressed, moved, noted_goes, nothing, nothing_goes, units_go}
 
 -- Tokens that are a text of some symbols are the parts of a unit.
@@ -56,10 +45,10 @@ flat_reading notes front flat limits tokens events text =
 pub formed_reading : (symbols : List (Symbol Action)) (level : ℕ) → IsOneOf (form_of symbols level) forms → OnlySteps symbols
     → Reading (!outer ∷ symbols)
 formed_reading symbols level is_form only limits tokens events text =
-    let b = behind action_of.Outer symbols (atoms_of tokens) events text in
+    let b = behind Action.Outer symbols (atoms_of tokens) events text in
     let form : HasForm (atoms_of tokens) b.rest =
     record { symbols = symbols; level = level; is_form = is_form; text = b.text; steps = only (atoms_of tokens) b.rest b.text } in
-    moved limits (append-nil tokens) (ap (λ l. Did action_of.Outer ∷ l) (append-nil b.rest) ∙ sym b.are)
+    moved limits (append-nil tokens) (ap (λ l. Did Action.Outer ∷ l) (append-nil b.rest) ∙ sym b.are)
     (expressed limits tokens [] b.rest [] form (nothing limits))
 
 text_goes : (limits : Limits) {atoms : List ℕ} {events : List (Event Action)}
@@ -77,13 +66,13 @@ printed_reading limits tokens events text = text_goes limits text tokens refl
 doubted_reading : (xs ys : List (Symbol Action)) (level : ℕ) → IsOneOf (form_of (xs ++ !outer_sure ∷ ys) level) forms
     → have_steps xs ≡ true → have_steps ys ≡ true → Reading (!outer_maybe ∷ (xs ++ !outer_sure ∷ ys))
 doubted_reading xs ys level is_form x y limits tokens events text =
-    let b = behind action_of.OuterMaybe (xs ++ !outer_sure ∷ ys) (atoms_of tokens) events text in
+    let b = behind Action.OuterMaybe (xs ++ !outer_sure ∷ ys) (atoms_of tokens) events text in
     let d = formed_doubt xs ys level is_form (λ a es t. only_steps t x) (λ a es t. only_steps t y) tokens b.rest b.text in
-    let steps = Did action_of.OuterSure ∷ d.steps in
+    let steps = Did Action.OuterSure ∷ d.steps in
     let same : d.front ++ (d.tokens ++ []) ≡ tokens = ap (λ l. d.front ++ l) (append-nil d.tokens) ∙ d.same in
-    let are : d.early ++ Did action_of.OuterSure ∷ (d.steps ++ []) ≡ b.rest =
-    ap (λ l. d.early ++ Did action_of.OuterSure ∷ l) (append-nil d.steps) ∙ sym d.are in
-    moved limits same (ap (λ l. Did action_of.OuterMaybe ∷ l) are ∙ sym b.are)
+    let are : d.early ++ Did Action.OuterSure ∷ (d.steps ++ []) ≡ b.rest =
+    ap (λ l. d.early ++ Did Action.OuterSure ∷ l) (append-nil d.steps) ∙ sym d.are in
+    moved limits same (ap (λ l. Did Action.OuterMaybe ∷ l) are ∙ sym b.are)
     (doubted_expression limits d.front d.tokens [] d.early d.steps [] d.is (nothing limits))
 
 -- Assembly lines
@@ -103,16 +92,16 @@ either_stays true x y is are = is
 either_stays false x y is are = are
 
 opcode_text : (limits : Limits) (s : Seen) (atom : ℕ)
-    → Going limits (s ∷ []) (Did action_of.OuterMaybe ∷ Took atom ∷ Did action_of.AsmText ∷ [])
+    → Going limits (s ∷ []) (Did Action.OuterMaybe ∷ Took atom ∷ Did Action.AsmText ∷ [])
 opcode_text limits s atom u are_seen begun few =
-    let v = noted (note.Outer false) u in
+    let v = noted (Note.Outer false) u in
     let x = record v { tokens = v.tokens ++ s.token ∷ []; depth = depth_behind s.token.kind v.depth } in
-    let y = noted note.AsmText (ready x) in
-    noted_goes limits action_of.OuterMaybe (note.Outer false) u v (s ∷ []) (Took atom ∷ Did action_of.AsmText ∷ []) refl refl
+    let y = noted Note.AsmText (ready x) in
+    noted_goes limits Action.OuterMaybe (Note.Outer false) u v (s ∷ []) (Took atom ∷ Did Action.AsmText ∷ []) refl refl
     (λ context place w room. refl)
-    (alone_goes limits s atom v [] (Did action_of.AsmText ∷ [])
-    (noted_goes limits action_of.AsmText note.AsmText x y [] [] refl
-    (either_stays (takes_text (bytes_at x.tokens (next_place x.begun))) (with_item (item_of.Text (last_leaf x)) (ready x))
+    (alone_goes limits s atom v [] (Did Action.AsmText ∷ [])
+    (noted_goes limits Action.AsmText Note.AsmText x y [] [] refl
+    (either_stays (takes_text (bytes_at x.tokens (next_place x.begun))) (with_item (Item.Text (last_leaf x)) (ready x))
     (leaf_gathered (ready x)) refl refl) (λ context place w room. refl) (nothing_goes limits y)))
 
 opcode_text_goes : (limits : Limits) {atoms : List ℕ} {events : List (Event Action)}
@@ -122,8 +111,8 @@ opcode_text_goes limits (token h (token i (action (token j (action here))))) [] 
 opcode_text_goes limits (token h (token i (action (token j (action here))))) (a ∷ []) is = cc
 opcode_text_goes limits (token h (token i (action (token j (action here))))) (a ∷ b ∷ []) is = cc
 opcode_text_goes limits (token {atom = one} h (token {atom = two} i (action (token {atom = three} j (action here))))) (a ∷ b ∷ c ∷ []) is =
-    alone limits a one (b ∷ c ∷ []) (Took two ∷ Did action_of.OuterMaybe ∷ Took three ∷ Did action_of.AsmText ∷ [])
-    (alone limits b two (c ∷ []) (Did action_of.OuterMaybe ∷ Took three ∷ Did action_of.AsmText ∷ []) (opcode_text limits c three))
+    alone limits a one (b ∷ c ∷ []) (Took two ∷ Did Action.OuterMaybe ∷ Took three ∷ Did Action.AsmText ∷ [])
+    (alone limits b two (c ∷ []) (Did Action.OuterMaybe ∷ Took three ∷ Did Action.AsmText ∷ []) (opcode_text limits c three))
 opcode_text_goes limits (token h (token i (action (token j (action here))))) (a ∷ b ∷ c ∷ d ∷ tokens) is = cc
 
 opcode_text_reading : Reading (line (!outer_maybe ∷ TEXT ∷ !asm_text ∷ []))
@@ -144,15 +133,15 @@ operand_text_goes limits (token h (token i (action (token j (action (action lead
 operand_text_goes limits (token h (token i (action (token j (action (action leads)))))) (a ∷ b ∷ []) is = cc
 operand_text_goes limits (token {atom = one} h (token {atom = two} i (action (token {atom = three} j (action (action {events = late} leads))))))
     (a ∷ b ∷ c ∷ tokens) is =
-    let early : List (Event Action) = Did action_of.OuterMaybe ∷ Took three ∷ Did action_of.OuterSure ∷ Did action_of.Text ∷ late in
+    let early : List (Event Action) = Did Action.OuterMaybe ∷ Took three ∷ Did Action.OuterSure ∷ Did Action.Text ∷ late in
     let atom : c.atom ≡ three = same_first (same_rest (same_rest is)) in
-    let text : IsText grammar (TEXT ∷ !text ∷ []) (c.atom ∷ []) (Took three ∷ Did action_of.Text ∷ []) =
-    subst (λ n. IsText grammar (TEXT ∷ !text ∷ []) (n ∷ []) (Took three ∷ Did action_of.Text ∷ [])) (sym atom) (token j (action here)) in
+    let text : IsText grammar (TEXT ∷ !text ∷ []) (c.atom ∷ []) (Took three ∷ Did Action.Text ∷ []) =
+    subst (λ n. IsText grammar (TEXT ∷ !text ∷ []) (n ∷ []) (Took three ∷ Did Action.Text ∷ [])) (sym atom) (token j (action here)) in
     let others : IsText grammar behind_text (atoms_of tokens) late =
     subst (λ l. IsText grammar behind_text l late) (sym (same_rest (same_rest (same_rest is)))) leads in
     alone limits a one (b ∷ c ∷ tokens) (Took two ∷ early)
     (alone limits b two (c ∷ tokens) early
-    (doubted_expression limits (c ∷ []) [] tokens (Took three ∷ []) (Did action_of.Text ∷ []) late (text_doubt c three text)
+    (doubted_expression limits (c ∷ []) [] tokens (Took three ∷ []) (Did Action.Text ∷ []) late (text_doubt c three text)
     (flat_reading AnyNotes behind_text behind_text_flat limits tokens late others)))
 
 operand_text_reading : Reading (line (!outer_maybe ∷ TEXT ∷ !outer_sure ∷ !text ∷ behind_text))
@@ -160,7 +149,7 @@ operand_text_reading limits tokens events text = operand_text_goes limits text t
 
 -- Statements that print
 
-print_reading : (class : ℕ) → Reading (Token class ∷ item ∷ print_rest_1 ∷ [])
+print_reading : (class : ℕ) → Reading (Symbol.Token class ∷ item ∷ print_rest_1 ∷ [])
 print_reading class limits tokens events text = print_goes limits class text tokens refl
 
 -- Rows, by evaluation
@@ -254,7 +243,7 @@ module _ (others : List (List (Symbol Action))) (atoms : List ℕ) (events : Lis
   ended front reading text = OneUnit front reading (with_end others atoms events (!begin ∷ front) text)
 
   by_flat : (words parts : List (Symbol Action)) (rest : ℕ) → grammar.rows_of rest ≡ row (parts ++ end ∷ []) ∷ []
-      → is_flat AnyNotes false (words ++ parts) ≡ true → IsText grammar (!begin ∷ (words ++ Rule rest ∷ [])) atoms events
+      → is_flat AnyNotes false (words ++ parts) ≡ true → IsText grammar (!begin ∷ (words ++ Symbol.Rule rest ∷ [])) atoms events
       → SimpleText others atoms events
   by_flat words parts rest rows flat text =
       with_rows (SimpleText others atoms events) (!begin ∷ words) rest [] (row (parts ++ end ∷ []) ∷ []) atoms events rows (
@@ -265,13 +254,14 @@ module _ (others : List (List (Symbol Action))) (atoms : List ℕ) (events : Lis
       )
       text
 
-  by_print : (class : ℕ) → IsText grammar (!begin ∷ Token class ∷ print_rest ∷ []) atoms events → SimpleText others atoms events
+  by_print : (class : ℕ) → IsText grammar (!begin ∷ Symbol.Token class ∷ print_rest ∷ []) atoms events → SimpleText others atoms events
   by_print class text =
-      with_rows (SimpleText others atoms events) (!begin ∷ Token class ∷ []) (number print_rest) [] (row (item ∷ print_rest_1 ∷ end ∷ []) ∷ [])
-      atoms events print_rows ((λ t. ended (Token class ∷ item ∷ print_rest_1 ∷ []) (print_reading class) t), tt) text
+      with_rows (SimpleText others atoms events) (!begin ∷ Symbol.Token class ∷ []) (number print_rest) []
+      (row (item ∷ print_rest_1 ∷ end ∷ []) ∷ [])
+      atoms events print_rows ((λ t. ended (Symbol.Token class ∷ item ∷ print_rest_1 ∷ []) (print_reading class) t), tt) text
 
   pub by_print_word : (rule : ℕ) → grammar.rows_of rule ≡ row ('print' ∷ []) ∷ row ('print_ret' ∷ []) ∷ []
-      → IsText grammar (!begin ∷ Rule rule ∷ print_rest ∷ []) atoms events → SimpleText others atoms events
+      → IsText grammar (!begin ∷ Symbol.Rule rule ∷ print_rest ∷ []) atoms events → SimpleText others atoms events
   by_print_word rule rows text =
       with_rows (SimpleText others atoms events) (!begin ∷ []) rule (print_rest ∷ []) (row ('print' ∷ []) ∷ row ('print_ret' ∷ []) ∷ [])
       atoms events rows ((λ t. by_print 100 t), ((λ t. by_print 101 t), tt)) text

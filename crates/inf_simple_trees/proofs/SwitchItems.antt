@@ -1,37 +1,29 @@
 -- Items in a `switch`: statements of one unit or blocks, cases, and statements that hold others.
 use Rattle.std.proofs.Common.{◌≡◌, ℕ, List, [], ◌∷◌, ◌++◌, true, refl}
-use Rattle.inf_machine.specs.Decided.{is_within}
-use Rattle.inf_machine.specs.declared.symbols.Symbol.{Symbol}
-use Rattle.inf_machine.specs.declared.symbols.Symbol.TheVariants.{Rule, Token}
+use Rattle.inf_machine.specs.{Decided.is_within, declared.symbols.Symbol.Symbol}
 use Rattle.inf_machine.specs.Grammar.{Did, Event, IsOneOf, IsText, Row, first, later}
-use Rattle.inf_syntax.specs.Parts.{TEXT, !comma, assign, 'string', 'default', 'comma', 'minus', 'return', 'jump', 'give', 'move', 'style', 'if', 'while'}
-use Rattle.inf_syntax.specs.Parts.{'do', 'for', 'objectloop', 'switch', 'print', 'print_ret', 'remove', 'spaces', 'else', CASENAME, NOTTO}
-use Rattle.inf_syntax.specs.Parts.{ !outer, !name, !negate, !text, !begin, !outer_maybe, !print_text, !outer_sure, !default, !outer_word}
-use Rattle.inf_syntax.specs.Parts.{ !maybe_deeper, prefixed, neg, step_prefix, step_tail, address_tail, post_tail, prim, bracketed}
-use Rattle.inf_syntax.specs.Parts.{plain_prim, entry, after_unary, inner_operator, statement_2, statement_4, statement_5, plain_word, end}
-use Rattle.inf_syntax.specs.Parts.{statement_end, mark_statement, text_statement, text_statement_1, text_more, if_rest, while_rest}
-use Rattle.inf_syntax.specs.Parts.{do_rest, for_rest, objectloop_rest, switch_rest, print_rest, return_rest, jump_rest, give_rest}
-use Rattle.inf_syntax.specs.Parts.{move_rest, of_expression, string_rest, style_rest, case_end, values, switch_item, switch_item_1}
-use Rattle.inf_syntax.specs.Parts.{switch_item_2, switch_item_3, switch_item_4, switch_item_5, switch_item_6, switch_item_7}
+use Rattle.inf_syntax.specs.{Rows.row, declared.actions.Action.Action}
+use Rattle.inf_syntax.specs.Parts.{TEXT, !comma, assign, 'string', 'default', 'comma', 'minus', 'return', 'jump', 'give', 'move', 'style'}
+use Rattle.inf_syntax.specs.Parts.{'if', 'while', 'do', 'for', 'objectloop', 'switch', 'print', 'print_ret', 'remove', 'spaces', 'else'}
+use Rattle.inf_syntax.specs.Parts.{CASENAME, NOTTO, !outer, !name, !negate, !text, !begin, !outer_maybe, !print_text, !outer_sure, !default}
+use Rattle.inf_syntax.specs.Parts.{ !outer_word, !maybe_deeper, prefixed, neg, step_prefix, step_tail, address_tail, post_tail, prim}
+use Rattle.inf_syntax.specs.Parts.{bracketed, plain_prim, entry, after_unary, inner_operator, statement_2, statement_4, statement_5}
+use Rattle.inf_syntax.specs.Parts.{plain_word, end, statement_end, mark_statement, text_statement, text_statement_1, text_more, if_rest}
+use Rattle.inf_syntax.specs.Parts.{while_rest, do_rest, for_rest, objectloop_rest, switch_rest, print_rest, return_rest, jump_rest}
+use Rattle.inf_syntax.specs.Parts.{give_rest, move_rest, of_expression, string_rest, style_rest, case_end, values, switch_item}
+use Rattle.inf_syntax.specs.Parts.{switch_item_1, switch_item_2, switch_item_3, switch_item_4, switch_item_5, switch_item_6, switch_item_7}
 use Rattle.inf_syntax.specs.Parts.{switch_item_8, switch_item_9, switch_item_10, switch_item_11, switch_item_12, switch_item_13}
 use Rattle.inf_syntax.specs.Parts.{switch_item_14, switch_item_15, switch_item_16, switch_item_17, switch_item_18, switch_item_19}
 use Rattle.inf_syntax.specs.Parts.{switch_item_20, switch_item_21, switch_item_22, switch_item_23, switch_item_24, switch_item_25}
 use Rattle.inf_syntax.specs.Parts.{switch_item_26, switch_word, minus_more, minus_more_1, switch_more, outer_more}
-use Rattle.inf_syntax.specs.Rows.{row}
-use Rattle.inf_syntax.specs.declared.actions.Action.{Action}
-use Rattle.inf_syntax.specs.declared.actions.Action.TheVariants as action_of
 use Rattle.inf_grammar.specs.Language.{grammar}
 use Rattle.inf_expression_laws.proofs.OperatorRows.{NotCalled, no_expression_tail}
 use Rattle.inf_statement_laws.proofs.Rules.{number}
-use Rattle.inf_trees.proofs.Expanded.{with_rows}
-use Rattle.inf_trees.proofs.RuleRows.{Each, of_rows}
-use Rattle.inf_trees.proofs.StatementTexts.{Rows, statement_parts}
-use Rattle.inf_trees.proofs.StatementsRead.{behind}
+use Rattle.inf_trees.proofs.{Expanded.with_rows, Rests.Cut, Rests.cut, Rests.swapped, RuleRows.Each, RuleRows.of_rows, StatementTexts.Rows}
+use Rattle.inf_trees.proofs.{StatementTexts.statement_parts, StatementsRead.behind}
 use Rattle.inf_trees.proofs.CaseValues.{minus_entry, minus_operand, neg_step, neg_twice}
+use Rattle.inf_trees.proofs.Operators.{apart_first, inner_after, no_after_unary, no_inner, outer_apart, outer_is_operator, outer_unary}
 use Rattle.inf_simple_trees.proofs.CommaLists.{negated_rest}
-use Rattle.inf_trees.proofs.Operators.{apart_first, inner_after, no_after_unary, no_inner, outer_apart, outer_is_operator}
-use Rattle.inf_trees.proofs.Operators.{outer_unary}
-use Rattle.inf_trees.proofs.Rests.{Cut, cut, swapped}
 use Rattle.inf_simple_trees.proofs.Values.{expression_first, more_values, text_first, word_first}
 use Rattle.inf_simple_trees.proofs.CaseTexts.{ACase, AStatement, Begun, ByComma, ByOperator, ByOthers, ByOuter, Holds, InCase, ItemText}
 use Rattle.inf_simple_trees.proofs.CaseTexts.{More, OuterMore, SwitchWord, at_end, begun_word, behind_operand, bracketed_entry}
@@ -165,16 +157,17 @@ abbrev pub InSwitch : List ℕ → List (Event Action) → Type 0
 InSwitch atoms events = ItemText switch_before atoms events
 
 module _ {atoms : List ℕ} {events : List (Event Action)} where
-  switch_holding : {class : ℕ} (rule rest : ℕ) → grammar.rows_of rule ≡ row (Rule rest ∷ []) ∷ row (switch_word ∷ []) ∷ []
-      → IsOneOf (!maybe_deeper ∷ Token class ∷ Rule rest ∷ []) (holding switch_before)
-      → IsText grammar (!maybe_deeper ∷ Token class ∷ Rule rule ∷ []) atoms events → InSwitch atoms events
+  switch_holding : {class : ℕ} (rule rest : ℕ) → grammar.rows_of rule ≡ row (Symbol.Rule rest ∷ []) ∷ row (switch_word ∷ []) ∷ []
+      → IsOneOf (!maybe_deeper ∷ Symbol.Token class ∷ Symbol.Rule rest ∷ []) (holding switch_before)
+      → IsText grammar (!maybe_deeper ∷ Symbol.Token class ∷ Symbol.Rule rule ∷ []) atoms events → InSwitch atoms events
   switch_holding {class} rule rest rows is text =
-      with_rows (InSwitch atoms events) (!maybe_deeper ∷ Token class ∷ []) rule [] (row (Rule rest ∷ []) ∷ row (switch_word ∷ []) ∷ []) atoms events
+      with_rows (InSwitch atoms events) (!maybe_deeper ∷ Symbol.Token class ∷ []) rule []
+      (row (Symbol.Rule rest ∷ []) ∷ row (switch_word ∷ []) ∷ []) atoms events
       rows (
-        (λ t. Holds (!maybe_deeper ∷ Token class ∷ Rule rest ∷ []) is t),
+        (λ t. Holds (!maybe_deeper ∷ Symbol.Token class ∷ Symbol.Rule rest ∷ []) is t),
         (
-          (λ t. ACase (!maybe_deeper ∷ Token class ∷ []) (!outer_word ∷ !name ∷ more_values) SwitchWord word_first
-              (swapped (!maybe_deeper ∷ Token class ∷ []) (switch_word ∷ []) word_rest (λ rest late s. switch_word_rest s) t)),
+          (λ t. ACase (!maybe_deeper ∷ Symbol.Token class ∷ []) (!outer_word ∷ !name ∷ more_values) SwitchWord word_first
+              (swapped (!maybe_deeper ∷ Symbol.Token class ∷ []) (switch_word ∷ []) word_rest (λ rest late s. switch_word_rest s) t)),
           tt,
         ),
       )
@@ -182,11 +175,13 @@ module _ {atoms : List ℕ} {events : List (Event Action)} where
 
   -- a word behind which a statement of one unit may stand
   word_or : {class : ℕ} (rule : ℕ) (rest : Symbol Action) → grammar.rows_of rule ≡ row (rest ∷ []) ∷ row (switch_word ∷ []) ∷ []
-      → IsOneOf (row (!begin ∷ Token class ∷ rest ∷ [])) statement_parts → IsText grammar (!begin ∷ Token class ∷ Rule rule ∷ []) atoms events
+      → IsOneOf (row (!begin ∷ Symbol.Token class ∷ rest ∷ [])) statement_parts → IsText grammar
+      (!begin ∷ Symbol.Token class ∷ Symbol.Rule rule ∷ []) atoms events
       → InSwitch atoms events
   word_or {class} rule rest rows is text =
-      with_rows (InSwitch atoms events) (!begin ∷ Token class ∷ []) rule [] (row (rest ∷ []) ∷ row (switch_word ∷ []) ∷ []) atoms events rows (
-        (λ t. AStatement (statement_by (!begin ∷ Token class ∷ rest ∷ []) is t)),
+      with_rows (InSwitch atoms events) (!begin ∷ Symbol.Token class ∷ []) rule [] (row (rest ∷ []) ∷ row (switch_word ∷ []) ∷ []) atoms
+      events rows (
+        (λ t. AStatement (statement_by (!begin ∷ Symbol.Token class ∷ rest ∷ []) is t)),
         ((λ t. begun_word switch_before switch_word (λ rest late s. switch_word_rest s) t), tt),
       )
       text
@@ -345,7 +340,7 @@ module _ {atoms : List ℕ} {events : List (Event Action)} where
 
   -- an operand behind a sign, and no operator that binds tighter than the sign
   minus_others : (c : Cut (!begin ∷ !outer ∷ 'minus' ∷ prim ∷ []) (!negate ∷ minus_more_1 ∷ []) atoms events) (late : List (Event Action))
-      → c.late ≡ Did action_of.Negate ∷ late → NotCalled c.rest → IsText grammar (after_unary ∷ statement_end ∷ []) c.rest late
+      → c.late ≡ Did Action.Negate ∷ late → NotCalled c.rest → IsText grammar (after_unary ∷ statement_end ∷ []) c.rest late
       → InSwitch atoms events
   minus_others c late are n t =
       let K = !negate ∷ after_unary ∷ statement_end ∷ [] in
@@ -354,14 +349,14 @@ module _ {atoms : List ℕ} {events : List (Event Action)} where
       (c.in_place (post_tail ∷ address_tail ∷ step_tail ∷ K) (no_inner n (negated_rest (after_unary ∷ statement_end ∷ []) are t)))))
 
   minus_case : (c : Cut (!begin ∷ !outer ∷ 'minus' ∷ prim ∷ []) (!negate ∷ minus_more_1 ∷ []) atoms events) (late : List (Event Action))
-      → c.late ≡ Did action_of.Negate ∷ late → IsText grammar case_rest c.rest late → InSwitch atoms events
+      → c.late ≡ Did Action.Negate ∷ late → IsText grammar case_rest c.rest late → InSwitch atoms events
   minus_case c late are t =
       ACase (!begin ∷ []) value_case Begun expression_first
       (swapped (!begin ∷ !outer ∷ []) ('minus' ∷ prim ∷ !negate ∷ case_rest) (entry ∷ case_rest) (λ rest late s. minus_entry s)
       (c.in_place (!negate ∷ case_rest) (negated_rest case_rest are t)))
 
   minus_by : (c : Cut (!begin ∷ !outer ∷ 'minus' ∷ prim ∷ []) (!negate ∷ minus_more_1 ∷ []) atoms events) (late : List (Event Action))
-      → c.late ≡ Did action_of.Negate ∷ late → OuterMore c.rest late → InSwitch atoms events
+      → c.late ≡ Did Action.Negate ∷ late → OuterMore c.rest late → InSwitch atoms events
   minus_by c late are (InCase t) = minus_case c late are t
   minus_by c late are (ByOuter t) = minus_others c late are (outer_apart t) (outer_unary t)
   minus_by c late are (ByComma t) =
@@ -370,7 +365,7 @@ module _ {atoms : List ℕ} {events : List (Event Action)} where
   minus_alone : IsText grammar (!begin ∷ !outer ∷ 'minus' ∷ prim ∷ !negate ∷ minus_more_1 ∷ []) atoms events → InSwitch atoms events
   minus_alone text =
       let c = cut (!begin ∷ !outer ∷ 'minus' ∷ prim ∷ []) (!negate ∷ minus_more_1 ∷ []) text in
-      let m = behind action_of.Negate (minus_more_1 ∷ []) c.rest c.late c.of_rest in
+      let m = behind Action.Negate (minus_more_1 ∷ []) c.rest c.late c.of_rest in
       of_rows (InSwitch atoms events) (number minus_more_1) (row (case_end ∷ []) ∷ row (end ∷ []) ∷ row (outer_more ∷ []) ∷ []) c.rest m.rest
       minus_rest_rows (
         (λ t. minus_case c m.rest m.are (at_end t)),

@@ -3,15 +3,12 @@ use Rattle.std.proofs.Common.{◌≡◌, ℕ, ◌+◌, List, [], ◌∷◌, ◌+
 use Rattle.std.proofs.lemmas.List.{length-append}
 use Rattle.inf_scanner.specs.declared.tokens.Place.{Place}
 use Rattle.inf_machine.specs.declared.symbols.Symbol.{Symbol}
-use Rattle.inf_machine.specs.declared.symbols.Symbol.TheVariants.{Act, Token}
 use Rattle.inf_machine.specs.Grammar.{Did, Event, IsText, Took, action, here, token}
 use Rattle.inf_syntax.specs.declared.actions.Action.{Action}
 use Rattle.inf_grammar.specs.Language.{grammar}
-use Rattle.inf_statement_laws.specs.Happenings.{Acts, Takes}
-use Rattle.inf_statement_laws.specs.Readings.{Seen, plainly_at}
+use Rattle.inf_statement_laws.specs.{Happenings.Acts, Happenings.Takes, Readings.Seen, Readings.plainly_at}
 use Rattle.inf_language.specs.Texts.{atoms_of, happenings_before}
-use Rattle.inf_language.proofs.Derivations.{texts_take_all}
-use Rattle.inf_language.proofs.TextsSplit.{split}
+use Rattle.inf_language.proofs.{Derivations.texts_take_all, TextsSplit.split}
 use Rattle.inf_trees.proofs.UnitsRead.{before-append, place_before}
 use Rattle.inf_simple_trees.proofs.Doubts.{apart}
 
@@ -32,7 +29,8 @@ same_rest : {x y : ℕ} {xs ys : List ℕ} → x ∷ xs ≡ y ∷ ys → xs ≡ 
 same_rest same = cc
 
 token_by : (class : ℕ) (symbols : List (Symbol Action)) {atoms : List ℕ} {events : List (Event Action)}
-    → IsText grammar (Token class ∷ symbols) atoms events → (seen : List Seen) → atoms_of seen ≡ atoms → TokenFirst symbols seen events
+    → IsText grammar (Symbol.Token class ∷ symbols) atoms events → (seen : List Seen) → atoms_of seen ≡ atoms → TokenFirst
+    symbols seen events
 token_by class symbols (token h leads) [] is = cc
 token_by class symbols (token {atom = atom} {events = late} h leads) (s ∷ seen) is = record {
   s = s;
@@ -47,7 +45,7 @@ token_by class symbols (token {atom = atom} {events = late} h leads) (s ∷ seen
 }
 
 pub token_first : {class : ℕ} (symbols : List (Symbol Action)) (seen : List Seen) (events : List (Event Action))
-    → IsText grammar (Token class ∷ symbols) (atoms_of seen) events → TokenFirst symbols seen events
+    → IsText grammar (Symbol.Token class ∷ symbols) (atoms_of seen) events → TokenFirst symbols seen events
 token_first {class} symbols seen events text = token_by class symbols text seen refl
 
 pub record ActFirst (a : Action) (symbols : List (Symbol Action)) (seen : List Seen) (events : List (Event Action)) : Type 0 where
@@ -63,7 +61,7 @@ act_happens a late [] next = refl
 act_happens a late (s ∷ seen) next = refl
 
 act_by : (a : Action) (symbols : List (Symbol Action)) {atoms : List ℕ} {events : List (Event Action)}
-    → IsText grammar (Act a ∷ symbols) atoms events → (seen : List Seen) → atoms_of seen ≡ atoms → ActFirst a symbols seen events
+    → IsText grammar (Symbol.Act a ∷ symbols) atoms events → (seen : List Seen) → atoms_of seen ≡ atoms → ActFirst a symbols seen events
 act_by a symbols (action {events = late} leads) seen is = record {
   late = late;
   are = refl;
@@ -72,7 +70,7 @@ act_by a symbols (action {events = late} leads) seen is = record {
 }
 
 pub act_first : (a : Action) (symbols : List (Symbol Action)) (seen : List Seen) (events : List (Event Action))
-    → IsText grammar (Act a ∷ symbols) (atoms_of seen) events → ActFirst a symbols seen events
+    → IsText grammar (Symbol.Act a ∷ symbols) (atoms_of seen) events → ActFirst a symbols seen events
 act_first a symbols seen events text = act_by a symbols text seen refl
 
 -- Two parts of a text

@@ -1,24 +1,18 @@
 -- Items at the top of a routine: statements of one unit or blocks, cases, and statements that hold others.
 use Rattle.std.proofs.Common.{◌≡◌, ℕ, List, [], ◌∷◌, refl}
-use Rattle.inf_machine.specs.declared.symbols.Symbol.{Symbol}
-use Rattle.inf_machine.specs.declared.symbols.Symbol.TheVariants.{Rule, Token}
-use Rattle.inf_machine.specs.Grammar.{Event, IsOneOf, IsText, first, later}
+use Rattle.inf_machine.specs.{Grammar.Event, Grammar.IsOneOf, Grammar.IsText, Grammar.first, Grammar.later, declared.symbols.Symbol.Symbol}
+use Rattle.inf_syntax.specs.{Rows.row, declared.actions.Action.Action}
 use Rattle.inf_syntax.specs.Parts.{'default', 'comma', 'jump', 'remove', 'spaces', 'open_brace', 'close_brace', CASENAME, !outer, !name}
-use Rattle.inf_syntax.specs.Parts.{ !begin, !default, !outer_word, statement, mark_statement, mark_statement_1, if_rest, while_rest}
-use Rattle.inf_syntax.specs.Parts.{do_rest, for_rest, objectloop_rest, switch_rest, top_item_2, top_item_5, top_item_6, top_item_7}
-use Rattle.inf_syntax.specs.Parts.{top_item_8, top_item_9, top_item_10, top_item_11, top_item_18, case_end, top_word, top_range}
-use Rattle.inf_syntax.specs.Parts.{top_values, top_more, top_next}
-use Rattle.inf_syntax.specs.Rows.{row}
-use Rattle.inf_syntax.specs.declared.actions.Action.{Action}
+use Rattle.inf_syntax.specs.Parts.{ !begin, !default, !outer_word, statement, mark_statement, mark_statement_1, if_rest, while_rest, do_rest}
+use Rattle.inf_syntax.specs.Parts.{for_rest, objectloop_rest, switch_rest, top_item_2, top_item_5, top_item_6, top_item_7, top_item_8}
+use Rattle.inf_syntax.specs.Parts.{top_item_9, top_item_10, top_item_11, top_item_18, case_end, top_word, top_range, top_values, top_more}
+use Rattle.inf_syntax.specs.Parts.{top_next}
 use Rattle.inf_grammar.specs.Language.{grammar}
 use Rattle.inf_statement_laws.proofs.Rules.{number}
-use Rattle.inf_trees.proofs.Expanded.{with_rows}
+use Rattle.inf_trees.proofs.{Expanded.with_rows, Rests.cut, Rests.swapped, ValueForms.by_row}
 use Rattle.inf_trees.proofs.StatementTexts.{Rows, mark_parts, mark_rows}
-use Rattle.inf_trees.proofs.ValueForms.{by_row}
 use Rattle.inf_simple_trees.specs.Simple.{other_items}
-use Rattle.inf_trees.proofs.Rests.{cut, swapped}
-use Rattle.inf_simple_trees.proofs.SimpleTexts.{top_print_words}
-use Rattle.inf_simple_trees.proofs.Values.{more_values, word_first}
+use Rattle.inf_simple_trees.proofs.{SimpleTexts.top_print_words, Values.more_values, Values.word_first}
 use Rattle.inf_simple_trees.proofs.CaseTexts.{ACase, AStatement, Begun, ByOthers, Goes, Holds, InCase, ItemText, TopWord, at_end}
 use Rattle.inf_simple_trees.proofs.CaseTexts.{begun_word, by_top_more, by_top_range, by_top_values, case_rest, default_by, default_case}
 use Rattle.inf_simple_trees.proofs.CaseTexts.{else_case, holding, named_by, plain_word_case, statement_by, top_list, top_word_rest}
@@ -64,14 +58,16 @@ abbrev Top : List ℕ → List (Event Action) → Type 0
 Top atoms events = ItemText [] atoms events
 
 module _ {atoms : List ℕ} {events : List (Event Action)} where
-  top_holding : {class : ℕ} (rule rest : ℕ) → grammar.rows_of rule ≡ row (Rule rest ∷ []) ∷ row (top_word ∷ []) ∷ []
-      → IsOneOf (Token class ∷ Rule rest ∷ []) (holding []) → IsText grammar (Token class ∷ Rule rule ∷ []) atoms events → Top atoms events
+  top_holding : {class : ℕ} (rule rest : ℕ) → grammar.rows_of rule ≡ row (Symbol.Rule rest ∷ []) ∷ row (top_word ∷ []) ∷ []
+      → IsOneOf (Symbol.Token class ∷ Symbol.Rule rest ∷ []) (holding []) → IsText grammar (Symbol.Token class ∷ Symbol.Rule rule ∷ [])
+      atoms events → Top atoms events
   top_holding {class} rule rest rows is text =
-      with_rows (Top atoms events) (Token class ∷ []) rule [] (row (Rule rest ∷ []) ∷ row (top_word ∷ []) ∷ []) atoms events rows (
-        (λ t. Holds (Token class ∷ Rule rest ∷ []) is t),
+      with_rows (Top atoms events) (Symbol.Token class ∷ []) rule [] (row (Symbol.Rule rest ∷ []) ∷ row (top_word ∷ []) ∷ []) atoms
+      events rows (
+        (λ t. Holds (Symbol.Token class ∷ Symbol.Rule rest ∷ []) is t),
         (
-          (λ t. ACase (Token class ∷ []) (!outer_word ∷ !name ∷ more_values) TopWord word_first
-              (swapped (Token class ∷ []) (top_word ∷ []) word_rest (λ rest late s. top_word_rest s) t)),
+          (λ t. ACase (Symbol.Token class ∷ []) (!outer_word ∷ !name ∷ more_values) TopWord word_first
+              (swapped (Symbol.Token class ∷ []) (top_word ∷ []) word_rest (λ rest late s. top_word_rest s) t)),
           tt,
         ),
       )

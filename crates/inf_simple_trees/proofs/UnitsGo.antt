@@ -1,33 +1,19 @@
 -- The parts of a unit, read one behind the other, where there is room for them.
 use Rattle.std.proofs.Common.{◌≡◌, ℕ, ◌+◌, ◌≤◌, ◌<◌, List, [], ◌∷◌, ◌++◌, length, Bool, true, false, not, Option, None, refl, sym, ◌∙◌, ap}
-use Rattle.std.proofs.Common.{arith, subst}
-use Rattle.std.specs.Prelude.{is_some, nat_lt}
-use Rattle.std.proofs.lemmas.Bool.{and_parts, cond-false}
-use Rattle.std.proofs.lemmas.List.{length-append}
-use Rattle.inf_settings.specs.Bounds.{Limits}
-use Rattle.inf_settings.specs.declared.setting.Setting.TheVariants as setting
+use Rattle.std.proofs.Common.{arith, subst, is_some, nat_lt}
+use Rattle.std.proofs.{lemmas.Bool.and_parts, lemmas.Bool.cond-false, lemmas.List.length-append}
+use Rattle.inf_settings.specs.{Bounds.Limits, declared.setting.Setting.Setting}
 use Rattle.inf_scanner.specs.declared.tokens.Place.{Place}
 use Rattle.inf_machine.specs.Grammar.{Did, Event, Took}
 use Rattle.inf_syntax.specs.declared.actions.Action.{Action}
-use Rattle.inf_syntax.specs.declared.actions.Action.TheVariants as action_of
 use Rattle.inf_gathering.specs.Gatherings.{Gathering}
+use Rattle.inf_unit.specs.{Roles.role_of, Steps.step_in, declared.items.Item.Item, declared.roles.Note.Note, declared.roles.Role.Role}
 use Rattle.inf_unit.specs.Units.{Unit as UnitAtHand, action_gathered, depth_behind, is_full, noted, taken, text_passed}
-use Rattle.inf_unit.specs.declared.items.Item.{Item}
-use Rattle.inf_unit.specs.declared.roles.Note.{Note}
-use Rattle.inf_unit.specs.declared.roles.Note.TheVariants as note
-use Rattle.inf_unit.specs.declared.roles.Role.{Role}
-use Rattle.inf_unit.specs.declared.roles.Role.TheVariants as role
-use Rattle.inf_unit.specs.Roles.{role_of}
-use Rattle.inf_unit.specs.Steps.{step_in}
-use Rattle.inf_compilation.specs.Context.{Context}
-use Rattle.inf_compilation.specs.Actions.{Compilation}
+use Rattle.inf_compilation.specs.{Actions.Compilation, Context.Context}
 use Rattle.inf_reader.specs.Acting.{act, operands_named, value_noted}
 use Rattle.inf_expression_laws.specs.Gathered.{AreSeen}
-use Rattle.inf_statement_laws.specs.Happenings.{is_quiet, is_quiet_role}
-use Rattle.inf_statement_laws.specs.Laid.{passed, run}
-use Rattle.inf_statement_laws.specs.Readings.{Seen}
-use Rattle.inf_language.specs.Texts.{atoms_of, happenings_before, tokens_of}
-use Rattle.inf_language.specs.Units.{AllSteps}
+use Rattle.inf_statement_laws.specs.{Happenings.is_quiet, Happenings.is_quiet_role, Laid.passed, Laid.run, Readings.Seen}
+use Rattle.inf_language.specs.{Texts.atoms_of, Texts.happenings_before, Texts.tokens_of, Units.AllSteps}
 use Rattle.inf_language.proofs.Derivations.{texts_take_all}
 use Rattle.inf_trees.specs.Trees.{AreWritten, Named, Noted, Part, Single, Value, all_seen, parts_told, told_at, tokens_told, with_outer, with_parts}
 use Rattle.inf_trees.specs.Trees.{with_value}
@@ -45,7 +31,7 @@ AreQuiet (Did a ∷ events) = (is_quiet a ≡ true) × AreQuiet events
 AreQuiet (Took atom ∷ events) = AreQuiet events
 
 role_is_quiet : (r : Role) → is_some (step_in r) ≡ true → is_quiet_role r ≡ true
-role_is_quiet (role.Gather s) is = refl
+role_is_quiet (Role.Gather s) is = refl
 role_is_quiet _ is = cc
 
 pub steps_quiet : (steps late : List (Event Action)) → AllSteps steps → AreQuiet late → AreQuiet (steps ++ late)
@@ -128,14 +114,14 @@ noted_goes limits a n u v seen events quiet is acts on = record {
 }
 
 named_goes : (limits : Limits) (u : UnitAtHand) (seen : List Seen) (events : List (Event Action))
-    → Goes limits (action_gathered u) seen events → Goes limits u seen (Did action_of.Action ∷ events)
+    → Goes limits (action_gathered u) seen events → Goes limits u seen (Did Action.Action ∷ events)
 named_goes limits u seen events on = record {
   parts = Named ∷ on.parts;
   same = on.same;
   quiet = (refl, on.quiet);
   written = on.written;
   does = λ context next w none room.
-      note_first limits context next action_of.Action seen events (record w { unit = ready u })
+      note_first limits context next Action.Action seen events (record w { unit = ready u })
       (record w { unit = action_gathered (ready u) }) (λ place. refl)
       ∙ on.does context next w none room;
 }
@@ -145,74 +131,74 @@ not_true true is = cc
 not_true false is = refl
 
 abbrev crowds : Limits → UnitAtHand → Bool
-crowds limits u = nat_lt (limits setting.Code) u.code
+crowds limits u = nat_lt (limits Setting.Code) u.code
 
 -- The effects of notes, where there is room
 
 pub text_acts : (limits : Limits) (context : Context) (place : Place) (u : UnitAtHand) (w : Compilation)
-    → has_room limits note.PrintText u ≡ true
-    → act limits context place action_of.PrintText (record w { unit = u }) ≡ record w { unit = noted note.PrintText u }
+    → has_room limits Note.PrintText u ≡ true
+    → act limits context place Action.PrintText (record w { unit = u }) ≡ record w { unit = noted Note.PrintText u }
 text_acts limits context place u w room =
-    cond-false (crowds limits u) (record w { unit = text_passed u }) (record w { unit = noted note.PrintText u })
+    cond-false (crowds limits u) (record w { unit = text_passed u }) (record w { unit = noted Note.PrintText u })
     (not_true (crowds limits u) room)
 
 pub value_acts : (limits : Limits) (context : Context) (place : Place) (u : UnitAtHand) (w : Compilation)
-    → has_room limits note.PrintValue u ≡ true
-    → act limits context place action_of.PrintValue (record w { unit = u }) ≡ record w { unit = noted note.PrintValue u }
+    → has_room limits Note.PrintValue u ≡ true
+    → act limits context place Action.PrintValue (record w { unit = u }) ≡ record w { unit = noted Note.PrintValue u }
 value_acts limits context place u w room =
-    cond-false (crowds limits u) (value_noted context note.PrintValue (record w { unit = u })) (record w { unit = noted note.PrintValue u })
+    cond-false (crowds limits u) (value_noted context Note.PrintValue (record w { unit = u })) (record w { unit = noted Note.PrintValue u })
     (not_true (crowds limits u) room)
 
 pub rule_acts : (limits : Limits) (context : Context) (place : Place) (u : UnitAtHand) (w : Compilation)
-    → has_room limits note.PrintRuled u ≡ true
-    → act limits context place action_of.PrintRule (record w { unit = u }) ≡ record w { unit = noted note.PrintRuled u }
+    → has_room limits Note.PrintRuled u ≡ true
+    → act limits context place Action.PrintRule (record w { unit = u }) ≡ record w { unit = noted Note.PrintRuled u }
 rule_acts limits context place u w room =
-    cond-false (crowds limits u) (value_noted context note.PrintRuled (record w { unit = u })) (record w { unit = noted note.PrintRuled u })
+    cond-false (crowds limits u) (value_noted context Note.PrintRuled (record w { unit = u })) (record w { unit = noted Note.PrintRuled u })
     (not_true (crowds limits u) room)
 
-set_acts : (limits : Limits) (context : Context) (place : Place) (u : UnitAtHand) (w : Compilation) → has_room limits note.Set u ≡ true
-    → act limits context place action_of.Set (record w { unit = u }) ≡ record w { unit = noted note.Set u }
+set_acts : (limits : Limits) (context : Context) (place : Place) (u : UnitAtHand) (w : Compilation) → has_room limits Note.Set u ≡ true
+    → act limits context place Action.Set (record w { unit = u }) ≡ record w { unit = noted Note.Set u }
 set_acts limits context place u w room =
-    cond-false (crowds limits u) (value_noted context note.Set (record w { unit = u })) (record w { unit = noted note.Set u })
+    cond-false (crowds limits u) (value_noted context Note.Set (record w { unit = u })) (record w { unit = noted Note.Set u })
     (not_true (crowds limits u) room)
 
 clear_acts : (limits : Limits) (context : Context) (place : Place) (u : UnitAtHand) (w : Compilation)
-    → has_room limits note.Clear u ≡ true
-    → act limits context place action_of.Clear (record w { unit = u }) ≡ record w { unit = noted note.Clear u }
+    → has_room limits Note.Clear u ≡ true
+    → act limits context place Action.Clear (record w { unit = u }) ≡ record w { unit = noted Note.Clear u }
 clear_acts limits context place u w room =
-    cond-false (crowds limits u) (value_noted context note.Clear (record w { unit = u })) (record w { unit = noted note.Clear u })
+    cond-false (crowds limits u) (value_noted context Note.Clear (record w { unit = u })) (record w { unit = noted Note.Clear u })
     (not_true (crowds limits u) room)
 
 pub end_acts : (limits : Limits) (context : Context) (place : Place) (u : UnitAtHand) (w : Compilation)
-    → has_room limits note.OuterEnd u ≡ true
-    → act limits context place action_of.OuterEnd (record w { unit = u }) ≡ record w { unit = noted note.OuterEnd u }
+    → has_room limits Note.OuterEnd u ≡ true
+    → act limits context place Action.OuterEnd (record w { unit = u }) ≡ record w { unit = noted Note.OuterEnd u }
 end_acts limits context place u w room =
-    cond-false (is_full u) (operands_named (record w { unit = u })) (record w { unit = noted note.OuterEnd u }) (not_true (is_full u) room)
+    cond-false (is_full u) (operands_named (record w { unit = u })) (record w { unit = noted Note.OuterEnd u }) (not_true (is_full u) room)
 
 -- The actions that note something
 pub data IsAny : Action → Type 0 where
-  AnEnd : IsAny action_of.OuterEnd
-  AText : IsAny action_of.PrintText
-  ASet : IsAny action_of.Set
-  AClear : IsAny action_of.Clear
-  AName : IsAny action_of.Action
-  AStore : IsAny action_of.Store
-  ABranch : IsAny action_of.Branch
-  ABranchNot : IsAny action_of.BranchNot
+  AnEnd : IsAny Action.OuterEnd
+  AText : IsAny Action.PrintText
+  ASet : IsAny Action.Set
+  AClear : IsAny Action.Clear
+  AName : IsAny Action.Action
+  AStore : IsAny Action.Store
+  ABranch : IsAny Action.Branch
+  ABranchNot : IsAny Action.BranchNot
 
 any_of : (a : Action) → is_any a ≡ true → IsAny a
-any_of action_of.OuterEnd is = AnEnd
-any_of action_of.PrintText is = AText
-any_of action_of.Set is = ASet
-any_of action_of.Clear is = AClear
-any_of action_of.Action is = AName
-any_of action_of.Store is = AStore
-any_of action_of.Branch is = ABranch
-any_of action_of.BranchNot is = ABranchNot
+any_of Action.OuterEnd is = AnEnd
+any_of Action.PrintText is = AText
+any_of Action.Set is = ASet
+any_of Action.Clear is = AClear
+any_of Action.Action is = AName
+any_of Action.Store is = AStore
+any_of Action.Branch is = ABranch
+any_of Action.BranchNot is = ABranchNot
 any_of _ is = cc
 
 an_end : (a : Action) → is_end a ≡ true → IsAny a
-an_end action_of.OuterEnd is = AnEnd
+an_end Action.OuterEnd is = AnEnd
 an_end _ is = cc
 
 noted_is : (notes : Kinds) (a : Action) → is_noted notes a ≡ true → IsAny a
@@ -226,40 +212,40 @@ pub note_goes : (limits : Limits) {a : Action} → IsAny a → (u : UnitAtHand) 
     → Goes limits (record u { gathering = g; items = items; code = code; outer = outer }) seen events)
     → Goes limits u seen (Did a ∷ events)
 note_goes limits AnEnd u seen events on =
-    let v = noted note.OuterEnd u in
-    noted_goes limits action_of.OuterEnd note.OuterEnd u v seen events refl refl (λ context place w. end_acts limits context place (ready u) w)
+    let v = noted Note.OuterEnd u in
+    noted_goes limits Action.OuterEnd Note.OuterEnd u v seen events refl refl (λ context place w. end_acts limits context place (ready u) w)
     (on v.gathering v.items v.code v.outer)
 note_goes limits AText u seen events on =
-    let v = noted note.PrintText u in
-    noted_goes limits action_of.PrintText note.PrintText u v seen events refl refl
+    let v = noted Note.PrintText u in
+    noted_goes limits Action.PrintText Note.PrintText u v seen events refl refl
     (λ context place w. text_acts limits context place (ready u) w) (on v.gathering v.items v.code v.outer)
 note_goes limits ASet u seen events on =
-    let v = noted note.Set u in
-    noted_goes limits action_of.Set note.Set u v seen events refl refl (λ context place w. set_acts limits context place (ready u) w)
+    let v = noted Note.Set u in
+    noted_goes limits Action.Set Note.Set u v seen events refl refl (λ context place w. set_acts limits context place (ready u) w)
     (on v.gathering v.items v.code v.outer)
 note_goes limits AClear u seen events on =
-    let v = noted note.Clear u in
-    noted_goes limits action_of.Clear note.Clear u v seen events refl refl (λ context place w. clear_acts limits context place (ready u) w)
+    let v = noted Note.Clear u in
+    noted_goes limits Action.Clear Note.Clear u v seen events refl refl (λ context place w. clear_acts limits context place (ready u) w)
     (on v.gathering v.items v.code v.outer)
 note_goes limits AName u seen events on =
     let v = action_gathered u in named_goes limits u seen events (on v.gathering v.items v.code v.outer)
 note_goes limits AStore u seen events on =
-    let v = noted note.Store u in
-    noted_goes limits action_of.Store note.Store u v seen events refl refl (λ context place w room. refl)
+    let v = noted Note.Store u in
+    noted_goes limits Action.Store Note.Store u v seen events refl refl (λ context place w room. refl)
     (on v.gathering v.items v.code v.outer)
 note_goes limits ABranch u seen events on =
-    let v = noted (note.Branch true) u in
-    noted_goes limits action_of.Branch (note.Branch true) u v seen events refl refl (λ context place w room. refl)
+    let v = noted (Note.Branch true) u in
+    noted_goes limits Action.Branch (Note.Branch true) u v seen events refl refl (λ context place w room. refl)
     (on v.gathering v.items v.code v.outer)
 note_goes limits ABranchNot u seen events on =
-    let v = noted (note.Branch false) u in
-    noted_goes limits action_of.BranchNot (note.Branch false) u v seen events refl refl (λ context place w room. refl)
+    let v = noted (Note.Branch false) u in
+    noted_goes limits Action.BranchNot (Note.Branch false) u v seen events refl refl (λ context place w room. refl)
     (on v.gathering v.items v.code v.outer)
 
 -- An expression
 
 pub expressed : (limits : Limits) (tokens rest : List Seen) (steps late : List (Event Action)) → HasForm (atoms_of tokens) steps
-    → Going limits rest late → Going limits (tokens ++ rest) (Did action_of.Outer ∷ (steps ++ late))
+    → Going limits rest late → Going limits (tokens ++ rest) (Did Action.Outer ∷ (steps ++ late))
 expressed limits tokens rest steps late form on u are_seen begun few =
     let parts = seen_parts tokens rest are_seen in
     let count = tokens_count tokens in

@@ -5,43 +5,29 @@ use Rattle.std.proofs.lemmas.List.{length-append}
 use Rattle.inf_settings.specs.Bounds.{Limits}
 use Rattle.inf_scanner.specs.declared.tokens.Place.{Place}
 use Rattle.inf_machine.specs.declared.symbols.Symbol.{Symbol}
-use Rattle.inf_machine.specs.declared.symbols.Symbol.TheVariants.{Token}
 use Rattle.inf_machine.specs.Grammar.{Did, Event, IsText, Took, action, here, token}
-use Rattle.inf_syntax.specs.Parts.{ !comma, !default, !name, !outer, !outer_maybe, !outer_sure, !outer_word, !text, !to, 'comma', 'to', TEXT}
-use Rattle.inf_syntax.specs.Parts.{case_value, case_value_1, entry, range, values_1}
-use Rattle.inf_syntax.specs.Rows.{row}
-use Rattle.inf_syntax.specs.declared.actions.Action.{Action}
-use Rattle.inf_syntax.specs.declared.actions.Action.TheVariants as action_of
-use Rattle.inf_expressions.specs.Sources.{Source}
-use Rattle.inf_expressions.specs.declared.operators.Binary.TheVariants as binary
+use Rattle.inf_syntax.specs.{Rows.row, declared.actions.Action.Action}
+use Rattle.inf_syntax.specs.Parts.{ !comma, !default, !name, !outer, !outer_maybe, !outer_sure, !outer_word, !text, !to, 'comma', 'to'}
+use Rattle.inf_syntax.specs.Parts.{TEXT, case_value, case_value_1, entry, range, values_1}
+use Rattle.inf_expressions.specs.{Sources.Source, declared.operators.Binary.Binary}
 use Rattle.inf_grammar.specs.Language.{grammar}
-use Rattle.inf_unit.specs.Tokens.{SourceToken}
+use Rattle.inf_unit.specs.{Tokens.SourceToken, declared.roles.Note.Note, declared.steps.GatherStep.GatherStep}
 use Rattle.inf_unit.specs.Units.{Unit as UnitAtHand, leaf_gathered, long_at, noted, outer_tokens, stepped}
-use Rattle.inf_unit.specs.declared.roles.Note.TheVariants as note
-use Rattle.inf_unit.specs.declared.steps.GatherStep.TheVariants as step
-use Rattle.inf_compilation.specs.Context.{Context, longest}
-use Rattle.inf_compilation.specs.Actions.{Compilation}
-use Rattle.inf_expression_laws.specs.Gathered.{AreSeen, read_by, with_source}
-use Rattle.inf_expression_laws.specs.Precedence.{Written}
+use Rattle.inf_compilation.specs.{Actions.Compilation, Context.Context, Context.longest}
+use Rattle.inf_expression_laws.specs.{Gathered.AreSeen, Gathered.read_by, Gathered.with_source, Precedence.Written}
 use Rattle.inf_expression_laws.proofs.ExpressionsRead.{expressions_are_read}
-use Rattle.inf_statement_laws.specs.Laid.{run}
-use Rattle.inf_statement_laws.specs.Readings.{Seen}
-use Rattle.inf_statement_laws.proofs.Laying.{run_then}
-use Rattle.inf_statement_laws.proofs.Rules.{number}
-use Rattle.inf_language.specs.Constants.{brackets_behind}
+use Rattle.inf_statement_laws.specs.{Laid.run, Readings.Seen}
+use Rattle.inf_statement_laws.proofs.{Laying.run_then, Rules.number}
+use Rattle.inf_language.specs.{Constants.brackets_behind, Units.AllSteps, Units.TakeAll}
 use Rattle.inf_language.specs.Texts.{atoms_of, happenings_before, tokens_of}
-use Rattle.inf_language.specs.Units.{AllSteps, TakeAll}
-use Rattle.inf_language.proofs.Derivations.{texts_take_all}
-use Rattle.inf_language.proofs.ExpressionsTold.{fields_stay}
+use Rattle.inf_language.proofs.{Derivations.texts_take_all, ExpressionsTold.fields_stay}
 use Rattle.inf_trees.specs.Trees.{Further, Joined, Worded, front_told, tokens_told, with_further, with_word}
-use Rattle.inf_trees.proofs.Expanded.{with_rows}
-use Rattle.inf_trees.proofs.RuleRows.{of_rows}
-use Rattle.inf_trees.proofs.StatementTexts.{Rows}
-use Rattle.inf_trees.proofs.UnitsRead.{before-append, note_first, place_before, ready, seen_parts, told_beside, tokens_count, tokens_opening}
+use Rattle.inf_trees.proofs.{Expanded.with_rows, RuleRows.of_rows, StatementTexts.Rows}
+use Rattle.inf_trees.proofs.UnitsRead.{before-append, note_first, place_before, ready, seen_parts, told_beside, tokens_count}
+use Rattle.inf_trees.proofs.UnitsRead.{tokens_opening}
 use Rattle.inf_trees.proofs.ValueForms.{HasForm, is_value, values_have_forms}
+use Rattle.inf_simple_trees.proofs.{SimpleTexts.Reading, Symbols.act_first, Symbols.parts_of, Symbols.token_first}
 use Rattle.inf_simple_trees.proofs.Doubts.{doubted_expression, length_opening, sized_beside, text_doubt}
-use Rattle.inf_simple_trees.proofs.SimpleTexts.{Reading}
-use Rattle.inf_simple_trees.proofs.Symbols.{act_first, parts_of, token_first}
 use Rattle.inf_simple_trees.proofs.UnitsGo.{Going, alone, expressed, moved, noted_goes, nothing, steps_quiet}
 
 -- An expression behind others
@@ -122,9 +108,9 @@ further limits tokens rest steps late form on u are_seen begun few =
 -- Values that are joined
 
 pub range_joined : (limits : Limits) (rest : List Seen) (late : List (Event Action)) → Going limits rest late
-    → Going limits rest (Did action_of.To ∷ late)
+    → Going limits rest (Did Action.To ∷ late)
 range_joined limits rest late on u are_seen begun few =
-    let joint = step.Two binary.To in
+    let joint = GatherStep.Two Binary.To in
     let more = on (stepped joint u) are_seen begun few in
     record {
       parts = Joined joint ∷ more.parts;
@@ -132,30 +118,30 @@ range_joined limits rest late on u are_seen begun few =
       quiet = (refl, more.quiet);
       written = more.written;
       does = λ context next w none room.
-          note_first limits context next action_of.To rest late (record w { unit = ready u }) (record w { unit = stepped joint (ready u) })
+          note_first limits context next Action.To rest late (record w { unit = ready u }) (record w { unit = stepped joint (ready u) })
           (λ place. refl)
           ∙ more.does context next w none room;
     }
 
 pub comma_joined : (limits : Limits) (rest : List Seen) (late : List (Event Action)) → Going limits rest late
-    → Going limits rest (Did action_of.Comma ∷ late)
+    → Going limits rest (Did Action.Comma ∷ late)
 comma_joined limits rest late on u are_seen begun few =
-    let more = on (stepped step.Comma u) are_seen begun few in
+    let more = on (stepped GatherStep.Comma u) are_seen begun few in
     record {
-      parts = Joined step.Comma ∷ more.parts;
+      parts = Joined GatherStep.Comma ∷ more.parts;
       same = more.same;
       quiet = (refl, more.quiet);
       written = more.written;
       does = λ context next w none room.
-          note_first limits context next action_of.Comma rest late (record w { unit = ready u })
-          (record w { unit = stepped step.Comma (ready u) }) (λ place. refl)
+          note_first limits context next Action.Comma rest late (record w { unit = ready u })
+          (record w { unit = stepped GatherStep.Comma (ready u) }) (λ place. refl)
           ∙ more.does context next w none room;
     }
 
 -- The word of a statement that is a value, and tokens that are no expression
 
 worded : (limits : Limits) (rest : List Seen) (late : List (Event Action)) → Going limits rest late
-    → Going limits rest (Did action_of.OuterWord ∷ Did action_of.Name ∷ late)
+    → Going limits rest (Did Action.OuterWord ∷ Did Action.Name ∷ late)
 worded limits rest late on u are_seen begun few =
     let more = on (with_word u) are_seen begun few in
     record {
@@ -164,26 +150,26 @@ worded limits rest late on u are_seen begun few =
       quiet = (refl, (refl, more.quiet));
       written = more.written;
       does = λ context next w none room.
-          let y = noted note.OuterWord (ready u) in
+          let y = noted Note.OuterWord (ready u) in
           let told = front_told context y w in
-          note_first limits context next action_of.OuterWord rest (Did action_of.Name ∷ late) (record w { unit = ready u })
+          note_first limits context next Action.OuterWord rest (Did Action.Name ∷ late) (record w { unit = ready u })
           (record told { unit = y }) (λ place. sized_beside context (long_at (longest context) y) y w)
-          ∙ (note_first limits context next action_of.Name rest late (record told { unit = y }) (record told { unit = leaf_gathered y })
+          ∙ (note_first limits context next Action.Name rest late (record told { unit = y }) (record told { unit = leaf_gathered y })
           (λ place. refl)
           ∙ more.does context next told (length_opening context (long_at (longest context) y) (outer_tokens y) w ∙ none) room);
     }
 
 outer_noted : (limits : Limits) (rest : List Seen) (late : List (Event Action)) → Going limits rest late
-    → Going limits rest (Did action_of.Outer ∷ late)
+    → Going limits rest (Did Action.Outer ∷ late)
 outer_noted limits rest late on u are_seen begun few =
-    let v = noted (note.Outer true) u in
-    noted_goes limits action_of.Outer (note.Outer true) u v rest late refl refl (λ context place w room. refl) (on v are_seen begun few)
+    let v = noted (Note.Outer true) u in
+    noted_goes limits Action.Outer (Note.Outer true) u v rest late refl refl (λ context place w room. refl) (on v are_seen begun few)
 
 default_noted : (limits : Limits) (rest : List Seen) (late : List (Event Action)) → Going limits rest late
-    → Going limits rest (Did action_of.Default ∷ late)
+    → Going limits rest (Did Action.Default ∷ late)
 default_noted limits rest late on u are_seen begun few =
-    let v = noted note.Default u in
-    noted_goes limits action_of.Default note.Default u v rest late refl refl (λ context place w room. refl) (on v are_seen begun few)
+    let v = noted Note.Default u in
+    noted_goes limits Action.Default Note.Default u v rest late refl refl (λ context place w room. refl) (on v are_seen begun few)
 
 -- Rows, by evaluation
 
@@ -225,7 +211,7 @@ to_value : (limits : Limits) (symbols : List (Symbol Action)) (n : ℕ) → Goes
 to_value limits symbols n on seen events text few =
     let k = token_first (entry ∷ !to ∷ symbols) seen events text in
     let p = parts_of (entry ∷ []) (!to ∷ symbols) k.rest k.late k.text in
-    let j = act_first action_of.To symbols p.rest p.late p.of_rest in
+    let j = act_first Action.To symbols p.rest p.late p.of_rest in
     let form = values_have_forms (atoms_of p.front) p.early (number entry) entry_is_value p.of_front in
     let count : suc (length k.rest) ≡ length seen = ap length k.same in
     moved limits k.same (sym k.are)
@@ -247,7 +233,7 @@ ranged limits symbols n on seen events text few =
 
 behind_value : (limits : Limits) (n : ℕ) → GoesOn limits (values_1 ∷ []) n → GoesOn limits (!comma ∷ values_1 ∷ []) n
 behind_value limits n on seen events text few =
-    let j = act_first action_of.Comma (values_1 ∷ []) seen events text in
+    let j = act_first Action.Comma (values_1 ∷ []) seen events text in
     moved limits refl (sym j.are) (comma_joined limits seen j.late (on seen j.late j.text few))
 
 one_value : (limits : Limits) (n : ℕ) → GoesOn limits (values_1 ∷ []) n
@@ -299,32 +285,32 @@ more_values_go limits tokens events text =
 
 pub expression_first : Reading (!outer ∷ entry ∷ more_values)
 expression_first limits tokens events text =
-    let o = act_first action_of.Outer (entry ∷ more_values) tokens events text in
+    let o = act_first Action.Outer (entry ∷ more_values) tokens events text in
     let p = parts_of (entry ∷ []) more_values tokens o.late o.text in
     let form = values_have_forms (atoms_of p.front) p.early (number entry) entry_is_value p.of_front in
-    moved limits p.same (ap (λ l. Did action_of.Outer ∷ l) (sym p.are) ∙ sym o.are)
+    moved limits p.same (ap (λ l. Did Action.Outer ∷ l) (sym p.are) ∙ sym o.are)
     (expressed limits p.front p.rest p.early p.late form (more_values_go limits p.rest p.late p.of_rest))
 
 pub word_first : Reading (!outer_word ∷ !name ∷ more_values)
 word_first limits tokens events text =
-    let o = act_first action_of.OuterWord (!name ∷ more_values) tokens events text in
-    let n = act_first action_of.Name more_values tokens o.late o.text in
-    moved limits refl (ap (λ l. Did action_of.OuterWord ∷ l) (sym n.are) ∙ sym o.are)
+    let o = act_first Action.OuterWord (!name ∷ more_values) tokens events text in
+    let n = act_first Action.Name more_values tokens o.late o.text in
+    moved limits refl (ap (λ l. Did Action.OuterWord ∷ l) (sym n.are) ∙ sym o.are)
     (worded limits tokens n.late (more_values_go limits tokens n.late n.text))
 
-pub token_before : (class : ℕ) (symbols : List (Symbol Action)) → Reading symbols → Reading (Token class ∷ symbols)
+pub token_before : (class : ℕ) (symbols : List (Symbol Action)) → Reading symbols → Reading (Symbol.Token class ∷ symbols)
 token_before class symbols reading limits tokens events text =
     let k = token_first symbols tokens events text in
     moved limits k.same (sym k.are) (alone limits k.s k.atom k.rest k.late (reading limits k.rest k.late k.text))
 
 pub outer_before : (symbols : List (Symbol Action)) → Reading symbols → Reading (!outer ∷ symbols)
 outer_before symbols reading limits tokens events text =
-    let o = act_first action_of.Outer symbols tokens events text in
+    let o = act_first Action.Outer symbols tokens events text in
     moved limits refl (sym o.are) (outer_noted limits tokens o.late (reading limits tokens o.late o.text))
 
 pub default_alone : Reading (!default ∷ [])
 default_alone limits tokens events text =
-    let d = act_first action_of.Default [] tokens events text in
+    let d = act_first Action.Default [] tokens events text in
     moved limits refl (sym d.are) (default_noted limits tokens d.late (no_values limits d.text tokens refl))
 
 same_rest : {x y : ℕ} {xs ys : List ℕ} → x ∷ xs ≡ y ∷ ys → xs ≡ ys
@@ -338,10 +324,10 @@ text_goes : (limits : Limits) {atoms : List ℕ} {events : List (Event Action)}
     → atoms_of tokens ≡ atoms → Going limits tokens events
 text_goes limits (action (token h (action (action leads)))) [] is = cc
 text_goes limits (action (token {atom = atom} h (action (action {events = late} leads)))) (s ∷ tokens) is =
-    let text : IsText grammar (TEXT ∷ !text ∷ []) (s.atom ∷ []) (Took atom ∷ Did action_of.Text ∷ []) =
-    subst (λ n. IsText grammar (TEXT ∷ !text ∷ []) (n ∷ []) (Took atom ∷ Did action_of.Text ∷ [])) (sym (same_first is))
+    let text : IsText grammar (TEXT ∷ !text ∷ []) (s.atom ∷ []) (Took atom ∷ Did Action.Text ∷ []) =
+    subst (λ n. IsText grammar (TEXT ∷ !text ∷ []) (n ∷ []) (Took atom ∷ Did Action.Text ∷ [])) (sym (same_first is))
     (token h (action here)) in
-    doubted_expression limits (s ∷ []) [] tokens (Took atom ∷ []) (Did action_of.Text ∷ []) late (text_doubt s atom text)
+    doubted_expression limits (s ∷ []) [] tokens (Took atom ∷ []) (Did Action.Text ∷ []) late (text_doubt s atom text)
     (more_values_go limits tokens late (subst (λ l. IsText grammar more_values l late) (sym (same_rest is)) leads))
 
 pub text_first : Reading (!outer_maybe ∷ TEXT ∷ !outer_sure ∷ !text ∷ more_values)

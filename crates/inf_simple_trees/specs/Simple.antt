@@ -2,8 +2,7 @@
 use Rattle.std.specs.Prelude.{◌≡◌, ◌+◌, ◌<◌, List, [], ◌∷◌, ◌++◌, length, true, None}
 use Rattle.inf_settings.specs.Bounds.{Limits}
 use Rattle.inf_scanner.specs.declared.tokens.Place.{Place}
-use Rattle.inf_machine.specs.declared.symbols.Symbol.{Symbol}
-use Rattle.inf_machine.specs.Grammar.{Event, IsOneOf, IsText}
+use Rattle.inf_machine.specs.{Grammar.Event, Grammar.IsOneOf, Grammar.IsText, declared.symbols.Symbol.Symbol}
 use Rattle.inf_syntax.specs.Parts.{ !begin, !deeper, !name, !outer, !outer_word, 'close_brace', 'comma', 'default', 'do', 'else', 'for'}
 use Rattle.inf_syntax.specs.Parts.{'give', 'if', 'jump', 'move', 'objectloop', 'open_brace', 'return', 'string', 'style', 'switch', 'while'}
 use Rattle.inf_syntax.specs.Parts.{CASENAME, case_end, mark_statement_1, plain_word, statement, statement_3, top_item, top_item_10}
@@ -12,14 +11,11 @@ use Rattle.inf_syntax.specs.Parts.{top_next, top_range, top_values, top_word}
 use Rattle.inf_syntax.specs.declared.actions.Action.{Action}
 use Rattle.inf_grammar.specs.Language.{grammar}
 use Rattle.inf_unit.specs.Units.{Unit as UnitAtHand, begun}
-use Rattle.inf_compilation.specs.Context.{Context}
-use Rattle.inf_compilation.specs.Actions.{Compilation}
+use Rattle.inf_compilation.specs.{Actions.Compilation, Context.Context}
 use Rattle.inf_expression_laws.specs.Gathered.{AreSeen}
-use Rattle.inf_statement_laws.specs.Laid.{run}
-use Rattle.inf_statement_laws.specs.Readings.{Seen}
+use Rattle.inf_statement_laws.specs.{Laid.run, Readings.Seen}
 use Rattle.inf_language.specs.Texts.{atoms_of, happenings_before, tokens_of}
-use Rattle.inf_trees.specs.Statements.{Statement, statement_done}
-use Rattle.inf_trees.specs.Trees.{AreWritten, all_seen}
+use Rattle.inf_trees.specs.{Statements.Statement, Statements.statement_done, Trees.AreWritten, Trees.all_seen}
 use Rattle.inf_simple_trees.specs.Room.{have_room}
 
 -- Tells whether tokens behind a unit `u` are a statement that is one unit, whose expressions are those of their tokens by the levels

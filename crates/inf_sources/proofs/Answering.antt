@@ -1,23 +1,17 @@
 -- The outcome of an inclusion, by the outcome of opening a file beside the open ones.
 use Rattle.std.proofs.Common.{◌≡◌, ◌⊎◌, inl, inr, ℕ, suc, ◌+◌, ◌-◌, ◌≤◌, List, [], ◌∷◌, ◌++◌, length, drop, reverse, cond, not, nat_le}
-use Rattle.std.proofs.Common.{Bool, true, false, Option, Some, unwrap_or, refl, sym, ap, subst, ◌∙◌, arith, length-append}
-use Rattle.std.specs.Prelude.{slice_get, Vec}
-use Rattle.std.proofs.lemmas.Bool.{le-leb, leb-true}
-use Rattle.std.proofs.lemmas.List.{length-reverse}
+use Rattle.std.proofs.Common.{Bool, true, false, Option, Some, unwrap_or, refl, sym, ap, subst, ◌∙◌, arith, length-append, slice_get, Vec}
+use Rattle.std.proofs.{lemmas.Bool.le-leb, lemmas.Bool.leb-true, lemmas.List.length-reverse}
 use Rattle.std.specs.declared.alloc.Global.{Global}
 use Rattle.inf_devices.specs.Files.{Openings, Sources}
-use Rattle.inf_lexer.specs.Entering.{ClosedAgain, first_there, with_opened}
+use Rattle.inf_lexer.specs.{Entering.ClosedAgain, Entering.first_there, Entering.with_opened, Readers.Reader, Readers.at_front}
 use Rattle.inf_lexer.specs.Names.{Nest, can_name, candidates, entered, innermost_name, name_at, number_of}
-use Rattle.inf_lexer.specs.Readers.{Reader, at_front}
+use Rattle.inf_sources.specs.{declared.faults.IncludeFault.IncludeFault, declared.open_file.Conditional.Conditional}
+use Rattle.inf_sources.specs.{declared.open_file.OpenFile.OpenFile, declared.open_files.Included.Included}
 use Rattle.inf_sources.specs.Inclusions.{Inclusion, OpenedInVain, OpensNone, OpensTooMany, Opens, by_first, inclusion, nested_by}
-use Rattle.inf_sources.specs.declared.faults.IncludeFault.TheVariants as vain
 use Rattle.inf_sources.specs.Open.{AllWait, IsNested, Open, Waits, files_of, lexers_of, nesting, opened_since, waiting_at, waits}
-use Rattle.inf_sources.specs.declared.open_file.Conditional.{Conditional}
-use Rattle.inf_sources.specs.declared.open_file.OpenFile.{OpenFile}
-use Rattle.inf_sources.specs.declared.open_files.Included.TheVariants as included
-use Rattle.inf_sources.proofs.Entered.{Fits, files_more, lexers_more, waits_more}
-use Rattle.inf_sources.proofs.Openings.{entered_nested, entered_nesting, opened_and_closed}
-use Rattle.inf_sources.proofs.Places.{innermost_of, waiting_length}
+use Rattle.inf_sources.proofs.{Entered.Fits, Entered.files_more, Entered.lexers_more, Entered.waits_more, Openings.entered_nested}
+use Rattle.inf_sources.proofs.{Openings.entered_nesting, Openings.opened_and_closed, Places.innermost_of, Places.waiting_length}
 
 pub is_true : (b : Bool) → (b ≡ false → ⊥) → b ≡ true
 is_true true h = refl
@@ -60,7 +54,7 @@ same_depth s start now files n e =
 
 -- the outcome of an inclusion by its three tests
 abbrev by_tests : (can deep : Bool) → Option (List ℕ) → Inclusion
-by_tests can deep first = cond (not can) (OpensNone included.NotThere) (cond deep (OpensNone included.TooDeep) (by_first first))
+by_tests can deep first = cond (not can) (OpensNone Included.NotThere) (cond deep (OpensNone Included.TooDeep) (by_first first))
 
 tested : (s : Sources) (directories : List (List ℕ)) (text : List ℕ) (start now : Openings) (files : Open) → IsNested start now files →
     IsNumbered files
@@ -79,7 +73,7 @@ Comes s directories text start now files i = inclusion s directories text (nesti
 
 pub unfit_is : (s : Sources) (directories : List (List ℕ)) (text : List ℕ) (start now : Openings) (files : Open) →
     IsNested start now files → IsNumbered files
-    → can_name text ≡ false → Comes s directories text start now files (OpensNone included.NotThere)
+    → can_name text ≡ false → Comes s directories text start now files (OpensNone Included.NotThere)
 unfit_is s directories text start now files n e unfit =
     tested s directories text start now files n e
     ∙ ap (λ b. by_tests b (nat_le 16 (length files.nest.open_files))
@@ -88,7 +82,7 @@ unfit_is s directories text start now files n e unfit =
 pub deep_is : (s : Sources) (directories : List (List ℕ)) (text : List ℕ) (start now : Openings) (files : Open) → IsNested start now files →
     IsNumbered files
     → (can_name text ≡ false → ⊥) → 16 ≤ length files.nest.open_files → Comes s directories text start now files
-    (OpensNone included.TooDeep)
+    (OpensNone Included.TooDeep)
 deep_is s directories text start now files n e fit deep =
     tested s directories text start now files n e
     ∙ ap (λ b. by_tests b (nat_le 16 (length files.nest.open_files))
@@ -127,7 +121,7 @@ pub opened_in_vain : (s : Sources) (directories : List (List ℕ)) (text : List 
     IsNested start old before
     → IsNumbered before → (can_name text ≡ false → ⊥) → (16 ≤ length before.nest.open_files → ⊥)
     → (new ≡ old) ⊎ ClosedAgain s before.nest.names (candidates directories (innermost_name before.nest) text) old new
-    → OpenedInVain vain.Device (inclusion s directories text (nesting s start old before)) (nesting s start old before)
+    → OpenedInVain IncludeFault.Device (inclusion s directories text (nesting s start old before)) (nesting s start old before)
     (opened_since start new)
 opened_in_vain s directories text start old new before n e fit flat (inl same) = inl (ap (λ (o : Openings). opened_since start o) same)
 opened_in_vain s directories text start old new before n e fit flat (inr c) =

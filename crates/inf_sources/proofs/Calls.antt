@@ -2,21 +2,15 @@
 use Rattle.std.proofs.Common.{◌≡◌, ◌+◌, ◌-◌, ◌≤◌, inl, inr, ℕ, true, suc, List, [], ◌∷◌, ◌++◌, length, min, IsTrue, refl, sym, ap}
 use Rattle.std.proofs.Common.{subst, ◌∙◌, arith, length-append, drop, map, reverse}
 use Rattle.std.proofs.lemmas.List.{reverse-append}
-use Rattle.std.specs.List.{list_any}
-use Rattle.std.specs.Str.{bytes_eq}
+use Rattle.std.specs.{List.list_any, Str.bytes_eq}
 use Rattle.inf_devices.specs.Files.{Closes, Counts, Sources, counts_closed, counts_opened, last_count}
 use Rattle.inf_devices.specs.declared.files.Files.{Ghosts as Files}
-use Rattle.inf_lexer.specs.Counted.{CountsOn, IsCountedBy}
-use Rattle.inf_lexer.specs.Entering.{OpensOn}
-use Rattle.inf_lexer.specs.Names.{Nest, number_of}
-use Rattle.inf_lexer.specs.Readers.{Reader}
+use Rattle.inf_lexer.specs.{Counted.CountsOn, Counted.IsCountedBy, Entering.OpensOn, Names.Nest, Names.number_of, Readers.Reader}
 use Rattle.inf_lexer.specs.Unread.{Along, Ends, StillGives}
 use Rattle.inf_lexer.proofs.Opened.{opens_none, opens_then}
+use Rattle.inf_sources.specs.{Open.AllGiven, Open.IsNested, Open.Open, Open.lexers_of, declared.open_file.OpenFile.OpenFile}
 use Rattle.inf_sources.specs.Calls.{AreCounted, AskedTooMany, Honestly, IsUnreadable, StaysFit, StaysGiven, Went, given_each}
-use Rattle.inf_sources.specs.Open.{AllGiven, IsNested, Open, lexers_of}
-use Rattle.inf_sources.specs.declared.open_file.OpenFile.{OpenFile}
-use Rattle.inf_sources.proofs.Fronts.{left_given, read_fit, read_given}
-use Rattle.inf_sources.proofs.Nestings.{left_nested, nested_on}
+use Rattle.inf_sources.proofs.{Fronts.left_given, Fronts.read_fit, Fronts.read_given, Nestings.left_nested, Nestings.nested_on}
 
 -- what was counted is counted where more openings are too long
 counted_more : (base : ℕ) (gs counts : List ℕ) (too_long more : ℕ) → min too_long last_count ≤ more → AreCounted base gs counts too_long

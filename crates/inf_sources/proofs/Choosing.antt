@@ -1,16 +1,13 @@
 -- The open files where all files are read by another character set.
+use Rattle.std.proofs.{lemmas.Grind.reverse_onto, lemmas.List.length-map}
 use Rattle.std.proofs.Common.{◌≡◌, ℕ, suc, ◌+◌, List, [], ◌∷◌, ◌++◌, length, drop, map, reverse, refl, sym, ap, subst, ◌∙◌}
-use Rattle.std.proofs.lemmas.List.{length-map}
-use Rattle.std.proofs.lemmas.Grind.{reverse_onto}
 use Rattle.inf_characters.specs.declared.characters.CharSet.{CharSet}
 use Rattle.inf_devices.specs.Files.{Opening, Openings, Sources}
 use Rattle.inf_lexer.specs.Readers.{Reader}
-use Rattle.inf_sources.specs.Calls.{given_each}
+use Rattle.inf_sources.specs.{Calls.given_each, Inclusions.Waiting, declared.open_file.OpenFile.OpenFile}
 use Rattle.inf_sources.specs.Choosing.{chosen, file_with, nesting_with, open_with, reader_with, waiting_with}
-use Rattle.inf_sources.specs.Inclusions.{Waiting}
 use Rattle.inf_sources.specs.Open.{AllGiven, AllWait, AreNested, AreTracked, IsNested, Open, files_of, lexers, lexers_of, nesting}
 use Rattle.inf_sources.specs.Open.{waiting_at}
-use Rattle.inf_sources.specs.declared.open_file.OpenFile.{OpenFile}
 use Rattle.inf_sources.proofs.Places.{nested_as}
 
 map_last : {X : Type 0} → (f : X → X) (xs : List X) (x : X) → map f (xs ++ x ∷ []) ≡ map f xs ++ f x ∷ []

@@ -4,11 +4,9 @@ use Rattle.std.proofs.Common.{length-append}
 use Rattle.std.proofs.Math.Seq.{take-append_seam}
 use Rattle.inf_characters.specs.declared.characters.CharSet.{CharSet}
 use Rattle.inf_devices.specs.Files.{Opening, Openings, Sources}
-use Rattle.inf_lexer.specs.Names.{Nest, left}
-use Rattle.inf_lexer.specs.Readers.{Reader}
-use Rattle.inf_sources.specs.Inclusions.{Waiting, closed, resumed}
+use Rattle.inf_lexer.specs.{Names.Nest, Names.left, Readers.Reader}
+use Rattle.inf_sources.specs.{Inclusions.Waiting, Inclusions.closed, Inclusions.resumed, declared.open_file.OpenFile.OpenFile}
 use Rattle.inf_sources.specs.Open.{AllWait, Waits, files_of, lexers_of, nesting, waiting_at}
-use Rattle.inf_sources.specs.declared.open_file.OpenFile.{OpenFile}
 
 pub waits_front : (set : CharSet) (limit : ℕ) (readers : List Reader) (r : Reader) → AllWait set limit (readers ++ r ∷ []) →
     AllWait set limit readers

@@ -1,20 +1,15 @@
 -- Each opening has a front of its source as its given bytes, and each open file is tracked.
 use Rattle.std.proofs.Common.{◌≡◌, ◌⊎◌, inl, inr, ℕ, suc, zero, ◌-◌, ◌<◌, ◌≤◌, List, [], ◌∷◌, ◌++◌, length, reverse, get_or, unwrap_or}
-use Rattle.std.proofs.Common.{Some, refl, sym, ap, subst, ◌∙◌, arith, append_assoc, length-append}
-use Rattle.std.specs.Prelude.{slice_get}
-use Rattle.std.proofs.Math.Seq.{get_or-append_seam}
-use Rattle.std.proofs.lemmas.Bool.{cases_lt}
+use Rattle.std.proofs.Common.{Some, refl, sym, ap, subst, ◌∙◌, arith, append_assoc, length-append, slice_get}
+use Rattle.std.proofs.{Math.Seq.get_or-append_seam, lemmas.Bool.cases_lt}
 use Rattle.inf_characters.specs.declared.characters.CharSet.{CharSet}
 use Rattle.inf_devices.specs.Files.{Closes, Opening, Openings, Sources, opened}
-use Rattle.inf_lexer.specs.Entering.{ClosedAgain, with_closed, with_opened}
-use Rattle.inf_lexer.specs.Names.{Nest, entered, number_of}
-use Rattle.inf_lexer.specs.Readers.{Reader, at_front}
+use Rattle.inf_lexer.specs.{Entering.ClosedAgain, Entering.with_closed, Entering.with_opened, Names.Nest, Names.entered, Names.number_of}
+use Rattle.inf_lexer.specs.{Readers.Reader, Readers.at_front}
 use Rattle.inf_lexer.specs.Unread.{Along, Ends, Gave, StillGives, innermost, innermost_place, unread_of}
-use Rattle.inf_sources.specs.Open.{AllGiven, AreNested, AreTracked, Each, Fits, IsCounted, IsFrontOf, IsNested, IsTracked, Open, lexers}
-use Rattle.inf_sources.specs.Open.{lexers_of}
-use Rattle.inf_sources.specs.declared.open_file.OpenFile.{OpenFile}
-use Rattle.inf_sources.proofs.NamesKept.{named_at, names_stay}
-use Rattle.inf_sources.proofs.Openings.{slice_front}
+use Rattle.inf_sources.specs.{Open.AllGiven, Open.AreNested, Open.AreTracked, Open.Each, Open.Fits, Open.IsCounted, Open.IsFrontOf}
+use Rattle.inf_sources.specs.{Open.IsNested, Open.IsTracked, Open.Open, Open.lexers, Open.lexers_of, declared.open_file.OpenFile.OpenFile}
+use Rattle.inf_sources.proofs.{NamesKept.named_at, NamesKept.names_stay, Openings.slice_front}
 use Rattle.inf_sources.proofs.Places.{innermost_of, last_of, or_same, reverse_last}
 
 -- two places are the same or not

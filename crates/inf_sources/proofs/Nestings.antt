@@ -1,21 +1,13 @@
 -- The open files after a token was read, and after a file was left.
 use Rattle.std.proofs.Common.{◌≡◌, ℕ, suc, ◌-◌, List, [], ◌∷◌, ◌++◌, length, drop, reverse, get_or, sym, ap, subst, ◌∙◌, arith}
-use Rattle.std.proofs.Common.{length-append, Bool, false, Option, Some, None}
-use Rattle.std.specs.Prelude.{IfNone, is_some}
+use Rattle.std.proofs.Common.{length-append, Bool, false, Option, Some, None, IfNone, is_some}
 use Rattle.std.proofs.lemmas.List.{drop-map, reverse-reverse}
-use Rattle.inf_scanner.specs.Tokens.{Read, next_token}
-use Rattle.inf_scanner.specs.declared.lines.Lines.{Lines}
-use Rattle.inf_scanner.specs.declared.tokens.Token.{Token}
+use Rattle.inf_scanner.specs.{Tokens.Read, Tokens.next_token, declared.lines.Lines.Lines, declared.tokens.Token.Token}
 use Rattle.inf_devices.specs.Files.{Closes, Opening, Openings, Sources, opened}
-use Rattle.inf_lexer.specs.Names.{Nest, left}
-use Rattle.inf_lexer.specs.Heads.{HeadRead, next_head_word}
-use Rattle.inf_lexer.specs.Readers.{Reader, head_out, read_out}
-use Rattle.inf_lexer.specs.declared.head.HeadPlace.{HeadPlace}
-use Rattle.inf_lexer.specs.Unread.{Gave, innermost_place, to_come}
-use Rattle.inf_sources.specs.Cursors.{Cursor, behind, read}
-use Rattle.inf_sources.specs.Heading.{ReadsHead, behind_head, read_head}
-use Rattle.inf_sources.specs.Inclusions.{Nesting, Waiting, closed}
-use Rattle.inf_sources.specs.declared.open_file.OpenFile.{OpenFile}
+use Rattle.inf_lexer.specs.{Heads.HeadRead, Heads.next_head_word, Names.Nest, Names.left, Readers.Reader, Readers.head_out}
+use Rattle.inf_lexer.specs.{Readers.read_out, Unread.Gave, Unread.innermost_place, Unread.to_come, declared.head.HeadPlace.HeadPlace}
+use Rattle.inf_sources.specs.{Cursors.Cursor, Cursors.behind, Cursors.read, Heading.ReadsHead, Heading.behind_head, Heading.read_head}
+use Rattle.inf_sources.specs.{Inclusions.Nesting, Inclusions.Waiting, Inclusions.closed, declared.open_file.OpenFile.OpenFile}
 use Rattle.inf_sources.specs.Open.{AreNested, IsNested, Open, Reads, closed_to, cursor_of, lexers, lexers_of, nesting, opened_since}
 use Rattle.inf_sources.specs.Open.{rest_of, waiting_as, waiting_at}
 use Rattle.inf_sources.proofs.Places.{innermost_of, last_of, names_of, names_same, nested_as, nested_more, reverse_last, waiting_same}

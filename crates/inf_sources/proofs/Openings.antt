@@ -1,21 +1,16 @@
 -- The open files after a file was entered.
 use Rattle.std.proofs.Common.{◌≡◌, ◌⊎◌, inl, inr, ℕ, suc, zero, ◌<◌, ◌≤◌, List, [], ◌∷◌, ◌++◌, length, drop, reverse, get_or, Some}
-use Rattle.std.proofs.Common.{unwrap_or, refl, sym, ap, subst, ◌∙◌, arith, length-append}
-use Rattle.std.specs.Prelude.{slice_get, Bool, Vec}
+use Rattle.std.proofs.Common.{unwrap_or, refl, sym, ap, subst, ◌∙◌, arith, length-append, slice_get, Bool, Vec}
 use Rattle.std.proofs.Math.Seq.{get_or-append_seam}
 use Rattle.std.specs.declared.alloc.Global.{Global}
 use Rattle.inf_characters.specs.declared.characters.CharSet.{CharSet}
 use Rattle.inf_devices.specs.Files.{Opening, Openings, Sources, opened}
-use Rattle.inf_lexer.specs.Entering.{ClosedAgain, with_closed, with_opened}
-use Rattle.inf_lexer.specs.Names.{Nest, entered, number_of}
-use Rattle.inf_lexer.specs.Readers.{Reader, at_front}
-use Rattle.inf_lexer.specs.Unread.{innermost, innermost_place, to_come, unread}
-use Rattle.inf_sources.specs.Cursors.{Cursor, front}
-use Rattle.inf_sources.specs.Inclusions.{Nesting, Waiting, main_opened, with_opened as one_more}
-use Rattle.inf_sources.specs.declared.open_file.Conditional.{Conditional}
-use Rattle.inf_sources.specs.declared.open_file.OpenFile.{OpenFile}
-use Rattle.inf_sources.specs.Open.{AreNested, IsNested, Open, cursor_of, lexers, lexers_of, nesting, opened_since, rest_of, waiting_as}
-use Rattle.inf_sources.specs.Open.{waiting_at, waits}
+use Rattle.inf_lexer.specs.{Entering.ClosedAgain, Entering.with_closed, Entering.with_opened, Names.Nest, Names.entered, Names.number_of}
+use Rattle.inf_lexer.specs.{Readers.Reader, Readers.at_front, Unread.innermost, Unread.innermost_place, Unread.to_come, Unread.unread}
+use Rattle.inf_sources.specs.{Cursors.Cursor, Cursors.front, Inclusions.Nesting, Inclusions.Waiting, Inclusions.main_opened}
+use Rattle.inf_sources.specs.{Inclusions.with_opened as one_more, Open.AreNested, Open.IsNested, Open.Open, Open.cursor_of, Open.lexers}
+use Rattle.inf_sources.specs.{Open.lexers_of, Open.nesting, Open.opened_since, Open.rest_of, Open.waiting_as, Open.waiting_at, Open.waits}
+use Rattle.inf_sources.specs.{declared.open_file.Conditional.Conditional, declared.open_file.OpenFile.OpenFile}
 use Rattle.inf_sources.proofs.Places.{innermost_of, last_of, names_of, nested_more, reverse_last, waiting_same}
 
 last_is : (old : Openings) (name : List ℕ) → innermost_place (with_opened name old) ≡ length old.all

@@ -1,16 +1,11 @@
 -- The places of the openings that are open, and the openings at them.
 use Rattle.std.proofs.Common.{◌≡◌, ℕ, suc, zero, ◌-◌, ◌<◌, List, [], ◌∷◌, ◌++◌, length, drop, map, reverse, get_or, Some, None, unwrap_or}
-use Rattle.std.proofs.Common.{refl, sym, ap, ◌∙◌, arith, length-append}
-use Rattle.std.specs.Prelude.{slice_get}
-use Rattle.std.proofs.Math.Seq.{get_or-append_seam}
-use Rattle.std.proofs.lemmas.Grind.{reverse_onto}
-use Rattle.std.proofs.lemmas.List.{reverse-append, reverse-reverse}
+use Rattle.std.proofs.Common.{refl, sym, ap, ◌∙◌, arith, length-append, slice_get}
+use Rattle.std.proofs.{Math.Seq.get_or-append_seam, lemmas.Grind.reverse_onto, lemmas.List.reverse-append, lemmas.List.reverse-reverse}
 use Rattle.inf_devices.specs.Files.{Opening, Openings, Sources, opened}
 use Rattle.inf_lexer.specs.Readers.{Reader}
-use Rattle.inf_sources.specs.Cursors.{Cursor}
-use Rattle.inf_sources.specs.Inclusions.{cursors, cursors_of}
+use Rattle.inf_sources.specs.{Cursors.Cursor, Inclusions.cursors, Inclusions.cursors_of, declared.open_file.OpenFile.OpenFile}
 use Rattle.inf_sources.specs.Open.{AreNested, IsNested, Open, files_of, lexers, lexers_of, nesting, rest_of, waiting_as, waiting_at}
-use Rattle.inf_sources.specs.declared.open_file.OpenFile.{OpenFile}
 
 -- the last of some numbers is found at its place
 last_place : (outer : List ℕ) (place : ℕ) → get_or (outer ++ place ∷ []) (length (outer ++ place ∷ []) - 1) 0 ≡ place

@@ -4,19 +4,10 @@ use Rattle.std.proofs.Common.{length-take}
 use Rattle.std.proofs.lemmas.Bool.{cond_both}
 use Rattle.inf_characters.specs.declared.characters.CharSet.{CharSet}
 use Rattle.inf_devices.specs.Files.{Openings, Sources}
-use Rattle.inf_lexer.specs.Readers.{Reader, read_out}
-use Rattle.inf_lexer.specs.Unread.{Heard, View}
-use Rattle.inf_scanner.specs.Kept.{Kept}
-use Rattle.inf_scanner.specs.Kinds.{kind_of, number_kind, number_of}
-use Rattle.inf_scanner.specs.SpellingLaws.{Piece, most_of}
-use Rattle.inf_scanner.specs.Tokens.{Read, next_token}
-use Rattle.inf_scanner.specs.declared.lines.Lines.{Lines}
-use Rattle.inf_scanner.specs.declared.scanner.Ending.{Ending}
-use Rattle.inf_scanner.specs.declared.scanner.Ending.TheVariants as ending
-use Rattle.inf_scanner.specs.declared.tokens.BadToken.TheVariants as bad
-use Rattle.inf_scanner.specs.declared.tokens.Token.{Token}
-use Rattle.inf_scanner.specs.declared.tokens.TokenKind.{TokenKind}
-use Rattle.inf_scanner.specs.declared.tokens.TokenKind.TheVariants as kind
+use Rattle.inf_lexer.specs.{Readers.Reader, Readers.read_out, Unread.Heard, Unread.View}
+use Rattle.inf_scanner.specs.{Kept.Kept, Kinds.kind_of, Kinds.number_kind, Kinds.number_of, SpellingLaws.Piece, SpellingLaws.most_of}
+use Rattle.inf_scanner.specs.{Tokens.Read, Tokens.next_token, declared.lines.Lines.Lines, declared.scanner.Ending.Ending}
+use Rattle.inf_scanner.specs.{declared.tokens.BadToken.BadToken, declared.tokens.Token.Token, declared.tokens.TokenKind.TokenKind}
 use Rattle.inf_scanner.proofs.SpellingLaws.{next_spelled}
 use Rattle.inf_sources.specs.Quoted.{KeepsFew, is_quoted_kind}
 
@@ -29,19 +20,19 @@ unquoted limit e k none is = let f : false ≡ true = sym none ∙ is in cc
 
 -- a quoted token is one that began with a quote
 quoted_only : (set : CharSet) (limit : ℕ) (e : Ending) (k : Kept) → is_quoted_kind (kind_of set e k) ≡ true → most_of limit e ≡ limit
-quoted_only set limit ending.End k is = cc
-quoted_only set limit ending.Unfit k is = cc
-quoted_only set limit (ending.Mark m) k is = cc
-quoted_only set limit (ending.Run false) k is =
-    unquoted limit (ending.Run false) (kind_of set (ending.Run false) k)
-    (cond_both k.is_cut (kind.Bad bad.LongName) kind.Name (λ x. is_quoted_kind x ≡ false) (λ _. refl) (λ _. refl)) is
-quoted_only set limit (ending.Run true) k is =
-    unquoted limit (ending.Run true) (kind_of set (ending.Run true) k)
-    (cond_both k.is_cut (kind.Bad bad.Number) (number_kind (number_of k.bytes)) (λ x. is_quoted_kind x ≡ false) (λ _. refl)
+quoted_only set limit Ending.End k is = cc
+quoted_only set limit Ending.Unfit k is = cc
+quoted_only set limit (Ending.Mark m) k is = cc
+quoted_only set limit (Ending.Run false) k is =
+    unquoted limit (Ending.Run false) (kind_of set (Ending.Run false) k)
+    (cond_both k.is_cut (TokenKind.Bad BadToken.LongName) TokenKind.Name (λ x. is_quoted_kind x ≡ false) (λ _. refl) (λ _. refl)) is
+quoted_only set limit (Ending.Run true) k is =
+    unquoted limit (Ending.Run true) (kind_of set (Ending.Run true) k)
+    (cond_both k.is_cut (TokenKind.Bad BadToken.Number) (number_kind (number_of k.bytes)) (λ x. is_quoted_kind x ≡ false) (λ _. refl)
     (λ _. number_unquoted (number_of k.bytes))) is
-quoted_only set limit ending.Unclosed k is = refl
-quoted_only set limit ending.Text k is = refl
-quoted_only set limit ending.Quote k is = refl
+quoted_only set limit Ending.Unclosed k is = refl
+quoted_only set limit Ending.Text k is = refl
+quoted_only set limit Ending.Quote k is = refl
 
 next_few : (set : CharSet) (limit : ℕ) (lines : Lines) (bytes : List ℕ) →
     KeepsFew limit (next_token set limit lines bytes).kind (next_token set limit lines bytes).kept

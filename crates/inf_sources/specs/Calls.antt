@@ -1,15 +1,10 @@
 -- Facts that calls on a reader of files keep.
+use Rattle.std.specs.{List.list_any, Str.bytes_eq}
 use Rattle.std.specs.Prelude.{◌≡◌, ◌+◌, ◌<◌, ◌≤◌, ◌⊎◌, ℕ, List, [], ◌∷◌, IsTrue, length, map, min, Bool, true, false, Result, Ok}
-use Rattle.std.specs.List.{list_any}
-use Rattle.std.specs.Str.{bytes_eq}
-use Rattle.inf_devices.specs.Files.{Openings, Rose, last_count, most_source_bytes}
-use Rattle.inf_devices.specs.declared.files.Files.{Ghosts as Files}
-use Rattle.inf_lexer.specs.Entering.{OpensOn, StaysOpened}
-use Rattle.inf_lexer.specs.Names.{number_of}
-use Rattle.inf_lexer.specs.Readers.{Reader}
+use Rattle.inf_devices.specs.{Files.Openings, Files.Rose, Files.last_count, Files.most_source_bytes, declared.files.Files.Ghosts as Files}
+use Rattle.inf_lexer.specs.{Entering.OpensOn, Entering.StaysOpened, Names.number_of, Readers.Reader}
 use Rattle.inf_sources.specs.Open.{AllGiven, Each, Fits, IsNested, Open, lexers}
 use Rattle.inf_sources.specs.declared.open_files.Included.{Included}
-use Rattle.inf_sources.specs.declared.open_files.Included.TheVariants as included
 
 -- `P` holds, with an honest reader, for all openings before the files that are open.
 abbrev pub Honestly : {S : Type 0} → Files S → S → Open → (Openings → Type 0) → Type 0
@@ -73,5 +68,5 @@ IsUnreadable f old new before after =
 
 -- whether an inclusion entered a file
 abbrev pub has_entered : {E : Type 0} → Result Included E → Bool
-has_entered (Ok included.Entered) = true
+has_entered (Ok Included.Entered) = true
 has_entered _ = false

@@ -2,10 +2,7 @@
 use Rattle.std.specs.Prelude.{ℕ, map}
 use Rattle.inf_characters.specs.declared.characters.CharSet.{CharSet}
 use Rattle.inf_lexer.specs.Readers.{Reader}
-use Rattle.inf_sources.specs.Cursors.{Cursor}
-use Rattle.inf_sources.specs.Inclusions.{Nesting, Waiting}
-use Rattle.inf_sources.specs.Open.{Open}
-use Rattle.inf_sources.specs.declared.open_file.OpenFile.{OpenFile}
+use Rattle.inf_sources.specs.{Cursors.Cursor, Inclusions.Nesting, Inclusions.Waiting, Open.Open, declared.open_file.OpenFile.OpenFile}
 
 -- a lexer that reads by `set`
 abbrev pub reader_with : CharSet → Reader → Reader

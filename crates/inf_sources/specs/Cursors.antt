@@ -1,9 +1,7 @@
 -- The rest of a file that is still to come, and its next token.
 use Rattle.std.specs.Prelude.{ℕ, List}
 use Rattle.inf_characters.specs.declared.characters.CharSet.{CharSet}
-use Rattle.inf_scanner.specs.Lines.{first_line}
-use Rattle.inf_scanner.specs.Tokens.{Read, next_token}
-use Rattle.inf_scanner.specs.declared.lines.Lines.{Lines}
+use Rattle.inf_scanner.specs.{Lines.first_line, Tokens.Read, Tokens.next_token, declared.lines.Lines.Lines}
 use Rattle.inf_lexer.specs.Readers.{StaysUnfinished}
 
 -- The rest of a file: the bytes that are still to come, the line on which they begin, the file's number, its character set, and the most

@@ -1,12 +1,9 @@
 -- The reading of the head of the innermost file.
 use Rattle.std.specs.Prelude.{◌≡◌, ℕ, zero, suc, List, Bool}
+use Rattle.inf_lexer.specs.{Readers.HeadStaysOpen, declared.head.HeadPlace.HeadPlace}
 use Rattle.inf_lexer.specs.Heads.{HeadRead, WholeHead, next_head_word, whole_head}
-use Rattle.inf_lexer.specs.Readers.{HeadStaysOpen}
 use Rattle.inf_scanner.specs.declared.lines.Lines.{Lines}
-use Rattle.inf_lexer.specs.declared.head.HeadPlace.{HeadPlace}
-use Rattle.inf_lexer.specs.declared.head.HeadPlace.TheVariants.{Line}
-use Rattle.inf_sources.specs.Cursors.{Cursor}
-use Rattle.inf_sources.specs.Inclusions.{Nesting}
+use Rattle.inf_sources.specs.{Cursors.Cursor, Inclusions.Nesting}
 
 -- the next word of a head that goes on at this place
 abbrev pub read_head : HeadPlace → Cursor → HeadRead
@@ -47,7 +44,7 @@ head_at p c = record { place = p; lines = c.lines; rest = c.rest }
 
 -- the head at the front of a file
 abbrev pub head_front : Cursor → HeadAt
-head_front c = head_at Line c
+head_front c = head_at HeadPlace.Line c
 
 -- the head behind one word more
 abbrev pub behind_word : HeadAt → HeadAt

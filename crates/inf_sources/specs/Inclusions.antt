@@ -3,14 +3,9 @@ use Rattle.std.specs.Prelude.{◌≡◌, ℕ, ◌+◌, ◌≤◌, ◌⊎◌, Lis
 use Rattle.std.specs.Prelude.{slice_get, unwrap_or}
 use Rattle.inf_characters.specs.declared.characters.CharSet.{CharSet}
 use Rattle.inf_devices.specs.Files.{Sources}
-use Rattle.inf_lexer.specs.Entering.{first_there}
-use Rattle.inf_lexer.specs.Names.{can_name, candidates, number_of, with_name}
+use Rattle.inf_lexer.specs.{Entering.first_there, Names.can_name, Names.candidates, Names.number_of, Names.with_name}
+use Rattle.inf_sources.specs.declared.{faults.IncludeFault.IncludeFault, open_file.Conditional.Conditional, open_files.Included.Included}
 use Rattle.inf_sources.specs.Cursors.{Cursor, front}
-use Rattle.inf_sources.specs.declared.faults.IncludeFault.{IncludeFault}
-use Rattle.inf_sources.specs.declared.faults.IncludeFault.TheVariants as fault
-use Rattle.inf_sources.specs.declared.open_file.Conditional.{Conditional}
-use Rattle.inf_sources.specs.declared.open_files.Included.{Included}
-use Rattle.inf_sources.specs.declared.open_files.Included.TheVariants as included
 
 -- A file that waits for one that it includes: its rest; the conditionals that are open between its directives, the latest first; and
 -- whether its routines may be replaced.
@@ -80,14 +75,14 @@ pub data Inclusion : Type 0 where
 
 -- the inclusion that opens the first of the names that it may mean, if one is there
 abbrev pub by_first : Option (List ℕ) → Inclusion
-by_first None = OpensNone included.NotThere
+by_first None = OpensNone Included.NotThere
 by_first (Some name) = Opens name
 
 -- the outcome of an inclusion, by its text: one that can be no file's name is that of no file
 abbrev pub inclusion : Sources → List (List ℕ) → List ℕ → Nesting → Inclusion
 inclusion sources directories text n =
-    if not (can_name text) then OpensNone included.NotThere else
-    if nat_le most_open (length n.waiting + 1) then OpensNone included.TooDeep
+    if not (can_name text) then OpensNone Included.NotThere else
+    if nat_le most_open (length n.waiting + 1) then OpensNone Included.TooDeep
     else by_first (first_there sources (candidates directories (innermost_name n) text))
 
 -- the open files behind an inclusion, by the conditionals and the mark of the innermost file
@@ -97,7 +92,7 @@ nested_by set limit sources conditionals is_system (OpensNone why) n = n
 
 -- the result that is returned for an inclusion
 abbrev pub answer_of : Inclusion → Included
-answer_of (Opens name) = included.Entered
+answer_of (Opens name) = Included.Entered
 answer_of (OpensNone why) = why
 
 -- The inclusion opened a file that is one more than can be numbered, and was closed at once.
@@ -109,5 +104,5 @@ pub record OpensTooMany (i : Inclusion) (was : Nesting) (openings : List (List �
 
 -- The openings where an inclusion could not be tried are those before, or one more that was too many.
 abbrev pub OpenedInVain : IncludeFault → Inclusion → Nesting → List (List ℕ) → Type 0
-OpenedInVain fault.Memory i was openings = openings ≡ was.openings
-OpenedInVain fault.Device i was openings = (openings ≡ was.openings) ⊎ OpensTooMany i was openings
+OpenedInVain IncludeFault.Memory i was openings = openings ≡ was.openings
+OpenedInVain IncludeFault.Device i was openings = (openings ≡ was.openings) ⊎ OpensTooMany i was openings

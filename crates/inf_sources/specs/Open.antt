@@ -5,13 +5,9 @@ use Rattle.std.specs.declared.alloc.Global.{Global}
 use Rattle.inf_characters.specs.declared.characters.CharSet.{CharSet}
 use Rattle.inf_scanner.specs.declared.tokens.Token.{Token}
 use Rattle.inf_devices.specs.Files.{Opening, Openings, Sources, opened}
-use Rattle.inf_lexer.specs.Names.{Nest}
-use Rattle.inf_lexer.specs.Readers.{Reader}
-use Rattle.inf_lexer.specs.Unread.{to_come, unread_of, View}
-use Rattle.inf_sources.specs.Cursors.{Cursor, behind, read}
-use Rattle.inf_sources.specs.Inclusions.{Nesting, Waiting}
-use Rattle.inf_sources.specs.declared.open_file.Conditional.{Conditional}
-use Rattle.inf_sources.specs.declared.open_file.OpenFile.{OpenFile}
+use Rattle.inf_lexer.specs.{Names.Nest, Readers.Reader, Unread.View, Unread.to_come, Unread.unread_of}
+use Rattle.inf_sources.specs.{Cursors.Cursor, Cursors.behind, Cursors.read, Inclusions.Nesting, Inclusions.Waiting}
+use Rattle.inf_sources.specs.{declared.open_file.Conditional.Conditional, declared.open_file.OpenFile.OpenFile}
 
 -- The names and numbers of the files, the lexer of the innermost, and the files that wait, the main one first.
 pub record Open : Type 0 where

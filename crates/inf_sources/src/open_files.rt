@@ -3,17 +3,13 @@ ghost use Rattle.std.specs.Prelude.{◌≡◌, ◌≢◌, ◌+◌, ◌-◌, ◌�
 ghost use Rattle.std.specs.Prelude.{IfNone, IfOk, IfSome, OnOk, OnErr, IsErrOf, IsOk, IsTrue, None, Some, length, map, reverse, slice_get};
 ghost use Rattle.std.specs.Prelude.{ℕ, IsErr, is_err, unwrap_or};
 ghost use Rattle.inf_devices.specs.Files.{Openings, Rose, Sources, counts_opened};
-ghost use Rattle.inf_lexer.specs.Entering.{AreOpened, tells_failure};
-ghost use Rattle.inf_lexer.specs.Heads.{goes_on_at, is_behind};
-ghost use Rattle.inf_lexer.specs.Names.{can_name, innermost_name};
-ghost use Rattle.inf_lexer.specs.Readers.{Took, TookWord, at_front};
-ghost use Rattle.inf_lexer.specs.Unread.{IsAtEnd, to_come, unread};
+ghost use Rattle.inf_lexer.specs.{Entering.AreOpened, Entering.tells_failure, Heads.goes_on_at, Heads.is_behind, Names.can_name};
+ghost use Rattle.inf_lexer.specs.{Names.innermost_name, Readers.Took, Readers.TookWord, Readers.at_front, Unread.IsAtEnd, Unread.to_come};
+ghost use Rattle.inf_lexer.specs.{Unread.unread};
+ghost use Rattle.inf_sources.specs.{Cursors.Unfinished, Heading.ReadsHead, Heading.UnfinishedHead, Quoted.KeepsFew, Quoted.comes_quoted};
 ghost use Rattle.inf_sources.specs.Calls.{AskedTooMany, Honestly, Kept, StaysFit, Went, given_each, has_entered};
 ghost use Rattle.inf_sources.specs.Choosing.{chosen, file_with, nesting_chosen, nesting_with, open_with};
-ghost use Rattle.inf_sources.specs.Cursors.{Unfinished};
-ghost use Rattle.inf_sources.specs.Heading.{ReadsHead, UnfinishedHead};
 ghost use Rattle.inf_sources.specs.Inclusions.{OpenedInVain, OpensTooMany, answer_of, closed, inclusion, main_opened, nested_by};
-ghost use Rattle.inf_sources.specs.Quoted.{KeepsFew, comes_quoted};
 ghost use Rattle.inf_sources.specs.Open.{AllGiven, Each, Fits, IsNested, Reads, closed_to, nesting, opened_since, waits};
 
 use crate::faults::IncludeFault;

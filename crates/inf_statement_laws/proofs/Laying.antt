@@ -1,28 +1,21 @@
 -- Nested statements are laid as a whole.
 use Rattle.std.proofs.Common.{◌≡◌, ℕ, suc, ◌-◌, List, [], ◌∷◌, ◌++◌, Bool, true, false, if◌then◌else◌, Option, Some, None, refl, sym, ◌∙◌}
-use Rattle.std.proofs.Common.{ap, subst, arith}
+use Rattle.std.proofs.Common.{ap, subst, arith, length, max, nat_lt}
 use Rattle.std.proofs.lemmas.Bool.{lt-ltb}
-use Rattle.std.specs.Prelude.{length, max, nat_lt}
 use Rattle.inf_settings.specs.Bounds.{Limits}
 use Rattle.inf_scanner.specs.declared.tokens.Place.{Place}
-use Rattle.inf_machine.specs.declared.symbols.Symbol.{Symbol}
-use Rattle.inf_machine.specs.Grammar.{IsOneOf, first, later}
+use Rattle.inf_machine.specs.{Grammar.IsOneOf, Grammar.first, Grammar.later, declared.symbols.Symbol.Symbol}
 use Rattle.inf_syntax.specs.declared.actions.Action.{Action}
-use Rattle.inf_syntax.specs.declared.actions.Action.TheVariants as action
 use Rattle.inf_output.specs.Output.{Out}
-use Rattle.inf_compilation.specs.Context.{Context}
-use Rattle.inf_unit.specs.Units.{last_place}
-use Rattle.inf_unit.proofs.Cases.{of_both}
-use Rattle.inf_constructs.specs.Constructs.{all_ended, are_cases, begun, between, changed, depth, depth_by, ended, opened, outermost}
-use Rattle.inf_constructs.specs.declared.constructs.Case.TheVariants as case
-use Rattle.inf_constructs.specs.declared.constructs.Construct.{Construct}
-use Rattle.inf_constructs.specs.declared.constructs.Kind.{Kind}
-use Rattle.inf_constructs.specs.declared.constructs.Kind.TheVariants as kind
-use Rattle.inf_constructs.specs.declared.constructs.Over.TheVariants as over
-use Rattle.inf_reader.specs.Acting.{act}
-use Rattle.inf_compilation.specs.Actions.{Compilation, is_deep, nested}
+use Rattle.inf_compilation.specs.{Actions.Compilation, Actions.is_deep, Actions.nested, Context.Context}
 use Rattle.inf_compilation.specs.Nesting.{closed_ahead, construct_closed, construct_ended, construct_joined, construct_opened}
 use Rattle.inf_compilation.specs.Nesting.{constructs_laid}
+use Rattle.inf_unit.specs.Units.{last_place}
+use Rattle.inf_unit.proofs.Cases.{of_both}
+use Rattle.inf_constructs.specs.{declared.constructs.Construct.Construct, declared.constructs.Kind.Kind, declared.constructs.Over.Over}
+use Rattle.inf_constructs.specs.Constructs.{all_ended, are_cases, begun, between, changed, depth, depth_by, ended, opened, outermost}
+use Rattle.inf_constructs.specs.declared.constructs.Case.TheVariants as case
+use Rattle.inf_reader.specs.Acting.{act}
 use Rattle.inf_statement_laws.specs.Happenings.{Acts, Between, Happening, IsRead, Moment, Quiet, bodies, rests}
 use Rattle.inf_statement_laws.specs.Nested.{Case, Do, For, If, IfElse, Nested, NoStep, Objectloop, Plain, Step, StepEnds, Switch, Then}
 use Rattle.inf_statement_laws.specs.Nested.{While, happenings, step_happenings}
@@ -108,7 +101,7 @@ at_body limits context body inner c around w at =
 
 -- the closing behind other happenings
 abbrev close : Moment → List Happening
-close at = Acts at action.Close ∷ []
+close at = Acts at Action.Close ∷ []
 
 -- Tells whether a statement ends where the happenings before its closing leave it as the innermost.
 record Ends (limits : Limits) (context : Context) (hs : List Happening) (v : Compilation) (c : Construct) (around : List Construct)
@@ -162,12 +155,12 @@ if_is : {b : Bool} (limits : Limits) (context : Context) (opens : Moment) (test 
     w.closed ≡ 0
     → Inner limits context body → Whole limits context (If {b = b} opens test body closes) w
 if_is limits context opens test body closes w e inner =
-    let end = quiet_body_closed limits context test body inner (opened limits kind.If w.output).0 w.constructs closes
-    (word_read limits context opens kind.If w)
-    (at_word limits context opens kind.If w e) in
+    let end = quiet_body_closed limits context test body inner (opened limits Kind.If w.output).0 w.constructs closes
+    (word_read limits context opens Kind.If w)
+    (at_word limits context opens Kind.If w e) in
     record {
       runs =
-          ap (run limits context (test.all ++ (happenings body ++ close closes))) (opening_is limits context opens kind.If w)
+          ap (run limits context (test.all ++ (happenings body ++ close closes))) (opening_is limits context opens Kind.If w)
           ∙ end.runs;
       none_ahead = end.none_ahead;
     }
@@ -177,11 +170,11 @@ while_is : {b : Bool} (limits : Limits) (context : Context) (opens : Moment) (te
     w.closed ≡ 0
     → Inner limits context body → Whole limits context (While {b = b} opens test body closes) w
 while_is limits context opens test body closes w e inner =
-    let end = quiet_body_closed limits context test body inner (opened limits kind.While w.output).0 w.constructs closes
-    (word_read limits context opens kind.While w) (at_word limits context opens kind.While w e) in
+    let end = quiet_body_closed limits context test body inner (opened limits Kind.While w.output).0 w.constructs closes
+    (word_read limits context opens Kind.While w) (at_word limits context opens Kind.While w e) in
     record {
       runs =
-          ap (run limits context (test.all ++ (happenings body ++ close closes))) (opening_is limits context opens kind.While w)
+          ap (run limits context (test.all ++ (happenings body ++ close closes))) (opening_is limits context opens Kind.While w)
           ∙ end.runs;
       none_ahead = end.none_ahead;
     }
@@ -193,10 +186,10 @@ else_is : {b : Bool} (limits : Limits) (context : Context) (opens : Moment) (tes
     w
 else_is limits context opens test body joins word other closes w e inner inner_other =
     let rest : List Happening = word.all ++ (happenings other ++ close closes) in
-    let c = opened limits kind.If w.output in
-    let v = word_read limits context opens kind.If w in
+    let c = opened limits Kind.If w.output in
+    let v = word_read limits context opens Kind.If w in
     let tested = run limits context test.all v in
-    let at_test = at_quiet limits context test c.0 w.constructs v (at_word limits context opens kind.If w e) in
+    let at_test = at_quiet limits context test c.0 w.constructs v (at_word limits context opens Kind.If w e) in
     let first = laid limits context body tested in
     let at = at_body limits context body inner c.0 w.constructs tested at_test in
     let joined = between limits c.0 first.output in
@@ -204,11 +197,11 @@ else_is limits context opens test body joins word other closes w e inner inner_o
     (at_holding joins joined w.constructs first at.none_ahead) in
     record {
       runs =
-          ap (run limits context (test.all ++ (happenings body ++ Acts joins action.Else ∷ rest)))
-          (opening_is limits context opens kind.If w)
-          ∙ (run_then limits context test.all (happenings body ++ Acts joins action.Else ∷ rest) v
-          ∙ (run_then limits context (happenings body) (Acts joins action.Else ∷ rest) tested
-          ∙ (ap (run limits context (Acts joins action.Else ∷ rest)) (inner tested at_test.none_ahead).runs
+          ap (run limits context (test.all ++ (happenings body ++ Acts joins Action.Else ∷ rest)))
+          (opening_is limits context opens Kind.If w)
+          ∙ (run_then limits context test.all (happenings body ++ Acts joins Action.Else ∷ rest) v
+          ∙ (run_then limits context (happenings body) (Acts joins Action.Else ∷ rest) tested
+          ∙ (ap (run limits context (Acts joins Action.Else ∷ rest)) (inner tested at_test.none_ahead).runs
           ∙ (ap (run limits context rest) (joining_is limits joins c.0 w.constructs first at)
           ∙ end.runs))));
       none_ahead = end.none_ahead;
@@ -220,9 +213,9 @@ do_is : {b : Bool} (limits : Limits) (context : Context) (opens : Moment) (body 
     → Whole limits context (Do {b = b} opens body word joins test closes) w
 do_is limits context opens body word joins test closes w e inner =
     let rest : List Happening = test.all ++ close closes in
-    let c = opened limits kind.Do w.output in
-    let v = word_read limits context opens kind.Do w in
-    let at_v = at_word limits context opens kind.Do w e in
+    let c = opened limits Kind.Do w.output in
+    let v = word_read limits context opens Kind.Do w in
+    let at_v = at_word limits context opens Kind.Do w e in
     let done = laid limits context body v in
     let first = run limits context word.all done in
     let at = at_quiet limits context word c.0 w.constructs done (at_body limits context body inner c.0 w.constructs v at_v) in
@@ -233,11 +226,11 @@ do_is limits context opens body word joins test closes w e inner =
     (at_quiet limits context test joined.0 w.constructs behind at_behind) in
     record {
       runs =
-          ap (run limits context (happenings body ++ (word.all ++ Acts joins action.Until ∷ rest)))
-          (opening_is limits context opens kind.Do w)
-          ∙ (run_then limits context (happenings body) (word.all ++ Acts joins action.Until ∷ rest) v
-          ∙ (ap (run limits context (word.all ++ Acts joins action.Until ∷ rest)) (inner v at_v.none_ahead).runs
-          ∙ (run_then limits context word.all (Acts joins action.Until ∷ rest) done
+          ap (run limits context (happenings body ++ (word.all ++ Acts joins Action.Until ∷ rest)))
+          (opening_is limits context opens Kind.Do w)
+          ∙ (run_then limits context (happenings body) (word.all ++ Acts joins Action.Until ∷ rest) v
+          ∙ (ap (run limits context (word.all ++ Acts joins Action.Until ∷ rest)) (inner v at_v.none_ahead).runs
+          ∙ (run_then limits context word.all (Acts joins Action.Until ∷ rest) done
           ∙ (ap (run limits context rest) (joining_is limits joins c.0 w.constructs first at)
           ∙ end.runs))));
       none_ahead = end.none_ahead;
@@ -256,10 +249,10 @@ at_step limits context (StepEnds step ends) c around w at =
     let front = run limits context step.all w in
     let at_front = at_quiet limits context step c around w at in
     let s = step_ends limits context ends.place front c around at_front.is in
-    let same = run_then limits context step.all (Acts ends action.EndForStep ∷ []) w in
+    let same = run_then limits context step.all (Acts ends Action.EndForStep ∷ []) w in
     subst (λ v. At (with_step_in v.constructs c) around v) (sym same)
     (record {
-      is = kept_step c around (happens limits context (Acts ends action.EndForStep) front).constructs s.0;
+      is = kept_step c around (happens limits context (Acts ends Action.EndForStep) front).constructs s.0;
       none_ahead = s.1
           ∙ at_front.none_ahead;
     })
@@ -275,10 +268,10 @@ for_is : {b : Bool} (limits : Limits) (context : Context) (opens : Moment) (star
 for_is limits context opens start joins test step bracket body closes w e inner =
     let last : List Happening = bracket.all ++ (happenings body ++ close closes) in
     let rest : List Happening = test.all ++ (step_happenings step ++ last) in
-    let c = opened limits kind.For w.output in
-    let v = word_read limits context opens kind.For w in
+    let c = opened limits Kind.For w.output in
+    let v = word_read limits context opens Kind.For w in
     let started = run limits context start.all v in
-    let at = at_quiet limits context start c.0 w.constructs v (at_word limits context opens kind.For w e) in
+    let at = at_quiet limits context start c.0 w.constructs v (at_word limits context opens Kind.For w e) in
     let top = between limits c.0 started.output in
     let behind = holding joins top w.constructs started in
     let at_top = at_holding joins top w.constructs started at.none_ahead in
@@ -291,8 +284,8 @@ for_is limits context opens start joins test step bracket body closes w e inner 
     (record { is = refl; none_ahead = at_own.none_ahead }) in
     record {
       runs =
-          ap (run limits context (start.all ++ Acts joins action.ForTop ∷ rest)) (opening_is limits context opens kind.For w)
-          ∙ (run_then limits context start.all (Acts joins action.ForTop ∷ rest) v
+          ap (run limits context (start.all ++ Acts joins Action.ForTop ∷ rest)) (opening_is limits context opens Kind.For w)
+          ∙ (run_then limits context start.all (Acts joins Action.ForTop ∷ rest) v
           ∙ (ap (run limits context rest) (joining_is limits joins c.0 w.constructs started at)
           ∙ (run_then limits context test.all (step_happenings step ++ last) behind
           ∙ (run_then limits context (step_happenings step) last tested
@@ -313,12 +306,12 @@ loop_is : {b : Bool} (limits : Limits) (context : Context) (opens : Moment) (loo
     → Whole limits context (Objectloop {b = b} opens loop ends joins bracket body closes) w
 loop_is limits context opens loop ends joins bracket body closes w e inner =
     let rest : List Happening = bracket.all ++ (happenings body ++ close closes) in
-    let k = kind.Objects over.Nothing 0 in
+    let k = Kind.Objects Over.Nothing 0 in
     let c = opened limits k w.output in
     let v = word_read limits context opens k w in
     let unit = run limits context loop.all v in
     let at = at_quiet limits context loop c.0 w.constructs v (at_word limits context opens k w e) in
-    let looped = happens limits context (Acts ends action.EndObjectloop) unit in
+    let looped = happens limits context (Acts ends Action.EndObjectloop) unit in
     let l = loop_ends limits context ends.place unit c.0 w.constructs at.is in
     let own = with_kind_in looped.constructs c.0 in
     let none : looped.closed ≡ 0 = l.1 ∙ at.none_ahead in
@@ -327,9 +320,9 @@ loop_is limits context opens loop ends joins bracket body closes w e inner =
     (at_holding joins joined w.constructs looped none) in
     record {
       runs =
-          ap (run limits context (loop.all ++ Acts ends action.EndObjectloop ∷ Acts joins action.Loop ∷ rest))
+          ap (run limits context (loop.all ++ Acts ends Action.EndObjectloop ∷ Acts joins Action.Loop ∷ rest))
           (opening_is limits context opens k w)
-          ∙ (run_then limits context loop.all (Acts ends action.EndObjectloop ∷ Acts joins action.Loop ∷ rest) v
+          ∙ (run_then limits context loop.all (Acts ends Action.EndObjectloop ∷ Acts joins Action.Loop ∷ rest) v
           ∙ (ap (run limits context rest) (joining_is limits joins own w.constructs looped
           (record { is = kept_kind c.0 w.constructs looped.constructs l.0; none_ahead = none }))
           ∙ end.runs));
@@ -341,7 +334,7 @@ switch_is : {b : Bool} (limits : Limits) (context : Context) (opens : Moment) (v
     (w : Compilation) → w.closed ≡ 0 → Inner limits context cases
     → Whole limits context (Switch {b = b} opens value cases brace closes) w
 switch_is limits context opens value cases brace closes w e inner =
-    let k = kind.Switch case.Nothing false in
+    let k = Kind.Switch case.Nothing false in
     let c = opened limits k w.output in
     let v = word_read limits context opens k w in
     let valued = run limits context value.all v in
@@ -389,7 +382,7 @@ laid_as limits context (Case values ends) w e =
     let v = run limits context values.all w in
     let same = quiet_run limits context values.all w values.are in
     record {
-      runs = run_then limits context values.all (Acts ends action.EndCase ∷ []) w;
+      runs = run_then limits context values.all (Acts ends Action.EndCase ∷ []) w;
       holds = λ c around is. case_ends limits context ends.place v c around (same.0 ∙ is);
       none_ahead = case_none_ahead limits context ends.place v ∙ (same.1 ∙ e);
     }
@@ -576,10 +569,10 @@ closing_ahead_is_closing limits = record {
 
 pub units_keep_labels : (limits : Limits) → UnitsKeepLabels limits
 units_keep_labels limits = record {
-  of_loops = λ context place c around w e. kept_kind c around (act limits context place action.EndObjectloop w).constructs
+  of_loops = λ context place c around w e. kept_kind c around (act limits context place Action.EndObjectloop w).constructs
       (loop_ends limits context place w c around e).0;
-  of_steps = λ context place c around w e. kept_step c around (act limits context place action.EndForStep w).constructs
+  of_steps = λ context place c around w e. kept_step c around (act limits context place Action.EndForStep w).constructs
       (step_ends limits context place w c around e).0;
-  of_cases = λ context place c around w e. kept_kind c around (act limits context place action.EndCase w).constructs
+  of_cases = λ context place c around w e. kept_kind c around (act limits context place Action.EndCase w).constructs
       (case_ends limits context place w c around e);
 }

@@ -2,11 +2,8 @@
 use Rattle.std.proofs.Common.{◌≡◌, ℕ, zero, suc, List, [], ◌∷◌, ◌++◌, Bool, true, false, ◌&&◌, ◌||◌, ◌==◌, Some, refl, sym, ◌∙◌, ap, subst}
 use Rattle.std.proofs.Common.{append-nil, inl, inr}
 use Rattle.std.proofs.lemmas.Bool.{and_from, and_parts, eqb-true, or_cases}
-use Rattle.inf_machine.specs.declared.symbols.Symbol.{Symbol}
-use Rattle.inf_machine.specs.declared.symbols.Symbol.TheVariants.{Token, Rule, Act}
-use Rattle.inf_machine.specs.Grammar.{IsOneOf, Row}
+use Rattle.inf_machine.specs.{Grammar.IsOneOf, Grammar.Row, declared.symbols.Symbol.Symbol}
 use Rattle.inf_syntax.specs.declared.actions.Action.{Action}
-use Rattle.inf_syntax.specs.declared.actions.Action.TheVariants as action
 use Rattle.inf_syntax.specs.Parts.{ !close, !end_for_step, !end_objectloop, !for_top, !loop, !until, directive_2, do_rest, else_part}
 use Rattle.inf_syntax.specs.Parts.{for_rest, for_rest_3, if_rest, objectloop_rest, statement, switch_rest, switch_rest_1, value_3}
 use Rattle.inf_syntax.specs.Parts.{while_rest}
@@ -36,11 +33,11 @@ pub quiet_parts : (Of : ℕ → List Happening → Type 0)
     → ((rule : ℕ) (hs : List Happening) → Of rule hs → is_quiet_rule rule ≡ true → happen_quietly hs ≡ true)
     → (symbols : List (Symbol Action)) (hs : List Happening) → Parts Of symbols hs → all_quiet symbols ≡ true → happen_quietly hs ≡ true
 quiet_parts Of below [] hs p q = ap happen_quietly p
-quiet_parts Of below (Token class ∷ symbols) hs p q = ap happen_quietly p.2 ∙ quiet_parts Of below symbols p.1 p.3 q
-quiet_parts Of below (Act a ∷ symbols) hs p q =
+quiet_parts Of below (Symbol.Token class ∷ symbols) hs p q = ap happen_quietly p.2 ∙ quiet_parts Of below symbols p.1 p.3 q
+quiet_parts Of below (Symbol.Act a ∷ symbols) hs p q =
     let both = and_parts (is_quiet a) (all_quiet symbols) q in
     ap happen_quietly p.2 ∙ and_from (is_quiet a) (happen_quietly p.1) both.0 (quiet_parts Of below symbols p.1 p.3 both.1)
-quiet_parts Of below (Rule rule ∷ symbols) hs p q =
+quiet_parts Of below (Symbol.Rule rule ∷ symbols) hs p q =
     let both = and_parts (is_quiet_rule rule) (all_quiet symbols) q in
     ap happen_quietly p.2 ∙ quietly_joined p.0 p.1 (below rule p.0 p.3 both.0) (quiet_parts Of below symbols p.1 p.4 both.1)
 
@@ -70,8 +67,8 @@ Below deep = (b : Bool) (rule : ℕ) (hs : List Happening) → OfRule deep rule 
 abbrev one : (h : Happening) → happens_quietly h ≡ true → Quiet
 one h q = record { all = h ∷ []; are = and_from (happens_quietly h) true q refl }
 
-case_is : (a : Action) → is_case a ≡ true → a ≡ action.EndCase
-case_is action.EndCase e = refl
+case_is : (a : Action) → is_case a ≡ true → a ≡ Action.EndCase
+case_is Action.EndCase e = refl
 case_is _ e = cc
 
 case_nests : (b : Bool) (a : Action) (place : Moment) → (b && is_case a) ≡ true → Nests b (Acts place a ∷ [])
@@ -98,13 +95,13 @@ nest_parts : (Of : ℕ → List Happening → Type 0) (b : Bool)
     → ((rule : ℕ) (hs : List Happening) → Of rule hs → may b rule ≡ true → Nests b hs)
     → (symbols : List (Symbol Action)) (hs : List Happening) → Parts Of symbols hs → all_may b symbols ≡ true → Nests b hs
 nest_parts Of b below [] hs p m = record { nested = Plain (record { all = []; are = refl }); same = sym p }
-nest_parts Of b below (Token class ∷ symbols) hs p m =
+nest_parts Of b below (Symbol.Token class ∷ symbols) hs p m =
     then_nests b (Takes p.0.0 p.0.1 ∷ []) p.1 hs p.2 (record { nested = Plain (one (Takes p.0.0 p.0.1) refl); same = refl })
     (nest_parts Of b below symbols p.1 p.3 m)
-nest_parts Of b below (Act a ∷ symbols) hs p m =
+nest_parts Of b below (Symbol.Act a ∷ symbols) hs p m =
     let both = and_parts (is_quiet a || (b && is_case a)) (all_may b symbols) m in
     then_nests b (Acts p.0 a ∷ []) p.1 hs p.2 (act_nests b a p.0 both.0) (nest_parts Of b below symbols p.1 p.3 both.1)
-nest_parts Of b below (Rule rule ∷ symbols) hs p m =
+nest_parts Of b below (Symbol.Rule rule ∷ symbols) hs p m =
     let both = and_parts (may b rule) (all_may b symbols) m in
     then_nests b p.0 p.1 hs p.2 (below rule p.0 p.3 both.0) (nest_parts Of b below symbols p.1 p.4 both.1)
 
@@ -115,17 +112,17 @@ body_of deep below hs o = below false (number statement) hs o statement_may
 -- The end: only the closing is left.
 record Closing (hs : List Happening) : Type 0 where
   closes : Moment
-  same : hs ≡ Acts closes action.Close ∷ []
+  same : hs ≡ Acts closes Action.Close ∷ []
 
 closing : (Of : ℕ → List Happening → Type 0) (hs : List Happening) → Parts Of (!close ∷ []) hs → Closing hs
-closing Of hs p = record { closes = p.0; same = p.2 ∙ ap (λ l. Acts p.0 action.Close ∷ l) p.3 }
+closing Of hs p = record { closes = p.0; same = p.2 ∙ ap (λ l. Acts p.0 Action.Close ∷ l) p.3 }
 
 -- a statement, and then the closing
 record BodyRead (deep : ℕ) (hs : List Happening) : Type 0 where
   body : List Happening
   of_body : OfRule deep (number statement) body
   closes : Moment
-  same : hs ≡ body ++ Acts closes action.Close ∷ []
+  same : hs ≡ body ++ Acts closes Action.Close ∷ []
 
 body_read : (deep : ℕ) (hs : List Happening) → Parts (OfRule deep) (statement ∷ !close ∷ []) hs → BodyRead deep hs
 body_read deep hs p =
@@ -145,24 +142,24 @@ while_nests deep b hs below o =
     record {
       nested = While p.0 (quiet_of deep while_test s.front s.of_front quiet_while_test) inner.nested body.closes;
       same =
-          ap (λ l. Acts p.0 action.OpenWhile ∷ (s.front ++ (l ++ Acts body.closes action.Close ∷ []))) inner.same
-          ∙ (ap (λ l. Acts p.0 action.OpenWhile ∷ (s.front ++ l)) (sym body.same)
-          ∙ (ap (λ l. Acts p.0 action.OpenWhile ∷ l) (sym s.joined) ∙ sym p.2));
+          ap (λ l. Acts p.0 Action.OpenWhile ∷ (s.front ++ (l ++ Acts body.closes Action.Close ∷ []))) inner.same
+          ∙ (ap (λ l. Acts p.0 Action.OpenWhile ∷ (s.front ++ l)) (sym body.same)
+          ∙ (ap (λ l. Acts p.0 Action.OpenWhile ∷ l) (sym s.joined) ∙ sym p.2));
       is = refl;
     }
 
 -- The end of an `if` behind its body: its `else`, or the closing alone.
 data ElseRead (deep : ℕ) (hs : List Happening) : Type 0 where
-  Without : (closes : Moment) → hs ≡ Acts closes action.Close ∷ [] → ElseRead deep hs
+  Without : (closes : Moment) → hs ≡ Acts closes Action.Close ∷ [] → ElseRead deep hs
   With : (joins : Moment) (word : Quiet) (other : List Happening) (closes : Moment) → OfRule deep (number statement) other
-      → hs ≡ Acts joins action.Else ∷ (word.all ++ (other ++ Acts closes action.Close ∷ [])) → ElseRead deep hs
+      → hs ≡ Acts joins Action.Else ∷ (word.all ++ (other ++ Acts closes Action.Close ∷ [])) → ElseRead deep hs
 
 else_by : (deep : ℕ) (hs : List Happening) → Parts (OfRule deep) else_parts hs → ElseRead (suc deep) hs
 else_by deep hs p =
     let s = split (OfRule deep) else_word (statement ∷ !close ∷ []) p.1 p.3 in
     let body = body_read deep s.rest s.of_rest in
     With p.0 (quiet_of deep else_word s.front s.of_front refl) body.body body.closes (raised deep (number statement) body.body body.of_body)
-    (p.2 ∙ (ap (λ l. Acts p.0 action.Else ∷ l) s.joined ∙ ap (λ l. Acts p.0 action.Else ∷ (s.front ++ l)) body.same))
+    (p.2 ∙ (ap (λ l. Acts p.0 Action.Else ∷ l) s.joined ∙ ap (λ l. Acts p.0 Action.Else ∷ (s.front ++ l)) body.same))
 
 lone_by : (deep : ℕ) (hs : List Happening) → Parts (OfRule deep) lone_parts hs → ElseRead (suc deep) hs
 lone_by deep hs p = let c = closing (OfRule deep) hs p in Without c.closes c.same
@@ -176,13 +173,13 @@ else_read (suc deep) hs o =
     ]
 
 if_by : (deep : ℕ) (b : Bool) (hs body rest : List Happening) (opens : Moment) (test : Quiet) → Below deep
-    → hs ≡ Acts opens action.OpenIf ∷ (test.all ++ (body ++ rest)) → Nests false body → ElseRead deep rest
+    → hs ≡ Acts opens Action.OpenIf ∷ (test.all ++ (body ++ rest)) → Nests false body → ElseRead deep rest
     → Compound b if_rest hs
 if_by deep b hs body rest opens test below e inner (Without closes same) = record {
   nested = If opens test inner.nested closes;
   same =
-      ap (λ l. Acts opens action.OpenIf ∷ (test.all ++ (l ++ Acts closes action.Close ∷ []))) inner.same
-      ∙ (ap (λ l. Acts opens action.OpenIf ∷ (test.all ++ (body ++ l))) (sym same) ∙ sym e);
+      ap (λ l. Acts opens Action.OpenIf ∷ (test.all ++ (l ++ Acts closes Action.Close ∷ []))) inner.same
+      ∙ (ap (λ l. Acts opens Action.OpenIf ∷ (test.all ++ (body ++ l))) (sym same) ∙ sym e);
   is = refl;
 }
 if_by deep b hs body rest opens test below e inner (With joins word other closes of_other same) =
@@ -190,12 +187,12 @@ if_by deep b hs body rest opens test below e inner (With joins word other closes
     record {
       nested = IfElse opens test inner.nested joins word on.nested closes;
       same =
-          ap (λ l. Acts opens action.OpenIf ∷
-          (test.all ++ (l ++ Acts joins action.Else ∷ (word.all ++ (happenings on.nested ++ Acts closes action.Close ∷ [])))))
+          ap (λ l. Acts opens Action.OpenIf ∷
+          (test.all ++ (l ++ Acts joins Action.Else ∷ (word.all ++ (happenings on.nested ++ Acts closes Action.Close ∷ [])))))
           inner.same
-          ∙ (ap (λ l. Acts opens action.OpenIf ∷
-          (test.all ++ (body ++ Acts joins action.Else ∷ (word.all ++ (l ++ Acts closes action.Close ∷ []))))) on.same
-          ∙ (ap (λ l. Acts opens action.OpenIf ∷ (test.all ++ (body ++ l))) (sym same) ∙ sym e));
+          ∙ (ap (λ l. Acts opens Action.OpenIf ∷
+          (test.all ++ (body ++ Acts joins Action.Else ∷ (word.all ++ (l ++ Acts closes Action.Close ∷ []))))) on.same
+          ∙ (ap (λ l. Acts opens Action.OpenIf ∷ (test.all ++ (body ++ l))) (sym same) ∙ sym e));
       is = refl;
     }
 
@@ -207,7 +204,7 @@ if_nests deep b hs below o =
     let r = q.4 in
     let whole : s.rest ≡ q.0 ++ r.0 = q.2 ∙ ap (λ l. q.0 ++ l) (r.2 ∙ (ap (λ l. r.0 ++ l) r.4 ∙ append-nil r.0)) in
     if_by deep b hs q.0 r.0 p.0 (quiet_of deep if_test s.front s.of_front quiet_if_test) below
-    (p.2 ∙ (ap (λ l. Acts p.0 action.OpenIf ∷ l) s.joined ∙ ap (λ l. Acts p.0 action.OpenIf ∷ (s.front ++ l)) whole))
+    (p.2 ∙ (ap (λ l. Acts p.0 Action.OpenIf ∷ l) s.joined ∙ ap (λ l. Acts p.0 Action.OpenIf ∷ (s.front ++ l)) whole))
     (body_of deep below q.0 q.3) (else_read deep r.0 r.3)
 
 do_nests : (deep : ℕ) (b : Bool) (hs : List Happening) → Below deep → OfRule (suc deep) (number do_rest) hs → Compound b do_rest hs
@@ -223,12 +220,12 @@ do_nests deep b hs below o =
       nested = Do p.0 inner.nested (quiet_of deep until_word s.front s.of_front refl) u.0 (quiet_of deep until_test t.front t.of_front
           quiet_until_test) c.closes;
       same =
-          ap (λ l. Acts p.0 action.OpenDo ∷ (l ++ (s.front ++ Acts u.0 action.Until ∷ (t.front ++ Acts c.closes action.Close ∷ []))))
+          ap (λ l. Acts p.0 Action.OpenDo ∷ (l ++ (s.front ++ Acts u.0 Action.Until ∷ (t.front ++ Acts c.closes Action.Close ∷ []))))
           inner.same
-          ∙ (ap (λ l. Acts p.0 action.OpenDo ∷ (q.0 ++ (s.front ++ Acts u.0 action.Until ∷ (t.front ++ l)))) (sym c.same)
-          ∙ (ap (λ l. Acts p.0 action.OpenDo ∷ (q.0 ++ (s.front ++ Acts u.0 action.Until ∷ l))) (sym t.joined)
-          ∙ (ap (λ l. Acts p.0 action.OpenDo ∷ (q.0 ++ (s.front ++ l))) (sym u.2)
-          ∙ (ap (λ l. Acts p.0 action.OpenDo ∷ (q.0 ++ l)) (sym s.joined) ∙ (ap (λ l. Acts p.0 action.OpenDo ∷ l) (sym q.2) ∙ sym p.2)))));
+          ∙ (ap (λ l. Acts p.0 Action.OpenDo ∷ (q.0 ++ (s.front ++ Acts u.0 Action.Until ∷ (t.front ++ l)))) (sym c.same)
+          ∙ (ap (λ l. Acts p.0 Action.OpenDo ∷ (q.0 ++ (s.front ++ Acts u.0 Action.Until ∷ l))) (sym t.joined)
+          ∙ (ap (λ l. Acts p.0 Action.OpenDo ∷ (q.0 ++ (s.front ++ l))) (sym u.2)
+          ∙ (ap (λ l. Acts p.0 Action.OpenDo ∷ (q.0 ++ l)) (sym s.joined) ∙ (ap (λ l. Acts p.0 Action.OpenDo ∷ l) (sym q.2) ∙ sym p.2)))));
       is = refl;
     }
 
@@ -243,7 +240,7 @@ step_by deep hs p =
     let e = s.of_rest in
     record {
       step = StepEnds (quiet_of deep step_front s.front s.of_front quiet_step_front) e.0;
-      same = ap (λ l. s.front ++ Acts e.0 action.EndForStep ∷ l) (sym e.3) ∙ (ap (λ l. s.front ++ l) (sym e.2) ∙ sym s.joined);
+      same = ap (λ l. s.front ++ Acts e.0 Action.EndForStep ∷ l) (sym e.3) ∙ (ap (λ l. s.front ++ l) (sym e.2) ∙ sym s.joined);
     }
 
 step_read : (deep : ℕ) (hs : List Happening) → OfRule deep (number for_rest_3) hs → StepRead hs
@@ -265,9 +262,9 @@ for_nests deep b hs below o =
     let k = split (OfRule deep) bracket (statement ∷ !close ∷ []) q.1 q.4 in
     let body = body_read deep k.rest k.of_rest in
     let inner = body_of deep below body.body body.of_body in
-    let opened = λ (l : List Happening). Acts p.0 action.OpenFor ∷ l in
+    let opened = λ (l : List Happening). Acts p.0 Action.OpenFor ∷ l in
     let started = λ (l : List Happening). opened (s.front ++ l) in
-    let topped = λ (l : List Happening). started (Acts u.0 action.ForTop ∷ l) in
+    let topped = λ (l : List Happening). started (Acts u.0 Action.ForTop ∷ l) in
     let tested = λ (l : List Happening). topped (t.front ++ l) in
     let stepped = λ (l : List Happening). tested (q.0 ++ l) in
     let bracketed = λ (l : List Happening). stepped (k.front ++ l) in
@@ -275,8 +272,8 @@ for_nests deep b hs below o =
       nested = For p.0 (quiet_of deep for_start s.front s.of_front quiet_for_start) u.0 (quiet_of deep for_test t.front t.of_front
           quiet_for_test) step.step (quiet_of deep bracket k.front k.of_front refl) inner.nested body.closes;
       same =
-          ap (λ l. tested (l ++ (k.front ++ (happenings inner.nested ++ Acts body.closes action.Close ∷ [])))) step.same
-          ∙ (ap (λ l. bracketed (l ++ Acts body.closes action.Close ∷ [])) inner.same
+          ap (λ l. tested (l ++ (k.front ++ (happenings inner.nested ++ Acts body.closes Action.Close ∷ [])))) step.same
+          ∙ (ap (λ l. bracketed (l ++ Acts body.closes Action.Close ∷ [])) inner.same
           ∙ (ap bracketed (sym body.same)
           ∙ (ap stepped (sym k.joined) ∙ (ap tested (sym q.2)
           ∙ (ap topped (sym t.joined) ∙ (ap started (sym u.2) ∙ (ap opened (sym s.joined) ∙ sym p.2)))))));
@@ -293,16 +290,16 @@ loop_nests deep b hs below o =
     let k = split (OfRule deep) bracket (statement ∷ !close ∷ []) v.1 v.3 in
     let body = body_read deep k.rest k.of_rest in
     let inner = body_of deep below body.body body.of_body in
-    let opened = λ (l : List Happening). Acts p.0 action.OpenObjectloop ∷ l in
+    let opened = λ (l : List Happening). Acts p.0 Action.OpenObjectloop ∷ l in
     let units = λ (l : List Happening). opened (s.front ++ l) in
-    let ended = λ (l : List Happening). units (Acts u.0 action.EndObjectloop ∷ l) in
-    let joined = λ (l : List Happening). ended (Acts v.0 action.Loop ∷ l) in
+    let ended = λ (l : List Happening). units (Acts u.0 Action.EndObjectloop ∷ l) in
+    let joined = λ (l : List Happening). ended (Acts v.0 Action.Loop ∷ l) in
     let bracketed = λ (l : List Happening). joined (k.front ++ l) in
     record {
       nested = Objectloop p.0 (quiet_of deep loop_unit s.front s.of_front quiet_loop_unit) u.0 v.0
           (quiet_of deep bracket k.front k.of_front refl) inner.nested body.closes;
       same =
-          ap (λ l. bracketed (l ++ Acts body.closes action.Close ∷ [])) inner.same
+          ap (λ l. bracketed (l ++ Acts body.closes Action.Close ∷ [])) inner.same
           ∙ (ap bracketed (sym body.same)
           ∙ (ap joined (sym k.joined) ∙ (ap ended (sym v.2) ∙ (ap units (sym u.2) ∙ (ap opened (sym s.joined) ∙ sym p.2)))));
       is = refl;
@@ -317,13 +314,13 @@ switch_nests deep b hs below o =
     let inner = below true (number switch_rest_1) q.0 q.3 cases_may in
     let k = split (OfRule deep) brace (!close ∷ []) q.1 q.4 in
     let c = closing (OfRule deep) k.rest k.of_rest in
-    let opened = λ (l : List Happening). Acts p.0 action.OpenSwitch ∷ l in
+    let opened = λ (l : List Happening). Acts p.0 Action.OpenSwitch ∷ l in
     let valued = λ (l : List Happening). opened (s.front ++ l) in
     record {
       nested = Switch p.0 (quiet_of deep switch_value s.front s.of_front quiet_switch_value) inner.nested
           (quiet_of deep brace k.front k.of_front refl) c.closes;
       same =
-          ap (λ l. valued (l ++ (k.front ++ Acts c.closes action.Close ∷ []))) inner.same
+          ap (λ l. valued (l ++ (k.front ++ Acts c.closes Action.Close ∷ []))) inner.same
           ∙ (ap (λ l. valued (q.0 ++ (k.front ++ l))) (sym c.same)
           ∙ (ap (λ l. valued (q.0 ++ l)) (sym k.joined) ∙ (ap valued (sym q.2) ∙ (ap opened (sym s.joined) ∙ sym p.2))));
       is = refl;

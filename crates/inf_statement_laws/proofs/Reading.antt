@@ -3,26 +3,16 @@ use Rattle.std.proofs.Common.{◌≡◌, ℕ, zero, suc, ◌+◌, Option, Some, 
 use Rattle.std.proofs.Common.{Bool, ◌&&◌}
 use Rattle.std.proofs.lemmas.Bool.{and_from, and_parts}
 use Rattle.inf_settings.specs.Bounds.{Limits}
-use Rattle.inf_scanner.specs.declared.tokens.Mark.TheVariants as mark
-use Rattle.inf_scanner.specs.declared.tokens.Place.{Place}
-use Rattle.inf_machine.specs.declared.symbols.Symbol.{Symbol}
-use Rattle.inf_machine.specs.declared.symbols.Symbol.TheVariants.{Act, Rule, Token}
+use Rattle.inf_scanner.specs.{declared.tokens.Mark.Mark, declared.tokens.Place.Place}
+use Rattle.inf_machine.specs.{Machine.events_of, Machine.fits, Machine.taken, Machine.work, declared.symbols.Symbol.Symbol}
 use Rattle.inf_machine.specs.Grammar.{Did, Event, IsText, Took, here}
-use Rattle.inf_machine.specs.Machine.{events_of, fits, taken, work}
 use Rattle.inf_machine.proofs.Taking.{leads_on}
-use Rattle.inf_syntax.specs.Atoms.{mark_atom}
-use Rattle.inf_syntax.specs.declared.actions.Action.{Action}
-use Rattle.inf_syntax.specs.declared.actions.Action.TheVariants as action
+use Rattle.inf_syntax.specs.{Atoms.mark_atom, declared.actions.Action.Action}
 use Rattle.inf_syntax.specs.Parts.{ !end_locals, !end_routine, directive, directive_2}
-use Rattle.inf_grammar.specs.Evaluated.{language_is_decided}
-use Rattle.inf_grammar.specs.Language.{grammar, known}
-use Rattle.inf_grammar.specs.Routines.{closings}
-use Rattle.inf_compilation.specs.Context.{Context}
-use Rattle.inf_unit.specs.Tokens.{SourceToken}
-use Rattle.inf_unit.specs.Units.{first_place, names_in}
+use Rattle.inf_grammar.specs.{Evaluated.language_is_decided, Language.grammar, Language.known, Routines.closings}
+use Rattle.inf_compilation.specs.{Actions.Compilation, Actions.took, Context.Context, Nesting.closed_ahead, Nesting.construct_ended}
+use Rattle.inf_unit.specs.{Tokens.SourceToken, Units.first_place, Units.names_in}
 use Rattle.inf_reader.specs.Acting.{act, acted}
-use Rattle.inf_compilation.specs.Actions.{Compilation, took}
-use Rattle.inf_compilation.specs.Nesting.{closed_ahead, construct_ended}
 use Rattle.inf_statement_laws.specs.Happenings.{Acts, AreOf, Between, Happening, Quiet, Takes, happen_quietly, is_quiet}
 use Rattle.inf_statement_laws.specs.Laid.{happens, next_comes, passed, run}
 use Rattle.inf_statement_laws.specs.Laws.{AreRoutine, RoutinesAreReadWhole, TokensHappen}
@@ -31,13 +21,12 @@ use Rattle.inf_statement_laws.specs.Nested.{While, happenings, step_happenings}
 use Rattle.inf_statement_laws.specs.Readings.{Routine, Seen, all_fit, all_happenings, all_taken, behind_ends, behind_some, behind_token}
 use Rattle.inf_statement_laws.specs.Readings.{body_laid, directed, left_behind, routine_happenings, routine_laid, token_happenings}
 use Rattle.inf_statement_laws.specs.Readings.{with_behind}
+use Rattle.inf_statement_laws.proofs.{Nesting.body_in, Nesting.quiet_of, Texts.OfRule, Texts.Parts, Texts.deep, Texts.split}
 use Rattle.inf_statement_laws.proofs.Acts.{header_same, inside_act, is_inside, own_alone, quiet_inside, quiet_run, took_none}
 use Rattle.inf_statement_laws.proofs.Laying.{ahead, ahead_is, alone_behind, closing_open, depth_of, laid_as, next_ahead, next_passed}
 use Rattle.inf_statement_laws.proofs.Laying.{run_then}
-use Rattle.inf_statement_laws.proofs.Nesting.{body_in, quiet_of}
 use Rattle.inf_statement_laws.proofs.Rules.{header_parts, last_parts, piece_begins, quiet_header, routine_begins, routine_fits}
 use Rattle.inf_statement_laws.proofs.Rules.{routine_parts, semicolon_parts}
-use Rattle.inf_statement_laws.proofs.Texts.{OfRule, Parts, deep, split}
 
 -- Tokens
 
@@ -126,7 +115,7 @@ tokens_happen limits = record {
 -- the actions of `count` endings
 abbrev ends : ℕ → List Action
 ends zero = []
-ends (suc count) = action.Close ∷ ends count
+ends (suc count) = Action.Close ∷ ends count
 
 acted_then : (limits : Limits) (context : Context) (place : Place) (xs ys : List Action) (w : Compilation)
     → acted limits context place (xs ++ ys) w ≡ acted limits context place ys (acted limits context place xs w)
@@ -137,19 +126,19 @@ acted_then limits context place (x ∷ xs) ys w = acted_then limits context plac
 closings_first : (atom : ℕ) (symbols : List (Symbol Action))
     → (rest : List Action) × ((taken grammar known atom symbols).actions ≡ ends (closings symbols) ++ rest)
 closings_first atom [] = ((taken grammar known atom []).actions, refl)
-closings_first atom (Token class ∷ symbols) = ((taken grammar known atom (Token class ∷ symbols)).actions, refl)
-closings_first atom (Rule rule ∷ symbols) = ((taken grammar known atom (Rule rule ∷ symbols)).actions, refl)
-closings_first atom (Act action.Close ∷ symbols) =
+closings_first atom (Symbol.Token class ∷ symbols) = ((taken grammar known atom (Symbol.Token class ∷ symbols)).actions, refl)
+closings_first atom (Symbol.Rule rule ∷ symbols) = ((taken grammar known atom (Symbol.Rule rule ∷ symbols)).actions, refl)
+closings_first atom (Symbol.Act Action.Close ∷ symbols) =
     let on = closings_first atom symbols in
     let more : suc (closings symbols) ≡ 1 + closings symbols = omega arith in
-    (on.0, ap (λ l. action.Close ∷ l) on.1 ∙ ap (λ n. ends n ++ on.0) more)
-closings_first atom (Act a ∷ symbols) = ((taken grammar known atom (Act a ∷ symbols)).actions, refl)
+    (on.0, ap (λ l. Action.Close ∷ l) on.1 ∙ ap (λ n. ends n ++ on.0) more)
+closings_first atom (Symbol.Act a ∷ symbols) = ((taken grammar known atom (Symbol.Act a ∷ symbols)).actions, refl)
 
 ends_none : (limits : Limits) (context : Context) (place : Place) (count : ℕ) (w : Compilation) → w.closed ≡ 0 →
     (acted limits context place (ends count) w).closed ≡ 0
 ends_none limits context place zero w e = e
-ends_none limits context place (suc count) w e = ends_none limits context place count (act limits context place action.Close w)
-    (inside_act limits context place action.Close w refl e)
+ends_none limits context place (suc count) w e = ends_none limits context place count (act limits context place Action.Close w)
+    (inside_act limits context place Action.Close w refl e)
 
 -- the statements that were closed ahead end, and the effects meanwhile come behind their ends
 ahead_ends : (limits : Limits) (context : Context) (place : Place) (m : Between) (count : ℕ) (w : Compilation) → w.closed ≡ 0
@@ -168,7 +157,7 @@ behind_ends_run : (limits : Limits) (context : Context) (t : SourceToken) (b m :
     ≡ run limits context (token_happenings t b rest ++ others) (passed m (acted limits context t.place (ends (suc count)) w))
 behind_ends_run limits context t b m zero rest others w = refl
 behind_ends_run limits context t b m (suc count) rest others w =
-    behind_ends_run limits context t b m count rest others (act limits context t.place action.Close w)
+    behind_ends_run limits context t b m count rest others (act limits context t.place Action.Close w)
 
 -- Inside of a routine
 
@@ -248,48 +237,48 @@ quiet_then q hs i = inside_joined q.all hs (quiet_is_inside q.all q.are) i
 
 step_is_inside : (step : Step) → happen_inside (step_happenings step) ≡ true
 step_is_inside NoStep = refl
-step_is_inside (StepEnds step ends) = quiet_then step (Acts ends action.EndForStep ∷ []) refl
+step_is_inside (StepEnds step ends) = quiet_then step (Acts ends Action.EndForStep ∷ []) refl
 
 nested_is_inside : {b : Bool} (n : Nested b) → happen_inside (happenings n) ≡ true
 nested_is_inside (Plain plain) = quiet_is_inside plain.all plain.are
 nested_is_inside (Then before behind) = inside_joined (happenings before) (happenings behind) (nested_is_inside before)
     (nested_is_inside behind)
-nested_is_inside (Case values ends) = quiet_then values (Acts ends action.EndCase ∷ []) refl
+nested_is_inside (Case values ends) = quiet_then values (Acts ends Action.EndCase ∷ []) refl
 nested_is_inside (If opens test body closes) =
-    quiet_then test (happenings body ++ Acts closes action.Close ∷ []) (inside_joined (happenings body) (Acts closes action.Close ∷ [])
+    quiet_then test (happenings body ++ Acts closes Action.Close ∷ []) (inside_joined (happenings body) (Acts closes Action.Close ∷ [])
     (nested_is_inside body) refl)
 nested_is_inside (IfElse opens test body joins word other closes) =
-    let last : List Happening = Acts closes action.Close ∷ [] in
+    let last : List Happening = Acts closes Action.Close ∷ [] in
     let rest : List Happening = word.all ++ (happenings other ++ last) in
-    quiet_then test (happenings body ++ Acts joins action.Else ∷ rest)
-    (inside_joined (happenings body) (Acts joins action.Else ∷ rest) (nested_is_inside body)
+    quiet_then test (happenings body ++ Acts joins Action.Else ∷ rest)
+    (inside_joined (happenings body) (Acts joins Action.Else ∷ rest) (nested_is_inside body)
     (quiet_then word (happenings other ++ last) (inside_joined (happenings other) last (nested_is_inside other) refl)))
 nested_is_inside (While opens test body closes) =
-    quiet_then test (happenings body ++ Acts closes action.Close ∷ []) (inside_joined (happenings body) (Acts closes action.Close ∷ [])
+    quiet_then test (happenings body ++ Acts closes Action.Close ∷ []) (inside_joined (happenings body) (Acts closes Action.Close ∷ [])
     (nested_is_inside body) refl)
 nested_is_inside (Do opens body word joins test closes) =
-    let last : List Happening = test.all ++ Acts closes action.Close ∷ [] in
-    inside_joined (happenings body) (word.all ++ Acts joins action.Until ∷ last) (nested_is_inside body)
-    (quiet_then word (Acts joins action.Until ∷ last) (quiet_then test (Acts closes action.Close ∷ []) refl))
+    let last : List Happening = test.all ++ Acts closes Action.Close ∷ [] in
+    inside_joined (happenings body) (word.all ++ Acts joins Action.Until ∷ last) (nested_is_inside body)
+    (quiet_then word (Acts joins Action.Until ∷ last) (quiet_then test (Acts closes Action.Close ∷ []) refl))
 nested_is_inside (For opens start joins test step bracket body closes) =
-    let last : List Happening = happenings body ++ Acts closes action.Close ∷ [] in
-    quiet_then start (Acts joins action.ForTop ∷ (test.all ++ (step_happenings step ++ (bracket.all ++ last))))
+    let last : List Happening = happenings body ++ Acts closes Action.Close ∷ [] in
+    quiet_then start (Acts joins Action.ForTop ∷ (test.all ++ (step_happenings step ++ (bracket.all ++ last))))
     (quiet_then test (step_happenings step ++ (bracket.all ++ last))
     (inside_joined (step_happenings step) (bracket.all ++ last) (step_is_inside step)
-    (quiet_then bracket last (inside_joined (happenings body) (Acts closes action.Close ∷ []) (nested_is_inside body) refl))))
+    (quiet_then bracket last (inside_joined (happenings body) (Acts closes Action.Close ∷ []) (nested_is_inside body) refl))))
 nested_is_inside (Objectloop opens loop ends joins bracket body closes) =
-    let last : List Happening = happenings body ++ Acts closes action.Close ∷ [] in
-    quiet_then loop (Acts ends action.EndObjectloop ∷ Acts joins action.Loop ∷ (bracket.all ++ last))
-    (quiet_then bracket last (inside_joined (happenings body) (Acts closes action.Close ∷ []) (nested_is_inside body) refl))
+    let last : List Happening = happenings body ++ Acts closes Action.Close ∷ [] in
+    quiet_then loop (Acts ends Action.EndObjectloop ∷ Acts joins Action.Loop ∷ (bracket.all ++ last))
+    (quiet_then bracket last (inside_joined (happenings body) (Acts closes Action.Close ∷ []) (nested_is_inside body) refl))
 nested_is_inside (Switch opens value cases brace closes) =
-    let last : List Happening = brace.all ++ Acts closes action.Close ∷ [] in
+    let last : List Happening = brace.all ++ Acts closes Action.Close ∷ [] in
     quiet_then value (happenings cases ++ last)
-    (inside_joined (happenings cases) last (nested_is_inside cases) (quiet_then brace (Acts closes action.Close ∷ []) refl))
+    (inside_joined (happenings cases) last (nested_is_inside cases) (quiet_then brace (Acts closes Action.Close ∷ []) refl))
 
 routine_is_inside : (r : Routine) → happen_inside (routine_happenings r) ≡ true
 routine_is_inside r =
-    let last : List Happening = Acts r.ends action.EndRoutine ∷ r.last.all in
-    quiet_then r.header (Acts r.heads action.EndLocals ∷ (r.semicolon.all ++ (happenings r.body ++ last)))
+    let last : List Happening = Acts r.ends Action.EndRoutine ∷ r.last.all in
+    quiet_then r.header (Acts r.heads Action.EndLocals ∷ (r.semicolon.all ++ (happenings r.body ++ last)))
     (quiet_then r.semicolon (happenings r.body ++ last) (inside_joined (happenings r.body) last (nested_is_inside r.body)
     (quiet_is_inside r.last.all r.last.are)))
 
@@ -419,7 +408,7 @@ routine_of n hs p =
     let body = body_in n q.0 q.3 in
     let l = q.4 in
     let headed = λ (l : List Happening). h.front ++ l in
-    let named = λ (l : List Happening). headed (Acts e.0 action.EndLocals ∷ l) in
+    let named = λ (l : List Happening). headed (Acts e.0 Action.EndLocals ∷ l) in
     let opened = λ (l : List Happening). named (s.front ++ l) in (
       record {
         header = quiet_of n header_parts h.front h.of_front quiet_header;
@@ -429,12 +418,12 @@ routine_of n hs p =
         ends = l.0;
         last = quiet_of n last_parts l.1 l.3 refl;
       },
-      ap (λ x. opened (x ++ Acts l.0 action.EndRoutine ∷ l.1)) body.1
+      ap (λ x. opened (x ++ Acts l.0 Action.EndRoutine ∷ l.1)) body.1
           ∙ (ap (λ x. opened (q.0 ++ x)) (sym l.2)
           ∙ (ap opened (sym q.2) ∙ (ap named (sym s.joined) ∙ (ap headed (sym e.2) ∙ sym h.joined)))),
     )
 
-are_routines : (bracket : Seen) (seen : List Seen) → bracket.atom ≡ mark_atom mark.OpenBracket
+are_routines : (bracket : Seen) (seen : List Seen) → bracket.atom ≡ mark_atom Mark.OpenBracket
     → all_fit (bracket ∷ seen) (directive ∷ []) ≡ true
     → left_behind (bracket ∷ seen) (directive ∷ []) ≡ [] → (r : Routine) × (routine_happenings r ≡ all_happenings (bracket ∷ seen)
     (directive ∷ []))
@@ -458,7 +447,7 @@ are_routines bracket seen is f e =
 -- the compilation behind the header of a routine
 abbrev headed : Limits → Context → Routine → Compilation → Compilation
 headed limits context r w =
-    run limits context r.semicolon.all (happens limits context (Acts r.heads action.EndLocals) (run limits context r.header.all w))
+    run limits context r.semicolon.all (happens limits context (Acts r.heads Action.EndLocals) (run limits context r.header.all w))
 
 headed_same : (limits : Limits) (context : Context) (r : Routine) (w : Compilation) → w.closed ≡ 0
     → ((headed limits context r w).closed ≡ 0) × (w.constructs ≡ [] → (headed limits context r w).constructs ≡ [])
@@ -466,15 +455,15 @@ headed_same limits context r w e =
     let v = run limits context r.header.all w in
     let h = quiet_run limits context r.header.all w r.header.are in
     let n = header_same limits context (first_place v.unit.tokens r.heads.place) (names_in v.unit.tokens) v in
-    let s = quiet_run limits context r.semicolon.all (happens limits context (Acts r.heads action.EndLocals) v) r.semicolon.are in
+    let s = quiet_run limits context r.semicolon.all (happens limits context (Acts r.heads Action.EndLocals) v) r.semicolon.are in
     (s.1 ∙ (n.0 ∙ (h.1 ∙ e)), λ o. s.0 ∙ n.1 (h.0 ∙ o))
 
 routine_lays : (limits : Limits) (context : Context) (r : Routine) (w : Compilation) → w.closed ≡ 0 →
     run limits context (routine_happenings r) w ≡ routine_laid limits context r w
 routine_lays limits context r w e =
-    let rest : List Happening = Acts r.ends action.EndRoutine ∷ r.last.all in
-    let v = happens limits context (Acts r.heads action.EndLocals) (run limits context r.header.all w) in
-    run_then limits context r.header.all (Acts r.heads action.EndLocals ∷ (r.semicolon.all ++ (happenings r.body ++ rest))) w
+    let rest : List Happening = Acts r.ends Action.EndRoutine ∷ r.last.all in
+    let v = happens limits context (Acts r.heads Action.EndLocals) (run limits context r.header.all w) in
+    run_then limits context r.header.all (Acts r.heads Action.EndLocals ∷ (r.semicolon.all ++ (happenings r.body ++ rest))) w
     ∙ (run_then limits context r.semicolon.all (happenings r.body ++ rest) v
     ∙ (run_then limits context (happenings r.body) rest (headed limits context r w)
     ∙ ap (run limits context rest) (laid_as limits context r.body (headed limits context r w) (headed_same limits context r w e).0).runs))

@@ -2,33 +2,25 @@
 -- these.
 use Rattle.std.proofs.Common.{◌≡◌, ℕ, List, [], ◌∷◌, ◌++◌, Bool, true, false, not, ◌&&◌, ◌||◌, ◌==◌, refl, ap, subst, ◌⊎◌, inl, inr}
 use Rattle.std.proofs.lemmas.Bool.{agree_below, agree_below_at, and_parts, cases_lt}
-use Rattle.inf_machine.specs.declared.symbols.Symbol.{Symbol}
-use Rattle.inf_machine.specs.declared.symbols.Symbol.TheVariants.{Token, Rule, Act}
+use Rattle.inf_machine.specs.{Machine.fits, Machine.taken, Pieces.all_rows, declared.symbols.Symbol.Symbol}
 use Rattle.inf_machine.specs.Grammar.{IsOneOf, Row, first, has, later}
-use Rattle.inf_machine.specs.Pieces.{all_rows}
-use Rattle.inf_syntax.specs.declared.actions.Action.{Action}
-use Rattle.inf_syntax.specs.declared.actions.Action.TheVariants as action
-use Rattle.inf_syntax.specs.Rows.{row, row_unless}
+use Rattle.inf_syntax.specs.{Atoms.mark_atom, Rows.row, Rows.row_unless, declared.actions.Action.Action}
 use Rattle.inf_syntax.specs.Parts.{ !begin, !close, !else, !end_for_step, !end_if, !end_objectloop, !end_switch, !end_until, !end_while}
 use Rattle.inf_syntax.specs.Parts.{ !for_top, !loop, !open_do, !open_for, !open_if, !open_objectloop, !open_switch, !open_while, !outer}
 use Rattle.inf_syntax.specs.Parts.{ !until, 'close_brace', 'close_parenthesis', 'colon', 'else', 'open_brace', 'open_parenthesis'}
 use Rattle.inf_syntax.specs.Parts.{'semicolon', 'until', directive_2, do_rest, else_part, expression, for_rest, for_rest_1, for_rest_2}
 use Rattle.inf_syntax.specs.Parts.{for_rest_3, if_rest, mark_statement, mark_statement_1, objectloop_rest, statement, statement_3}
-use Rattle.inf_syntax.specs.Parts.{switch_rest, switch_rest_1, top_item, value_3, while_rest}
-use Rattle.inf_grammar.specs.Evaluated.{rows_past}
-use Rattle.inf_machine.specs.Machine.{fits, taken}
-use Rattle.inf_scanner.specs.declared.tokens.Mark.TheVariants as mark
-use Rattle.inf_syntax.specs.Atoms.{mark_atom}
-use Rattle.inf_syntax.specs.Parts.{ !end_locals, !end_routine, !routine, 'close_bracket', 'open_bracket', NAME, directive, directive_1}
-use Rattle.inf_syntax.specs.Parts.{piece}
-use Rattle.inf_grammar.specs.Language.{grammar, known}
+use Rattle.inf_syntax.specs.Parts.{switch_rest, switch_rest_1, top_item, value_3, while_rest, !end_locals, !end_routine, !routine}
+use Rattle.inf_syntax.specs.Parts.{'close_bracket', 'open_bracket', NAME, directive, directive_1, piece}
+use Rattle.inf_grammar.specs.{Evaluated.rows_past, Language.grammar, Language.known}
+use Rattle.inf_scanner.specs.declared.tokens.Mark.{Mark}
 use Rattle.inf_statement_laws.specs.Happenings.{is_quiet}
 
 -- the number of a rule
 abbrev pub number : Symbol Action → ℕ
-number (Token class) = 0
-number (Act a) = 0
-number (Rule rule) = rule
+number (Symbol.Token class) = 0
+number (Symbol.Act a) = 0
+number (Symbol.Rule rule) = rule
 
 -- Rules of tokens and quiet actions alone, which the rules of expressions are, as the bits of a number. A rule is among
 -- these where all of its rows have nothing else; for another numbering of the rules, the evaluations below refuse this
@@ -57,7 +49,7 @@ is_rest rule =
     ((rule == number do_rest) || ((rule == number for_rest) || ((rule == number objectloop_rest) || (rule == number switch_rest)))))
 
 abbrev pub is_case : Action → Bool
-is_case action.EndCase = true
+is_case Action.EndCase = true
 is_case _ = false
 
 -- the rules that may come among statements, and among cases
@@ -66,15 +58,15 @@ may b rule = is_quiet_rule rule || (is_holding rule || (is_rest rule || (b && is
 
 abbrev pub all_may : Bool → List (Symbol Action) → Bool
 all_may b [] = true
-all_may b (Token class ∷ symbols) = all_may b symbols
-all_may b (Act a ∷ symbols) = (is_quiet a || (b && is_case a)) && all_may b symbols
-all_may b (Rule rule ∷ symbols) = may b rule && all_may b symbols
+all_may b (Symbol.Token class ∷ symbols) = all_may b symbols
+all_may b (Symbol.Act a ∷ symbols) = (is_quiet a || (b && is_case a)) && all_may b symbols
+all_may b (Symbol.Rule rule ∷ symbols) = may b rule && all_may b symbols
 
 abbrev pub all_quiet : List (Symbol Action) → Bool
 all_quiet [] = true
-all_quiet (Token class ∷ symbols) = all_quiet symbols
-all_quiet (Act a ∷ symbols) = is_quiet a && all_quiet symbols
-all_quiet (Rule rule ∷ symbols) = is_quiet_rule rule && all_quiet symbols
+all_quiet (Symbol.Token class ∷ symbols) = all_quiet symbols
+all_quiet (Symbol.Act a ∷ symbols) = is_quiet a && all_quiet symbols
+all_quiet (Symbol.Rule rule ∷ symbols) = is_quiet_rule rule && all_quiet symbols
 
 -- By evaluation over the table
 
@@ -332,16 +324,16 @@ unfolding is_quiet_rule
 quiet_header = refl
 
 -- a bracket begins a routine, of all pieces and directives
-pub piece_begins : taken grammar known (mark_atom mark.OpenBracket) (piece ∷ []) ≡ taken grammar known (mark_atom mark.OpenBracket)
+pub piece_begins : taken grammar known (mark_atom Mark.OpenBracket) (piece ∷ []) ≡ taken grammar known (mark_atom Mark.OpenBracket)
     (directive ∷ [])
 unfolding grammar known
 piece_begins = refl
 
-pub routine_begins : taken grammar known (mark_atom mark.OpenBracket) (directive ∷ []) ≡ taken grammar known (mark_atom mark.OpenBracket)
+pub routine_begins : taken grammar known (mark_atom Mark.OpenBracket) (directive ∷ []) ≡ taken grammar known (mark_atom Mark.OpenBracket)
     routine_parts
 unfolding grammar known
 routine_begins = refl
 
-pub routine_fits : fits grammar known (mark_atom mark.OpenBracket) routine_parts ≡ true
+pub routine_fits : fits grammar known (mark_atom Mark.OpenBracket) routine_parts ≡ true
 unfolding grammar known
 routine_fits = refl

@@ -2,20 +2,13 @@
 -- tokens are taken. Behind a token, before the next one comes, more may happen, which leaves the statements that are open.
 use Rattle.std.specs.Prelude.{◌≡◌, ℕ, ◌&&◌, Bool, true, false, List, [], ◌∷◌}
 use Rattle.inf_scanner.specs.declared.tokens.Place.{Place}
-use Rattle.inf_machine.specs.declared.symbols.Symbol.{Symbol}
-use Rattle.inf_machine.specs.Grammar.{Event, Took, Did, IsText}
+use Rattle.inf_machine.specs.{Grammar.Did, Grammar.Event, Grammar.IsText, Grammar.Took, declared.symbols.Symbol.Symbol}
 use Rattle.inf_syntax.specs.declared.actions.Action.{Action}
 use Rattle.inf_syntax.specs.Parts.{directive_2, do_rest, for_rest, if_rest, objectloop_rest, switch_rest, value_3, while_rest}
 use Rattle.inf_grammar.specs.Language.{grammar}
 use Rattle.inf_output.specs.Output.{Out}
-use Rattle.inf_unit.specs.Directives.{Request}
-use Rattle.inf_unit.specs.Messages.{Reported}
-use Rattle.inf_unit.specs.Tokens.{SourceToken}
-use Rattle.inf_unit.specs.Roles.{role_of}
-use Rattle.inf_unit.specs.declared.roles.Ending.{Ending}
-use Rattle.inf_unit.specs.declared.roles.Ending.TheVariants as ending
-use Rattle.inf_unit.specs.declared.roles.Role.{Role}
-use Rattle.inf_unit.specs.declared.roles.Role.TheVariants as role
+use Rattle.inf_unit.specs.{Directives.Request, Messages.Reported, Roles.role_of, Tokens.SourceToken, declared.roles.Ending.Ending}
+use Rattle.inf_unit.specs.{declared.roles.Role.Role}
 
 -- The effect of conditional directives between two tokens: they may report something and begin code, and the report is
 -- written. Open statements stay open.
@@ -60,17 +53,17 @@ bodies = directive_2 ∷ value_3 ∷ []
 -- Whether an action neither opens a statement that holds others nor goes on with one nor ends one, whatever unit it may
 -- end. Actions outside of statements count as ones that do.
 abbrev pub is_quiet_end : Ending → Bool
-is_quiet_end ending.Statement = true
-is_quiet_end ending.Condition = true
-is_quiet_end ending.Start = true
-is_quiet_end ending.Switched = true
+is_quiet_end Ending.Statement = true
+is_quiet_end Ending.Condition = true
+is_quiet_end Ending.Start = true
+is_quiet_end Ending.Switched = true
 is_quiet_end _ = false
 
 abbrev pub is_quiet_role : Role → Bool
-is_quiet_role (role.End e) = is_quiet_end e
-is_quiet_role (role.Open o) = false
-is_quiet_role role.Join = false
-is_quiet_role role.Close = false
+is_quiet_role (Role.End e) = is_quiet_end e
+is_quiet_role (Role.Open o) = false
+is_quiet_role Role.Join = false
+is_quiet_role Role.Close = false
 is_quiet_role _ = true
 
 abbrev pub is_quiet : Action → Bool

@@ -4,17 +4,14 @@
 use Rattle.std.specs.Prelude.{Bool, false, List, [], ◌∷◌, None}
 use Rattle.inf_settings.specs.Bounds.{Limits}
 use Rattle.inf_scanner.specs.declared.tokens.Place.{Place}
-use Rattle.inf_syntax.specs.declared.actions.Action.TheVariants as action
+use Rattle.inf_syntax.specs.declared.actions.Action.{Action}
 use Rattle.inf_output.specs.Output.{Out}
-use Rattle.inf_compilation.specs.Context.{Context}
+use Rattle.inf_compilation.specs.{Actions.Compilation, Actions.is_deep, Actions.nested, Actions.took, Context.Context}
 use Rattle.inf_unit.specs.Units.{last_place}
+use Rattle.inf_constructs.specs.{declared.constructs.Construct.Construct, declared.constructs.Kind.Kind, declared.constructs.Over.Over}
 use Rattle.inf_constructs.specs.Constructs.{between, closed, opened}
 use Rattle.inf_constructs.specs.declared.constructs.Case.TheVariants as case
-use Rattle.inf_constructs.specs.declared.constructs.Construct.{Construct}
-use Rattle.inf_constructs.specs.declared.constructs.Kind.TheVariants as kind
-use Rattle.inf_constructs.specs.declared.constructs.Over.TheVariants as over
 use Rattle.inf_reader.specs.Acting.{act}
-use Rattle.inf_compilation.specs.Actions.{Compilation, is_deep, nested, took}
 use Rattle.inf_statement_laws.specs.Happenings.{Acts, Between, Happening, Moment, Takes}
 use Rattle.inf_statement_laws.specs.Nested.{Case, Do, For, If, IfElse, Nested, Objectloop, Plain, Switch, Then, While, step_happenings}
 
@@ -70,26 +67,26 @@ with_step_in (d ∷ constructs) c = record c { step = d.step }
 abbrev pub laid : {b : Bool} → Limits → Context → Nested b → Compilation → Compilation
 laid limits context (Plain plain) w = run limits context plain.all w
 laid limits context (Then first second) w = laid limits context second (laid limits context first w)
-laid limits context (Case values ends) w = happens limits context (Acts ends action.EndCase) (run limits context values.all w)
+laid limits context (Case values ends) w = happens limits context (Acts ends Action.EndCase) (run limits context values.all w)
 laid limits context (If opens test body closes) w =
-    let c = opened limits kind.If w.output in
+    let c = opened limits Kind.If w.output in
     ended_as limits closes c.0 w.constructs (laid limits context body (run limits context test.all (opened_at context opens c w)))
 laid limits context (IfElse opens test body joins word other closes) w =
-    let c = opened limits kind.If w.output in
+    let c = opened limits Kind.If w.output in
     let first = laid limits context body (run limits context test.all (opened_at context opens c w)) in
     let joined = between limits c.0 first.output in
     ended_as limits closes joined.0 w.constructs
     (laid limits context other (run limits context word.all (holding joins joined w.constructs first)))
 laid limits context (While opens test body closes) w =
-    let c = opened limits kind.While w.output in
+    let c = opened limits Kind.While w.output in
     ended_as limits closes c.0 w.constructs (laid limits context body (run limits context test.all (opened_at context opens c w)))
 laid limits context (Do opens body word joins test closes) w =
-    let c = opened limits kind.Do w.output in
+    let c = opened limits Kind.Do w.output in
     let first = run limits context word.all (laid limits context body (opened_at context opens c w)) in
     let joined = between limits c.0 first.output in
     ended_as limits closes joined.0 w.constructs (run limits context test.all (holding joins joined w.constructs first))
 laid limits context (For opens start joins test step bracket body closes) w =
-    let c = opened limits kind.For w.output in
+    let c = opened limits Kind.For w.output in
     let started = run limits context start.all (opened_at context opens c w) in
     let top = between limits c.0 started.output in
     let stepped = run limits context (step_happenings step) (run limits context test.all (holding joins top w.constructs started)) in
@@ -97,12 +94,12 @@ laid limits context (For opens start joins test step bracket body closes) w =
     ended_as limits closes own w.constructs (laid limits context body (run limits context bracket.all
     (record stepped { constructs = own ∷ w.constructs })))
 laid limits context (Objectloop opens loop ends joins bracket body closes) w =
-    let c = opened limits (kind.Objects over.Nothing 0) w.output in
-    let looped = happens limits context (Acts ends action.EndObjectloop) (run limits context loop.all (opened_at context opens c w)) in
+    let c = opened limits (Kind.Objects Over.Nothing 0) w.output in
+    let looped = happens limits context (Acts ends Action.EndObjectloop) (run limits context loop.all (opened_at context opens c w)) in
     let joined = between limits (with_kind_in looped.constructs c.0) looped.output in
     ended_as limits closes joined.0 w.constructs (laid limits context body (run limits context bracket.all
     (holding joins joined w.constructs looped)))
 laid limits context (Switch opens value cases brace closes) w =
-    let c = opened limits (kind.Switch case.Nothing false) w.output in
+    let c = opened limits (Kind.Switch case.Nothing false) w.output in
     let inside = run limits context brace.all (laid limits context cases (run limits context value.all (opened_at context opens c w))) in
     ended_as limits closes (with_kind_in inside.constructs c.0) w.constructs inside

@@ -1,24 +1,14 @@
 -- The happenings of a whole statement: they leave the statements around it as they were, and lay it by its nesting.
 use Rattle.std.specs.Prelude.{◌≡◌, ℕ, Bool, true, false, List, [], ◌∷◌, length, Some}
 use Rattle.inf_settings.specs.Bounds.{Limits}
-use Rattle.inf_scanner.specs.declared.tokens.Place.{Place}
-use Rattle.inf_machine.specs.Grammar.{IsOneOf}
-use Rattle.inf_machine.specs.Machine.{events_of, taken}
-use Rattle.inf_machine.specs.declared.symbols.Symbol.{Symbol}
-use Rattle.inf_syntax.specs.declared.actions.Action.{Action}
-use Rattle.inf_syntax.specs.declared.actions.Action.TheVariants as action
-use Rattle.inf_scanner.specs.declared.tokens.Mark.TheVariants as mark
-use Rattle.inf_syntax.specs.Atoms.{mark_atom}
-use Rattle.inf_syntax.specs.Parts.{directive, piece, statement}
+use Rattle.inf_scanner.specs.{declared.tokens.Mark.Mark, declared.tokens.Place.Place}
+use Rattle.inf_machine.specs.{Grammar.IsOneOf, Machine.events_of, Machine.taken, declared.symbols.Symbol.Symbol}
+use Rattle.inf_syntax.specs.{Atoms.mark_atom, Parts.directive, Parts.piece, Parts.statement, declared.actions.Action.Action}
 use Rattle.inf_grammar.specs.Language.{grammar, known}
-use Rattle.inf_unit.specs.Messages.{FileNames}
-use Rattle.inf_compilation.specs.Context.{Context}
-use Rattle.inf_unit.specs.Tokens.{SourceToken}
-use Rattle.inf_constructs.specs.Constructs.{depth}
-use Rattle.inf_constructs.specs.declared.constructs.Construct.{Construct}
+use Rattle.inf_unit.specs.{Messages.FileNames, Tokens.SourceToken}
+use Rattle.inf_compilation.specs.{Actions.Compilation, Actions.begun_at, Actions.took, Context.Context, Nesting.closed_ahead}
+use Rattle.inf_constructs.specs.{Constructs.depth, declared.constructs.Construct.Construct}
 use Rattle.inf_reader.specs.Acting.{act, all_acted}
-use Rattle.inf_compilation.specs.Actions.{Compilation, begun_at, took}
-use Rattle.inf_compilation.specs.Nesting.{closed_ahead}
 use Rattle.inf_statement_laws.specs.Happenings.{Acts, AreOf, Between, Happening, IsRead, bodies, rests}
 use Rattle.inf_statement_laws.specs.Nested.{Nested, happenings, rest_of}
 use Rattle.inf_statement_laws.specs.Laid.{laid, next_comes, passed, run, with_kind_in, with_step_in}
@@ -87,18 +77,18 @@ pub record AreRoutine (limits : Limits) (r : Routine) (seen : List Seen) : Type 
 -- A routine is read, from its bracket on, by tokens that fit up to where no symbol is left: its header, its statements, and
 -- its end, before which no statement is open where none was before the header.
 pub record RoutinesAreReadWhole (limits : Limits) : Type 0 where
-  pub are : (bracket : Seen) (seen : List Seen) → bracket.atom ≡ mark_atom mark.OpenBracket
+  pub are : (bracket : Seen) (seen : List Seen) → bracket.atom ≡ mark_atom Mark.OpenBracket
       → all_fit (bracket ∷ seen) (directive ∷ []) ≡ true → left_behind (bracket ∷ seen) (directive ∷ []) ≡ []
       → (r : Routine) × AreRoutine limits r (bracket ∷ seen)
-  pub begin : taken grammar known (mark_atom mark.OpenBracket) (piece ∷ [])
-      ≡ taken grammar known (mark_atom mark.OpenBracket) (directive ∷ [])
+  pub begin : taken grammar known (mark_atom Mark.OpenBracket) (piece ∷ [])
+      ≡ taken grammar known (mark_atom Mark.OpenBracket) (directive ∷ [])
   pub end : (context : Context) (r : Routine) (w : Compilation) → w.closed ≡ 0 → w.constructs ≡ []
       → depth (body_laid limits context r w).constructs ≡ 0
 
 -- The happenings of statements that end one behind the other, at these places.
 abbrev pub endings : List Place → List Happening
 endings [] = []
-endings (place ∷ places) = Acts (plainly_at place) action.Close ∷ endings places
+endings (place ∷ places) = Acts (plainly_at place) Action.Close ∷ endings places
 
 -- A conditional directive closes ahead the statements that end next, whatever the next token is. Its effect is as if behind
 -- their ends, and a second one closes no more.
@@ -113,8 +103,8 @@ pub record ClosingAheadIsClosing (limits : Limits) : Type 0 where
 -- they are.
 pub record UnitsKeepLabels (limits : Limits) : Type 0 where
   pub of_loops : (context : Context) (place : Place) (c : Construct) (around : List Construct) (w : Compilation) → w.constructs ≡ c ∷ around
-      → let v = act limits context place action.EndObjectloop w in v.constructs ≡ with_kind_in v.constructs c ∷ around
+      → let v = act limits context place Action.EndObjectloop w in v.constructs ≡ with_kind_in v.constructs c ∷ around
   pub of_steps : (context : Context) (place : Place) (c : Construct) (around : List Construct) (w : Compilation) → w.constructs ≡ c ∷ around
-      → let v = act limits context place action.EndForStep w in v.constructs ≡ with_step_in v.constructs c ∷ around
+      → let v = act limits context place Action.EndForStep w in v.constructs ≡ with_step_in v.constructs c ∷ around
   pub of_cases : (context : Context) (place : Place) (c : Construct) (around : List Construct) (w : Compilation) → w.constructs ≡ c ∷ around
-      → let v = act limits context place action.EndCase w in v.constructs ≡ with_kind_in v.constructs c ∷ around
+      → let v = act limits context place Action.EndCase w in v.constructs ≡ with_kind_in v.constructs c ∷ around

@@ -2,7 +2,6 @@
 use Rattle.std.specs.Prelude.{Bool, true, false, List, [], ◌∷◌, ◌++◌, Option, Some, None}
 use Rattle.inf_machine.specs.declared.symbols.Symbol.{Symbol}
 use Rattle.inf_syntax.specs.declared.actions.Action.{Action}
-use Rattle.inf_syntax.specs.declared.actions.Action.TheVariants as action
 use Rattle.inf_syntax.specs.Parts.{do_rest, for_rest, if_rest, objectloop_rest, switch_rest, while_rest}
 use Rattle.inf_statement_laws.specs.Happenings.{Acts, Happening, Moment, Quiet}
 
@@ -13,7 +12,7 @@ pub data Step : Type 0 where
 
 abbrev pub step_happenings : Step → List Happening
 step_happenings NoStep = []
-step_happenings (StepEnds step ends) = step.all ++ Acts ends action.EndForStep ∷ []
+step_happenings (StepEnds step ends) = step.all ++ Acts ends Action.EndForStep ∷ []
 
 -- Statements one behind the other, or those in one; in a `switch`, and at the top of a routine, cases may be among them. A
 -- statement that holds others begins where its word was read, and has its own actions, each at its moment, between its
@@ -37,26 +36,26 @@ pub data Nested : (has_cases : Bool) → Type 0 where
 abbrev pub happenings : {b : Bool} → Nested b → List Happening
 happenings (Plain plain) = plain.all
 happenings (Then first second) = happenings first ++ happenings second
-happenings (Case values ends) = values.all ++ Acts ends action.EndCase ∷ []
+happenings (Case values ends) = values.all ++ Acts ends Action.EndCase ∷ []
 happenings (If opens test body closes) =
-    Acts opens action.OpenIf ∷ (test.all ++ (happenings body ++ Acts closes action.Close ∷ []))
+    Acts opens Action.OpenIf ∷ (test.all ++ (happenings body ++ Acts closes Action.Close ∷ []))
 happenings (IfElse opens test body joins word other closes) =
-    Acts opens action.OpenIf
-    ∷ (test.all ++ (happenings body ++ Acts joins action.Else ∷ (word.all ++ (happenings other ++ Acts closes action.Close ∷ []))))
+    Acts opens Action.OpenIf
+    ∷ (test.all ++ (happenings body ++ Acts joins Action.Else ∷ (word.all ++ (happenings other ++ Acts closes Action.Close ∷ []))))
 happenings (While opens test body closes) =
-    Acts opens action.OpenWhile ∷ (test.all ++ (happenings body ++ Acts closes action.Close ∷ []))
+    Acts opens Action.OpenWhile ∷ (test.all ++ (happenings body ++ Acts closes Action.Close ∷ []))
 happenings (Do opens body word joins test closes) =
-    Acts opens action.OpenDo ∷ (happenings body ++ (word.all ++ Acts joins action.Until ∷ (test.all ++ Acts closes action.Close ∷ [])))
+    Acts opens Action.OpenDo ∷ (happenings body ++ (word.all ++ Acts joins Action.Until ∷ (test.all ++ Acts closes Action.Close ∷ [])))
 happenings (For opens start joins test step bracket body closes) =
-    Acts opens action.OpenFor
-    ∷ (start.all ++ Acts joins action.ForTop
-    ∷ (test.all ++ (step_happenings step ++ (bracket.all ++ (happenings body ++ Acts closes action.Close ∷ [])))))
+    Acts opens Action.OpenFor
+    ∷ (start.all ++ Acts joins Action.ForTop
+    ∷ (test.all ++ (step_happenings step ++ (bracket.all ++ (happenings body ++ Acts closes Action.Close ∷ [])))))
 happenings (Objectloop opens loop ends joins bracket body closes) =
-    Acts opens action.OpenObjectloop
-    ∷ (loop.all ++ Acts ends action.EndObjectloop
-    ∷ Acts joins action.Loop ∷ (bracket.all ++ (happenings body ++ Acts closes action.Close ∷ [])))
+    Acts opens Action.OpenObjectloop
+    ∷ (loop.all ++ Acts ends Action.EndObjectloop
+    ∷ Acts joins Action.Loop ∷ (bracket.all ++ (happenings body ++ Acts closes Action.Close ∷ [])))
 happenings (Switch opens value cases brace closes) =
-    Acts opens action.OpenSwitch ∷ (value.all ++ (happenings cases ++ (brace.all ++ Acts closes action.Close ∷ [])))
+    Acts opens Action.OpenSwitch ∷ (value.all ++ (happenings cases ++ (brace.all ++ Acts closes Action.Close ∷ [])))
 
 -- the rule by which the rest of a statement that holds others is read
 abbrev pub rest_of : {b : Bool} → Nested b → Option (Symbol Action)

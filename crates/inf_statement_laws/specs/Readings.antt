@@ -3,23 +3,16 @@
 use Rattle.std.specs.Prelude.{ℕ, zero, suc, Bool, true, ◌&&◌, List, [], ◌∷◌, ◌++◌, Option, Some, None, max}
 use Rattle.inf_settings.specs.Bounds.{Limits}
 use Rattle.inf_scanner.specs.declared.tokens.Place.{Place}
-use Rattle.inf_machine.specs.Machine.{fits, taken}
-use Rattle.inf_machine.specs.declared.symbols.Symbol.{Symbol}
+use Rattle.inf_machine.specs.{Machine.fits, Machine.taken, declared.symbols.Symbol.Symbol}
 use Rattle.inf_syntax.specs.declared.actions.Action.{Action}
-use Rattle.inf_syntax.specs.declared.actions.Action.TheVariants as action
-use Rattle.inf_grammar.specs.Language.{grammar, known}
-use Rattle.inf_grammar.specs.Routines.{closings}
+use Rattle.inf_grammar.specs.{Language.grammar, Language.known, Routines.closings}
 use Rattle.inf_code.specs.Code.{labels}
 use Rattle.inf_output.specs.Output.{begun, full}
-use Rattle.inf_unit.specs.Messages.{FileNames, with_full}
-use Rattle.inf_compilation.specs.Context.{Context}
-use Rattle.inf_unit.specs.Tokens.{SourceToken}
+use Rattle.inf_unit.specs.{Messages.FileNames, Messages.with_full, Tokens.SourceToken}
+use Rattle.inf_compilation.specs.{Actions.Compilation, Actions.took, Context.Context, Nesting.closed_ahead}
 use Rattle.inf_reader.specs.Acting.{all_acted}
-use Rattle.inf_compilation.specs.Actions.{Compilation, took}
-use Rattle.inf_compilation.specs.Nesting.{closed_ahead}
+use Rattle.inf_statement_laws.specs.{Laid.happens, Laid.laid, Laid.passed, Laid.run, Nested.Nested, Nested.happenings}
 use Rattle.inf_statement_laws.specs.Happenings.{Acts, Between, Happening, Moment, Quiet, Takes}
-use Rattle.inf_statement_laws.specs.Laid.{happens, laid, passed, run}
-use Rattle.inf_statement_laws.specs.Nested.{Nested, happenings}
 
 -- The effect between two tokens
 
@@ -125,15 +118,15 @@ pub record Routine : Type 0 where
 
 abbrev pub routine_happenings : Routine → List Happening
 routine_happenings r =
-    r.header.all ++ Acts r.heads action.EndLocals
-    ∷ (r.semicolon.all ++ (happenings r.body ++ Acts r.ends action.EndRoutine ∷ r.last.all))
+    r.header.all ++ Acts r.heads Action.EndLocals
+    ∷ (r.semicolon.all ++ (happenings r.body ++ Acts r.ends Action.EndRoutine ∷ r.last.all))
 
 -- the compilation before the end of a routine, and behind it
 abbrev pub body_laid : Limits → Context → Routine → Compilation → Compilation
 body_laid limits context r w =
-    laid limits context r.body (run limits context r.semicolon.all (happens limits context (Acts r.heads action.EndLocals)
+    laid limits context r.body (run limits context r.semicolon.all (happens limits context (Acts r.heads Action.EndLocals)
     (run limits context r.header.all w)))
 
 abbrev pub routine_laid : Limits → Context → Routine → Compilation → Compilation
 routine_laid limits context r w =
-    run limits context r.last.all (happens limits context (Acts r.ends action.EndRoutine) (body_laid limits context r w))
+    run limits context r.last.all (happens limits context (Acts r.ends Action.EndRoutine) (body_laid limits context r w))

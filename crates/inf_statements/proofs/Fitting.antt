@@ -1,20 +1,15 @@
 -- Operands and ends that fit an opcode's row are those that the opcode takes.
 use Rattle.std.proofs.Common.{◌≡◌, ◌≤◌, ◌-◌, ◌==◌, ℕ, suc, Bool, true, false, not, cond, List, [], ◌∷◌, ◌&&◌, length, Option, refl, sym, ap}
-use Rattle.std.proofs.Common.{subst, ◌∙◌, arith}
-use Rattle.std.specs.Prelude.{is_some, nat_le}
+use Rattle.std.proofs.Common.{subst, ◌∙◌, arith, is_some, nat_le}
 use Rattle.std.proofs.lemmas.Bool.{and_parts, eqb-true, leb-true}
 use Rattle.inf_settings.specs.Bounds.{Limits}
-use Rattle.inf_opcode.specs.declared.instructions.Branch.{Branch}
-use Rattle.inf_opcode.specs.declared.opcodes.Opcode.{Opcode}
-use Rattle.inf_opcode.specs.declared.opcodes.OpcodeRow.{OpcodeRow}
-use Rattle.inf_opcode.specs.Opcodes.{row_of}
+use Rattle.inf_opcode.specs.{Opcodes.row_of, declared.instructions.Branch.Branch, declared.opcodes.Opcode.Opcode}
+use Rattle.inf_opcode.specs.{declared.opcodes.OpcodeRow.OpcodeRow}
 use Rattle.inf_output.specs.Output.{Takes, TakesVariable}
-use Rattle.inf_expressions.specs.declared.trees.Root.{Root}
-use Rattle.inf_expressions.specs.Trees.{Tree}
+use Rattle.inf_expressions.specs.{Trees.Tree, declared.trees.Root.Root}
+use Rattle.inf_statements.specs.{Statements.PrintsText, declared.assembly.Ends.Ends}
 use Rattle.inf_statements.specs.Assembly.{first_variable, fits, fits_jump, fits_row, has_ends, prints, same}
 use Rattle.inf_constructs.specs.Roots.{trees_from}
-use Rattle.inf_statements.specs.Statements.{PrintsText}
-use Rattle.inf_statements.specs.declared.assembly.Ends.{Ends}
 
 same_as : (a b : Bool) → same a b ≡ true → b ≡ a
 same_as true true is = refl

@@ -1,19 +1,14 @@
 -- Lines of assembly whose names are looked up ahead.
 use Rattle.std.proofs.Common.{◌≡◌, ℕ, List, cond, Option, Some, None, refl, ap}
-use Rattle.inf_expressions.specs.Findings.{least_of_both}
-use Rattle.inf_expressions.specs.Trees.{Tree}
-use Rattle.inf_expressions.specs.declared.findings.Finding.{Finding}
-use Rattle.inf_names.specs.Locals.{Local}
-use Rattle.inf_names.specs.Symbols.{Table}
+use Rattle.inf_expressions.specs.{Findings.least_of_both, Trees.Tree, declared.findings.Finding.Finding}
+use Rattle.inf_names.specs.{Locals.Local, Symbols.Table}
 use Rattle.inf_scanner.specs.declared.tokens.Place.{Place}
 use Rattle.inf_settings.specs.Bounds.{Limits}
 use Rattle.inf_operands.proofs.Staying.{Alike}
 use Rattle.inf_statements.specs.Assembly.{fits_some, line_finding, store_finding, store_finding_by, stored_in, wrong_opcode}
-use Rattle.inf_operands.specs.Operands.{is_stack, looked_by}
 use Rattle.inf_statements.specs.declared.assembly.Ends.{Ends}
-use Rattle.inf_unit.specs.Opcodes.{opcode_of}
-use Rattle.inf_unit.specs.Tokens.{SourceToken}
-use Rattle.inf_unit.specs.Units.{bytes_at, next_place, order}
+use Rattle.inf_operands.specs.Operands.{is_stack, looked_by}
+use Rattle.inf_unit.specs.{Opcodes.opcode_of, Tokens.SourceToken, Units.bytes_at, Units.next_place, Units.order}
 
 store_looked : (locals others : List Local) (names : Table Place) (tokens : List SourceToken) (store : Option ℕ) → Alike locals others
     → store_finding locals names tokens store ≡ store_finding others names tokens store

@@ -5,37 +5,19 @@ use Rattle.std.specs.Str.{str_eq_ignore_ascii_case}
 use Rattle.inf_settings.specs.Bounds.{Limits}
 use Rattle.inf_characters.specs.declared.characters.CharSet.{CharSet}
 use Rattle.inf_scanner.specs.declared.tokens.Place.{Place}
-use Rattle.inf_opcode.specs.Opcodes.{row_of}
-use Rattle.inf_opcode.specs.declared.instructions.Branch.{Branch}
-use Rattle.inf_opcode.specs.declared.instructions.Destination.{Destination}
-use Rattle.inf_opcode.specs.declared.instructions.Destination.TheVariants as destination
-use Rattle.inf_opcode.specs.declared.instructions.Label.{Label}
-use Rattle.inf_opcode.specs.declared.opcodes.Opcode.{Opcode}
-use Rattle.inf_opcode.specs.declared.opcodes.OpcodeRow.{OpcodeRow}
-use Rattle.inf_expressions.specs.declared.findings.Finding.{Finding}
-use Rattle.inf_expressions.specs.declared.findings.UnitError.TheVariants as unit_error
-use Rattle.inf_expressions.specs.declared.operators.Operand.{Operand}
-use Rattle.inf_expressions.specs.declared.operators.Operand.TheVariants as operand
-use Rattle.inf_expressions.specs.Findings.{least_of_both, wrong_kind}
-use Rattle.inf_expressions.specs.Trees.{Tree}
-use Rattle.inf_names.specs.Symbols.{Table}
+use Rattle.inf_opcode.specs.{Opcodes.row_of, declared.instructions.Branch.Branch, declared.instructions.Destination.Destination}
+use Rattle.inf_opcode.specs.{declared.instructions.Label.Label, declared.opcodes.Opcode.Opcode, declared.opcodes.OpcodeRow.OpcodeRow}
+use Rattle.inf_expressions.specs.{Findings.least_of_both, Findings.wrong_kind, Trees.Tree, declared.findings.Finding.Finding}
+use Rattle.inf_expressions.specs.{declared.findings.UnitError.UnitError, declared.operators.Operand.Operand}
+use Rattle.inf_names.specs.{Locals.Local, Locals.local_number, Symbols.Table}
 use Rattle.inf_output.specs.declared.operands.Simple.{Simple}
-use Rattle.inf_output.specs.declared.operands.Simple.TheVariants as simple
 use Rattle.inf_output.specs.Output.{Code, behind, instruction, jumped, naming, next_label, nothing}
 use Rattle.inf_templates.specs.Meaning.{meaning}
-use Rattle.inf_names.specs.Locals.{Local, number_of}
-use Rattle.inf_unit.specs.Opcodes.{opcode_of}
-use Rattle.inf_unit.specs.Tokens.{SourceToken}
-use Rattle.inf_unit.specs.Units.{bytes_at, next_place, order}
-use Rattle.inf_unit.specs.declared.items.Item.{Item}
-use Rattle.inf_unit.specs.declared.items.Item.TheVariants as item
-use Rattle.inf_constructs.specs.Cases.{operand_in}
-use Rattle.inf_constructs.specs.Constructs.{Laying, giving}
+use Rattle.inf_unit.specs.{Opcodes.opcode_of, Tokens.SourceToken, Units.bytes_at, Units.next_place, Units.order, declared.items.Item.Item}
+use Rattle.inf_constructs.specs.{Cases.operand_in, Constructs.Laying, Constructs.giving}
 use Rattle.inf_constructs.specs.Labels.{NamedLabel, given, label_of, wanted}
-use Rattle.inf_operands.specs.Operands.{is_stack, looked_name}
-use Rattle.inf_operands.specs.Texts.{text_at}
-use Rattle.inf_statements.specs.Statements.{printed}
-use Rattle.inf_statements.specs.declared.assembly.Ends.{Ends}
+use Rattle.inf_operands.specs.{Operands.is_stack, Operands.looked_name, Texts.text_at}
+use Rattle.inf_statements.specs.{Statements.printed, declared.assembly.Ends.Ends}
 
 -- Named labels
 
@@ -55,10 +37,10 @@ abbrev pub no_ends : Ends
 no_ends = record { store = None; branch = None; text = None; jump = None }
 
 abbrev pub with_end : Item → Ends → Ends
-with_end (item.Store at) e = record e { store = Some at }
-with_end (item.Branch at sense) e = record e { branch = Some (at, sense) }
-with_end (item.Text at) e = record e { text = Some at }
-with_end (item.Jump at) e = record e { jump = Some at }
+with_end (Item.Store at) e = record e { store = Some at }
+with_end (Item.Branch at sense) e = record e { branch = Some (at, sense) }
+with_end (Item.Text at) e = record e { text = Some at }
+with_end (Item.Jump at) e = record e { jump = Some at }
 with_end _ e = e
 
 abbrev pub ends_from : List Item → Ends → Ends
@@ -75,7 +57,7 @@ same true b = b
 same false b = not b
 
 abbrev pub variable_of : Option Simple → Option ℕ
-variable_of (Some (simple.Variable v)) = Some v
+variable_of (Some (Simple.Variable v)) = Some v
 variable_of _ = None
 
 abbrev pub first_variable : Limits → List Tree → Option ℕ
@@ -107,14 +89,14 @@ fits_some limits None trees e = false
 fits_some limits (Some op) trees e = fits limits op trees e
 
 abbrev pub wrong_opcode : ℕ → Finding
-wrong_opcode at = record { order = at; error = unit_error.WrongOpcode }
+wrong_opcode at = record { order = at; error = UnitError.WrongOpcode }
 
 abbrev pub stored_in : Operand → Option ℕ
-stored_in (operand.Variable v) = Some v
+stored_in (Operand.Variable v) = Some v
 stored_in _ = None
 
 abbrev pub store_variable : List Local → Table Place → List ℕ → Option ℕ
-store_variable locals names name = if is_stack name (number_of name locals) then Some 0 else stored_in (looked_name locals names name)
+store_variable locals names name = if is_stack name (local_number name locals) then Some 0 else stored_in (looked_name locals names name)
 
 -- the variable in which a line stores (0 where the name is no variable, which is a finding)
 abbrev pub store_of : List Local → Table Place → List SourceToken → Option ℕ → Option ℕ
@@ -146,9 +128,9 @@ branch_to sense destination = Some (record { sense = sense; target = destination
 
 abbrev pub branched_to : List ℕ → Bool → List NamedLabel → Laying (Option Branch × List NamedLabel)
 branched_to name sense labels o =
-    if str_eq_ignore_ascii_case name (codes "rtrue") then ((branch_to sense destination.ReturnTrue, labels), o) else
-    if str_eq_ignore_ascii_case name (codes "rfalse") then ((branch_to sense destination.ReturnFalse, labels), o) else
-    let l = labelled name labels o in ((branch_to sense (destination.To l.0.0), l.0.1), l.1)
+    if str_eq_ignore_ascii_case name (codes "rtrue") then ((branch_to sense Destination.ReturnTrue, labels), o) else
+    if str_eq_ignore_ascii_case name (codes "rfalse") then ((branch_to sense Destination.ReturnFalse, labels), o) else
+    let l = labelled name labels o in ((branch_to sense (Destination.To l.0.0), l.0.1), l.1)
 
 unfoldable pub branched : List SourceToken → Option (ℕ × Bool) → List NamedLabel → Laying (Option Branch × List NamedLabel)
 branched tokens None labels o = ((None, labels), o)

@@ -1,7 +1,6 @@
 -- The sites of statements as the code has them.
 use Rattle.inf_names.specs.LocalList.{listed}
-use Rattle.inf_statements.specs.Effects.{Site}
-use Rattle.inf_statements.specs.declared.effects.Site.{Site as CodeSite}
+use Rattle.inf_statements.specs.{Effects.Site, declared.effects.Site.Site as CodeSite}
 
 abbrev pub site : CodeSite → Site
 site s = record {

@@ -2,80 +2,65 @@
 use Rattle.std.specs.Prelude.{◌≡◌, ℕ, ◌==◌, List, [], ◌∷◌, codes, Bool, true, false, slice_get, if◌then◌else◌, Option, Some, None}
 use Rattle.std.specs.Str.{str_eq_ignore_ascii_case}
 use Rattle.inf_settings.specs.Bounds.{Limits}
-use Rattle.inf_area.specs.declared.targets.AreaName.TheVariants as area
-use Rattle.inf_area.specs.declared.targets.Target.{Target}
-use Rattle.inf_area.specs.declared.targets.Target.TheVariants as target
+use Rattle.inf_area.specs.{declared.targets.AreaName.AreaName, declared.targets.Target.Target}
 use Rattle.inf_characters.specs.declared.texts.TextItem.{TextItem}
-use Rattle.inf_scanner.specs.declared.tokens.Mark.{Mark}
-use Rattle.inf_scanner.specs.declared.tokens.Mark.TheVariants as mark
-use Rattle.inf_scanner.specs.declared.tokens.TokenKind.{TokenKind}
-use Rattle.inf_scanner.specs.declared.tokens.TokenKind.TheVariants as kind
+use Rattle.inf_scanner.specs.{declared.tokens.Mark.Mark, declared.tokens.TokenKind.TokenKind}
 use Rattle.inf_text.specs.Packing.{packed}
-use Rattle.inf_opcode.specs.declared.opcodes.Opcode.{Opcode}
-use Rattle.inf_opcode.specs.declared.opcodes.Opcode.TheVariants as opcode
-use Rattle.inf_opcode.specs.Instructions.{bare}
-use Rattle.inf_opcode.specs.Opcodes.{row_of}
-use Rattle.inf_opcode.specs.declared.instructions.Label.{Label}
+use Rattle.inf_opcode.specs.{Instructions.bare, Opcodes.row_of, declared.instructions.Label.Label, declared.opcodes.Opcode.Opcode}
 use Rattle.inf_expressions.specs.Trees.{Tree}
-use Rattle.inf_output.specs.declared.items.Item.TheVariants.{Instruction}
-use Rattle.inf_output.specs.declared.operands.Simple.{Simple}
-use Rattle.inf_output.specs.declared.operands.Simple.TheVariants.{Known, Later, Variable}
-use Rattle.inf_output.specs.declared.veneer.Veneer.TheVariants as veneer
+use Rattle.inf_output.specs.{Texts.used_in, declared.items.Item.TheVariants.Instruction, declared.operands.Simple.Simple}
+use Rattle.inf_output.specs.{declared.veneer.Veneer.Veneer}
 use Rattle.inf_output.specs.Output.{Code, instruction, jumped, laid, low_string_at, nothing, with_low_text, ◌▸◌}
-use Rattle.inf_output.specs.Texts.{used_in}
 use Rattle.inf_templates.specs.Meaning.{Meaning, meaning, part}
 use Rattle.inf_templates.specs.Parts.{Part, SP, TEMP, call_routine, is, worked}
-use Rattle.inf_unit.specs.Tokens.{SourceToken, keyword}
+use Rattle.inf_unit.specs.{Tokens.SourceToken, Tokens.keyword, declared.items.Item.Item}
 use Rattle.inf_syntax.specs.declared.words.Keyword.{Keyword}
 use Rattle.inf_syntax.specs.declared.words.Keyword.TheVariants as keyword
-use Rattle.inf_unit.specs.declared.items.Item.{Item}
-use Rattle.inf_unit.specs.declared.items.Item.TheVariants as item
 use Rattle.inf_constructs.specs.Cases.{SWITCHED}
 use Rattle.inf_statements.specs.declared.statements.Statement.{Statement}
-use Rattle.inf_statements.specs.declared.statements.Statement.TheVariants as statement
 use Rattle.inf_operands.specs.Texts.{text_packed}
 
 -- The statement that begins with this word of the grammar, or with a mark. Designer's Manual, fourth edition, sections 1.4 to 1.12.
 abbrev pub word_statement : Option Keyword → Statement
-word_statement (Some keyword.Print) = statement.Print
-word_statement (Some keyword.PrintRet) = statement.PrintReturn
-word_statement (Some keyword.Return) = statement.Return
-word_statement (Some keyword.NewLine) = statement.NewLine
-word_statement (Some keyword.Quit) = statement.Quit
-word_statement (Some keyword.Rtrue) = statement.ReturnTrue
-word_statement (Some keyword.Rfalse) = statement.ReturnFalse
-word_statement (Some keyword.Break) = statement.Break
-word_statement (Some keyword.Continue) = statement.Continue
-word_statement (Some keyword.Jump) = statement.Jump
-word_statement (Some keyword.Give) = statement.Give
-word_statement (Some keyword.Move) = statement.Move
-word_statement (Some keyword.Remove) = statement.Remove
-word_statement (Some keyword.Spaces) = statement.Spaces
-word_statement (Some keyword.String) = statement.String
-word_statement (Some keyword.Style) = statement.Style
-word_statement _ = statement.Expression
+word_statement (Some keyword.Print) = Statement.Print
+word_statement (Some keyword.PrintRet) = Statement.PrintReturn
+word_statement (Some keyword.Return) = Statement.Return
+word_statement (Some keyword.NewLine) = Statement.NewLine
+word_statement (Some keyword.Quit) = Statement.Quit
+word_statement (Some keyword.Rtrue) = Statement.ReturnTrue
+word_statement (Some keyword.Rfalse) = Statement.ReturnFalse
+word_statement (Some keyword.Break) = Statement.Break
+word_statement (Some keyword.Continue) = Statement.Continue
+word_statement (Some keyword.Jump) = Statement.Jump
+word_statement (Some keyword.Give) = Statement.Give
+word_statement (Some keyword.Move) = Statement.Move
+word_statement (Some keyword.Remove) = Statement.Remove
+word_statement (Some keyword.Spaces) = Statement.Spaces
+word_statement (Some keyword.String) = Statement.String
+word_statement (Some keyword.Style) = Statement.Style
+word_statement _ = Statement.Expression
 
 abbrev pub mark_statement : Mark → Statement
-mark_statement mark.Dot = statement.Place
-mark_statement mark.At = statement.Assembly
-mark_statement mark.Less = statement.Action
-mark_statement mark.DoubleLess = statement.ActionReturn
-mark_statement _ = statement.Expression
+mark_statement Mark.Dot = Statement.Place
+mark_statement Mark.At = Statement.Assembly
+mark_statement Mark.Less = Statement.Action
+mark_statement Mark.DoubleLess = Statement.ActionReturn
+mark_statement _ = Statement.Expression
 
 -- the statement that begins with a text: one alone is printed, and one with an operator behind it is an expression
 abbrev pub text_statement : List Item → Statement
-text_statement [] = statement.Expression
-text_statement (i ∷ items) = statement.PrintReturn
+text_statement [] = Statement.Expression
+text_statement (i ∷ items) = Statement.PrintReturn
 
 abbrev pub statement_of_kind : TokenKind → SourceToken → List Item → Statement
-statement_of_kind kind.Name t items = word_statement (keyword t)
-statement_of_kind kind.Text t items = text_statement items
-statement_of_kind (kind.Mark m) t items = mark_statement m
-statement_of_kind _ t items = statement.Expression
+statement_of_kind TokenKind.Name t items = word_statement (keyword t)
+statement_of_kind TokenKind.Text t items = text_statement items
+statement_of_kind (TokenKind.Mark m) t items = mark_statement m
+statement_of_kind _ t items = Statement.Expression
 
 -- the statement that begins with a token, and the empty one where there is none
 abbrev pub statement_by : Option SourceToken → List Item → Statement
-statement_by None items = statement.Empty
+statement_by None items = Statement.Empty
 statement_by (Some t) items = statement_of_kind t.kind t items
 
 unfoldable pub statement_in : List SourceToken → ℕ → List Item → Statement
@@ -93,17 +78,17 @@ printed limits op (Some text) o = laid limits (Instruction (record (bare op) { t
 -- A number that is known as 1 or 0 has an instruction of its own to return it. What needs code is returned from the stack.
 abbrev pub returned_number : Limits → ℕ → Code
 returned_number limits number =
-    if number == 1 then plain limits opcode.Rtrue else if number == 0 then plain limits opcode.Rfalse else instruction limits opcode.Ret
-    (Known number ∷ []) None None
+    if number == 1 then plain limits Opcode.Rtrue else if number == 0 then plain limits Opcode.Rfalse else instruction limits Opcode.Ret
+    (Simple.Known number ∷ []) None None
 
 abbrev pub returned_by : Limits → Option Simple → Meaning → Code
-returned_by limits (Some (Known number)) m = returned_number limits number
-returned_by limits (Some s) m = instruction limits opcode.Ret (s ∷ []) None None
-returned_by limits None m = m.value SP ▸ plain limits opcode.RetPopped
+returned_by limits (Some (Simple.Known number)) m = returned_number limits number
+returned_by limits (Some s) m = instruction limits Opcode.Ret (s ∷ []) None None
+returned_by limits None m = m.value SP ▸ plain limits Opcode.RetPopped
 
 -- without an expression 1 is returned
 abbrev pub returned : Limits → List Tree → Code
-returned limits [] = plain limits opcode.Rtrue
+returned limits [] = plain limits Opcode.Rtrue
 returned limits (e ∷ trees) = returned_by limits (meaning limits e).operand (meaning limits e)
 
 abbrev pub rest : List Tree → List Tree
@@ -125,23 +110,23 @@ one_worked limits op [] = nothing
 one_worked limits op (e ∷ trees) = worked limits op (part (meaning limits e) ∷ []) None None
 
 abbrev pub moved : Limits → List Tree → Code
-moved limits (a ∷ b ∷ trees) = worked limits opcode.InsertObj (part (meaning limits a) ∷ part (meaning limits b) ∷ []) None None
+moved limits (a ∷ b ∷ trees) = worked limits Opcode.InsertObj (part (meaning limits a) ∷ part (meaning limits b) ∷ []) None None
 moved limits _ = nothing
 
 abbrev pub spaced : Limits → List Tree → Code
 spaced limits [] = nothing
-spaced limits (e ∷ trees) = call_routine limits veneer.Spaces (part (meaning limits e) ∷ []) None
+spaced limits (e ∷ trees) = call_routine limits Veneer.Spaces (part (meaning limits e) ∷ []) None
 
 -- A string variable becomes a low string: its word among the abbreviations is written, which begin with the string variables (Z-Machine
 -- Standard 1.1,
 -- section 3.3).
 abbrev pub abbreviations : Target
-abbreviations = target.Place area.Abbreviations 0
+abbreviations = Target.Place AreaName.Abbreviations 0
 
 abbrev pub string_set : Limits → Target → List Tree → Code
 string_set limits low [] = nothing
 string_set limits low (e ∷ trees) =
-    worked limits opcode.Storew (is (Later abbreviations) ∷ part (meaning limits e) ∷ is (Later low) ∷ []) None None
+    worked limits Opcode.Storew (is (Simple.Later abbreviations) ∷ part (meaning limits e) ∷ is (Simple.Later low) ∷ []) None None
 
 abbrev pub string_of : Limits → List ℕ → List Tree → Code
 string_of limits text trees o = string_set limits (low_string_at o) trees (with_low_text limits text o)
@@ -152,7 +137,7 @@ string_changed limits (Some text) trees o = string_of limits (packed text []) tr
 
 -- an action, with a noun or two: a call of the routine that processes actions
 abbrev pub processed : Limits → List Part → Code
-processed limits parts = call_routine limits veneer.Process parts None
+processed limits parts = call_routine limits Veneer.Process parts None
 
 abbrev pub action_on : Limits → Part → List Tree → Code
 action_on limits action [] = processed limits (action ∷ [])
@@ -185,8 +170,8 @@ attribute_code limits op object [] = nothing
 attribute_code limits op object (a ∷ attributes) = worked limits op (object ∷ part (meaning limits a) ∷ []) None None
 
 abbrev pub attribute_opcode : Item → Opcode
-attribute_opcode item.Set = opcode.SetAttr
-attribute_opcode _ = opcode.ClearAttr
+attribute_opcode Item.Set = Opcode.SetAttr
+attribute_opcode _ = Opcode.ClearAttr
 
 abbrev pub attributes_given : Limits → Part → List Item → List Tree → Code
 attributes_given limits object [] attributes = nothing
@@ -198,7 +183,7 @@ are_several (i ∷ j ∷ items) = true
 are_several _ = false
 
 abbrev pub given_by : Limits → Bool → Option Simple → Meaning → List Item → List Tree → Code
-given_by limits true None object items attributes = object.value TEMP ▸ attributes_given limits (is (Variable TEMP)) items attributes
+given_by limits true None object items attributes = object.value TEMP ▸ attributes_given limits (is (Simple.Variable TEMP)) items attributes
 given_by limits several operand object items attributes = attributes_given limits (part object) items attributes
 
 abbrev pub attributes_changed : Limits → List Item → List Tree → Code
@@ -216,7 +201,7 @@ style_of name =
 
 abbrev pub styled_by : Limits → Option ℕ → Code
 styled_by limits None = nothing
-styled_by limits (Some style) = instruction limits opcode.SetTextStyle (Known style ∷ []) None None
+styled_by limits (Some style) = instruction limits Opcode.SetTextStyle (Simple.Known style ∷ []) None None
 
 abbrev pub styled : Limits → List ℕ → Code
 styled limits name = styled_by limits (style_of name)

@@ -8,10 +8,9 @@ ghost use Rattle.inf_statements.specs.Assembly.{fits_some, has_ends, instructed,
 ghost use Rattle.inf_statements.specs.Assembly.{line_laid, line_laid_by, named_first, no_ends, operands_in, placed, printing_of, prints};
 ghost use Rattle.inf_statements.specs.Assembly.{same, some_printed, store_finding, store_of, store_variable, stored_in, variable_of};
 ghost use Rattle.inf_statements.specs.Assembly.{with_end, wrong_opcode};
-ghost use Rattle.inf_constructs.specs.Roots.{trees_from};
 ghost use Rattle.inf_statements.specs.Statements.{PrintsText};
-ghost use Rattle.inf_unit.specs.Opcodes.{opcode_of};
-ghost use Rattle.inf_unit.specs.Units.{bytes_at, next_place};
+ghost use Rattle.inf_constructs.specs.Roots.{trees_from};
+ghost use Rattle.inf_unit.specs.{Opcodes.opcode_of, Units.bytes_at, Units.next_place};
 
 use crate::printing::print_text;
 use arrayvec::ArrayVec;

@@ -1,16 +1,12 @@
 //! The effects of the statements of a routine, and their faults beside those of their expressions.
 ghost use Rattle.std.specs.Prelude.{◌≡◌, ◌≤◌, ◌+◌, IfOk, OnOk, length, map};
-ghost use Rattle.inf_expressions.specs.Forests.{trees_in};
-ghost use Rattle.inf_expressions.specs.Findings.{wrong_kind};
-ghost use Rattle.inf_unit.specs.Opcodes.{opcode_of};
-ghost use Rattle.inf_unit.specs.Units.{next_place, order};
-ghost use Rattle.inf_statements.specs.Assembly.{ends_of};
-ghost use Rattle.inf_constructs.specs.Labels.{is_given};
+ghost use Rattle.inf_expressions.specs.{Findings.wrong_kind, Forests.trees_in};
+ghost use Rattle.inf_unit.specs.{Opcodes.opcode_of, Units.next_place, Units.order};
+ghost use Rattle.inf_statements.specs.{Assembly.ends_of, Sites.site};
 ghost use Rattle.inf_statements.specs.Effects.{given_twice, jump_laid, last_text, name_behind, only_if, place_laid, site_finding};
 ghost use Rattle.inf_statements.specs.Effects.{statement_code, statement_finding, statement_laid, unless_some, wanted_by};
-ghost use Rattle.inf_statements.specs.Sites.{site};
-ghost use Rattle.inf_constructs.specs.Roots.{tree_in, trees_from};
 ghost use Rattle.inf_statements.specs.Statements.{statement_in, string_changed, style_of};
+ghost use Rattle.inf_constructs.specs.{Labels.is_given, Roots.tree_in, Roots.trees_from};
 
 use crate::assembly::{Line, ends_of, labelled, lay_line, placed};
 use crate::printing::{Printing, print_items};

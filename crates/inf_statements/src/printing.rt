@@ -1,12 +1,11 @@
 //! The code of statements that print.
 ghost use Rattle.std.specs.Prelude.{◌≡◌, List, OnOk, false, map};
-ghost use Rattle.inf_expressions.specs.Forests.{trees_in};
-ghost use Rattle.inf_expressions.specs.Trees.{Tree};
+ghost use Rattle.inf_expressions.specs.{Forests.trees_in, Trees.Tree};
 ghost use Rattle.inf_statements.specs.Printing.{called_with, ended, ends_behind, item_code, items_printed, rest_behind, rule_code};
-ghost use Rattle.inf_operands.specs.Texts.{text_at};
 ghost use Rattle.inf_statements.specs.Printing.{text_opcode, trees_behind, veneer_called};
-ghost use Rattle.inf_constructs.specs.Roots.{tree_in, trees_from};
 ghost use Rattle.inf_statements.specs.Statements.{PrintsText, printed};
+ghost use Rattle.inf_operands.specs.Texts.{text_at};
+ghost use Rattle.inf_constructs.specs.Roots.{tree_in, trees_from};
 
 use crate::statements::{lay_one, plain, rest};
 use inf_expressions::{Forest, Nodes, Root};

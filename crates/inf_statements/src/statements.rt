@@ -1,11 +1,8 @@
 //! The statements, and the code of those that need nothing beside their trees.
 ghost use Rattle.std.specs.Prelude.{◌≡◌, List, OnOk, Some, map, false};
-ghost use Rattle.inf_expressions.specs.Forests.{trees_in};
-ghost use Rattle.inf_expressions.specs.Nodes.{tree_at};
-ghost use Rattle.inf_expressions.specs.Trees.{Tree};
+ghost use Rattle.inf_expressions.specs.{Forests.trees_in, Nodes.tree_at, Trees.Tree};
 ghost use Rattle.inf_output.specs.Output.{Takes};
-ghost use Rattle.inf_templates.specs.Meaning.{Meaning};
-ghost use Rattle.inf_templates.specs.Tasks.{part_of, parts_of};
+ghost use Rattle.inf_templates.specs.{Meaning.Meaning, Tasks.part_of, Tasks.parts_of};
 ghost use Rattle.inf_unit.specs.Spelled.{spelled};
 ghost use Rattle.inf_constructs.specs.Roots.{tree_in, trees_from};
 ghost use Rattle.inf_statements.specs.Statements.{action_laid, action_on, alone, are_several, attribute_code, attribute_opcode};

@@ -1,15 +1,11 @@
 -- The fixups of all areas.
 use Rattle.std.proofs.Common.{◌≡◌, ℕ, List, ◌∷◌, [], ◌++◌, append-nil, append_assoc, refl, sym, ap, ◌∙◌}
-use Rattle.inf_area.specs.declared.fixups.Fixup.{Fixup}
-use Rattle.inf_area.specs.declared.targets.AreaName.{AreaName}
-use Rattle.inf_area.specs.declared.targets.AreaName.TheVariants as area
-use Rattle.inf_area.specs.declared.cells.Cell.{Cell}
+use Rattle.inf_area.specs.{declared.cells.Cell.Cell, declared.fixups.Fixup.Fixup, declared.targets.AreaName.AreaName}
 use Rattle.inf_area.specs.Cells.{bytes_of, fixups_of}
 use Rattle.inf_area.proofs.Joining.{bytes_of-known, fixups_of-known}
 use Rattle.inf_code.specs.Code.{known}
 use Rattle.inf_dictionary.specs.Words.{dictionary_bytes}
-use Rattle.inf_link.specs.Areas.{area_of}
-use Rattle.inf_link.specs.FillingLaws.{cells_fixups}
+use Rattle.inf_link.specs.{Areas.area_of, FillingLaws.cells_fixups}
 use Rattle.inf_story.specs.Tables.{areas, low_strings, three_spaces}
 use Rattle.inf_text.specs.Packing.{packed, longest, character_zs}
 use Rattle.inf_tables.specs.Tables.{AllTables}
@@ -30,23 +26,27 @@ put_all done (xs ∷ lists) = put_all (done ++ xs) lists ∙ append_assoc done x
 -- the fixups of the areas that are written with fixups
 abbrev written : (AreaName → List Fixup) → List (List Fixup)
 written fixups =
-    fixups area.Abbreviations ∷ fixups area.PropertyDefaults ∷ fixups area.Objects ∷ fixups area.PropertyTables ∷ fixups area.ClassNumbers
-    ∷ fixups area.IndividualTables ∷ fixups area.Globals ∷ fixups area.Arrays ∷ fixups area.Grammar ∷ fixups area.Actions
-    ∷ fixups area.ParsingRoutines ∷ fixups area.Code ∷ []
+    fixups AreaName.Abbreviations ∷ fixups AreaName.PropertyDefaults ∷ fixups AreaName.Objects ∷ fixups AreaName.PropertyTables ∷ fixups
+    AreaName.ClassNumbers
+    ∷ fixups AreaName.IndividualTables ∷ fixups AreaName.Globals ∷ fixups AreaName.Arrays ∷ fixups AreaName.Grammar ∷ fixups
+    AreaName.Actions
+    ∷ fixups AreaName.ParsingRoutines ∷ fixups AreaName.Code ∷ []
 
 -- all fixups, with those of the areas that are known bytes
 abbrev whole : (AreaName → List Fixup) → List Fixup → List Fixup → List Fixup → List Fixup
 whole fixups low words strings =
-    low ++ all (fixups area.Abbreviations ∷ fixups area.PropertyDefaults ∷ fixups area.Objects ∷ fixups area.PropertyTables ∷ fixups
-    area.ClassNumbers
-    ∷ fixups area.IndividualTables ∷ fixups area.Globals ∷ fixups area.Arrays ∷ fixups area.Grammar ∷ fixups area.Actions
-    ∷ fixups area.ParsingRoutines ∷ words ∷ fixups area.Code ∷ strings ∷ [])
+    low ++ all (fixups AreaName.Abbreviations ∷ fixups AreaName.PropertyDefaults ∷ fixups AreaName.Objects ∷ fixups
+    AreaName.PropertyTables ∷ fixups
+    AreaName.ClassNumbers
+    ∷ fixups AreaName.IndividualTables ∷ fixups AreaName.Globals ∷ fixups AreaName.Arrays ∷ fixups AreaName.Grammar ∷ fixups
+    AreaName.Actions
+    ∷ fixups AreaName.ParsingRoutines ∷ words ∷ fixups AreaName.Code ∷ strings ∷ [])
 
 all_written : (fixups : AreaName → List Fixup) → put [] (written fixups) ≡ whole fixups [] [] []
 all_written fixups = put_all [] (written fixups)
 
-none_low : (behind : List ℕ) → [] ≡ fixups_of area.LowStrings 0 (low_strings behind)
-none_low behind = sym (fixups_of-known area.LowStrings 0 (three_spaces ++ behind))
+none_low : (behind : List ℕ) → [] ≡ fixups_of AreaName.LowStrings 0 (low_strings behind)
+none_low behind = sym (fixups_of-known AreaName.LowStrings 0 (three_spaces ++ behind))
 
 abbrev fixups_in : ℕ → List Cell → List ℕ → AllTables → AreaName → List Fixup
 fixups_in main finished strings tables name = fixups_of name 0 (area_of name (areas main finished strings tables))
@@ -58,8 +58,9 @@ all_fixups main finished strings tables =
     let words = dictionary_bytes tables.dictionary.list in
     all_written fixups
     ∙ ap (λ low. whole fixups low [] []) (none_low tables.low_strings.bytes)
-    ∙ ap (λ none. whole fixups (fixups area.LowStrings) none []) (sym (fixups_of-known area.Dictionary 0 words))
-    ∙ ap (λ none. whole fixups (fixups area.LowStrings) (fixups area.Dictionary) none) (sym (fixups_of-known area.Strings 0 strings))
+    ∙ ap (λ none. whole fixups (fixups AreaName.LowStrings) none []) (sym (fixups_of-known AreaName.Dictionary 0 words))
+    ∙ ap (λ none. whole fixups (fixups AreaName.LowStrings) (fixups AreaName.Dictionary) none)
+    (sym (fixups_of-known AreaName.Strings 0 strings))
 
 -- bytes as cells
 pub known_bytes : (bytes : List ℕ) → bytes_of (known bytes) ≡ bytes

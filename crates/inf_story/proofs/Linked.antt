@@ -1,21 +1,11 @@
 -- The linked story is the story of the cells.
-use Rattle.std.specs.Prelude.{IfOk, Result, Ok, Err, MatchResult}
-use Rattle.std.proofs.Common.{◌≡◌, ◌⊎◌, inl, inr, ◌∙◌, ℕ, List, Option, Some, None, ap, sym}
-use Rattle.inf_area.specs.declared.fixups.Fixup.{Fixup}
-use Rattle.inf_area.specs.declared.targets.Value.{Value}
-use Rattle.inf_area.specs.declared.cells.Cell.{Cell}
-use Rattle.inf_link.specs.declared.areas.Areas.{Areas}
-use Rattle.inf_link.specs.declared.header.HeaderFields.{HeaderFields}
-use Rattle.inf_link.specs.declared.link.LinkFault.{LinkFault}
-use Rattle.inf_link.specs.declared.link.LinkFault.TheVariants.{Memory}
-use Rattle.inf_link.specs.Areas.{lengths}
-use Rattle.inf_link.specs.FillingLaws.{cells_contents, cells_fixups}
-use Rattle.inf_link.specs.MemoryMaps.{too_long as too_long_by}
-use Rattle.inf_link.specs.Stories.{refusal, sizes, story as linked}
-use Rattle.inf_link.specs.Targets.{Lookup}
+use Rattle.std.proofs.Common.{IfOk, Result, Ok, Err, MatchResult, ◌≡◌, ◌⊎◌, inl, inr, ◌∙◌, ℕ, List, Option, Some, None, ap, sym}
+use Rattle.inf_area.specs.{declared.cells.Cell.Cell, declared.fixups.Fixup.Fixup, declared.targets.Value.Value}
+use Rattle.inf_link.specs.{Areas.lengths, FillingLaws.cells_contents, FillingLaws.cells_fixups, MemoryMaps.too_long as too_long_by}
+use Rattle.inf_link.specs.{Stories.refusal, Stories.sizes, Stories.story as linked, Targets.Lookup, declared.areas.Areas.Areas}
+use Rattle.inf_link.specs.{declared.header.HeaderFields.HeaderFields, declared.link.LinkFault.LinkFault}
 use Rattle.inf_link.proofs.CellLaws.{cells_in_order, sizes-cells}
-use Rattle.inf_story.specs.Stories.{story, story_sizes, too_long}
-use Rattle.inf_story.specs.Tables.{areas, looked_up}
+use Rattle.inf_story.specs.{Stories.story, Stories.story_sizes, Stories.too_long, Tables.areas, Tables.looked_up}
 use Rattle.inf_tables.specs.Tables.{AllTables}
 
 pub is_story : (fields : HeaderFields) (main : ℕ) (names : List Value) (finished : List Cell) (strings : List ℕ) (tables : AllTables)
@@ -55,7 +45,7 @@ if_ok_more (Err fault) P Q h p = tt
 -- want of memory, or why there is no story
 pub told : {T : Type 0} (r : Result T LinkFault) (long : Option LinkFault) →
     MatchResult r (λ _. long ≡ None) (λ fault. fault ≡ refusal long)
-    → MatchResult r (λ _. long ≡ None) (λ fault. (fault ≡ Memory) ⊎ (long ≡ Some fault))
+    → MatchResult r (λ _. long ≡ None) (λ fault. (fault ≡ LinkFault.Memory) ⊎ (long ≡ Some fault))
 told (Ok x) long e = e
 told (Err fault) None e = inl e
 told (Err fault) (Some other) e = inr (ap Some (sym e))

@@ -1,7 +1,6 @@
 -- The areas of a source that filled no table, by evaluation.
 use Rattle.std.proofs.Common.{refl}
-use Rattle.inf_objects.specs.Attributes.{attribute_cells, flag_byte, no_attributes}
-use Rattle.inf_objects.specs.Tables.{all_falling}
+use Rattle.inf_objects.specs.{Attributes.attribute_cells, Attributes.flag_byte, Attributes.no_attributes, Tables.all_falling}
 use Rattle.inf_story.specs.Plain.{LookupIsPlain, TablesArePlain, class_numbers, dictionary, globals, objects, property_defaults}
 use Rattle.inf_story.specs.Plain.{property_tables, table_places}
 use Rattle.inf_text.specs.Packing.{packed, longest, character_zs}

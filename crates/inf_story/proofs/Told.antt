@@ -1,17 +1,10 @@
 -- Each story states its own length and checksum, by the sizes of its areas.
 use Rattle.std.proofs.Common.{◌≡◌, ℕ, List, length, subst}
-use Rattle.inf_area.specs.declared.targets.Value.{Value}
-use Rattle.inf_area.specs.declared.cells.Cell.{Cell}
-use Rattle.inf_link.specs.declared.header.HeaderFields.{HeaderFields}
-use Rattle.inf_link.specs.Areas.{area_of, by_name}
-use Rattle.inf_link.specs.FillingLaws.{cells_sizes, numbered}
-use Rattle.inf_link.specs.MemoryMaps.{map_of}
-use Rattle.inf_link.specs.StoryLaws.{TellsItself}
-use Rattle.inf_link.specs.Targets.{number_of}
-use Rattle.inf_link.proofs.CellLaws.{sizes-numbered}
-use Rattle.inf_link.proofs.StoryLaws.{stories_tell_themselves}
-use Rattle.inf_story.specs.Stories.{story}
-use Rattle.inf_story.specs.Tables.{areas, looked_up}
+use Rattle.inf_area.specs.{declared.cells.Cell.Cell, declared.targets.Value.Value}
+use Rattle.inf_link.specs.{Areas.area_of, Areas.by_name, FillingLaws.cells_sizes, FillingLaws.numbered, MemoryMaps.map_of}
+use Rattle.inf_link.specs.{StoryLaws.TellsItself, Targets.number_of, declared.header.HeaderFields.HeaderFields}
+use Rattle.inf_link.proofs.{CellLaws.sizes-numbered, StoryLaws.stories_tell_themselves}
+use Rattle.inf_story.specs.{Stories.story, Tables.areas, Tables.looked_up}
 use Rattle.inf_tables.specs.Tables.{AllTables}
 
 pub story_tells : (fields : HeaderFields) (main : ℕ) (names : List Value) (finished : List Cell) (strings : List ℕ) (tables : AllTables) →

@@ -1,32 +1,27 @@
 -- The values of the names of a source in its story.
 use Rattle.std.specs.Prelude.{List, [], ◌∷◌, Option, Some, None}
-use Rattle.inf_area.specs.declared.targets.AreaName.TheVariants as area
-use Rattle.inf_area.specs.declared.targets.Target.TheVariants as target
-use Rattle.inf_area.specs.declared.targets.Value.{Value}
-use Rattle.inf_area.specs.declared.targets.Value.TheVariants as value
-use Rattle.inf_names.specs.Symbols.{Named, meaning_in}
-use Rattle.inf_names.specs.declared.meanings.Meaning.{Meaning}
-use Rattle.inf_names.specs.declared.meanings.Meaning.TheVariants as meaning
+use Rattle.inf_area.specs.{declared.targets.AreaName.AreaName, declared.targets.Target.Target, declared.targets.Value.Value}
+use Rattle.inf_names.specs.{Symbols.Named, Symbols.meaning_in, declared.meanings.Meaning.Meaning}
 use Rattle.inf_scanner.specs.declared.tokens.Place.{Place}
 
 -- The value of a name by its meaning: a number, a place in an area, or a dictionary word, which is known by its text and not by a place. A
 -- function of the language is no number.
 abbrev pub value_of : Meaning → Option Value
-value_of (meaning.Number number) = Some (value.Known number)
-value_of (meaning.Variable number) = Some (value.Known number)
-value_of (meaning.Attribute number) = Some (value.Known number)
-value_of (meaning.Property number is_additive) = Some (value.Known number)
-value_of (meaning.IndividualProperty number) = Some (value.Known number)
-value_of (meaning.Object number) = Some (value.Known number)
-value_of (meaning.Class number) = Some (value.Known number)
-value_of (meaning.FakeAction number) = Some (value.Known number)
-value_of (meaning.Text place) = Some (value.Later (target.Place area.Strings place))
-value_of (meaning.LowString place) = Some (value.Later (target.Place area.LowStrings place))
-value_of (meaning.Array place) = Some (value.Later (target.Place area.Arrays place))
-value_of (meaning.Routine place) = Some (value.Later (target.Place area.Code place))
-value_of (meaning.PackedAddress place) = Some (value.Later (target.Place area.Code place))
-value_of (meaning.Word text) = Some (value.Later (target.Word text))
-value_of (meaning.Function function) = None
+value_of (Meaning.Number number) = Some (Value.Known number)
+value_of (Meaning.Variable number) = Some (Value.Known number)
+value_of (Meaning.Attribute number) = Some (Value.Known number)
+value_of (Meaning.Property number is_additive) = Some (Value.Known number)
+value_of (Meaning.IndividualProperty number) = Some (Value.Known number)
+value_of (Meaning.Object number) = Some (Value.Known number)
+value_of (Meaning.Class number) = Some (Value.Known number)
+value_of (Meaning.FakeAction number) = Some (Value.Known number)
+value_of (Meaning.Text place) = Some (Value.Later (Target.Place AreaName.Strings place))
+value_of (Meaning.LowString place) = Some (Value.Later (Target.Place AreaName.LowStrings place))
+value_of (Meaning.Array place) = Some (Value.Later (Target.Place AreaName.Arrays place))
+value_of (Meaning.Routine place) = Some (Value.Later (Target.Place AreaName.Code place))
+value_of (Meaning.PackedAddress place) = Some (Value.Later (Target.Place AreaName.Code place))
+value_of (Meaning.Word text) = Some (Value.Later (Target.Word text))
+value_of (Meaning.Function function) = None
 
 -- the value of a name by its meaning, if it has one: a name that was not declared has none
 abbrev pub value_by : Option Meaning → Option Value

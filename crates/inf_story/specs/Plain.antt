@@ -1,16 +1,10 @@
 -- The story of a source that filled no table: the first four objects, which are the classes that the language has, and an empty
 -- empty dictionary.
-use Rattle.std.specs.Prelude.{◌≡◌, ℕ, ◌+◌, ◌/◌, List, [], ◌∷◌, ◌++◌, length, map, replicate, codes}
-use Rattle.std.specs.List.{flat_map}
-use Rattle.inf_area.specs.declared.targets.AreaName.TheVariants as area
-use Rattle.inf_area.specs.declared.targets.Target.TheVariants as target
-use Rattle.inf_area.specs.declared.targets.Value.{Value}
-use Rattle.inf_area.specs.declared.cells.Cell.{Cell}
-use Rattle.inf_area.specs.declared.cells.Cell.TheVariants as cell
-use Rattle.inf_characters.specs.declared.texts.TextItem.TheVariants.{Character}
+use Rattle.std.specs.Prelude.{◌≡◌, ℕ, ◌+◌, ◌/◌, List, [], ◌∷◌, ◌++◌, length, map, replicate, codes, flat_map}
+use Rattle.inf_area.specs.declared.{cells.Cell.Cell, targets.AreaName.AreaName, targets.Target.Target, targets.Value.Value}
+use Rattle.inf_characters.specs.declared.texts.TextItem.{TextItem}
 use Rattle.inf_code.specs.Code.{code_cells, known}
-use Rattle.inf_link.specs.declared.areas.Areas.{Areas}
-use Rattle.inf_link.specs.Targets.{Lookup}
+use Rattle.inf_link.specs.{Targets.Lookup, declared.areas.Areas.Areas}
 use Rattle.inf_story.specs.Tables.{abbreviations, areas, looked_up, low_strings}
 use Rattle.inf_tables.specs.Tables.{no_tables}
 use Rattle.inf_text.specs.Packing.{packed}
@@ -24,7 +18,7 @@ object_names = codes "Class" ∷ codes "Object" ∷ codes "Routine" ∷ codes "S
 
 -- an object with no attributes and no relatives: six bytes, three words, and where its table is (section 12.3.2)
 abbrev pub object : ℕ → List Cell
-object number = replicate 12 (cell.Byte 0) ++ cell.Later (target.Part area.PropertyTables number) ∷ []
+object number = replicate 12 (Cell.Byte 0) ++ Cell.Later (Target.Part AreaName.PropertyTables number) ∷ []
 
 unfoldable pub objects : List Cell
 objects = object 0 ++ object 1 ++ object 2 ++ object 3
@@ -32,7 +26,7 @@ objects = object 0 ++ object 1 ++ object 2 ++ object 3
 -- the table of an object with no properties: the length of its name in words, the name, and 0 (section 12.4)
 abbrev pub property_table : List ℕ → List ℕ
 property_table name =
-    let text = packed (map Character name) [] in (length text / 2) ∷ text ++ 0 ∷ []
+    let text = packed (map TextItem.Character name) [] in (length text / 2) ∷ text ++ 0 ∷ []
 
 unfoldable pub property_tables : List Cell
 property_tables = known (flat_map property_table object_names)
@@ -72,7 +66,7 @@ plain_areas main finished strings = record {
   actions = [];
   parsing_routines = [];
   dictionary = dictionary;
-  code = code_cells (target.Place area.Code main) finished;
+  code = code_cells (Target.Place AreaName.Code main) finished;
   strings = known strings;
 }
 

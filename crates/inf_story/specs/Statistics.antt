@@ -1,11 +1,9 @@
 -- The statistics of a story, for those who want them.
 use Rattle.std.specs.Prelude.{ℕ, length, codes}
 use Rattle.inf_code.specs.Code.{Routines, routine_count}
-use Rattle.inf_tables.specs.Tables.{AllTables}
+use Rattle.inf_tables.specs.{Tables.AllTables, World.object_count}
 use Rattle.inf_unit.specs.Messages.{Reported, with_statistic}
-use Rattle.inf_tables.specs.World.{object_count}
-use Rattle.inf_story.specs.declared.statistics.Counts.{Counts}
-use Rattle.inf_story.specs.declared.statistics.Statistics.{Statistics}
+use Rattle.inf_story.specs.{declared.statistics.Counts.Counts, declared.statistics.Statistics.Statistics}
 
 -- the counts of a source with `symbols` names: objects with the first four, actions without fake ones, routines with the first one
 abbrev pub counts_of : ℕ → Routines → AllTables → Counts

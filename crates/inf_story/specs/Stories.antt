@@ -1,13 +1,9 @@
 -- The story of a source. Z-Machine Standard 1.1, sections 1 and 11.
 use Rattle.std.specs.Prelude.{ℕ, List, Option}
-use Rattle.inf_area.specs.declared.targets.Value.{Value}
-use Rattle.inf_area.specs.declared.cells.Cell.{Cell}
-use Rattle.inf_link.specs.declared.header.HeaderFields.{HeaderFields}
-use Rattle.inf_link.specs.declared.link.LinkFault.{LinkFault}
-use Rattle.inf_link.specs.declared.link.Sizes.{Sizes}
+use Rattle.inf_area.specs.{declared.cells.Cell.Cell, declared.targets.Value.Value}
+use Rattle.inf_link.specs.{MemoryMaps.too_long as too_long_by, Stories.sizes, declared.header.HeaderFields.HeaderFields}
+use Rattle.inf_link.specs.{declared.link.LinkFault.LinkFault, declared.link.Sizes.Sizes}
 use Rattle.inf_link.specs.FillingLaws.{cells_contents, cells_sizes, cells_story}
-use Rattle.inf_link.specs.MemoryMaps.{too_long as too_long_by}
-use Rattle.inf_link.specs.Stories.{sizes}
 use Rattle.inf_story.specs.Tables.{areas, looked_up}
 use Rattle.inf_tables.specs.Tables.{AllTables}
 

@@ -1,17 +1,12 @@
 //! The areas of a story, one by one.
 ghost use Rattle.std.specs.Prelude.{◌≡◌, ℕ, List, ◌-◌, ◌++◌, [], IfOk, OnOk};
-ghost use Rattle.inf_area.specs.Fixups.{with_fixups};
-ghost use Rattle.inf_arrays.specs.Arrays.{all_of, arrays_cells};
-ghost use Rattle.inf_arrays.specs.Globals.{globals_cells};
-ghost use Rattle.inf_area.specs.Cells.{bytes_of, fixups_of, values_cells};
+ghost use Rattle.inf_area.specs.{Cells.bytes_of, Cells.fixups_of, Cells.values_cells, Fixups.with_fixups};
+ghost use Rattle.inf_arrays.specs.{Arrays.all_of, Arrays.arrays_cells, Globals.globals_cells};
 ghost use Rattle.inf_code.specs.Code.{code_cells, known};
 ghost use Rattle.inf_dictionary.specs.Words.{dictionary_bytes};
-ghost use Rattle.inf_link.specs.Areas.{by_name};
-ghost use Rattle.inf_link.specs.FillingLaws.{cells_contents, cells_fixups};
-ghost use Rattle.inf_link.specs.Targets.{lookup};
+ghost use Rattle.inf_link.specs.{Areas.by_name, FillingLaws.cells_contents, FillingLaws.cells_fixups, Targets.lookup};
 ghost use Rattle.inf_story.specs.Tables.{abbreviations, areas, looked_up, low_strings, undeclared};
-ghost use Rattle.inf_verbs.specs.Routines.{routines_cells};
-ghost use Rattle.inf_verbs.specs.Verbs.{grammar_cells};
+ghost use Rattle.inf_verbs.specs.{Routines.routines_cells, Verbs.grammar_cells};
 ghost use Rattle.inf_tables.specs.Areas.{area_cells, name_of};
 
 use inf_area::{Area, AreaName, Cells, PagedArea, Refs, Target, Value, append_cells};

@@ -1,8 +1,8 @@
 -- A name's atom tells which word it is.
 use Rattle.std.proofs.Common.{◌≡◌, ℕ, ◌+◌, ◌-◌, ◌≤◌, ◌<◌, List, [], ◌∷◌, suc, Bool, true, false, length, slice_get, nat_lt, if◌then◌else◌}
 use Rattle.std.proofs.Common.{cond, refl, ap, arith, ◌∙◌}
-use Rattle.std.specs.Str.{str_eq_ignore_ascii_case}
 use Rattle.std.proofs.lemmas.Bool.{cond-true, cond-false, false_from_ne_true, lt-ltb, ltb-true}
+use Rattle.std.specs.Str.{str_eq_ignore_ascii_case}
 use Rattle.inf_syntax.specs.Atoms.{first_word, keyword_at, keyword_of, name_at, names, place_in}
 use Rattle.inf_syntax.specs.Words.{keywords, words}
 

@@ -1,16 +1,11 @@
 -- A word is found by its slot.
+use Rattle.std.proofs.{Math.ListN.get_or-map, lemmas.List.FromFn.get_or-map-range_with_len, lemmas.List.length-map}
+use Rattle.std.proofs.{lemmas.Slice.Eq.bytes_eq-Decides}
 use Rattle.std.proofs.Common.{◌≡◌, ℕ, zero, suc, ◌+◌, ◌-◌, ◌<◌, ◌≤◌, List, [], ◌∷◌, Bool, true, false, ◌&&◌, nat_eq, map, length, get_or}
 use Rattle.std.proofs.Common.{refl, sym, ◌∙◌, ap, subst, arith, if◌then◌else◌, cond, inl, inr, ◌⊎◌}
-use Rattle.std.specs.Char.{to_ascii_lowercase}
-use Rattle.std.specs.Str.{str_eq_ignore_ascii_case}
 use Rattle.std.proofs.lemmas.Bool.{and_parts, cond-true, cond-false, false_from_ne_true, both_ways, eq-eqb, eqb-true}
-use Rattle.std.proofs.lemmas.List.{length-map}
-use Rattle.std.proofs.lemmas.List.FromFn.{get_or-map-range_with_len}
-use Rattle.std.proofs.lemmas.Slice.Eq.{bytes_eq-Decides}
-use Rattle.std.proofs.Math.ListN.{get_or-map}
-use Rattle.inf_syntax.specs.Atoms.{place_in}
-use Rattle.inf_syntax.specs.Words.{words}
-use Rattle.inf_syntax.specs.Slots.{letter, slot, place_of, word_slots, all_slots}
+use Rattle.std.specs.{Char.to_ascii_lowercase, Str.str_eq_ignore_ascii_case}
+use Rattle.inf_syntax.specs.{Atoms.place_in, Slots.all_slots, Slots.letter, Slots.place_of, Slots.slot, Slots.word_slots, Words.words}
 
 -- The slot of a name in any case
 

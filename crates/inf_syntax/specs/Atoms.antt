@@ -2,54 +2,50 @@
 -- these names again as that of a class, a number, a character, a word in quotes, a text, a bad token, the end.
 use Rattle.std.specs.Prelude.{ℕ, ◌+◌, ◌-◌, ◌*◌, ◌^◌, List, [], ◌∷◌, bit_or, bit_and, nat_lt, slice_get, if◌then◌else◌, Option}
 use Rattle.std.specs.Str.{str_eq_ignore_ascii_case}
-use Rattle.inf_syntax.specs.Words.{words, keywords}
-use Rattle.inf_syntax.specs.declared.words.Keyword.{Keyword}
-use Rattle.inf_syntax.specs.declared.atoms.Token.{Token as Seen}
-use Rattle.inf_syntax.specs.declared.atoms.Token.TheVariants as seen
+use Rattle.inf_syntax.specs.{Words.keywords, Words.words, declared.atoms.Token.Token as Seen, declared.words.Keyword.Keyword}
 use Rattle.inf_scanner.specs.declared.tokens.Mark.{Mark}
-use Rattle.inf_scanner.specs.declared.tokens.Mark.TheVariants as mark
 
 abbrev pub mark_atom : Mark → ℕ
-mark_atom mark.Arrow = 0
-mark_atom mark.LongArrow = 1
-mark_atom mark.Minus = 2
-mark_atom mark.Decrement = 3
-mark_atom mark.Plus = 4
-mark_atom mark.Increment = 5
-mark_atom mark.Times = 6
-mark_atom mark.Divide = 7
-mark_atom mark.Remainder = 8
-mark_atom mark.BitAnd = 9
-mark_atom mark.LogicalAnd = 10
-mark_atom mark.BitOr = 11
-mark_atom mark.LogicalOr = 12
-mark_atom mark.BitNot = 13
-mark_atom mark.LogicalNot = 14
-mark_atom mark.NotEqual = 15
-mark_atom mark.Assign = 16
-mark_atom mark.Equal = 17
-mark_atom mark.Greater = 18
-mark_atom mark.GreaterOrEqual = 19
-mark_atom mark.Less = 20
-mark_atom mark.LessOrEqual = 21
-mark_atom mark.DoubleLess = 22
-mark_atom mark.DoubleGreater = 23
-mark_atom mark.Comma = 24
-mark_atom mark.Semicolon = 25
-mark_atom mark.Colon = 26
-mark_atom mark.OpenParenthesis = 27
-mark_atom mark.CloseParenthesis = 28
-mark_atom mark.OpenBracket = 29
-mark_atom mark.CloseBracket = 30
-mark_atom mark.OpenBrace = 31
-mark_atom mark.CloseBrace = 32
-mark_atom mark.Dot = 33
-mark_atom mark.DotAnd = 34
-mark_atom mark.DotHash = 35
-mark_atom mark.Hash = 36
-mark_atom mark.DoubleHash = 37
-mark_atom mark.Question = 38
-mark_atom mark.At = 39
+mark_atom Mark.Arrow = 0
+mark_atom Mark.LongArrow = 1
+mark_atom Mark.Minus = 2
+mark_atom Mark.Decrement = 3
+mark_atom Mark.Plus = 4
+mark_atom Mark.Increment = 5
+mark_atom Mark.Times = 6
+mark_atom Mark.Divide = 7
+mark_atom Mark.Remainder = 8
+mark_atom Mark.BitAnd = 9
+mark_atom Mark.LogicalAnd = 10
+mark_atom Mark.BitOr = 11
+mark_atom Mark.LogicalOr = 12
+mark_atom Mark.BitNot = 13
+mark_atom Mark.LogicalNot = 14
+mark_atom Mark.NotEqual = 15
+mark_atom Mark.Assign = 16
+mark_atom Mark.Equal = 17
+mark_atom Mark.Greater = 18
+mark_atom Mark.GreaterOrEqual = 19
+mark_atom Mark.Less = 20
+mark_atom Mark.LessOrEqual = 21
+mark_atom Mark.DoubleLess = 22
+mark_atom Mark.DoubleGreater = 23
+mark_atom Mark.Comma = 24
+mark_atom Mark.Semicolon = 25
+mark_atom Mark.Colon = 26
+mark_atom Mark.OpenParenthesis = 27
+mark_atom Mark.CloseParenthesis = 28
+mark_atom Mark.OpenBracket = 29
+mark_atom Mark.CloseBracket = 30
+mark_atom Mark.OpenBrace = 31
+mark_atom Mark.CloseBrace = 32
+mark_atom Mark.Dot = 33
+mark_atom Mark.DotAnd = 34
+mark_atom Mark.DotHash = 35
+mark_atom Mark.Hash = 36
+mark_atom Mark.DoubleHash = 37
+mark_atom Mark.Question = 38
+mark_atom Mark.At = 39
 
 -- the number of words before a name, in any case: all of them, if it is none
 abbrev pub place_in : List ℕ → List (List ℕ) → ℕ
@@ -69,14 +65,14 @@ first_literal = 186
 -- The atom of a token
 
 abbrev pub atom_of : Seen → ℕ
-atom_of (seen.Mark m) = mark_atom m
-atom_of (seen.Name spelling is_class) = first_word + (if is_class then names else 0) + place_in spelling.now words
-atom_of seen.Number = first_literal
-atom_of seen.Char = first_literal + 1
-atom_of seen.Word = first_literal + 2
-atom_of seen.Text = first_literal + 3
-atom_of seen.Bad = first_literal + 4
-atom_of seen.End = first_literal + 5
+atom_of (Seen.Mark m) = mark_atom m
+atom_of (Seen.Name spelling is_class) = first_word + (if is_class then names else 0) + place_in spelling.now words
+atom_of Seen.Number = first_literal
+atom_of Seen.Char = first_literal + 1
+atom_of Seen.Word = first_literal + 2
+atom_of Seen.Text = first_literal + 3
+atom_of Seen.Bad = first_literal + 4
+atom_of Seen.End = first_literal + 5
 
 -- Words
 

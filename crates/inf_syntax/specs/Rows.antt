@@ -1,10 +1,7 @@
 -- Rows as the tables write them.
 use Rattle.std.specs.Prelude.{ℕ, List}
-use Rattle.inf_machine.specs.declared.symbols.Symbol.{Symbol}
-use Rattle.inf_machine.specs.Grammar.{Row}
-use Rattle.inf_syntax.specs.declared.actions.Action.{Action}
-use Rattle.inf_syntax.specs.Classes.{classes}
-use Rattle.inf_syntax.specs.At.{number_at}
+use Rattle.inf_machine.specs.{Grammar.Row, declared.symbols.Symbol.Symbol}
+use Rattle.inf_syntax.specs.{At.number_at, Classes.classes, declared.actions.Action.Action}
 
 abbrev pub row : List (Symbol Action) → Row Action
 row parts = record { parts = parts; unless = 0 }

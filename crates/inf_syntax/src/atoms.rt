@@ -1,9 +1,8 @@
 //! Atoms: tokens, as far as the grammar looks at them.
 ghost use Rattle.std.specs.Prelude.{◌≡◌, ◌≤◌, ◌<◌, get_or, length, map};
 ghost use Rattle.std.specs.Str.{str_eq_ignore_ascii_case};
+ghost use Rattle.inf_syntax.specs.{Slots.all_slots, Slots.letter, Slots.slot, Words.keywords, Words.words};
 ghost use Rattle.inf_syntax.specs.Atoms.{atom_of, keyword_at, name_at, place_in};
-ghost use Rattle.inf_syntax.specs.Slots.{all_slots, letter, slot};
-ghost use Rattle.inf_syntax.specs.Words.{keywords, words};
 
 use crate::words::{KEYWORDS, Keyword, SLOTS, WORDS};
 use inf_scanner::Mark;

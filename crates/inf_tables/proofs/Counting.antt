@@ -1,27 +1,17 @@
 -- The counts of a world when a body ends.
+use Rattle.std.proofs.{lemmas.Bool.ne_eqb, lemmas.List.Sums.sum_by-cons, lemmas.List.Sums.sum_by_push}
 use Rattle.std.proofs.Common.{◌≡◌, ◌≤◌, ◌+◌, ◌∷◌, ◌++◌, ◌==◌, [], ℕ, List, Bool, true, false, Option, Some, None, length, length-append}
 use Rattle.std.proofs.Common.{refl, sym, ap, subst, ◌∙◌, arith}
 use Rattle.std.specs.Prelude.{IsErrAnd, MatchResult, Result, Ok, Err, nat_lt, option_map, slice_get, sum_by, if◌then◌else◌}
-use Rattle.std.proofs.lemmas.Bool.{ne_eqb}
-use Rattle.std.proofs.lemmas.List.Sums.{sum_by_push, sum_by-cons}
 use Rattle.inf_settings.specs.Bounds.{Limits as SettingLimits}
-use Rattle.inf_properties.specs.declared.values.Property.{Property}
-use Rattle.inf_properties.specs.declared.sizes.Owner.{Owner}
-use Rattle.inf_properties.specs.declared.sizes.Owner.TheVariants as owner
-use Rattle.inf_properties.specs.declared.sizes.Size.{Size}
-use Rattle.inf_properties.specs.declared.open.GiveFault.{GiveFault}
-use Rattle.inf_properties.specs.declared.open.GiveFault.TheVariants as given
+use Rattle.inf_properties.specs.declared.{open.GiveFault.GiveFault, sizes.Owner.Owner, sizes.Size.Size, values.Property.Property}
 use Rattle.inf_properties.specs.Open.{Open, all, class_refused}
 use Rattle.inf_properties.specs.Sizes.{fixups_of, individuals_of, size_of, table_bytes, total, with_table}
 use Rattle.inf_properties.proofs.Sums.{few}
 use Rattle.inf_objects.specs.declared.objects.Object.{Object}
 use Rattle.inf_objects.specs.Objects.{ended, head_bytes, head_fixups, is_lost, join_fault, nothing_read, object_bytes, object_fixups}
-use Rattle.inf_tables.specs.declared.faults.WorldFault.{WorldFault}
-use Rattle.inf_tables.specs.declared.faults.WorldFault.TheVariants as fault
-use Rattle.inf_tables.specs.declared.faults.Misfit.TheVariants as misfit
-use Rattle.inf_tables.specs.Faults.{given_fault}
-use Rattle.inf_tables.specs.Objects.{class_at, or_latest}
-use Rattle.inf_tables.specs.declared.kinds.Limits.{Limits}
+use Rattle.inf_tables.specs.{Faults.given_fault, Objects.class_at, Objects.or_latest, declared.faults.Misfit.Misfit}
+use Rattle.inf_tables.specs.{declared.faults.WorldFault.WorldFault, declared.kinds.Limits.Limits}
 use Rattle.inf_tables.specs.World.{AreHung, IsRefused, IsWorld, WorldOf, class_by_fault, class_of_fault, open_count, room_beside}
 use Rattle.inf_tables.specs.World.{with_properties}
 use Rattle.inf_tables.proofs.Latest.{latest-push, told}
@@ -31,20 +21,20 @@ nothing_sum f [] none = refl
 nothing_sum f (p ∷ ps) none = omega (arith, sum_by-cons f p ps, none p, nothing_sum f ps none)
 
 -- properties that belong to nothing need no bytes
-pub nothing_bytes : (ps : List Property) → table_bytes owner.Nothing ps ≡ 0
+pub nothing_bytes : (ps : List Property) → table_bytes Owner.Nothing ps ≡ 0
 nothing_bytes ps =
-    ap (λ n. (with_table (record { bytes = n; fixups = fixups_of owner.Nothing ps; individuals = individuals_of owner.Nothing ps })).bytes)
-    (nothing_sum (λ p. (size_of owner.Nothing p).bytes) ps (λ p. refl))
-    ∙ ap (λ n. (with_table (record { bytes = 0; fixups = fixups_of owner.Nothing ps; individuals = n })).bytes)
-    (nothing_sum (λ p. (size_of owner.Nothing p).individuals) ps (λ p. refl))
+    ap (λ n. (with_table (record { bytes = n; fixups = fixups_of Owner.Nothing ps; individuals = individuals_of Owner.Nothing ps })).bytes)
+    (nothing_sum (λ p. (size_of Owner.Nothing p).bytes) ps (λ p. refl))
+    ∙ ap (λ n. (with_table (record { bytes = 0; fixups = fixups_of Owner.Nothing ps; individuals = n })).bytes)
+    (nothing_sum (λ p. (size_of Owner.Nothing p).individuals) ps (λ p. refl))
 
 -- a class that is refused, as a fault of the world
 pub refused_as : (found : Option GiveFault) (f : GiveFault) → class_refused found f →
     IsRefused (option_map given_fault found) (given_fault f)
-refused_as found given.Given h = ap (option_map given_fault) h
-refused_as found given.TooLong h = ap (option_map given_fault) h
-refused_as found given.Full h = ap (option_map given_fault) h
-refused_as found given.Memory h = tt
+refused_as found GiveFault.Given h = ap (option_map given_fault) h
+refused_as found GiveFault.TooLong h = ap (option_map given_fault) h
+refused_as found GiveFault.Full h = ap (option_map given_fault) h
+refused_as found GiveFault.Memory h = tt
 
 few_in : (s : Size) → s.fixups ≤ s.bytes → (with_table s).fixups ≤ (with_table s).bytes
 few_in s h = go (nat_lt 0 s.individuals)
@@ -55,9 +45,9 @@ few_in s h = go (nat_lt 0 s.individuals)
     go false = h
 
 head_few : (w : Owner) (n k : ℕ) → head_fixups w ≤ head_bytes w n k
-head_few owner.Object n k = omega arith
-head_few owner.Class n k = omega arith
-head_few owner.Nothing n k = omega arith
+head_few Owner.Object n k = omega arith
+head_few Owner.Class n k = omega arith
+head_few Owner.Nothing n k = omega arith
 
 object_few : (o : Object) → object_fixups o ≤ object_bytes o
 object_few o =
@@ -73,9 +63,9 @@ parents-push most [] o h k l = (k, l, tt)
 parents-push most (p ∷ objects) o h k l = (h.0, h.1, parents-push most objects o h.2 k l)
 
 one_open : (w : Owner) → is_lost w ≡ false → open_count w ≡ 1
-one_open owner.Object e = refl
-one_open owner.Class e = refl
-one_open owner.Nothing e = cc
+one_open Owner.Object e = refl
+one_open Owner.Class e = refl
+one_open Owner.Nothing e = cc
 
 -- the open body is the last object
 abbrev pub with_last : WorldOf → WorldOf
@@ -122,13 +112,13 @@ pub class_fault_is : (limits : SettingLimits) (w : WorldOf) (number : ℕ) (clas
     → class_of_fault limits number w ≡ option_map given_fault (join_fault number class (room_beside limits w) w.body)
 class_fault_is limits w number class e some is =
     ap (λ (b : Bool). if b then (if number == 0 then None else class_by_fault limits (class_at number w.objects) number w) else Some
-    (fault.Misfit misfit.NoBody)) e
+    (WorldFault.Misfit Misfit.NoBody)) e
     ∙ ap (λ (b : Bool). if b then None else class_by_fault limits (class_at number w.objects) number w) (ne_eqb number 0 some)
     ∙ ap (λ o. class_by_fault limits o number w) is
 
 -- a body that belongs to nothing has other properties
 pub lost_stays : (limits : Limits) (w : WorldOf) (o : Open) (latest : List ℕ) (bytes fixups : ℕ) → IsWorld limits w latest bytes fixups →
-    w.body.properties.owner ≡ owner.Nothing → o.owner ≡ owner.Nothing
+    w.body.properties.owner ≡ Owner.Nothing → o.owner ≡ Owner.Nothing
     → IsWorld limits (with_properties o w) latest bytes fixups
 lost_stays limits w o latest bytes fixups h e f =
     let table = ap (λ x. table_bytes x (all o)) f ∙ nothing_bytes (all o) in

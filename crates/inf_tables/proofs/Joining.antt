@@ -1,26 +1,17 @@
 -- Areas of joined lists of objects.
 use Rattle.std.proofs.Common.{◌≡◌, ◌≤◌, ◌+◌, ◌-◌, ◌%◌, ◌∷◌, ◌++◌, [], ℕ, zero, suc, List, Bool, length, drop, map, replicate, append_assoc}
 use Rattle.std.proofs.Common.{refl, sym, ap, subst, ◌∙◌, arith}
-use Rattle.inf_area.specs.declared.targets.AreaName.TheVariants as area_name
-use Rattle.inf_area.specs.declared.targets.Target.TheVariants as target
-use Rattle.inf_area.specs.declared.targets.Value.{Value}
-use Rattle.inf_area.specs.declared.targets.Value.TheVariants as value
+use Rattle.inf_area.specs.declared.{cells.Cell.Cell, targets.AreaName.AreaName, targets.Target.Target, targets.Value.Value}
 use Rattle.inf_area.specs.Cells.{bytes_of, later_count, value_cells, values_cells, word_cells}
-use Rattle.inf_area.specs.declared.cells.Cell.{Cell}
-use Rattle.inf_area.specs.declared.cells.Cell.TheVariants as cell
 use Rattle.inf_properties.specs.Sizes.{later_count as values_later}
-use Rattle.inf_objects.specs.Attributes.{attribute_cells, no_attributes}
+use Rattle.inf_objects.specs.{Attributes.attribute_cells, Attributes.no_attributes, declared.objects.Object.Object, declared.tree.Link.Link}
 use Rattle.inf_objects.specs.Tables.{all_falling, class_values, table_cells}
 use Rattle.inf_objects.specs.Tree.{AreWithin, child_of, each_from, link_at, link_of, links_of, sibling_of}
-use Rattle.inf_objects.specs.declared.objects.Object.{Object}
-use Rattle.inf_objects.specs.declared.tree.Link.{Link}
-use Rattle.inf_objects.proofs.Walking.{link_is}
-use Rattle.inf_objects.proofs.Written.{later_joined, size_joined, values_laters}
+use Rattle.inf_objects.proofs.{Walking.link_is, Written.later_joined, Written.size_joined, Written.values_laters}
+use Rattle.inf_tables.specs.{World.AreHung, World.later_defaults, World.later_in, declared.kinds.DeclaredProperty.DeclaredProperty}
 use Rattle.inf_tables.specs.Areas.{all_defaults, all_objects, bare_cells, class_numbers_from, entries_by, entry_cells, first_names}
 use Rattle.inf_tables.specs.Areas.{first_objects, individual_places_from, individual_tables, object_by, object_cells, objects_from}
 use Rattle.inf_tables.specs.Areas.{parents_of, shown_attributes, table_places_from, tables_from}
-use Rattle.inf_tables.specs.World.{AreHung, later_defaults, later_in}
-use Rattle.inf_tables.specs.declared.kinds.DeclaredProperty.{DeclaredProperty}
 
 pub values-append : (xs ys : List Value) → values_cells (xs ++ ys) ≡ values_cells xs ++ values_cells ys
 values-append [] ys = refl
@@ -29,7 +20,7 @@ values-append (x ∷ xs) ys =
 
 pub class_values-append : (xs ys : List ℕ) → class_values (xs ++ ys) ≡ class_values xs ++ class_values ys
 class_values-append [] ys = refl
-class_values-append (x ∷ xs) ys = ap (λ vs. value.Known (x % 65536) ∷ vs) (class_values-append xs ys)
+class_values-append (x ∷ xs) ys = ap (λ vs. Value.Known (x % 65536) ∷ vs) (class_values-append xs ys)
 
 pub tables-append : (part : ℕ) (xs ys : List Object) →
     tables_from part (xs ++ ys) ≡ tables_from part xs ++ tables_from (part + length xs) ys
@@ -198,12 +189,12 @@ individual_end cells objects i h is =
 
 -- the defaults
 pub defaults_joined : (ds : List DeclaredProperty) →
-    (values_cells (replicate 3 (value.Known 0)) ++ values_cells (map (λ (d : DeclaredProperty). d.default) ds))
-    ++ values_cells (replicate (60 - length ds) (value.Known 0)) ≡ values_cells (all_defaults ds)
+    (values_cells (replicate 3 (Value.Known 0)) ++ values_cells (map (λ (d : DeclaredProperty). d.default) ds))
+    ++ values_cells (replicate (60 - length ds) (Value.Known 0)) ≡ values_cells (all_defaults ds)
 defaults_joined ds =
     let own = map (λ (d : DeclaredProperty). d.default) ds in
-    let front = replicate 3 (value.Known 0) in
-    let rest = replicate (60 - length ds) (value.Known 0) in
+    let front = replicate 3 (Value.Known 0) in
+    let rest = replicate (60 - length ds) (Value.Known 0) in
     ap (λ cs. cs ++ values_cells rest) (sym (values-append front own)) ∙ sym (values-append (front ++ own) rest)
 
 -- numbers that are known later
@@ -213,7 +204,7 @@ attributes_known attributes = refl
 
 entry_later : (attributes : List Bool) (parent sibling child part : ℕ) → later_count (entry_cells attributes parent sibling child part) ≡ 1
 entry_later attributes parent sibling child part =
-    let address = cell.Later (target.Part area_name.PropertyTables part) ∷ [] in
+    let address = Cell.Later (Target.Part AreaName.PropertyTables part) ∷ [] in
     omega (
       arith,
       later_joined (attribute_cells attributes ++ word_cells (parent % 65536) ++ word_cells (sibling % 65536) ++ word_cells (child % 65536))
@@ -248,10 +239,10 @@ classes_later ns =
 
 laters-append : (xs ys : List Value) → values_later (xs ++ ys) ≡ values_later xs + values_later ys
 laters-append [] ys = omega arith
-laters-append (value.Known n ∷ xs) ys = laters-append xs ys
-laters-append (value.Later t ∷ xs) ys = omega (arith, laters-append xs ys)
+laters-append (Value.Known n ∷ xs) ys = laters-append xs ys
+laters-append (Value.Later t ∷ xs) ys = omega (arith, laters-append xs ys)
 
-zeros_known : (n : ℕ) → values_later (replicate n (value.Known 0)) ≡ 0
+zeros_known : (n : ℕ) → values_later (replicate n (Value.Known 0)) ≡ 0
 zeros_known zero = refl
 zeros_known (suc n) = zeros_known n
 
@@ -261,14 +252,14 @@ defaults_later (d ∷ ds) = one d.default (defaults_later ds)
   where
     one : (v : Value) → values_later (map (λ (d : DeclaredProperty). d.default) ds) ≡ later_defaults ds
         → values_later (v ∷ map (λ (d : DeclaredProperty). d.default) ds) ≡ later_in v + later_defaults ds
-    one (value.Known n) later = omega (arith, later)
-    one (value.Later t) later = omega (arith, later)
+    one (Value.Known n) later = omega (arith, later)
+    one (Value.Later t) later = omega (arith, later)
 
 pub all_defaults_later : (ds : List DeclaredProperty) → later_count (values_cells (all_defaults ds)) ≡ later_defaults ds
 all_defaults_later ds =
     let own = map (λ (d : DeclaredProperty). d.default) ds in
-    let front = replicate 3 (value.Known 0) in
-    let rest = replicate (60 - length ds) (value.Known 0) in
+    let front = replicate 3 (Value.Known 0) in
+    let rest = replicate (60 - length ds) (Value.Known 0) in
     values_laters (all_defaults ds)
     ∙ omega (
       arith,

@@ -1,7 +1,6 @@
 -- The latest object that has a number of arrows.
 use Rattle.std.proofs.Common.{◌≡◌, ◌≤◌, ◌<◌, ◌+◌, ◌∷◌, ◌++◌, [], ℕ, zero, suc, List, Bool, true, false, Option, Some, None, length, refl}
-use Rattle.std.proofs.Common.{sym, ap, subst, ◌∙◌, arith}
-use Rattle.std.specs.Prelude.{is_some, slice_get, if◌then◌else◌}
+use Rattle.std.proofs.Common.{sym, ap, subst, ◌∙◌, arith, is_some, slice_get, if◌then◌else◌}
 use Rattle.std.proofs.lemmas.Option.{slice_get_within}
 use Rattle.inf_objects.specs.declared.objects.Object.{Object}
 use Rattle.inf_tables.specs.Objects.{IsReached, has_arrows, latest_from, latest_with, or_latest, parent_above, parent_by_arrows}

@@ -1,19 +1,12 @@
 -- The sizes of the tables of some objects, as a loop goes over them.
 use Rattle.std.proofs.Common.{◌≡◌, ◌≤◌, ◌<◌, ◌+◌, ◌∷◌, ◌++◌, [], ℕ, zero, suc, List, false, length, length-append, append_assoc, drop}
-use Rattle.std.proofs.Common.{get_or, refl, sym, ap, subst, ◌∙◌, arith}
-use Rattle.std.specs.Prelude.{sum_by}
-use Rattle.std.proofs.lemmas.List.{drop_more}
-use Rattle.std.proofs.lemmas.List.Sums.{sum_by-cons}
-use Rattle.inf_area.specs.Cells.{bytes_of, later_count}
-use Rattle.inf_area.specs.declared.cells.Cell.{Cell}
-use Rattle.inf_area.specs.declared.cells.Cell.TheVariants as cell
+use Rattle.std.proofs.Common.{get_or, refl, sym, ap, subst, ◌∙◌, arith, sum_by}
+use Rattle.std.proofs.{lemmas.List.Sums.sum_by-cons, lemmas.List.drop_more}
+use Rattle.inf_area.specs.{Cells.bytes_of, Cells.later_count, declared.cells.Cell.Cell}
 use Rattle.inf_properties.specs.declared.sizes.Owner.{Owner}
-use Rattle.inf_properties.specs.declared.sizes.Owner.TheVariants as owner
-use Rattle.inf_objects.specs.Measures.{CountedBy}
+use Rattle.inf_objects.specs.{Measures.CountedBy, declared.objects.Object.Object, declared.sizes.Measure.Measure}
 use Rattle.inf_objects.specs.Objects.{is_lost, object_bytes, object_fixups}
 use Rattle.inf_objects.specs.Tables.{individual_table_cells, table_cells}
-use Rattle.inf_objects.specs.declared.objects.Object.{Object}
-use Rattle.inf_objects.specs.declared.sizes.Measure.{Measure}
 use Rattle.inf_objects.proofs.Written.{later_joined, size_joined}
 use Rattle.inf_tables.specs.Areas.{held_by, held_bytes, individual_places_from, individual_tables, table_places_from, tables_from}
 use Rattle.inf_tables.specs.World.{AreHung}
@@ -30,9 +23,9 @@ counts o m e h = go o.owner e h
     go : (w : Owner) → is_lost w ≡ false → CountedBy w o m
         → (m.table.bytes + m.individual_table.bytes + held_by w o ≡ object_bytes o) ×
         (m.table.later + m.individual_table.later + 1 ≡ object_fixups o)
-    go owner.Object e h = (omega (arith, h.0), h.1)
-    go owner.Class e h = h
-    go owner.Nothing e h = cc
+    go Owner.Object e h = (omega (arith, h.0), h.1)
+    go Owner.Class e h = h
+    go Owner.Nothing e h = cc
 
 -- the first of the objects that are left
 pub left_is : (objects : List Object) (i : ℕ) (o : Object) → i < length objects → o ≡ get_or objects i o →
@@ -147,8 +140,8 @@ one_within most objects i o all m h is left counts =
 -- Where tables begin
 bytes-append : (xs ys : List Cell) → bytes_of (xs ++ ys) ≡ bytes_of xs ++ bytes_of ys
 bytes-append [] ys = refl
-bytes-append (cell.Byte b ∷ xs) ys = ap (λ bs. b ∷ bs) (bytes-append xs ys)
-bytes-append (cell.Later t ∷ xs) ys = ap (λ bs. 0 ∷ 0 ∷ bs) (bytes-append xs ys)
+bytes-append (Cell.Byte b ∷ xs) ys = ap (λ bs. b ∷ bs) (bytes-append xs ys)
+bytes-append (Cell.Later t ∷ xs) ys = ap (λ bs. 0 ∷ 0 ∷ bs) (bytes-append xs ys)
 
 drop_front : (n : ℕ) (xs ys : List ℕ) → length xs ≡ n → drop n (xs ++ ys) ≡ ys
 drop_front zero [] ys e = refl

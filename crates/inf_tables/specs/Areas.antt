@@ -1,30 +1,17 @@
 -- The areas of a world (Z-Machine Standard 1.1, section 12): as cells, the first four objects before those of the source.
 use Rattle.std.specs.Prelude.{ℕ, ◌+◌, ◌-◌, ◌*◌, ◌%◌, List, [], ◌∷◌, ◌++◌, Bool, length, map, replicate, sum_by}
-use Rattle.inf_area.specs.declared.targets.AreaName.{AreaName}
-use Rattle.inf_area.specs.declared.targets.AreaName.TheVariants as area_name
-use Rattle.inf_area.specs.declared.targets.Target.TheVariants as target
-use Rattle.inf_area.specs.declared.targets.Value.{Value}
-use Rattle.inf_area.specs.declared.targets.Value.TheVariants as value
+use Rattle.inf_area.specs.declared.{cells.Cell.Cell, targets.AreaName.AreaName, targets.Target.Target, targets.Value.Value}
 use Rattle.inf_area.specs.Cells.{bytes_of, values_cells, word_cells}
-use Rattle.inf_area.specs.declared.cells.Cell.{Cell}
-use Rattle.inf_area.specs.declared.cells.Cell.TheVariants as cell
-use Rattle.inf_properties.specs.declared.sizes.Owner.{Owner}
-use Rattle.inf_properties.specs.declared.sizes.Owner.TheVariants as owner
-use Rattle.inf_objects.specs.declared.objects.Object.{Object}
-use Rattle.inf_objects.specs.Attributes.{attribute_cells, no_attributes}
+use Rattle.inf_properties.specs.{declared.sizes.Owner.Owner, declared.values.Property.Property}
+use Rattle.inf_objects.specs.{Attributes.attribute_cells, Attributes.no_attributes, declared.objects.Object.Object, declared.tree.Link.Link}
 use Rattle.inf_objects.specs.Tables.{class_values, individual_table_cells, name_cells, table_cells}
 use Rattle.inf_objects.specs.Tree.{child_of, link_at, sibling_of}
-use Rattle.inf_objects.specs.declared.tree.Link.{Link}
-use Rattle.inf_properties.specs.declared.values.Property.{Property}
-use Rattle.inf_tables.specs.declared.kinds.DeclaredProperty.{DeclaredProperty}
-use Rattle.inf_tables.specs.declared.kinds.WorldArea.{WorldArea}
-use Rattle.inf_tables.specs.declared.kinds.WorldArea.TheVariants as area
-use Rattle.inf_tables.specs.World.{WorldOf}
+use Rattle.inf_tables.specs.{World.WorldOf, declared.kinds.DeclaredProperty.DeclaredProperty, declared.kinds.WorldArea.WorldArea}
 
 -- The first four objects: `Class`, `Object`, `Routine` and `String`, which have no parent and no properties.
 abbrev pub first_object : List ℕ → Object
 first_object name =
-    record { owner = owner.Object; parent = 0; arrows = 0; attributes = no_attributes; name = name; classes = []; properties = [] }
+    record { owner = Owner.Object; parent = 0; arrows = 0; attributes = no_attributes; name = name; classes = []; properties = [] }
 
 -- their names, packed
 unfoldable pub first_names : List (List ℕ)
@@ -41,13 +28,13 @@ all_objects objects = first_objects ++ objects
 -- Property defaults: 63 words, the first for number 1 (section 12.2)
 abbrev pub all_defaults : List DeclaredProperty → List Value
 all_defaults declared =
-    replicate 3 (value.Known 0) ++ map (λ (d : DeclaredProperty). d.default) declared ++ replicate (60 - length declared) (value.Known 0)
+    replicate 3 (Value.Known 0) ++ map (λ (d : DeclaredProperty). d.default) declared ++ replicate (60 - length declared) (Value.Known 0)
 
 -- Objects (section 12.3): attributes, parent, sibling, child, and the address of the property table. A class has no attributes of its own.
 abbrev pub shown_attributes : Owner → List Bool → List Bool
-shown_attributes owner.Object attributes = attributes
-shown_attributes owner.Class attributes = no_attributes
-shown_attributes owner.Nothing attributes = no_attributes
+shown_attributes Owner.Object attributes = attributes
+shown_attributes Owner.Class attributes = no_attributes
+shown_attributes Owner.Nothing attributes = no_attributes
 
 abbrev pub parents_of : List Object → List ℕ
 parents_of objects = map (λ (o : Object). o.parent) objects
@@ -55,7 +42,7 @@ parents_of objects = map (λ (o : Object). o.parent) objects
 abbrev pub entry_cells : List Bool → ℕ → ℕ → ℕ → ℕ → List Cell
 entry_cells attributes parent sibling child part =
     attribute_cells attributes ++ word_cells (parent % 65536) ++ word_cells (sibling % 65536) ++ word_cells (child % 65536)
-    ++ cell.Later (target.Part area_name.PropertyTables part) ∷ []
+    ++ Cell.Later (Target.Part AreaName.PropertyTables part) ∷ []
 
 abbrev pub object_cells : List ℕ → ℕ → Object → List Cell
 object_cells parents part o =
@@ -76,9 +63,9 @@ individual_tables (o ∷ objects) = individual_table_cells o ++ individual_table
 
 -- The numbers of the classes, and a 0
 abbrev pub class_numbers_by : Owner → ℕ → List ℕ
-class_numbers_by owner.Object number = []
-class_numbers_by owner.Class number = number ∷ []
-class_numbers_by owner.Nothing number = []
+class_numbers_by Owner.Object number = []
+class_numbers_by Owner.Class number = number ∷ []
+class_numbers_by Owner.Nothing number = []
 
 abbrev pub class_numbers_from : ℕ → List Object → List ℕ
 class_numbers_from number [] = []
@@ -86,18 +73,18 @@ class_numbers_from number (o ∷ objects) = class_numbers_by o.owner number ++ c
 
 -- The cells of each area of a world; an open body is no part of it.
 abbrev pub area_cells : WorldArea → WorldOf → List Cell
-area_cells area.PropertyDefaults w = values_cells (all_defaults w.declared)
-area_cells area.Objects w = objects_from (parents_of (all_objects w.objects)) 0 (all_objects w.objects)
-area_cells area.PropertyTables w = tables_from 0 (all_objects w.objects)
-area_cells area.ClassNumbers w = values_cells (class_values (class_numbers_from 1 (all_objects w.objects))) ++ word_cells 0
-area_cells area.IndividualTables w = individual_tables (all_objects w.objects)
+area_cells WorldArea.PropertyDefaults w = values_cells (all_defaults w.declared)
+area_cells WorldArea.Objects w = objects_from (parents_of (all_objects w.objects)) 0 (all_objects w.objects)
+area_cells WorldArea.PropertyTables w = tables_from 0 (all_objects w.objects)
+area_cells WorldArea.ClassNumbers w = values_cells (class_values (class_numbers_from 1 (all_objects w.objects))) ++ word_cells 0
+area_cells WorldArea.IndividualTables w = individual_tables (all_objects w.objects)
 
 abbrev pub name_of : WorldArea → AreaName
-name_of area.PropertyDefaults = area_name.PropertyDefaults
-name_of area.Objects = area_name.Objects
-name_of area.PropertyTables = area_name.PropertyTables
-name_of area.ClassNumbers = area_name.ClassNumbers
-name_of area.IndividualTables = area_name.IndividualTables
+name_of WorldArea.PropertyDefaults = AreaName.PropertyDefaults
+name_of WorldArea.Objects = AreaName.Objects
+name_of WorldArea.PropertyTables = AreaName.PropertyTables
+name_of WorldArea.ClassNumbers = AreaName.ClassNumbers
+name_of WorldArea.IndividualTables = AreaName.IndividualTables
 
 -- The places where the parts of an area begin, in bytes from its front, where the first part begins at `at`
 abbrev pub table_places_from : ℕ → ℕ → List Object → List ℕ
@@ -110,9 +97,9 @@ individual_places_from at (o ∷ objects) = at ∷ individual_places_from (at + 
 
 -- the bytes that classes hold in no table: two for each value
 abbrev pub held_by : Owner → Object → ℕ
-held_by owner.Object o = 0
-held_by owner.Class o = 2 * sum_by (λ (p : Property). length p.values) o.properties
-held_by owner.Nothing o = 0
+held_by Owner.Object o = 0
+held_by Owner.Class o = 2 * sum_by (λ (p : Property). length p.values) o.properties
+held_by Owner.Nothing o = 0
 
 abbrev pub held_bytes : List Object → ℕ
 held_bytes objects = sum_by (λ (o : Object). held_by o.owner o) objects
@@ -127,4 +114,4 @@ entries_by links part [] = []
 entries_by links part (o ∷ objects) = object_by links part o ++ entries_by links (part + 1) objects
 
 abbrev pub bare_cells : List ℕ → List Cell
-bare_cells name = name_cells name ++ cell.Byte 0 ∷ []
+bare_cells name = name_cells name ++ Cell.Byte 0 ∷ []

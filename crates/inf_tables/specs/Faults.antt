@@ -1,14 +1,10 @@
 -- The fault of the world for each fault of a given property.
 use Rattle.inf_properties.specs.declared.open.GiveFault.{GiveFault}
-use Rattle.inf_properties.specs.declared.open.GiveFault.TheVariants as given
-use Rattle.inf_tables.specs.declared.faults.WorldFault.{WorldFault}
-use Rattle.inf_tables.specs.declared.faults.WorldFault.TheVariants as fault
-use Rattle.inf_tables.specs.declared.faults.Limit.TheVariants as limit
-use Rattle.inf_tables.specs.declared.faults.Misfit.TheVariants as misfit
-use Rattle.inf_tables.specs.declared.faults.WorldSetting.TheVariants as setting
+use Rattle.inf_tables.specs.{declared.faults.Limit.Limit, declared.faults.Misfit.Misfit, declared.faults.WorldFault.WorldFault}
+use Rattle.inf_tables.specs.{declared.faults.WorldSetting.WorldSetting}
 
 abbrev pub given_fault : GiveFault → WorldFault
-given_fault given.Given = fault.Misfit misfit.GivenAlready
-given_fault given.TooLong = fault.Limit limit.Values
-given_fault given.Full = fault.Full setting.PropertyTables
-given_fault given.Memory = fault.Memory
+given_fault GiveFault.Given = WorldFault.Misfit Misfit.GivenAlready
+given_fault GiveFault.TooLong = WorldFault.Limit Limit.Values
+given_fault GiveFault.Full = WorldFault.Full WorldSetting.PropertyTables
+given_fault GiveFault.Memory = WorldFault.Memory

@@ -1,7 +1,6 @@
 -- The low strings of a story behind the first one, which each story has: three spaces, in two bytes.
 use Rattle.std.specs.Prelude.{ℕ, ◌+◌, List, [], ◌∷◌, ◌++◌, length, Bool, nat_le}
-use Rattle.inf_settings.specs.Bounds.{Limits}
-use Rattle.inf_settings.specs.declared.setting.Setting.TheVariants as setting
+use Rattle.inf_settings.specs.{Bounds.Limits, declared.setting.Setting.Setting}
 
 -- the bytes of packed texts, and where those of abbreviations begin, in bytes from the front of the first one
 pub record LowArea : Type 0 where
@@ -25,4 +24,4 @@ with_abbreviation text low = record (with_low text low) { abbreviations = low.ab
 
 -- whether there is room for one low string more
 abbrev pub low_fits : Limits → List ℕ → LowArea → Bool
-low_fits limits text low = nat_le (low_size low + length text) (limits setting.LowStrings)
+low_fits limits text low = nat_le (low_size low + length text) (limits Setting.LowStrings)

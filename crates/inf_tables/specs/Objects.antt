@@ -2,17 +2,13 @@
 use Rattle.std.specs.Prelude.{ℕ, zero, suc, ◌+◌, ◌-◌, List, [], ◌∷◌, ◌==◌, ◌&&◌, Bool, true, false, not, Option, Some, None, IsSome, Result}
 use Rattle.std.specs.Prelude.{Ok, Err, length, nat_le, slice_get, if◌then◌else◌}
 use Rattle.inf_properties.specs.declared.sizes.Owner.{Owner}
-use Rattle.inf_properties.specs.declared.sizes.Owner.TheVariants as owner
 use Rattle.inf_objects.specs.declared.objects.Object.{Object}
-use Rattle.inf_tables.specs.declared.kinds.Parent.{Parent}
-use Rattle.inf_tables.specs.declared.kinds.Parent.TheVariants as parent
-use Rattle.inf_tables.specs.declared.faults.Misfit.{Misfit}
-use Rattle.inf_tables.specs.declared.faults.Misfit.TheVariants as misfit
+use Rattle.inf_tables.specs.{declared.faults.Misfit.Misfit, declared.kinds.Parent.Parent}
 
 abbrev pub is_class : Owner → Bool
-is_class owner.Object = false
-is_class owner.Class = true
-is_class owner.Nothing = false
+is_class Owner.Object = false
+is_class Owner.Class = true
+is_class Owner.Nothing = false
 
 -- the object or class with a number that the source declared
 abbrev pub declared_at : ℕ → List Object → Option Object
@@ -61,11 +57,11 @@ abbrev pub latest_with : ℕ → List Object → Option ℕ
 latest_with arrows objects = latest_from arrows 5 objects
 
 abbrev pub arrows_of : Parent → ℕ
-arrows_of (parent.Object number) = 0
-arrows_of (parent.Arrows count) = count
+arrows_of (Parent.Object number) = 0
+arrows_of (Parent.Arrows count) = count
 
 abbrev pub parent_above : Option ℕ → Result ℕ Misfit
-parent_above None = Err misfit.NothingAbove
+parent_above None = Err Misfit.NothingAbove
 parent_above (Some number) = Ok number
 
 abbrev pub parent_by_arrows : ℕ → List Object → Result ℕ Misfit
@@ -74,8 +70,8 @@ parent_by_arrows (suc arrows) objects = parent_above (latest_with arrows objects
 
 -- the number of a parent, or the reason why there is none
 abbrev pub parent_of : Parent → List Object → Result ℕ Misfit
-parent_of (parent.Object number) objects = if is_object number objects then Ok number else Err misfit.NotAnObject
-parent_of (parent.Arrows count) objects = parent_by_arrows count objects
+parent_of (Parent.Object number) objects = if is_object number objects then Ok number else Err Misfit.NotAnObject
+parent_of (Parent.Arrows count) objects = parent_by_arrows count objects
 
 -- an object with `arrows` arrows can hang somewhere: it has none, or an object before it has one less
 abbrev pub IsReached : ℕ → List Object → Type 0

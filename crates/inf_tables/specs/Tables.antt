@@ -1,13 +1,10 @@
 -- The tables of a story, as far as they are filled.
 use Rattle.std.specs.Prelude.{ℕ, List, ◌+◌, ◌-◌, min, [], length}
 use Rattle.inf_area.specs.declared.targets.Value.{Value}
-use Rattle.inf_arrays.specs.Arrays.{AllArrays, all_of, arrays_laters, no_arrays}
-use Rattle.inf_arrays.specs.Kinds.{laters}
+use Rattle.inf_arrays.specs.{Arrays.AllArrays, Arrays.all_of, Arrays.arrays_laters, Arrays.no_arrays, Kinds.laters}
 use Rattle.inf_dictionary.specs.Words.{Words}
-use Rattle.inf_verbs.specs.Routines.{AllActions}
-use Rattle.inf_verbs.specs.Verbs.{AllVerbs, verbs_laters}
-use Rattle.inf_tables.specs.World.{WorldOf, fixups_now, no_world}
-use Rattle.inf_tables.specs.LowStrings.{LowArea, no_low_strings}
+use Rattle.inf_verbs.specs.{Routines.AllActions, Verbs.AllVerbs, Verbs.verbs_laters}
+use Rattle.inf_tables.specs.{LowStrings.LowArea, LowStrings.no_low_strings, World.WorldOf, World.fixups_now, World.no_world}
 
 -- all tables, one of each kind
 pub record AllTables : Type 0 where

@@ -1,9 +1,7 @@
 //! The areas of a world, as cells (Z-Machine Standard 1.1, section 12).
 ghost use Rattle.std.specs.Prelude.{◌≡◌, ◌+◌, ◌<◌, ◌≤◌, ◌^◌, ◌++◌, ◌∷◌, [], IfOk, OnOk, length, map, replicate};
-ghost use Rattle.inf_area.specs.declared.targets.Value.TheVariants.{Known};
-ghost use Rattle.inf_area.specs.Cells.{values_cells, word_cells};
-ghost use Rattle.inf_objects.specs.Tables.{class_values};
-ghost use Rattle.inf_objects.specs.Tree.{link_at};
+ghost use Rattle.inf_area.specs.{Cells.values_cells, Cells.word_cells, declared.targets.Value.TheVariants.Known};
+ghost use Rattle.inf_objects.specs.{Tables.class_values, Tree.link_at};
 ghost use Rattle.inf_tables.specs.Areas.{all_defaults, all_objects, bare_cells, class_numbers_by, class_numbers_from, entries_by};
 ghost use Rattle.inf_tables.specs.Areas.{entry_cells, first_objects, individual_tables, object_by, objects_from, parents_of, tables_from};
 ghost use Rattle.inf_tables.specs.World.{AreHung};

@@ -1,8 +1,7 @@
 //! The objects that a world keeps, and how they are looked up.
 ghost use Rattle.std.specs.Prelude.{◌≡◌, ◌<◌, ◌≤◌, ◌++◌, ◌∷◌, ℕ, [], None, Some, length, option_map, slice_get, vec_len, vec_capacity};
 ghost use Rattle.std.specs.Prelude.{if◌then◌else◌};
-ghost use Rattle.inf_tables.specs.Objects.{class_at, class_count, has_arrows, or_latest};
-ghost use Rattle.inf_tables.specs.World.{later_defaults};
+ghost use Rattle.inf_tables.specs.{Objects.class_at, Objects.class_count, Objects.has_arrows, Objects.or_latest, World.later_defaults};
 
 use crate::kinds::DeclaredProperty;
 use crate::numbers::SYSTEM_OBJECTS;

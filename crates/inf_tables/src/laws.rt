@@ -1,10 +1,9 @@
 //! Laws on which an interpreter and an author may rely.
 ghost use Rattle.std.specs.Prelude.{◌≡◌, ◌+◌, ◌<◌, drop, length, slice_index_or};
 ghost use Rattle.inf_area.specs.Cells.{bytes_of, later_count};
+ghost use Rattle.inf_tables.specs.{World.ended_bytes, World.ended_fixups, World.later_defaults, declared.kinds.WorldArea.WorldArea};
 ghost use Rattle.inf_tables.specs.Areas.{all_objects, area_cells, held_bytes, individual_places_from, individual_tables, table_places_from};
 ghost use Rattle.inf_tables.specs.Areas.{tables_from};
-ghost use Rattle.inf_tables.specs.World.{ended_bytes, ended_fixups, later_defaults};
-ghost use Rattle.inf_tables.specs.declared.kinds.WorldArea.TheVariants as area;
 
 use crate::numbers::SYSTEM_OBJECTS;
 use crate::totals::totals;
@@ -16,22 +15,23 @@ use inf_settings::bounds::Bounds;
 pub fn table_at_its_place<B: Bounds>(world: &World<B>, number: usize)
     requires { number < length (all_objects world.now.objects) }
     ensures table { drop (slice_index_or (table_places_from 0 0 (all_objects world.now.objects)) number 0)
-        (bytes_of (area_cells area.PropertyTables world.now))
+        (bytes_of (area_cells WorldArea.PropertyTables world.now))
         ≡ bytes_of (tables_from number (drop number (all_objects world.now.objects))) }
     ensures individual_table { drop (slice_index_or (individual_places_from 0 (all_objects world.now.objects)) number 0)
-        (bytes_of (area_cells area.IndividualTables world.now))
+        (bytes_of (area_cells WorldArea.IndividualTables world.now))
         ≡ bytes_of (individual_tables (drop number (all_objects world.now.objects))) }
 {}
 
 /// Tables of all objects have as many bytes as the world counts for them, but for the values that classes hold in no table; and all
 /// areas have as many numbers that are known later as the world counts.
 pub fn written_as_counted<B: Bounds>(world: &World<B>)
-    ensures bytes { length (bytes_of (area_cells area.PropertyTables world.now)) + length
-        (bytes_of (area_cells area.IndividualTables world.now))
+    ensures bytes { length (bytes_of (area_cells WorldArea.PropertyTables world.now)) + length
+        (bytes_of (area_cells WorldArea.IndividualTables world.now))
         + held_bytes world.now.objects ≡ ended_bytes world.now.objects }
-    ensures later { later_count (area_cells area.PropertyDefaults world.now) + later_count (area_cells area.Objects world.now)
-        + later_count (area_cells area.PropertyTables world.now) + later_count (area_cells area.ClassNumbers world.now)
-        + later_count (area_cells area.IndividualTables world.now) ≡ ended_fixups world.now.objects + later_defaults world.now.declared }
+    ensures later { later_count (area_cells WorldArea.PropertyDefaults world.now) + later_count (area_cells WorldArea.Objects world.now)
+        + later_count (area_cells WorldArea.PropertyTables world.now) + later_count (area_cells WorldArea.ClassNumbers world.now)
+        + later_count (area_cells WorldArea.IndividualTables world.now) ≡ ended_fixups world.now.objects + later_defaults
+        world.now.declared }
 {
     let objects = world.objects();
     let _totals = totals(objects, SYSTEM_OBJECTS + objects.len());

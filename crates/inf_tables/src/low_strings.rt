@@ -1,7 +1,7 @@
 //! The low strings of a story.
 ghost use Rattle.std.specs.Prelude.{◌≡◌, ◌≤◌, IfOk, OnErr, if◌then◌else◌, max, true};
 ghost use Rattle.inf_tables.specs.LowStrings.{low_fits, low_size, with_abbreviation, with_low};
-ghost use Rattle.inf_settings.specs.declared.setting.Setting.TheVariants as setting;
+ghost use Rattle.inf_settings.specs.declared.setting.Setting.{Setting};
 
 use inf_settings::bounds::Bounds;
 use std::alloc::{AllocError, Global};
@@ -20,7 +20,7 @@ pub struct LowStrings<B: Bounds> {
     abbreviations: Vec<usize>,
     limit: usize,
     of: PhantomData<B>,
-    ghost is_most: { limit ≡ B.most setting.LowStrings },
+    ghost is_most: { limit ≡ B.most Setting.LowStrings },
 }
 
 impl<B: Bounds> Model for LowStrings<B> {
@@ -40,7 +40,7 @@ impl<B: Bounds> LowStrings<B> {
     /// Makes the low strings of a new story: none but the first one. With it they may have `limit` bytes. They take no
     /// memory until the next one comes.
     pub fn new(alloc: Global, limit: usize) -> LowStrings<B>
-        requires { limit ≡ B.most setting.LowStrings }
+        requires { limit ≡ B.most Setting.LowStrings }
         ensures { result ≡ no_low_strings }
     {
         LowStrings {
@@ -54,7 +54,7 @@ impl<B: Bounds> LowStrings<B> {
     /// Returns the number of bytes of the low strings with the first one: the place of the next one.
     pub fn len(&self) -> usize
         ensures value { result ≡ low_size self.now }
-        ensures few { result ≤ max 2 (B.most setting.LowStrings) }
+        ensures few { result ≤ max 2 (B.most Setting.LowStrings) }
     {
         FIRST_BYTES + self.bytes.len()
     }

@@ -1,7 +1,6 @@
 //! All tables, one of each kind.
 ghost use Rattle.std.specs.Prelude.{◌≡◌};
-ghost use Rattle.inf_settings.specs.declared.setting.Setting.TheVariants as setting;
-ghost use Rattle.inf_settings.specs.Bounds.{AreSet};
+ghost use Rattle.inf_settings.specs.{Bounds.AreSet, declared.setting.Setting.Setting};
 ghost use Rattle.inf_tables.specs.Tables.{more, no_tables, references, references_with};
 
 use crate::low_strings::LowStrings;
@@ -51,8 +50,8 @@ impl<B: Bounds> Model for Tables<B> {
 /// Returns the limits of the world by the settings: of its objects and of the bytes of property tables.
 fn world_limits<B: Bounds>(settings: &Settings) -> Limits
     requires { AreSet B.most settings.now }
-    ensures objects { result.objects ≡ B.most setting.Objects }
-    ensures bytes { result.property_bytes ≡ B.most setting.PropertyTables }
+    ensures objects { result.objects ≡ B.most Setting.Objects }
+    ensures bytes { result.property_bytes ≡ B.most Setting.PropertyTables }
 {
     Limits {
         objects: settings.bound::<B>(Setting::Objects),

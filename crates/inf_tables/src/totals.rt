@@ -2,9 +2,8 @@
 ghost use Rattle.std.specs.Prelude.{◌≡◌, ◌+◌, ◌<◌, ◌≤◌, ◌^◌, IfOk, length, sum_by};
 ghost use Rattle.inf_area.specs.Cells.{bytes_of, later_count};
 ghost use Rattle.inf_objects.specs.Objects.{object_bytes, object_fixups};
-ghost use Rattle.inf_tables.specs.Areas.{all_objects, held_bytes, individual_places_from, individual_tables, table_places_from};
-ghost use Rattle.inf_tables.specs.Areas.{tables_from};
-ghost use Rattle.inf_tables.specs.World.{AreHung};
+ghost use Rattle.inf_tables.specs.{Areas.all_objects, Areas.held_bytes, Areas.individual_places_from, Areas.individual_tables};
+ghost use Rattle.inf_tables.specs.{Areas.table_places_from, Areas.tables_from, World.AreHung};
 
 use inf_objects::{Measure, Object, Part, measured};
 use std::alloc::{AllocError, Global};

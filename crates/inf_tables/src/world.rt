@@ -1,10 +1,10 @@
 //! The world of a story, as far as its source was read.
 ghost use Rattle.std.specs.Prelude.{◌≡◌, ◌+◌, ◌<◌, ◌≤◌, ◌^◌, max, List, ℕ, [], ◌∷◌, None, Some, false, true, length, unwrap_or, option_map};
 ghost use Rattle.std.specs.Prelude.{slice_get, sum_by, IfErr, IfOk, IsSome, OnOk, OnErr, MatchResult};
-ghost use Rattle.inf_properties.specs.Properties.{has, is_reserved};
-ghost use Rattle.inf_properties.specs.declared.sizes.Owner.TheVariants as owner;
+ghost use Rattle.inf_properties.specs.{Properties.has, Properties.is_reserved, declared.sizes.Owner.Owner};
 ghost use Rattle.inf_properties.specs.Open.{give_fault, given_first, with_given};
 ghost use Rattle.inf_objects.specs.Objects.{begun, is_lost, is_passed, object_bytes, object_fixups};
+ghost use Rattle.inf_tables.specs.{Faults.given_fault, declared.faults.WorldFault.TheVariants.Memory};
 ghost use Rattle.inf_tables.specs.Objects.{IsReached, class_at, is_object, latest_with};
 ghost use Rattle.inf_tables.specs.World.{AreHung, IsRefused, attribute_fault, bytes_now, class_header_fault, class_of_fault, fixups_now};
 ghost use Rattle.inf_tables.specs.World.{full_fault, further_value_fault, given_property_fault, individual_fault, kind_of, lost_given};
@@ -13,8 +13,6 @@ ghost use Rattle.inf_tables.specs.World.{property_fault, room_of, set_attribute_
 ghost use Rattle.inf_tables.specs.World.{with_class_of, with_end, with_further_value, with_given_property, with_individual};
 ghost use Rattle.inf_tables.specs.World.{with_lost_header, with_lost_property, with_object_header, with_properties, with_property};
 ghost use Rattle.inf_tables.specs.World.{with_set_attribute};
-ghost use Rattle.inf_tables.specs.Faults.{given_fault};
-ghost use Rattle.inf_tables.specs.declared.faults.WorldFault.TheVariants.{Memory};
 ghost use Rattle.inf_settings.specs.declared.setting.Setting.TheVariants as setting;
 
 use crate::faults::{Limit, Misfit, WorldFault, WorldSetting, told_fault};
@@ -483,7 +481,7 @@ impl<B: Bounds> World<B> {
     // Gives the property `number` in a body that belongs to nothing.
     fn give_lost(&mut self, number: usize) -> Result<(), WorldFault>
         requires free { is_reserved number ≡ false }
-        requires owner { self.old.body.properties.owner ≡ owner.Nothing }
+        requires owner { self.old.body.properties.owner ≡ Owner.Nothing }
         ensures ok { OnOk result (self.new ≡ with_properties (lost_given number self.old.body.properties) self.old) }
         ensures err { OnErr result (self.new ≡ self.old) }
         ensures fault { let fault = lost_given_fault number self.old.body.properties in
@@ -515,7 +513,7 @@ impl<B: Bounds> World<B> {
 
     // Ends a body that belongs to nothing.
     fn end_lost(&mut self)
-        requires { self.old.body.properties.owner ≡ owner.Nothing }
+        requires { self.old.body.properties.owner ≡ Owner.Nothing }
         ensures { self.new ≡ with_end self.old }
     {
         self.body = Body::new(self.alloc);

@@ -1,8 +1,7 @@
 //! How a world is written.
 ghost use Rattle.std.specs.Prelude.{◌≡◌, ◌+◌, ◌<◌, ◌≤◌, ◌++◌, IfOk, IfErr, OnOk, OnErr, length};
-ghost use Rattle.inf_area.specs.Fixups.{with_fixups};
+ghost use Rattle.inf_area.specs.{Fixups.with_fixups, declared.cells.WriteFault.WriteFault};
 ghost use Rattle.inf_area.specs.Cells.{bytes_of, fixups_of, later_count};
-ghost use Rattle.inf_area.specs.declared.cells.WriteFault.TheVariants as write_fault;
 ghost use Rattle.inf_tables.specs.Areas.{all_objects, area_cells, individual_places_from, name_of, table_places_from};
 
 use crate::areas::{class_cells, default_cells, individual_cells, object_cells, table_cells};
@@ -68,9 +67,9 @@ impl<B: Bounds> World<B> {
         ensures room { OnOk result (length refs.old.list + later_count (area_cells which self.now) ≤ refs.old.limit) }
         ensures bytes_stay { OnErr result (A.bytes area.new ≡ A.bytes area.old) }
         ensures fixups_stay { OnErr result (refs.new ≡ refs.old) }
-        ensures full { IfErr result (λ fault. fault ≡ write_fault.Full
+        ensures full { IfErr result (λ fault. fault ≡ WriteFault.Full
             → refs.old.limit < length refs.old.list + later_count (area_cells which self.now)) }
-        ensures memory { IfErr result (λ fault. fault ≡ write_fault.Memory
+        ensures memory { IfErr result (λ fault. fault ≡ WriteFault.Memory
             → length refs.old.list + later_count (area_cells which self.now) ≤ refs.old.limit) }
     {
         if refs.limit() - refs.len() < self.later_count(which) {

@@ -1,36 +1,25 @@
 -- Directives, headers, notes and all actions of the grammar; and the cut that a bad token makes.
-use Rattle.std.proofs.Common.{ℕ, List, [], ◌∷◌, true, false, Option, Some, None}
-use Rattle.std.specs.Prelude.{◌&&◌}
+use Rattle.std.proofs.Common.{ℕ, List, [], ◌∷◌, true, false, Option, Some, None, ◌&&◌}
 use Rattle.inf_settings.specs.Bounds.{Limits}
 use Rattle.inf_scanner.specs.declared.tokens.Place.{Place}
 use Rattle.inf_output.specs.Output.{Out}
 use Rattle.inf_syntax.specs.declared.actions.Action.{Action}
 use Rattle.inf_names.specs.Spellings.{Name}
+use Rattle.inf_unit.specs.{Messages.location, Messages.with_words, Tokens.SourceToken, declared.directives.Directive.Directive}
+use Rattle.inf_unit.specs.{declared.roles.Ending.Ending, declared.roles.Note.Note, declared.roles.Role.Role}
 use Rattle.inf_unit.specs.Directives.{End, Include, directive_of, weight_of}
-use Rattle.inf_unit.specs.Messages.{location, with_words}
 use Rattle.inf_unit.specs.Roles.{ends_outer, ends_token, ends_value, is_arrow, is_text, is_verb_word, makes_sure, role_of}
-use Rattle.inf_unit.specs.Tokens.{SourceToken}
 use Rattle.inf_unit.specs.Units.{directive_word, first_place, is_full, names_in, noted as unit_noted, quoted_in, stepped}
 use Rattle.inf_unit.specs.Units.{taken as unit_taken}
-use Rattle.inf_unit.specs.declared.directives.Directive.{Directive}
-use Rattle.inf_unit.specs.declared.directives.Directive.TheVariants as directive
-use Rattle.inf_unit.specs.declared.roles.Ending.{Ending}
-use Rattle.inf_unit.specs.declared.roles.Ending.TheVariants as ending
-use Rattle.inf_unit.specs.declared.roles.Note.{Note}
-use Rattle.inf_unit.specs.declared.roles.Role.{Role}
-use Rattle.inf_unit.specs.declared.roles.Role.TheVariants as role
+use Rattle.inf_compilation.specs.{Context.Context, Findings.nothing_found}
 use Rattle.inf_compilation.specs.Actions.{Compilation, body_ended, code_begun, cut, given_up, is_deep, opening_checked_at, opens, sized}
 use Rattle.inf_compilation.specs.Actions.{took, words_of}
-use Rattle.inf_compilation.specs.Context.{Context}
-use Rattle.inf_compilation.specs.Findings.{nothing_found}
-use Rattle.inf_parts.specs.Parts.{statement_at}
-use Rattle.inf_parts.specs.declared.parts.Part.TheVariants as part
+use Rattle.inf_parts.specs.{Parts.statement_at, declared.parts.Part.Part}
 use Rattle.inf_reader.specs.Acting.{act, acted, all_acted, cut_at, ended, held_ended, is_crowded, is_long, is_tall, is_wordy, kind_of}
 use Rattle.inf_reader.specs.Acting.{noted, noted_of, played}
 use Rattle.inf_reader.specs.Directives.{carried_out, code_begun_by, directive_end, directive_of_names, fit_ended}
 use Rattle.inf_reader.specs.Headers.{class_named, directive_header, header_as, header_ended, heading_of}
 use Rattle.inf_reader.specs.declared.headers.Heading.{Heading}
-use Rattle.inf_reader.specs.declared.headers.Heading.TheVariants as heading
 use Rattle.inf_target_laws.proofs.Bodies.{attribute_read_steps, body_steps, class_read_steps, class_steps, embedded_read_steps}
 use Rattle.inf_target_laws.proofs.Bodies.{given_up_steps, object_steps, property_read_steps, value_read_steps}
 use Rattle.inf_target_laws.proofs.Declaring.{abbreviate_steps, abbreviation_steps, array_steps, attribute_steps, entry_steps, global_steps}
@@ -53,47 +42,47 @@ fit_ends first w = unit_ends first true nothing_found w
 
 carried_steps : {limits : Limits} {context : Context} {u : Out} (d : Directive) (first : Place) (names : List Name) (w : Compilation)
     → Steps limits context u w (carried_out limits d context first names w)
-carried_steps {limits} {context} {u} directive.Include first names w =
+carried_steps {limits} {context} {u} Directive.Include first names w =
     steps_then {a = w} {b = record w { asked = Include (quoted_in w.unit.tokens) first }} (record { on = λ e. e; kept = λ e h. h })
     (fit_ends first _)
-carried_steps {limits} {context} {u} directive.Message first names w =
+carried_steps {limits} {context} {u} Directive.Message first names w =
     steps_then
     (report_steps w (with_words (location context.names first) (weight_of names) (words_of context.set w.unit) w.report)) (fit_ends first _)
-carried_steps {limits} {context} {u} directive.End first names w =
+carried_steps {limits} {context} {u} Directive.End first names w =
     steps_then {a = w} {b = record w { asked = End }} (record { on = λ e. e; kept = λ e h. h }) (fit_ends first _)
-carried_steps directive.Constant first names w = constant_steps first names w
-carried_steps directive.Replace first names w = replace_steps first names w
-carried_steps directive.Stub first names w = stub_steps first names w
-carried_steps directive.Default first names w = default_steps first names w
-carried_steps directive.Attribute first names w = attribute_steps first names w
-carried_steps directive.Property first names w = property_steps first names w
-carried_steps directive.Global first names w = global_steps first names w
-carried_steps directive.FakeAction first names w = fake_steps first names w
-carried_steps directive.Switches first names w = switches_steps first names w
-carried_steps directive.Lowstring first names w = low_string_steps first names w
-carried_steps directive.Release first names w = release_steps first w
-carried_steps directive.Serial first names w = serial_steps first w
-carried_steps {limits} {context} {u} directive.SystemFile first names w =
+carried_steps Directive.Constant first names w = constant_steps first names w
+carried_steps Directive.Replace first names w = replace_steps first names w
+carried_steps Directive.Stub first names w = stub_steps first names w
+carried_steps Directive.Default first names w = default_steps first names w
+carried_steps Directive.Attribute first names w = attribute_steps first names w
+carried_steps Directive.Property first names w = property_steps first names w
+carried_steps Directive.Global first names w = global_steps first names w
+carried_steps Directive.FakeAction first names w = fake_steps first names w
+carried_steps Directive.Switches first names w = switches_steps first names w
+carried_steps Directive.Lowstring first names w = low_string_steps first names w
+carried_steps Directive.Release first names w = release_steps first w
+carried_steps Directive.Serial first names w = serial_steps first w
+carried_steps {limits} {context} {u} Directive.SystemFile first names w =
     steps_then {a = w} {b = record w { is_system = true }} (record { on = λ e. e; kept = λ e h. h }) (fit_ends first _)
 
 begun_by_steps : {limits : Limits} {context : Context} {u : Out} (d : Directive) (w : Compilation)
     → Steps limits context u w (code_begun_by limits d w)
-begun_by_steps directive.Switches w = stays w
-begun_by_steps directive.Include w = begun_steps w
-begun_by_steps directive.Message w = begun_steps w
-begun_by_steps directive.End w = begun_steps w
-begun_by_steps directive.Constant w = begun_steps w
-begun_by_steps directive.Replace w = begun_steps w
-begun_by_steps directive.Stub w = begun_steps w
-begun_by_steps directive.SystemFile w = begun_steps w
-begun_by_steps directive.Default w = begun_steps w
-begun_by_steps directive.Attribute w = begun_steps w
-begun_by_steps directive.Property w = begun_steps w
-begun_by_steps directive.Global w = begun_steps w
-begun_by_steps directive.FakeAction w = begun_steps w
-begun_by_steps directive.Lowstring w = begun_steps w
-begun_by_steps directive.Release w = begun_steps w
-begun_by_steps directive.Serial w = begun_steps w
+begun_by_steps Directive.Switches w = stays w
+begun_by_steps Directive.Include w = begun_steps w
+begun_by_steps Directive.Message w = begun_steps w
+begun_by_steps Directive.End w = begun_steps w
+begun_by_steps Directive.Constant w = begun_steps w
+begun_by_steps Directive.Replace w = begun_steps w
+begun_by_steps Directive.Stub w = begun_steps w
+begun_by_steps Directive.SystemFile w = begun_steps w
+begun_by_steps Directive.Default w = begun_steps w
+begun_by_steps Directive.Attribute w = begun_steps w
+begun_by_steps Directive.Property w = begun_steps w
+begun_by_steps Directive.Global w = begun_steps w
+begun_by_steps Directive.FakeAction w = begun_steps w
+begun_by_steps Directive.Lowstring w = begun_steps w
+begun_by_steps Directive.Release w = begun_steps w
+begun_by_steps Directive.Serial w = begun_steps w
 
 names_steps : {limits : Limits} {context : Context} {u : Out} (first : Place) (names : List Name) (w : Compilation)
     → Steps limits context u w (directive_of_names limits context first names w)
@@ -115,12 +104,12 @@ class_named_steps first (name ∷ names) w = class_steps first name w
 
 as_steps : {limits : Limits} {context : Context} {u : Out} (h : Heading) (first : Place) (names : List Name) (w : Compilation)
     → Steps limits context u w (header_as limits h context first names w)
-as_steps heading.Array first names w = array_steps first names w
-as_steps heading.Class first names w = class_named_steps first names w
-as_steps heading.Object first names w = object_steps first w
-as_steps heading.Verb first names w = verb_steps first w
-as_steps heading.Extend first names w = extend_steps first w
-as_steps heading.Abbreviate first names w = abbreviate_steps first w
+as_steps Heading.Array first names w = array_steps first names w
+as_steps Heading.Class first names w = class_named_steps first names w
+as_steps Heading.Object first names w = object_steps first w
+as_steps Heading.Verb first names w = verb_steps first w
+as_steps Heading.Extend first names w = extend_steps first w
+as_steps Heading.Abbreviate first names w = abbreviate_steps first w
 
 heading_steps : {limits : Limits} {context : Context} {u : Out} (first : Place) (names : List Name) (w : Compilation)
     → Steps limits context u w (directive_header limits context first names w)
@@ -155,39 +144,39 @@ noted_steps {limits} {context} {u} n w =
 
 ended_steps : {limits : Limits} {context : Context} {u : Out} (place : Place) (e : Ending) (w : Compilation)
     → Steps limits context u w (ended limits context place e w)
-ended_steps place ending.Locals w = header_steps place w
-ended_steps place ending.Embedded w = embedded_read_steps place w
-ended_steps place ending.Routine w = close_steps place w
-ended_steps place ending.Directive w = directive_steps place w
-ended_steps place ending.Header w = header_ended_steps place w
-ended_steps place ending.Body w = body_steps w
-ended_steps place ending.Class w = class_read_steps place w
-ended_steps place ending.Attribute w = attribute_read_steps place w
-ended_steps place ending.Property w = property_read_steps place w
-ended_steps place ending.Value w = value_read_steps place w
-ended_steps place ending.Line w = line_steps place w
-ended_steps place ending.Abbreviation w = abbreviation_steps place w
-ended_steps place ending.Entry w = entry_steps place false w
-ended_steps place ending.Alone w = entry_steps place true w
-ended_steps place ending.Statement w = part_steps place (part.Statement (statement_at w)) w
-ended_steps place ending.Condition w = part_steps place part.Condition w
-ended_steps place ending.Start w = part_steps place part.Start w
-ended_steps place ending.Step w = part_steps place part.Step w
-ended_steps place ending.Loop w = part_steps place part.Loop w
-ended_steps place ending.Switched w = part_steps place part.Switched w
-ended_steps place ending.Case w = part_steps place part.Case w
+ended_steps place Ending.Locals w = header_steps place w
+ended_steps place Ending.Embedded w = embedded_read_steps place w
+ended_steps place Ending.Routine w = close_steps place w
+ended_steps place Ending.Directive w = directive_steps place w
+ended_steps place Ending.Header w = header_ended_steps place w
+ended_steps place Ending.Body w = body_steps w
+ended_steps place Ending.Class w = class_read_steps place w
+ended_steps place Ending.Attribute w = attribute_read_steps place w
+ended_steps place Ending.Property w = property_read_steps place w
+ended_steps place Ending.Value w = value_read_steps place w
+ended_steps place Ending.Line w = line_steps place w
+ended_steps place Ending.Abbreviation w = abbreviation_steps place w
+ended_steps place Ending.Entry w = entry_steps place false w
+ended_steps place Ending.Alone w = entry_steps place true w
+ended_steps place Ending.Statement w = part_steps place (Part.Statement (statement_at w)) w
+ended_steps place Ending.Condition w = part_steps place Part.Condition w
+ended_steps place Ending.Start w = part_steps place Part.Start w
+ended_steps place Ending.Step w = part_steps place Part.Step w
+ended_steps place Ending.Loop w = part_steps place Part.Loop w
+ended_steps place Ending.Switched w = part_steps place Part.Switched w
+ended_steps place Ending.Case w = part_steps place Part.Case w
 
 played_steps : {limits : Limits} {context : Context} {u : Out} (place : Place) (r : Role) (w : Compilation)
     → Steps limits context u w (played limits context place r w)
-played_steps place (role.Gather s) w = unit_steps w (stepped s w.unit)
-played_steps place (role.Note n) w = noted_steps n w
-played_steps place (role.End e) w = ended_steps place e w
-played_steps place (role.Open o) w = opening_steps place (kind_of o) w
-played_steps place role.Join w = joining_steps w
-played_steps place role.Close w = closing_steps w
-played_steps place role.Deeper w = nested_steps place (is_deep w 1) w
-played_steps place role.MaybeDeeper w = record { on = λ e. e; kept = λ e h. h }
-played_steps place role.Nothing w = stays w
+played_steps place (Role.Gather s) w = unit_steps w (stepped s w.unit)
+played_steps place (Role.Note n) w = noted_steps n w
+played_steps place (Role.End e) w = ended_steps place e w
+played_steps place (Role.Open o) w = opening_steps place (kind_of o) w
+played_steps place Role.Join w = joining_steps w
+played_steps place Role.Close w = closing_steps w
+played_steps place Role.Deeper w = nested_steps place (is_deep w 1) w
+played_steps place Role.MaybeDeeper w = record { on = λ e. e; kept = λ e h. h }
+played_steps place Role.Nothing w = stays w
 
 pub act_steps : {limits : Limits} {context : Context} {u : Out} (place : Place) (a : Action) (w : Compilation)
     → Steps limits context u w (act limits context place a w)

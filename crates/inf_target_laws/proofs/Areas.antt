@@ -1,42 +1,26 @@
 -- Cells of areas in which all targets are found.
 use Rattle.std.proofs.Common.{◌≡◌, ℕ, zero, suc, ◌+◌, ◌≤◌, ◌<◌, List, [], ◌∷◌, ◌++◌, length, Bool, true, false, Some, refl, arith}
 use Rattle.std.specs.Prelude.{◌*◌, ◌%◌, ◌==◌, if◌then◌else◌, is_some, nat_le, option_to_list, replicate, slice_get}
+use Rattle.inf_area.specs.declared.{cells.Cell.Cell, targets.AreaName.AreaName, targets.Target.Target, targets.Value.Value}
 use Rattle.inf_area.specs.Cells.{bytes_of, value_cells, values_cells, word_cells}
-use Rattle.inf_area.specs.declared.cells.Cell.{Cell}
-use Rattle.inf_area.specs.declared.cells.Cell.TheVariants as cell
-use Rattle.inf_area.specs.declared.targets.AreaName.TheVariants as area_name
-use Rattle.inf_area.specs.declared.targets.Target.{Target}
-use Rattle.inf_area.specs.declared.targets.Target.TheVariants as target
-use Rattle.inf_area.specs.declared.targets.Value.{Value}
-use Rattle.inf_area.specs.declared.targets.Value.TheVariants as value
-use Rattle.inf_arrays.specs.Arrays.{Listed, array_cells, arrays_cells}
-use Rattle.inf_arrays.specs.Kinds.{bytes_cells, count_cells, entries_cells}
-use Rattle.inf_arrays.specs.declared.kinds.ArrayKind.{ArrayKind}
-use Rattle.inf_arrays.specs.declared.kinds.ArrayKind.TheVariants as kind
+use Rattle.inf_arrays.specs.{Arrays.Listed, Arrays.array_cells, Arrays.arrays_cells, Kinds.bytes_cells, Kinds.count_cells}
+use Rattle.inf_arrays.specs.{Kinds.entries_cells, declared.kinds.ArrayKind.ArrayKind}
 use Rattle.inf_code.specs.Code.{known}
-use Rattle.inf_dictionary.specs.Texts.{Text}
-use Rattle.inf_dictionary.specs.declared.uses.Word.{Word}
+use Rattle.inf_dictionary.specs.{Texts.Text, declared.uses.Word.Word}
 use Rattle.inf_link.specs.Targets.{Lookup}
-use Rattle.inf_objects.specs.Attributes.{attribute_cells}
+use Rattle.inf_objects.specs.{Attributes.attribute_cells, Tree.child_of, Tree.sibling_of, declared.objects.Object.Object}
 use Rattle.inf_objects.specs.Tables.{address_rows, all_falling, byte_cells, class_rows, class_values, falling, has_individual}
 use Rattle.inf_objects.specs.Tables.{individual_row_cells, individual_rows_cells, individual_table_by, individual_table_cells}
 use Rattle.inf_objects.specs.Tables.{is_individual, name_cells, row_cells, rows_by, rows_cells, rows_of, shown, size_cells, table_cells}
-use Rattle.inf_objects.specs.Tree.{child_of, sibling_of}
-use Rattle.inf_objects.specs.declared.objects.Object.{Object}
-use Rattle.inf_properties.specs.Properties.{found}
-use Rattle.inf_properties.specs.declared.sizes.Owner.{Owner}
-use Rattle.inf_properties.specs.declared.sizes.Owner.TheVariants as owner
-use Rattle.inf_properties.specs.declared.values.Property.{Property}
+use Rattle.inf_properties.specs.{Properties.found, declared.sizes.Owner.Owner, declared.values.Property.Property}
 use Rattle.inf_tables.specs.Areas.{individual_places_from, individual_tables, object_cells, objects_from, shown_attributes}
 use Rattle.inf_tables.specs.Areas.{table_places_from, tables_from}
+use Rattle.inf_verbs.specs.{Routines.routines_cells, declared.lines.LineToken.LineToken}
 use Rattle.inf_verbs.specs.Lines.{LineOf, line_cells, lines_cells, token_type, token_value, tokens_cells}
-use Rattle.inf_verbs.specs.Routines.{routines_cells}
 use Rattle.inf_verbs.specs.Verbs.{VerbOf, address_cells, lines_of, part_size, parts_cells, places_from, verb_cells}
-use Rattle.inf_verbs.specs.declared.lines.LineToken.{LineToken}
+use Rattle.inf_target_laws.specs.{Standing.TargetStands, Story.AllFound, Story.IsFound, Story.ValueIsFound, Story.ValuesFound}
 use Rattle.inf_target_laws.specs.Lists.{CellsStand, LinesStand, ListedStand, ObjectsStand, PropertiesStand, RoutinesStand, TokensStand}
 use Rattle.inf_target_laws.specs.Lists.{ValuesStand, VerbsStand}
-use Rattle.inf_target_laws.specs.Standing.{TargetStands}
-use Rattle.inf_target_laws.specs.Story.{AllFound, IsFound, ValueIsFound, ValuesFound}
 use Rattle.inf_output.specs.Output.{Out}
 
 -- A look-up in which all targets are found that stand in an output
@@ -85,17 +69,17 @@ module _ (u : Out) (targets : Lookup) (words : List (Text × Word)) where
 
   pub code_found : Finds u targets words → (cells : List Cell) → CellsStand u cells → AllFound targets words cells
   code_found f [] h = tt
-  code_found f (cell.Byte byte ∷ cells) h = (tt, code_found f cells h.1)
-  code_found f (cell.Later t ∷ cells) h = (f.finds t h.0, code_found f cells h.1)
+  code_found f (Cell.Byte byte ∷ cells) h = (tt, code_found f cells h.1)
+  code_found f (Cell.Later t ∷ cells) h = (f.finds t h.0, code_found f cells h.1)
 
   pub values_found : Finds u targets words → (values : List Value) → ValuesStand u values → ValuesFound targets words values
   values_found f [] h = tt
-  values_found f (value.Known number ∷ values) h = (tt, values_found f values h.1)
-  values_found f (value.Later t ∷ values) h = (f.finds t h.0, values_found f values h.1)
+  values_found f (Value.Known number ∷ values) h = (tt, values_found f values h.1)
+  values_found f (Value.Later t ∷ values) h = (f.finds t h.0, values_found f values h.1)
 
   value_written : (v : Value) → ValueIsFound targets words v → AllFound targets words (value_cells v)
-  value_written (value.Known number) h = (tt, (tt, tt))
-  value_written (value.Later t) h = (h, tt)
+  value_written (Value.Known number) h = (tt, (tt, tt))
+  value_written (Value.Later t) h = (h, tt)
 
   pub values_written : (values : List Value) → ValuesFound targets words values → AllFound targets words (values_cells values)
   values_written [] h = tt
@@ -105,7 +89,7 @@ module _ (u : Out) (targets : Lookup) (words : List (Text × Word)) where
   values_joined [] b h k = k
   values_joined (v ∷ a) b h k = (h.0, values_joined a b h.1 k)
 
-  pub known_values : (count number : ℕ) → ValuesFound targets words (replicate count (value.Known number))
+  pub known_values : (count number : ℕ) → ValuesFound targets words (replicate count (Value.Known number))
   known_values zero number = tt
   known_values (suc count) number = (tt, known_values count number)
 
@@ -116,16 +100,16 @@ module _ (u : Out) (targets : Lookup) (words : List (Text × Word)) where
   low_bytes (v ∷ values) = (tt, low_bytes values)
 
   entries_found : (k : ArrayKind) (values : List Value) → ValuesFound targets words values → AllFound targets words (entries_cells k values)
-  entries_found kind.Bytes values h = low_bytes values
-  entries_found kind.Words values h = values_written values h
-  entries_found kind.String values h = low_bytes values
-  entries_found kind.Table values h = values_written values h
+  entries_found ArrayKind.Bytes values h = low_bytes values
+  entries_found ArrayKind.Words values h = values_written values h
+  entries_found ArrayKind.String values h = low_bytes values
+  entries_found ArrayKind.Table values h = values_written values h
 
   count_found : (k : ArrayKind) (count : ℕ) → AllFound targets words (count_cells k count)
-  count_found kind.Bytes count = tt
-  count_found kind.Words count = tt
-  count_found kind.String count = (tt, tt)
-  count_found kind.Table count = (tt, (tt, tt))
+  count_found ArrayKind.Bytes count = tt
+  count_found ArrayKind.Words count = tt
+  count_found ArrayKind.String count = (tt, tt)
+  count_found ArrayKind.Table count = (tt, (tt, tt))
 
   pub arrays_found : Finds u targets words → (arrays : List Listed) → ListedStand u arrays → AllFound targets words (arrays_cells arrays)
   arrays_found f [] h = tt
@@ -140,7 +124,7 @@ module _ (u : Out) (targets : Lookup) (words : List (Text × Word)) where
   pub routines_found : Finds u targets words → (routines : List ℕ) → RoutinesStand u routines
       → AllFound targets words (routines_cells routines)
   routines_found f [] h = tt
-  routines_found f (routine ∷ routines) h = (f.finds (target.Name routine) h.0, routines_found f routines h.1)
+  routines_found f (routine ∷ routines) h = (f.finds (Target.Name routine) h.0, routines_found f routines h.1)
 
   -- Lines of verbs
 
@@ -148,12 +132,12 @@ module _ (u : Out) (targets : Lookup) (words : List (Text × Word)) where
   tokens_found f [] h = tt
   tokens_found f (t ∷ tokens) h =
       let v = values_found f (token_value t ∷ []) (h.0, tt) in
-      join (cell.Byte (token_type t) ∷ value_cells (token_value t)) (tokens_cells tokens) (tt, value_written (token_value t) v.0)
+      join (Cell.Byte (token_type t) ∷ value_cells (token_value t)) (tokens_cells tokens) (tt, value_written (token_value t) v.0)
       (tokens_found f tokens h.1)
 
   line_found : Finds u targets words → (line : LineOf) → TokensStand u line.tokens → AllFound targets words (line_cells line)
   line_found f line h =
-      (tt, (tt, join (tokens_cells line.tokens) (cell.Byte 15 ∷ []) (tokens_found f line.tokens h) (tt, tt)))
+      (tt, (tt, join (tokens_cells line.tokens) (Cell.Byte 15 ∷ []) (tokens_found f line.tokens h) (tt, tt)))
 
   lines_found : Finds u targets words → (lines : List LineOf) → LinesStand u lines → AllFound targets words (lines_cells lines)
   lines_found f [] h = tt
@@ -172,7 +156,7 @@ module _ (u : Out) (targets : Lookup) (words : List (Text × Word)) where
   pub addresses_found : (number : ℕ) → number ≤ length targets.verbs → AllFound targets words (address_cells number)
   addresses_found zero within = tt
   addresses_found (suc number) within =
-      join (address_cells number) (cell.Later (target.Part area_name.Grammar number) ∷ []) (addresses_found number (omega (arith, within)))
+      join (address_cells number) (Cell.Later (Target.Part AreaName.Grammar number) ∷ []) (addresses_found number (omega (arith, within)))
       (found_below targets.verbs number (omega (arith, within)), tt)
 
   -- Objects
@@ -184,7 +168,7 @@ module _ (u : Out) (targets : Lookup) (words : List (Text × Word)) where
   abbrev link_cells : ℕ → ℕ → ℕ → ℕ → List Cell
   link_cells parent sibling child part =
       word_cells (parent % 65536) ++ word_cells (sibling % 65536) ++ word_cells (child % 65536)
-      ++ cell.Later (target.Part area_name.PropertyTables part) ∷ []
+      ++ Cell.Later (Target.Part AreaName.PropertyTables part) ∷ []
 
   links_found : (parent sibling child part : ℕ) → part < length targets.property_tables
       → AllFound targets words (link_cells parent sibling child part)
@@ -241,20 +225,20 @@ module _ (u : Out) (targets : Lookup) (words : List (Text × Word)) where
       go : (b : Bool) → RowsFound (if b then record {
         number = 3;
         is_additive = false;
-        values = value.Later (target.Part area_name.IndividualTables part) ∷ [];
+        values = Value.Later (Target.Part AreaName.IndividualTables part) ∷ [];
       } ∷ [] else [])
       go true = ((found_below targets.individual_tables part below, tt), tt)
       go false = tt
 
   rows_found : Finds u targets words → (owner : Owner) (part : ℕ) (o : Object) → PropertiesStand u o.properties
       → part < length targets.individual_tables → RowsFound (rows_by owner part o)
-  rows_found f owner.Object part o h below =
+  rows_found f Owner.Object part o h below =
       rows_joined (class_rows o.classes ++ address_rows part o.properties) o.properties
       (rows_joined (class_rows o.classes) (address_rows part o.properties) (class_rows_found o.classes)
       (address_found part o.properties below))
       (properties_found f o.properties h)
-  rows_found f owner.Class part o h below = tt
-  rows_found f owner.Nothing part o h below = tt
+  rows_found f Owner.Class part o h below = tt
+  rows_found f Owner.Nothing part o h below = tt
 
   row_at : (number : ℕ) (rows : List Property) → RowsFound rows → RowsFound (option_to_list (found number rows))
   row_at number [] h = tt
@@ -282,7 +266,7 @@ module _ (u : Out) (targets : Lookup) (words : List (Text × Word)) where
   size_found number count = go (nat_le count 1)
     where
       go : (b : Bool) → AllFound targets words
-          (if b then cell.Byte (64 + number) ∷ [] else cell.Byte (128 + number) ∷ cell.Byte (128 + 2 * count % 64) ∷ [])
+          (if b then Cell.Byte (64 + number) ∷ [] else Cell.Byte (128 + number) ∷ Cell.Byte (128 + 2 * count % 64) ∷ [])
       go true = (tt, tt)
       go false = (tt, (tt, tt))
 
@@ -302,7 +286,7 @@ module _ (u : Out) (targets : Lookup) (words : List (Text × Word)) where
       → AllFound targets words (table_cells part o)
   table_found f part o h below =
       let rows = all_falling (rows_of part o) in
-      join (name_cells o.name ++ rows_cells rows) (cell.Byte 0 ∷ [])
+      join (name_cells o.name ++ rows_cells rows) (Cell.Byte 0 ∷ [])
       (join (name_cells o.name) (rows_cells rows) (tt, name_found o.name)
       (rows_written rows (all_falling_found (rows_of part o) (rows_found f o.owner part o h below))))
       (tt, tt)
@@ -333,13 +317,13 @@ module _ (u : Out) (targets : Lookup) (words : List (Text × Word)) where
 
   individual_found : Finds u targets words → (owner : Owner) (properties : List Property) → PropertiesStand u properties
       → AllFound targets words (individual_table_by owner properties)
-  individual_found f owner.Object properties h = go (has_individual properties)
+  individual_found f Owner.Object properties h = go (has_individual properties)
     where
       go : (b : Bool) → AllFound targets words (if b then individual_rows_cells properties ++ word_cells 0 else [])
       go true = join (individual_rows_cells properties) (word_cells 0) (individual_rows f properties h) (tt, (tt, tt))
       go false = tt
-  individual_found f owner.Class properties h = tt
-  individual_found f owner.Nothing properties h = tt
+  individual_found f Owner.Class properties h = tt
+  individual_found f Owner.Nothing properties h = tt
 
   pub individuals_found : Finds u targets words → (objects : List Object) → ObjectsStand u objects
       → AllFound targets words (individual_tables objects)

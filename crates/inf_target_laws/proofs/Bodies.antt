@@ -5,22 +5,17 @@ use Rattle.inf_settings.specs.Bounds.{Limits}
 use Rattle.inf_scanner.specs.declared.tokens.Place.{Place}
 use Rattle.inf_characters.specs.declared.texts.TextItem.{TextItem}
 use Rattle.inf_area.specs.declared.targets.Value.{Value}
-use Rattle.inf_dictionary.specs.declared.uses.WordUse.TheVariants as word_use
+use Rattle.inf_dictionary.specs.declared.uses.WordUse.{WordUse}
+use Rattle.inf_expressions.specs.{declared.findings.Finding.Finding, declared.units.Wanted.Wanted}
 use Rattle.inf_expressions.specs.Findings.{is_before, least_of_both}
-use Rattle.inf_expressions.specs.declared.findings.Finding.{Finding}
-use Rattle.inf_expressions.specs.declared.units.Wanted.TheVariants as wanted
-use Rattle.inf_names.specs.Locals.{Headed}
-use Rattle.inf_names.specs.Spellings.{Name}
-use Rattle.inf_names.specs.declared.meanings.Meaning.TheVariants as meaning
+use Rattle.inf_names.specs.{Locals.Headed, Spellings.Name, declared.meanings.Meaning.Meaning}
 use Rattle.inf_text.specs.Packing.{dictionary_bytes}
-use Rattle.inf_report.specs.declared.messages.FixedLimit.TheVariants as countable
+use Rattle.inf_report.specs.declared.messages.FixedLimit.{FixedLimit}
+use Rattle.inf_tables.specs.{declared.faults.WorldFault.WorldFault, declared.kinds.Parent.Parent}
 use Rattle.inf_tables.specs.World.{WorldOf, no_body_fault, set_attribute_fault, with_end, with_individual, class_header_fault}
 use Rattle.inf_tables.specs.World.{class_of_fault, further_value_fault, given_property_fault, individual_fault, lost_header_fault}
 use Rattle.inf_tables.specs.World.{object_header_fault, with_class_header, with_class_of, with_further_value, with_given_property}
 use Rattle.inf_tables.specs.World.{with_lost_header, with_object_header}
-use Rattle.inf_tables.specs.declared.faults.WorldFault.{WorldFault}
-use Rattle.inf_tables.specs.declared.faults.WorldFault.TheVariants as fault
-use Rattle.inf_tables.specs.declared.kinds.Parent.{Parent}
 use Rattle.inf_unit.specs.Units.{first_place, name_at, name_order}
 use Rattle.inf_bodies.specs.Bodies.{attribute_finding, attribute_of, attribute_read, attribute_set_by, attribute_set_some, class_finding}
 use Rattle.inf_bodies.specs.Bodies.{class_read, further_added, further_added_by, further_found, further_placed, given_finding}
@@ -36,23 +31,17 @@ use Rattle.inf_bodies.specs.Values.{any_placed, bracket_in, embedded, embedded_r
 use Rattle.inf_bodies.specs.Values.{routine_placed, settled_work, takes_words, text_finding_by, text_placed, value_by, value_finding}
 use Rattle.inf_bodies.specs.Values.{value_placed, value_read, word_text, word_used, wrong_if, name_place, text_value}
 use Rattle.inf_bodies.specs.declared.headers.Header.{Header}
+use Rattle.inf_compilation.specs.{Context.Context, Findings.found_alone}
 use Rattle.inf_compilation.specs.Actions.{Compilation, body_ended, finding_at, given_up, settled_of, world_ended, world_ended_by}
-use Rattle.inf_compilation.specs.Context.{Context}
-use Rattle.inf_compilation.specs.Findings.{found_alone}
-use Rattle.inf_named_values.specs.Values.{looked_value, variables_from}
-use Rattle.inf_named_values.specs.Declarations.{declared_findings, plainly_known, with_world}
-use Rattle.inf_named_values.specs.Values.{value_of}
-use Rattle.inf_named_values.specs.declared.declarations.Declared.{Declared}
+use Rattle.inf_named_values.specs.{Declarations.declared_findings, Declarations.plainly_known, Declarations.with_world, Values.looked_value}
+use Rattle.inf_named_values.specs.{Values.value_of, Values.variables_from, declared.declarations.Declared.Declared}
 use Rattle.inf_constructs.specs.declared.constructs.Construct.{Construct}
 use Rattle.inf_output.specs.Output.{Out}
 use Rattle.inf_word_laws.specs.Standing.{has_word}
-use Rattle.inf_target_laws.specs.Lists.{StepsStand}
-use Rattle.inf_target_laws.specs.Standing.{Before, ValueStands}
-use Rattle.inf_target_laws.proofs.Declaring.{value_there}
-use Rattle.inf_target_laws.proofs.Names.{no_some}
+use Rattle.inf_target_laws.specs.{Lists.StepsStand, Standing.Before, Standing.ValueStands}
+use Rattle.inf_target_laws.proofs.{Declaring.value_there, Names.no_some, Units.opened_steps, Units.used_keeps}
 use Rattle.inf_target_laws.proofs.Outputs.{Goes, GoesIf, Keeps, declare_keeps, goes_nowhere, goes_then, none_open_keeps, table_keeps}
 use Rattle.inf_target_laws.proofs.Outputs.{word_keeps, word_stands}
-use Rattle.inf_target_laws.proofs.Units.{opened_steps, used_keeps}
 use Rattle.inf_target_laws.proofs.Ways.{Steps, output_steps, stays, steps_then, unit_ends, unit_steps}
 use Rattle.inf_target_laws.proofs.Worlds.{MaybeValue, class_holds, end_holds, further_holds, given_holds, header_holds, object_holds}
 use Rattle.inf_target_laws.proofs.Worlds.{world_goes}
@@ -75,10 +64,10 @@ given_up_steps {limits} {context} {u} w = output_steps w _ (none_open_keeps u w.
 -- Refusals, and names
 
 noted_keeps : (limits : Limits) (u : Out) (f : WorldFault) → Keeps u (noted limits f)
-noted_keeps limits u (fault.Limit l) o = goes_nowhere u o
-noted_keeps limits u (fault.Misfit m) o = goes_nowhere u o
-noted_keeps limits u (fault.Full s) o = table_keeps limits u (setting_of s) o
-noted_keeps limits u fault.Memory o = goes_nowhere u o
+noted_keeps limits u (WorldFault.Limit l) o = goes_nowhere u o
+noted_keeps limits u (WorldFault.Misfit m) o = goes_nowhere u o
+noted_keeps limits u (WorldFault.Full s) o = table_keeps limits u (setting_of s) o
+noted_keeps limits u WorldFault.Memory o = goes_nowhere u o
 
 lost_keeps : (u : Out) → Keeps u lost_begun
 lost_keeps u o = go (lost_header_fault o.tables.world)
@@ -90,7 +79,7 @@ lost_keeps u o = go (lost_header_fault o.tables.world)
     go (Some f) = goes_nowhere u o
 
 class_declared_keeps : (limits : Limits) (u : Out) (name : Name) (number : ℕ) → Keeps u (class_declared limits name number)
-class_declared_keeps limits u name number = declare_keeps limits u name.bytes name.place (meaning.Class (number % 65536)) tt
+class_declared_keeps limits u name number = declare_keeps limits u name.bytes name.place (Meaning.Class (number % 65536)) tt
 
 -- Classes
 
@@ -133,7 +122,7 @@ pub class_steps : {limits : Limits} {context : Context} {u : Out} (first : Place
 class_steps {limits} {context} {u} first name w =
     let d = plainly_known name (name_order w.unit.tokens) w in
     steps_then (class_opened_steps d.finding name w)
-    (unit_ends first false (declared_findings name countable.Globals d) (class_opened limits context d.finding name w))
+    (unit_ends first false (declared_findings name FixedLimit.Globals d) (class_opened limits context d.finding name w))
 
 -- Objects
 
@@ -147,7 +136,7 @@ joined_keeps limits u (Some number) o = go (class_of_fault limits number o.table
 
 object_declared_keeps : (limits : Limits) (u : Out) (name : Option Name) (number : ℕ) → Keeps u (object_declared limits name number)
 object_declared_keeps limits u None number o = goes_nowhere u o
-object_declared_keeps limits u (Some n) number o = declare_keeps limits u n.bytes n.place (meaning.Object (number % 65536)) tt o
+object_declared_keeps limits u (Some n) number o = declare_keeps limits u n.bytes n.place (Meaning.Object (number % 65536)) tt o
 
 object_begun_keeps : (limits : Limits) (u : Out) (p : Parent) (short : List ℕ) (class : Option ℕ) (name : Option Name)
     → Keeps u (object_begun limits p short class name)
@@ -186,7 +175,7 @@ object_opened_steps {limits} {context} {u} (Some f) header name w =
 object_ended_steps : {limits : Limits} {context : Context} {u : Out} (first : Place) (name : Option Name) (d : Declared) (w : Compilation)
     → Steps limits context u w (object_ended limits context first name d w)
 object_ended_steps first None d w = unit_ends first false (found_alone d.finding) w
-object_ended_steps first (Some name) d w = unit_ends first false (declared_findings name countable.Values d) w
+object_ended_steps first (Some name) d w = unit_ends first false (declared_findings name FixedLimit.Values d) w
 
 object_with_steps : {limits : Limits} {context : Context} {u : Out} (first : Place) (h : Header) (name : Option Name) (w : Compilation)
     → Steps limits context u w (object_with limits context first h name w)
@@ -237,7 +226,7 @@ attribute_read_steps {limits} {context} {u} place w =
 individual_declared_keeps : (limits : Limits) (u : Out) (name : Option Name) (number : ℕ) → Keeps u (individual_declared limits name number)
 individual_declared_keeps limits u None number o = goes_nowhere u o
 individual_declared_keeps limits u (Some n) number o =
-    declare_keeps limits u n.bytes n.place (meaning.IndividualProperty (number % 65536)) tt o
+    declare_keeps limits u n.bytes n.place (Meaning.IndividualProperty (number % 65536)) tt o
 
 given_goes : (limits : Limits) (u : Out) (number : ℕ) (v : Option Value) (o : Out)
     → GoesIf (MaybeValue u v) u o (property_given limits number v o)
@@ -359,18 +348,18 @@ text_value_stands u false items h = h
 
 word_before : (limits : Limits) (u : Out) (told : Option Finding) (items : List TextItem) (w : Compilation)
     → Before u (word_used limits told items w).output → Before u w.output
-word_before limits u None items w = (word_keeps limits u (dictionary_bytes items) word_use.Other false w.output).0
+word_before limits u None items w = (word_keeps limits u (dictionary_bytes items) WordUse.Other false w.output).0
 word_before limits u (Some f) items w = λ e. e
 
 word_there : (limits : Limits) (u : Out) (told : Option Finding) (items : List TextItem) (w : Compilation)
     → Before u (word_used limits told items w).output → told ≡ None → has_word (dictionary_bytes items) u ≡ true
-word_there limits u None items w e none = word_stands limits u (dictionary_bytes items) word_use.Other false w.output e
+word_there limits u None items w e none = word_stands limits u (dictionary_bytes items) WordUse.Other false w.output e
 word_there limits u (Some f) items w e none = no_some none
 
 word_steps : {limits : Limits} {context : Context} {u : Out} (told : Option Finding) (items : List TextItem) (w : Compilation)
     → Steps limits context u w (word_used limits told items w)
 word_steps {limits} {context} {u} None items w =
-    output_steps w _ (word_keeps limits u (dictionary_bytes items) word_use.Other false w.output)
+    output_steps w _ (word_keeps limits u (dictionary_bytes items) WordUse.Other false w.output)
 word_steps (Some f) items w = stays w
 
 text_steps : {limits : Limits} {context : Context} {u : Out} (name : Option ℕ) (items : List TextItem) (w : Compilation)
@@ -428,7 +417,7 @@ value_by_steps {limits} {context} {u} (Some f) name judged looked w is =
 any_steps : {limits : Limits} {context : Context} {u : Out} (items : Option (List TextItem)) (name : Option ℕ) (w : Compilation)
     → Steps limits context u w (any_placed limits context items name w)
 any_steps {limits} {context} {u} None name w =
-    let judged = finding_at 0 wanted.Constant w in
+    let judged = finding_at 0 Wanted.Constant w in
     value_by_steps (least_of_both judged (place_finding limits name (looked_value w) w)) name judged (looked_value w) w refl
 any_steps (Some items) name w = text_steps name items w
 

@@ -2,38 +2,25 @@
 use Rattle.std.proofs.Common.{◌≡◌, ℕ, zero, suc, List, [], ◌∷◌, ◌++◌, Bool, true, false, Option, Some, None, refl, sym, subst}
 use Rattle.std.specs.Prelude.{if◌then◌else◌, unwrap_or}
 use Rattle.inf_settings.specs.Bounds.{Limits}
-use Rattle.inf_area.specs.declared.targets.SystemConstant.TheVariants as constant
-use Rattle.inf_area.specs.declared.targets.Target.TheVariants as target
-use Rattle.inf_opcode.specs.declared.instructions.Label.{Label}
-use Rattle.inf_opcode.specs.declared.opcodes.Opcode.TheVariants as opcode
-use Rattle.inf_expressions.specs.Questions.{children_of, range_of}
-use Rattle.inf_expressions.specs.Rooted.{Rooted}
-use Rattle.inf_expressions.specs.Trees.{Tree}
+use Rattle.inf_area.specs.{declared.targets.SystemConstant.SystemConstant, declared.targets.Target.Target}
+use Rattle.inf_opcode.specs.{declared.instructions.Label.Label, declared.opcodes.Opcode.Opcode}
+use Rattle.inf_expressions.specs.{Questions.children_of, Questions.range_of, Rooted.Rooted, Trees.Tree}
+use Rattle.inf_output.specs.{declared.items.Item.Item, declared.operands.Simple.Simple}
 use Rattle.inf_output.specs.Output.{Out, behind, items_of, laid_all, marked, to, ◌▸◌}
-use Rattle.inf_output.specs.declared.items.Item.{Item}
-use Rattle.inf_output.specs.declared.operands.Simple.{Simple}
-use Rattle.inf_output.specs.declared.operands.Simple.TheVariants.{Known, Later, Variable}
 use Rattle.inf_templates.specs.Meaning.{Meaning, meaning, part}
+use Rattle.inf_constructs.specs.declared.{constructs.Case.Case, constructs.Construct.Construct, constructs.Kind.Kind, constructs.Over.Over}
 use Rattle.inf_constructs.specs.Cases.{case_code, case_tested, group_tested, grouped, is_empty, is_open, laid_before, operand_in}
 use Rattle.inf_constructs.specs.Cases.{range_tested, SWITCHED, beside, group_behind, value_grouped, value_laid, within}
 use Rattle.inf_constructs.specs.Constructs.{Laying, all_ended, begun, between, case_closed, case_entered, cases_begun, changed, closed}
 use Rattle.inf_constructs.specs.Constructs.{ended, ending, entered, entered_by, front, joint, looped, looped_by, looped_on, looped_over}
 use Rattle.inf_constructs.specs.Constructs.{opened, over_all, over_children, tested_over, with_labels}
-use Rattle.inf_constructs.specs.declared.constructs.Case.{Case}
-use Rattle.inf_constructs.specs.declared.constructs.Case.TheVariants as case
-use Rattle.inf_constructs.specs.declared.constructs.Construct.{Construct}
-use Rattle.inf_constructs.specs.declared.constructs.Kind.{Kind}
-use Rattle.inf_constructs.specs.declared.constructs.Kind.TheVariants as kind
-use Rattle.inf_constructs.specs.declared.constructs.Over.{Over}
-use Rattle.inf_constructs.specs.declared.constructs.Over.TheVariants as over
 use Rattle.inf_target_laws.specs.Lists.{ItemsStand, StepsStand}
-use Rattle.inf_target_laws.proofs.Outputs.{GoesIf, Sound, if_nowhere, items_keep}
+use Rattle.inf_target_laws.proofs.{Outputs.GoesIf, Outputs.Sound, Outputs.if_nowhere, Outputs.items_keep, Statements.Gives}
+use Rattle.inf_target_laws.proofs.{Statements.gives_code, Statements.tree_sound, Templates.MeaningSound, Templates.meaning_sound}
+use Rattle.inf_target_laws.proofs.{Trees.ChildStands, Trees.EndsStand, Trees.child_stands, Trees.range_stands}
 use Rattle.inf_target_laws.proofs.Pieces.{by_stands, sound_if, sound_instruction, sound_jump, sound_label, sound_mark, sound_naming}
 use Rattle.inf_target_laws.proofs.Pieces.{sound_nothing, sound_then, worked_sound}
 use Rattle.inf_target_laws.proofs.Premises.{RootsStand, SimpleStands, SimplesStand, TreeStands, TreesStand}
-use Rattle.inf_target_laws.proofs.Templates.{MeaningSound, meaning_sound}
-use Rattle.inf_target_laws.proofs.Statements.{Gives, gives_code, tree_sound}
-use Rattle.inf_target_laws.proofs.Trees.{ChildStands, EndsStand, child_stands, range_stands}
 
 -- Cases
 
@@ -45,20 +32,20 @@ group_sound : {u : Out} {P : Type 0} (limits : Limits) (group : List Simple) (se
 unfolding group_tested
 group_sound {u} {P} limits [] sense label h = sound_nothing
 group_sound {u} {P} limits (a ∷ others) sense label h =
-    sound_instruction opcode.Je (Variable SWITCHED ∷ a ∷ others) None (to sense label) (tt, h)
+    sound_instruction Opcode.Je (Simple.Variable SWITCHED ∷ a ∷ others) None (to sense label) (tt, h)
 
 beside_sound : {u : Out} {P : Type 0} (limits : Limits) (a b : Simple) (next : Label) → SimpleStands u P a → SimpleStands u P b
     → Sound limits u P (beside limits a b next)
 beside_sound {u} {P} limits a b next h k =
-    sound_then (sound_instruction opcode.Jl (Variable SWITCHED ∷ a ∷ []) None (to true next) (tt, (h, tt)))
-    (sound_instruction opcode.Jg (Variable SWITCHED ∷ b ∷ []) None (to true next) (tt, (k, tt)))
+    sound_then (sound_instruction Opcode.Jl (Simple.Variable SWITCHED ∷ a ∷ []) None (to true next) (tt, (h, tt)))
+    (sound_instruction Opcode.Jg (Simple.Variable SWITCHED ∷ b ∷ []) None (to true next) (tt, (k, tt)))
 
 within_sound : {u : Out} {P : Type 0} (limits : Limits) (a b : Simple) (here : Label) → SimpleStands u P a → SimpleStands u P b
     → Sound limits u P (within limits a b here)
 within_sound {u} {P} limits a b here h k =
     sound_label _ (λ beyond. sound_then
-    (sound_instruction opcode.Jl (Variable SWITCHED ∷ a ∷ []) None (to true beyond) (tt, (h, tt)))
-    (sound_then (sound_instruction opcode.Jg (Variable SWITCHED ∷ b ∷ []) None (to false here) (tt, (k, tt))) (sound_mark beyond)))
+    (sound_instruction Opcode.Jl (Simple.Variable SWITCHED ∷ a ∷ []) None (to true beyond) (tt, (h, tt)))
+    (sound_then (sound_instruction Opcode.Jg (Simple.Variable SWITCHED ∷ b ∷ []) None (to false here) (tt, (k, tt))) (sound_mark beyond)))
 
 range_sound : {u : Out} {P : Type 0} (limits : Limits) (is_last : Bool) (a b : Simple) (here next : Label) → SimpleStands u P a
     → SimpleStands u P b → Sound limits u P (range_tested limits is_last a b here next)
@@ -121,30 +108,30 @@ case_sound {u} {P} limits (Some next) values h = tests_sound limits values next 
 -- Statements that hold others
 
 front_sound : {u : Out} {P : Type 0} (limits : Limits) (k : Kind) (c : Construct) → Sound limits u P (front limits k c)
-front_sound {u} {P} limits kind.While c = sound_mark c.next
-front_sound {u} {P} limits kind.Do c = sound_mark c.top
-front_sound {u} {P} limits kind.If c = sound_nothing
-front_sound {u} {P} limits kind.Else c = sound_nothing
-front_sound {u} {P} limits kind.For c = sound_nothing
-front_sound {u} {P} limits (kind.Objects how v) c = sound_nothing
-front_sound {u} {P} limits (kind.Switch old had_default) c = sound_nothing
-front_sound {u} {P} limits (kind.Cases old had_default) c = sound_nothing
+front_sound {u} {P} limits Kind.While c = sound_mark c.next
+front_sound {u} {P} limits Kind.Do c = sound_mark c.top
+front_sound {u} {P} limits Kind.If c = sound_nothing
+front_sound {u} {P} limits Kind.Else c = sound_nothing
+front_sound {u} {P} limits Kind.For c = sound_nothing
+front_sound {u} {P} limits (Kind.Objects how v) c = sound_nothing
+front_sound {u} {P} limits (Kind.Switch old had_default) c = sound_nothing
+front_sound {u} {P} limits (Kind.Cases old had_default) c = sound_nothing
 
 opened_gives : {u : Out} {P : Type 0} (limits : Limits) (k : Kind) → Gives limits u P (opened limits k)
 unfolding opened
 opened_gives {u} {P} limits k = record { keeps = λ o. let c = with_labels k o in (front_sound limits k c.0).keeps c.1 }
 
 joint_sound : {u : Out} {P : Type 0} (limits : Limits) (c : Construct) (k : Kind) → Sound limits u P (joint limits c k)
-joint_sound {u} {P} limits c kind.If = sound_then (sound_jump c.end) (sound_mark c.next)
-joint_sound {u} {P} limits c kind.Do = sound_mark c.next
-joint_sound {u} {P} limits c kind.For = sound_mark c.top
-joint_sound {u} {P} limits c (kind.Objects over.Nothing v) = sound_mark c.top
-joint_sound {u} {P} limits c (kind.Objects over.Children v) = sound_nothing
-joint_sound {u} {P} limits c (kind.Objects over.All v) = sound_nothing
-joint_sound {u} {P} limits c kind.Else = sound_nothing
-joint_sound {u} {P} limits c kind.While = sound_nothing
-joint_sound {u} {P} limits c (kind.Switch old had_default) = sound_nothing
-joint_sound {u} {P} limits c (kind.Cases old had_default) = sound_nothing
+joint_sound {u} {P} limits c Kind.If = sound_then (sound_jump c.end) (sound_mark c.next)
+joint_sound {u} {P} limits c Kind.Do = sound_mark c.next
+joint_sound {u} {P} limits c Kind.For = sound_mark c.top
+joint_sound {u} {P} limits c (Kind.Objects Over.Nothing v) = sound_mark c.top
+joint_sound {u} {P} limits c (Kind.Objects Over.Children v) = sound_nothing
+joint_sound {u} {P} limits c (Kind.Objects Over.All v) = sound_nothing
+joint_sound {u} {P} limits c Kind.Else = sound_nothing
+joint_sound {u} {P} limits c Kind.While = sound_nothing
+joint_sound {u} {P} limits c (Kind.Switch old had_default) = sound_nothing
+joint_sound {u} {P} limits c (Kind.Cases old had_default) = sound_nothing
 
 pub between_gives : {u : Out} {P : Type 0} (limits : Limits) (c : Construct) → Gives limits u P (between limits c)
 unfolding between
@@ -153,7 +140,7 @@ between_gives {u} {P} limits c = record { keeps = λ o. (joint_sound limits c c.
 children_sound : {u : Out} {P : Type 0} (limits : Limits) (e : Tree) (v : ℕ) (c : Construct) → TreeStands u P e
     → Sound limits u P (over_children limits e v c)
 children_sound {u} {P} limits e v c h =
-    sound_then (worked_sound limits opcode.GetChild (part (meaning limits e) ∷ []) (Some v) (to false c.end) (tree_sound limits e h, tt))
+    sound_then (worked_sound limits Opcode.GetChild (part (meaning limits e) ∷ []) (Some v) (to false c.end) (tree_sound limits e h, tt))
     (sound_mark c.top)
 
 over_sound : {u : Out} {P : Type 0} (limits : Limits) (x : Option Simple) (e : Meaning) (next : Label) → MeaningSound limits u P e
@@ -164,7 +151,7 @@ over_sound {u} {P} limits None e next h = h.branch false next
 all_sound : {u : Out} {P : Type 0} (limits : Limits) (e : Tree) (v : ℕ) (c : Construct) → TreeStands u P e
     → Sound limits u P (over_all limits (meaning limits e) v c)
 all_sound {u} {P} limits e v c h =
-    sound_then (sound_naming opcode.Store v (Known 5 ∷ []) None None (tt, tt)) (sound_then (sound_mark c.top)
+    sound_then (sound_naming Opcode.Store v (Simple.Known 5 ∷ []) None None (tt, tt)) (sound_then (sound_mark c.top)
     (over_sound limits (meaning limits e).operand (meaning limits e) c.next (meaning_sound limits e h)))
 
 looped_by_gives : {u : Out} {P : Type 0} (limits : Limits) (parent : Option Tree) (e : Tree) (v : ℕ) (c : Construct)
@@ -179,15 +166,15 @@ looped_gives {u} {P} limits r h c =
     looped_by_gives limits (children_of r.tree) r.tree (unwrap_or r.origin.lead.variable 0) c (child_stands u P r.tree h) h
 
 on_sound : {u : Out} {P : Type 0} (limits : Limits) (how : Over) (v : ℕ) (top : Label) → Sound limits u P (looped_on limits how v top)
-on_sound {u} {P} limits over.Nothing v top = sound_nothing
-on_sound {u} {P} limits over.Children v top = sound_instruction opcode.GetSibling (Variable v ∷ []) (Some v) (to true top) (tt, tt)
-on_sound {u} {P} limits over.All v top =
-    sound_naming opcode.IncChk v (Later (target.System constant.HighestObjectNumber) ∷ []) None (to false top) ((λ p. tt), tt)
+on_sound {u} {P} limits Over.Nothing v top = sound_nothing
+on_sound {u} {P} limits Over.Children v top = sound_instruction Opcode.GetSibling (Simple.Variable v ∷ []) (Some v) (to true top) (tt, tt)
+on_sound {u} {P} limits Over.All v top =
+    sound_naming Opcode.IncChk v (Simple.Later (Target.System SystemConstant.HighestObjectNumber) ∷ []) None (to false top) ((λ p. tt), tt)
 
 case_closed_sound : {u : Out} {P : Type 0} (limits : Limits) (c : Case) (end : Label) → Sound limits u P (case_closed limits c end)
-case_closed_sound {u} {P} limits case.Nothing end = sound_nothing
-case_closed_sound {u} {P} limits (case.Values next) end = sound_then (sound_jump end) (sound_mark next)
-case_closed_sound {u} {P} limits case.Default end = sound_jump end
+case_closed_sound {u} {P} limits Case.Nothing end = sound_nothing
+case_closed_sound {u} {P} limits (Case.Values next) end = sound_then (sound_jump end) (sound_mark next)
+case_closed_sound {u} {P} limits Case.Default end = sound_jump end
 
 step_sound : {u : Out} {P : Type 0} (limits : Limits) (items : List Item) → (P → ItemsStand u items)
     → Sound limits u P (laid_all limits items)
@@ -195,17 +182,17 @@ step_sound {u} {P} limits items h = record { keeps = items_keep limits u P items
 
 ending_sound : {u : Out} {P : Type 0} (limits : Limits) (c : Construct) → (P → ItemsStand u (items_of c.step)) → (k : Kind)
     → Sound limits u P (ending limits c k)
-ending_sound {u} {P} limits c h kind.If = sound_mark c.next
-ending_sound {u} {P} limits c h kind.Else = sound_mark c.end
-ending_sound {u} {P} limits c h kind.While = sound_then (sound_jump c.next) (sound_mark c.end)
-ending_sound {u} {P} limits c h kind.Do = sound_mark c.end
-ending_sound {u} {P} limits c h kind.For =
+ending_sound {u} {P} limits c h Kind.If = sound_mark c.next
+ending_sound {u} {P} limits c h Kind.Else = sound_mark c.end
+ending_sound {u} {P} limits c h Kind.While = sound_then (sound_jump c.next) (sound_mark c.end)
+ending_sound {u} {P} limits c h Kind.Do = sound_mark c.end
+ending_sound {u} {P} limits c h Kind.For =
     sound_then (sound_mark c.next) (sound_then (step_sound limits (items_of c.step) h)
     (sound_then (sound_jump c.top) (sound_mark c.end)))
-ending_sound {u} {P} limits c h (kind.Objects how v) =
+ending_sound {u} {P} limits c h (Kind.Objects how v) =
     sound_then (sound_mark c.next) (sound_then (on_sound limits how v c.top) (sound_mark c.end))
-ending_sound {u} {P} limits c h (kind.Switch old had_default) = sound_then (case_closed_sound limits old c.end) (sound_mark c.end)
-ending_sound {u} {P} limits c h (kind.Cases old had_default) = sound_then (case_closed_sound limits old c.end) (sound_mark c.end)
+ending_sound {u} {P} limits c h (Kind.Switch old had_default) = sound_then (case_closed_sound limits old c.end) (sound_mark c.end)
+ending_sound {u} {P} limits c h (Kind.Cases old had_default) = sound_then (case_closed_sound limits old c.end) (sound_mark c.end)
 
 closed_sound : {u : Out} {P : Type 0} (limits : Limits) (c : Construct) → (P → ItemsStand u (items_of c.step))
     → Sound limits u P (closed limits c)
@@ -221,16 +208,16 @@ case_entered_gives {u} {P} limits are_own false old had_default c = record {
 
 entered_by_gives : {u : Out} {P : Type 0} (limits : Limits) (k : Kind) (is_default : Bool) (c : Construct)
     → Gives limits u P (entered_by limits k is_default c)
-entered_by_gives {u} {P} limits (kind.Switch old had_default) is_default c =
+entered_by_gives {u} {P} limits (Kind.Switch old had_default) is_default c =
     record { keeps = λ o. (case_entered_gives limits false is_default old had_default c).keeps o }
-entered_by_gives {u} {P} limits (kind.Cases old had_default) is_default c =
+entered_by_gives {u} {P} limits (Kind.Cases old had_default) is_default c =
     record { keeps = λ o. (case_entered_gives limits true is_default old had_default c).keeps o }
-entered_by_gives {u} {P} limits kind.If is_default c = record { keeps = if_nowhere u P }
-entered_by_gives {u} {P} limits kind.Else is_default c = record { keeps = if_nowhere u P }
-entered_by_gives {u} {P} limits kind.While is_default c = record { keeps = if_nowhere u P }
-entered_by_gives {u} {P} limits kind.Do is_default c = record { keeps = if_nowhere u P }
-entered_by_gives {u} {P} limits kind.For is_default c = record { keeps = if_nowhere u P }
-entered_by_gives {u} {P} limits (kind.Objects how v) is_default c = record { keeps = if_nowhere u P }
+entered_by_gives {u} {P} limits Kind.If is_default c = record { keeps = if_nowhere u P }
+entered_by_gives {u} {P} limits Kind.Else is_default c = record { keeps = if_nowhere u P }
+entered_by_gives {u} {P} limits Kind.While is_default c = record { keeps = if_nowhere u P }
+entered_by_gives {u} {P} limits Kind.Do is_default c = record { keeps = if_nowhere u P }
+entered_by_gives {u} {P} limits Kind.For is_default c = record { keeps = if_nowhere u P }
+entered_by_gives {u} {P} limits (Kind.Objects how v) is_default c = record { keeps = if_nowhere u P }
 
 pub entered_gives : {u : Out} {P : Type 0} (limits : Limits) (is_default : Bool) (c : Construct)
     → Gives limits u P (entered limits is_default c)
@@ -252,16 +239,16 @@ between_leaves limits c o = refl
 
 entered_step : (limits : Limits) (k : Kind) (is_default : Bool) (c : Construct) (o : Out)
     → (entered_by limits k is_default c o).0.step ≡ c.step
-entered_step limits (kind.Switch old had_default) true c o = refl
-entered_step limits (kind.Switch old had_default) false c o = refl
-entered_step limits (kind.Cases old had_default) true c o = refl
-entered_step limits (kind.Cases old had_default) false c o = refl
-entered_step limits kind.If is_default c o = refl
-entered_step limits kind.Else is_default c o = refl
-entered_step limits kind.While is_default c o = refl
-entered_step limits kind.Do is_default c o = refl
-entered_step limits kind.For is_default c o = refl
-entered_step limits (kind.Objects how v) is_default c o = refl
+entered_step limits (Kind.Switch old had_default) true c o = refl
+entered_step limits (Kind.Switch old had_default) false c o = refl
+entered_step limits (Kind.Cases old had_default) true c o = refl
+entered_step limits (Kind.Cases old had_default) false c o = refl
+entered_step limits Kind.If is_default c o = refl
+entered_step limits Kind.Else is_default c o = refl
+entered_step limits Kind.While is_default c o = refl
+entered_step limits Kind.Do is_default c o = refl
+entered_step limits Kind.For is_default c o = refl
+entered_step limits (Kind.Objects how v) is_default c o = refl
 
 pub entered_leaves : (limits : Limits) (is_default : Bool) → LeavesStep (entered limits is_default)
 unfolding entered
@@ -302,7 +289,7 @@ changed_moves {u} {P} limits change each leaves (c ∷ constructs) = record {
 pub cases_moves : {u : Out} {P : Type 0} (limits : Limits) (constructs : List Construct)
     → Moves limits u P constructs (cases_begun limits constructs)
 cases_moves {u} {P} limits [] =
-    let m : Moves limits u P [] (begun limits (kind.Cases case.Nothing false) []) = begun_moves limits (kind.Cases case.Nothing false) [] in
+    let m : Moves limits u P [] (begun limits (Kind.Cases Case.Nothing false) []) = begun_moves limits (Kind.Cases Case.Nothing false) [] in
     record { keeps = m.keeps; steps = m.steps }
 cases_moves {u} {P} limits (c ∷ constructs) = record { keeps = λ o. ((λ e. e), (λ p e h. h)); steps = λ h o. h }
 

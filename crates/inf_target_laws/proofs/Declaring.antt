@@ -2,89 +2,55 @@
 -- is made.
 use Rattle.std.proofs.Common.{ℕ, List, [], ◌∷◌, map, Bool, true, false, Option, Some, None, Result, Ok, Err}
 use Rattle.std.specs.Prelude.{◌+◌, ◌-◌, length, nat_le, if◌then◌else◌}
-use Rattle.inf_settings.specs.Bounds.{Limits}
-use Rattle.inf_settings.specs.declared.setting.Setting.TheVariants as setting
+use Rattle.inf_settings.specs.{Bounds.Limits, declared.setting.Setting.Setting}
 use Rattle.inf_scanner.specs.declared.tokens.Place.{Place}
-use Rattle.inf_characters.specs.Reading.{text_of}
-use Rattle.inf_characters.specs.declared.reading.Mode.TheVariants as mode
-use Rattle.inf_characters.specs.declared.texts.TextItem.{TextItem}
+use Rattle.inf_characters.specs.{Reading.text_of, declared.reading.Mode.Mode, declared.texts.TextItem.TextItem}
 use Rattle.inf_text.specs.Packing.{packed}
 use Rattle.inf_area.specs.declared.targets.Value.{Value}
-use Rattle.inf_area.specs.declared.targets.Value.TheVariants as value
+use Rattle.inf_arrays.specs.{declared.arrays.ArrayFault.ArrayFault, declared.kinds.ArrayKind.ArrayKind}
 use Rattle.inf_arrays.specs.Arrays.{Adding, AllArrays, Characters, added_fault, all_of, arrays_size, open_fault, opened, values_in}
 use Rattle.inf_arrays.specs.Arrays.{with_entries}
-use Rattle.inf_arrays.specs.declared.arrays.ArrayFault.{ArrayFault}
-use Rattle.inf_arrays.specs.declared.kinds.ArrayKind.{ArrayKind}
-use Rattle.inf_expressions.specs.Findings.{least_of_both, out_of_range}
-use Rattle.inf_expressions.specs.Questions.{constant_of}
-use Rattle.inf_expressions.specs.Trees.{Leaf, Tree}
-use Rattle.inf_expressions.specs.declared.operators.Operand.TheVariants as operand
-use Rattle.inf_expressions.specs.declared.findings.Finding.{Finding}
-use Rattle.inf_expressions.specs.declared.findings.UnitError.{UnitError}
-use Rattle.inf_expressions.specs.declared.units.Wanted.TheVariants as wanted
-use Rattle.inf_letters.specs.Letters.{ignores, scale_of}
-use Rattle.inf_letters.specs.declared.letters.Letters.{Letters}
-use Rattle.inf_names.specs.Spellings.{Name}
-use Rattle.inf_names.specs.Symbols.{found_in}
-use Rattle.inf_names.specs.declared.meanings.Meaning.{Meaning}
-use Rattle.inf_names.specs.declared.meanings.Meaning.TheVariants as meaning
-use Rattle.inf_names.specs.declared.symbols.Found.{Found}
-use Rattle.inf_names.specs.declared.symbols.Found.TheVariants as found
+use Rattle.inf_expressions.specs.{Findings.least_of_both, Findings.out_of_range, Questions.constant_of, Trees.Leaf, Trees.Tree}
+use Rattle.inf_expressions.specs.{declared.findings.Finding.Finding, declared.findings.UnitError.UnitError}
+use Rattle.inf_expressions.specs.{declared.operators.Operand.Operand, declared.units.Wanted.Wanted}
+use Rattle.inf_letters.specs.{Letters.ignores, Letters.scale_of, declared.letters.Letters.Letters}
+use Rattle.inf_names.specs.{Spellings.Name, Symbols.found_in, declared.meanings.Meaning.Meaning, declared.symbols.Found.Found}
 use Rattle.inf_output.specs.Output.{Out, passed_table, with_low_text}
 use Rattle.inf_report.specs.declared.messages.FixedLimit.{FixedLimit}
-use Rattle.inf_report.specs.declared.messages.FixedLimit.TheVariants as countable
-use Rattle.inf_tables.specs.LowStrings.{low_fits, low_size}
+use Rattle.inf_tables.specs.{LowStrings.low_fits, LowStrings.low_size, declared.faults.WorldFault.WorldFault}
 use Rattle.inf_tables.specs.World.{attribute_fault, property_fault, with_property}
-use Rattle.inf_tables.specs.declared.faults.WorldFault.{WorldFault}
 use Rattle.inf_unit.specs.Units.{bytes_at, first_place, name_order, quoted_in}
 use Rattle.inf_constructs.specs.Roots.{tree_in}
-use Rattle.inf_operands.specs.Texts.{text_at}
-use Rattle.inf_operands.specs.Texts.{text_packed}
+use Rattle.inf_operands.specs.Texts.{text_at, text_packed}
+use Rattle.inf_compilation.specs.{Context.Context, Findings.found_alone, Findings.nothing_found}
 use Rattle.inf_compilation.specs.Actions.{Compilation, finding_at, operands_of, settled_of, trees_at}
-use Rattle.inf_compilation.specs.Context.{Context}
-use Rattle.inf_compilation.specs.Findings.{found_alone, nothing_found}
 use Rattle.inf_declarations.specs.Abbreviations.{abbreviate_header, abbreviation, abbreviation_added, abbreviation_error}
 use Rattle.inf_declarations.specs.Abbreviations.{abbreviation_findings, abbreviation_with, low_added, low_added_by, low_named_by}
 use Rattle.inf_declarations.specs.Abbreviations.{low_string, low_string_added, low_unless, or_error, text_declared}
 use Rattle.inf_declarations.specs.Arrays.{added, adding, array_named, array_opened, array_opened_by, bare_text, codes_of, entry_added}
 use Rattle.inf_declarations.specs.Arrays.{entry_added_by, entry_ended, entry_finding, entry_with, is_alone, kind_in, listed, one_more}
 use Rattle.inf_declarations.specs.Arrays.{story_added, text_added, value_added, with_arrays}
-use Rattle.inf_named_values.specs.Declarations.{alias_finding, alias_meaning, alias_told, aliased, attribute_found, attribute_meaning}
-use Rattle.inf_named_values.specs.Declarations.{last_meaning, property_found, property_meaning}
-use Rattle.inf_declarations.specs.Attributes.{attribute, attribute_added}
-use Rattle.inf_named_values.specs.Declarations.{declared_ended, declared_findings}
-use Rattle.inf_declarations.specs.Globals.{global_added}
-use Rattle.inf_declarations.specs.Attributes.{attribute_number, attribute_with}
-use Rattle.inf_declarations.specs.Globals.{global_variable, global_with, has_most_globals}
-use Rattle.inf_declarations.specs.Properties.{has_most_properties}
-use Rattle.inf_declarations.specs.Attributes.{has_most_attributes}
-use Rattle.inf_named_values.specs.Declarations.{is_additive, is_alias, name_declared, name_known}
+use Rattle.inf_declarations.specs.Attributes.{attribute, attribute_added, attribute_number, attribute_with, has_most_attributes}
 use Rattle.inf_declarations.specs.Attributes.{new_attribute, new_attribute_by}
-use Rattle.inf_named_values.specs.Declarations.{nothing_of, plainly_known}
-use Rattle.inf_declarations.specs.Globals.{new_global}
-use Rattle.inf_declarations.specs.Properties.{new_property, new_property_by, property}
-use Rattle.inf_declarations.specs.Properties.{property_added, property_named, property_names, property_number, property_order}
-use Rattle.inf_named_values.specs.Declarations.{valued}
-use Rattle.inf_named_values.specs.Values.{value_in, value_of, value_or}
-use Rattle.inf_declarations.specs.Globals.{with_variable}
-use Rattle.inf_declarations.specs.Properties.{property_with}
+use Rattle.inf_declarations.specs.Globals.{global_added, global_variable, global_with, has_most_globals, new_global, with_variable}
+use Rattle.inf_declarations.specs.Properties.{has_most_properties, new_property, new_property_by, property, property_added, property_named}
+use Rattle.inf_declarations.specs.Properties.{property_names, property_number, property_order, property_with}
 use Rattle.inf_declarations.specs.Headers.{known_number, release, release_finding, release_told, serial, serial_by, serial_in}
 use Rattle.inf_declarations.specs.Switches.{has_code, letters_behind, misplaced, switched, switches, switches_by}
-use Rattle.inf_named_values.specs.declared.declarations.Declared.{Declared}
-use Rattle.inf_target_laws.specs.Lists.{ArraysStand}
-use Rattle.inf_target_laws.specs.Standing.{Before, MeaningStands, ValueStands}
-use Rattle.inf_target_laws.proofs.Lists.{values_join}
-use Rattle.inf_target_laws.proofs.Operands.{added_keeps}
+use Rattle.inf_named_values.specs.{Values.value_in, Values.value_of, Values.value_or, declared.declarations.Declared.Declared}
+use Rattle.inf_named_values.specs.Declarations.{alias_finding, alias_meaning, alias_told, aliased, attribute_found, attribute_meaning}
+use Rattle.inf_named_values.specs.Declarations.{last_meaning, property_found, property_meaning, declared_ended, declared_findings}
+use Rattle.inf_named_values.specs.Declarations.{is_additive, is_alias, name_declared, name_known, nothing_of, plainly_known, valued}
+use Rattle.inf_target_laws.specs.{Lists.ArraysStand, Standing.Before, Standing.MeaningStands, Standing.ValueStands}
+use Rattle.inf_target_laws.proofs.{Lists.values_join, Operands.added_keeps, Premises.TreeStands, Premises.TreesStand, Trees.roots_stand}
+use Rattle.inf_target_laws.proofs.{Trees.trees_stand, Units.used_keeps, Units.used_stand}
 use Rattle.inf_target_laws.proofs.Outputs.{Goes, GoesIf, Keeps, declare_keeps, goes_given, goes_nowhere, goes_then, low_text_keeps}
 use Rattle.inf_target_laws.proofs.Outputs.{scale_keeps, table_keeps}
-use Rattle.inf_target_laws.proofs.Premises.{TreeStands, TreesStand}
-use Rattle.inf_target_laws.proofs.Trees.{roots_stand, trees_stand}
-use Rattle.inf_target_laws.proofs.Units.{used_keeps, used_stand}
 use Rattle.inf_target_laws.proofs.Ways.{Steps, output_steps, passed_steps, stays, steps_if, steps_then, unit_ends}
 use Rattle.inf_target_laws.proofs.Worlds.{AddingStands, entries_hold, opened_holds, property_holds, world_goes}
 
 constant_stands : (u : Out) (P : Type 0) (t : Tree) → TreeStands u P t → P → ValueStands u (value_or (constant_of t))
-constant_stands u P (Leaf (operand.Later t)) h p = h p
+constant_stands u P (Leaf (Operand.Later t)) h p = h p
 constant_stands u P t h p = tt
 
 value_stands : (u : Out) (P : Type 0) (trees : List Tree) → TreesStand u P trees → P → ValueStands u (value_in trees)
@@ -97,9 +63,9 @@ pub value_there : (limits : Limits) (u : Out) (context : Context) (w : Compilati
 value_there limits u context w e =
     let P : Type 0 = Before u (settled_of limits context w).out in
     let operands = (settled_of limits context w).operands in
-    let trees = trees_at 0 wanted.Constant operands w in
+    let trees = trees_at 0 Wanted.Constant operands w in
     value_stands u P (map tree_in trees)
-    (trees_stand u P trees (roots_stand u P wanted.Constant 0 operands w.unit.gathering.symbols (used_stand limits u context w))) e
+    (trees_stand u P trees (roots_stand u P Wanted.Constant 0 operands w.unit.gathering.symbols (used_stand limits u context w))) e
 
 -- the end of a declaration
 declaration_steps : {limits : Limits} {context : Context} {u : Out} (first : Place) (has_last : Bool) (name : Name) (kind : FixedLimit)
@@ -109,8 +75,8 @@ declaration_steps first has_last name kind d w o keeps =
     steps_then (output_steps w o keeps) (unit_ends first has_last (declared_findings name kind d) (record w { output = o }))
 
 nothing_stands : (u : Out) (kind : FixedLimit) → MeaningStands u (nothing_of kind)
-nothing_stands u countable.Attributes = tt
-nothing_stands u countable.Globals = tt
+nothing_stands u FixedLimit.Attributes = tt
+nothing_stands u FixedLimit.Globals = tt
 nothing_stands u kind = tt
 
 abbrev SomeMeaning : Out → Option Meaning → Type 0
@@ -118,27 +84,27 @@ SomeMeaning u None = Unit {0}
 SomeMeaning u (Some m) = MeaningStands u m
 
 attribute_stands : (u : Out) (m : Meaning) → SomeMeaning u (attribute_meaning m)
-attribute_stands u (meaning.Attribute number) = tt
+attribute_stands u (Meaning.Attribute number) = tt
 attribute_stands u m = tt
 
 property_stands : (u : Out) (m : Meaning) → SomeMeaning u (property_meaning m)
-property_stands u (meaning.Property number is_additive) = tt
+property_stands u (Meaning.Property number is_additive) = tt
 property_stands u m = tt
 
 attribute_found_stands : (u : Out) (f : Found Place) → SomeMeaning u (attribute_found f)
-attribute_found_stands u (found.System m) = tt
-attribute_found_stands u (found.Declared m first) = attribute_stands u m
-attribute_found_stands u found.Used = tt
-attribute_found_stands u found.Unknown = tt
+attribute_found_stands u (Found.System m) = tt
+attribute_found_stands u (Found.Declared m first) = attribute_stands u m
+attribute_found_stands u Found.Used = tt
+attribute_found_stands u Found.Unknown = tt
 
 property_found_stands : (u : Out) (f : Found Place) → SomeMeaning u (property_found f)
-property_found_stands u (found.System m) = property_stands u m
-property_found_stands u (found.Declared m first) = property_stands u m
-property_found_stands u found.Used = tt
-property_found_stands u found.Unknown = tt
+property_found_stands u (Found.System m) = property_stands u m
+property_found_stands u (Found.Declared m first) = property_stands u m
+property_found_stands u Found.Used = tt
+property_found_stands u Found.Unknown = tt
 
 alias_stands : (u : Out) (kind : FixedLimit) (f : Found Place) → SomeMeaning u (alias_meaning kind f)
-alias_stands u countable.Attributes f = attribute_found_stands u f
+alias_stands u FixedLimit.Attributes f = attribute_found_stands u f
 alias_stands u kind f = property_found_stands u f
 
 aliased_stands : (u : Out) (kind : FixedLimit) (m : Option Meaning) (told : Option Finding) → SomeMeaning u m
@@ -169,24 +135,24 @@ new_attribute_keeps u o = go (attribute_fault o.tables.world)
     go (Some fault) = goes_nowhere u o
 
 attribute_keeps : (limits : Limits) (u : Out) (told : Option Finding) (name : Name) → Keeps u (attribute_added limits told name)
-attribute_keeps limits u (Some f) name o = declare_keeps limits u name.bytes name.place (meaning.Attribute 0) tt o
+attribute_keeps limits u (Some f) name o = declare_keeps limits u name.bytes name.place (Meaning.Attribute 0) tt o
 attribute_keeps limits u None name o =
-    let v = name_declared limits name (meaning.Attribute (attribute_number o)) o in
-    goes_then u o v (new_attribute v) (declare_keeps limits u name.bytes name.place (meaning.Attribute (attribute_number o)) tt o)
+    let v = name_declared limits name (Meaning.Attribute (attribute_number o)) o in
+    goes_then u o v (new_attribute v) (declare_keeps limits u name.bytes name.place (Meaning.Attribute (attribute_number o)) tt o)
     (new_attribute_keeps u v)
 
 attribute_with_steps : {limits : Limits} {context : Context} {u : Out} (first : Place) (name : Name) (w : Compilation)
     → Steps limits context u w (attribute_with limits context first name w)
 attribute_with_steps {limits} {context} {u} first name w =
     let d = name_known name (name_order w.unit.tokens) (has_most_attributes w.output) w in
-    declaration_steps first true name countable.Attributes d w (attribute_added limits d.finding name w.output)
+    declaration_steps first true name FixedLimit.Attributes d w (attribute_added limits d.finding name w.output)
     (attribute_keeps limits u d.finding name w.output)
 
 pub attribute_steps : {limits : Limits} {context : Context} {u : Out} (first : Place) (names : List Name) (w : Compilation)
     → Steps limits context u w (attribute limits context first names w)
 attribute_steps first [] w = passed_steps true w
 attribute_steps {limits} {context} {u} first (name ∷ names) w =
-    steps_if (is_alias names w.unit.gathering.leaves) (alias_steps first name (name_order w.unit.tokens) countable.Attributes w)
+    steps_if (is_alias names w.unit.gathering.leaves) (alias_steps first name (name_order w.unit.tokens) FixedLimit.Attributes w)
     (attribute_with_steps first name w)
 
 -- Properties
@@ -204,10 +170,10 @@ new_property_goes u is_additive v o = go (property_fault o.tables.world)
 property_keeps : (limits : Limits) (u : Out) (context : Context) (told : Option Finding) (name : Name) (is_additive : Bool)
     (w : Compilation) → Goes u w.output (property_added limits context told name is_additive w)
 property_keeps limits u context (Some f) name is_additive w =
-    declare_keeps limits u name.bytes name.place (nothing_of countable.Properties) tt w.output
+    declare_keeps limits u name.bytes name.place (nothing_of FixedLimit.Properties) tt w.output
 property_keeps limits u context None name is_additive w =
     let o = (settled_of limits context w).out in
-    let m = meaning.Property (property_number o) is_additive in
+    let m = Meaning.Property (property_number o) is_additive in
     let v = name_declared limits name m o in
     let named = declare_keeps limits u name.bytes name.place m tt o in
     goes_given u w.output v (new_property is_additive (value_of limits context w) v)
@@ -218,7 +184,7 @@ property_with_steps : {limits : Limits} {context : Context} {u : Out} (first : P
     → Steps limits context u w (property_with limits context first is_additive name w)
 property_with_steps {limits} {context} {u} first is_additive name w =
     let d = valued name (property_order w.unit.tokens is_additive) (has_most_properties w.output) w in
-    declaration_steps first true name countable.Properties d w (property_added limits context d.finding name is_additive w)
+    declaration_steps first true name FixedLimit.Properties d w (property_added limits context d.finding name is_additive w)
     (property_keeps limits u context d.finding name is_additive w)
 
 property_named_steps : {limits : Limits} {context : Context} {u : Out} (first : Place) (is_additive : Bool) (names : List Name)
@@ -227,7 +193,7 @@ property_named_steps : {limits : Limits} {context : Context} {u : Out} (first : 
 property_named_steps first is_additive [] w = passed_steps true w
 property_named_steps first is_additive (name ∷ names) w =
     steps_if (is_alias names w.unit.gathering.leaves)
-    (alias_steps first name (property_order w.unit.tokens is_additive) countable.Properties w)
+    (alias_steps first name (property_order w.unit.tokens is_additive) FixedLimit.Properties w)
     (property_with_steps first is_additive name w)
 
 pub property_steps : {limits : Limits} {context : Context} {u : Out} (first : Place) (names : List Name) (w : Compilation)
@@ -263,10 +229,10 @@ new_global_goes u v o = go (nat_le 235 (length o.tables.globals))
 global_keeps : (limits : Limits) (u : Out) (context : Context) (told : Option Finding) (name : Name) (w : Compilation)
     → Goes u w.output (global_added limits context told name w)
 global_keeps limits u context (Some f) name w =
-    declare_keeps limits u name.bytes name.place (nothing_of countable.Globals) tt w.output
+    declare_keeps limits u name.bytes name.place (nothing_of FixedLimit.Globals) tt w.output
 global_keeps limits u context None name w =
     let o = (settled_of limits context w).out in
-    let m = meaning.Variable (16 + length o.tables.globals) in
+    let m = Meaning.Variable (16 + length o.tables.globals) in
     let v = name_declared limits name m o in
     let named = declare_keeps limits u name.bytes name.place m tt o in
     goes_given u w.output v (new_global (value_of limits context w) v)
@@ -277,7 +243,7 @@ global_with_steps : {limits : Limits} {context : Context} {u : Out} (first : Pla
     → Steps limits context u w (global_with limits context first name w)
 global_with_steps {limits} {context} {u} first name w =
     let d = valued name (name_order w.unit.tokens) (has_most_globals w.output) w in
-    declaration_steps first true name countable.Globals d w (global_added limits context d.finding name w)
+    declaration_steps first true name FixedLimit.Globals d w (global_added limits context d.finding name w)
     (global_keeps limits u context d.finding name w)
 
 pub global_steps : {limits : Limits} {context : Context} {u : Out} (first : Place) (names : List Name) (w : Compilation)
@@ -292,7 +258,7 @@ low_added_keeps limits u bytes o = go (low_fits limits bytes o.tables.low_string
   where
     go : (b : Bool) → Goes u o (low_added_by limits b bytes o)
     go true = goes_nowhere u o
-    go false = table_keeps limits u setting.LowStrings o
+    go false = table_keeps limits u Setting.LowStrings o
 
 text_declared_keeps : (u : Out) (error : Option UnitError) (items : List TextItem) → Keeps u (text_declared error items)
 text_declared_keeps u None items o = goes_nowhere u o
@@ -321,7 +287,7 @@ pub abbreviation_steps : {limits : Limits} {context : Context} {u : Out} (place 
     → Steps limits context u w (abbreviation limits context place w)
 abbreviation_steps {limits} {context} {u} place w =
     abbreviation_with_steps (first_place w.unit.tokens place)
-    (or_error (text_of context.set mode.Abbreviation (quoted_in w.unit.tokens))) w
+    (or_error (text_of context.set Mode.Abbreviation (quoted_in w.unit.tokens))) w
 
 pub abbreviate_steps : {limits : Limits} {context : Context} {u : Out} (first : Place) (w : Compilation)
     → Steps limits context u w (abbreviate_header limits context first w)
@@ -331,26 +297,26 @@ abbreviate_steps first w = unit_ends first false (found_alone None) w
 
 low_by_keeps : (limits : Limits) (u : Out) (name : Name) (items : Result (List TextItem) UnitError)
     → Keeps u (low_named_by limits name items)
-low_by_keeps limits u name (Err error) o = declare_keeps limits u name.bytes name.place (meaning.Number 0) tt o
+low_by_keeps limits u name (Err error) o = declare_keeps limits u name.bytes name.place (Meaning.Number 0) tt o
 low_by_keeps limits u name (Ok items) o =
     let p = text_packed o in
     let v = with_low_text limits (packed items []) p in
-    let m = meaning.LowString (low_size o.tables.low_strings) in
+    let m = Meaning.LowString (low_size o.tables.low_strings) in
     goes_then u p v (name_declared limits name m v) (low_text_keeps limits u (packed items []) p)
     (declare_keeps limits u name.bytes name.place m tt v)
 
 low_string_keeps : (limits : Limits) (u : Out) (context : Context) (told : Option Finding) (name : Name) (w : Compilation)
     → Goes u w.output (low_string_added limits context.set told name w.unit.tokens w.output)
-low_string_keeps limits u context (Some f) name w = declare_keeps limits u name.bytes name.place (meaning.Number 0) tt w.output
+low_string_keeps limits u context (Some f) name w = declare_keeps limits u name.bytes name.place (Meaning.Number 0) tt w.output
 low_string_keeps limits u context None name w =
-    low_by_keeps limits u name (or_error (text_of context.set mode.Text (quoted_in w.unit.tokens))) w.output
+    low_by_keeps limits u name (or_error (text_of context.set Mode.Text (quoted_in w.unit.tokens))) w.output
 
 pub low_string_steps : {limits : Limits} {context : Context} {u : Out} (first : Place) (names : List Name) (w : Compilation)
     → Steps limits context u w (low_string limits context first names w)
 low_string_steps first [] w = passed_steps true w
 low_string_steps {limits} {context} {u} first (name ∷ names) w =
     let d = plainly_known name (name_order w.unit.tokens) w in
-    declaration_steps first true name countable.Values d w (low_string_added limits context.set d.finding name w.unit.tokens w.output)
+    declaration_steps first true name FixedLimit.Values d w (low_string_added limits context.set d.finding name w.unit.tokens w.output)
     (low_string_keeps limits u context d.finding name w)
 
 -- Releases, serial numbers and letters
@@ -365,8 +331,8 @@ told_steps {limits} {context} {u} number None w =
 pub release_steps : {limits : Limits} {context : Context} {u : Out} (first : Place) (w : Compilation)
     → Steps limits context u w (release limits context first w)
 release_steps {limits} {context} {u} first w =
-    let number = known_number (map tree_in (trees_at 0 wanted.Constant (operands_of w) w)) in
-    let finding = release_finding number (finding_at 0 wanted.Constant w) in
+    let number = known_number (map tree_in (trees_at 0 Wanted.Constant (operands_of w) w)) in
+    let finding = release_finding number (finding_at 0 Wanted.Constant w) in
     steps_then (told_steps number finding w) (unit_ends first true (found_alone finding) (release_told limits context number finding w))
 
 serial_by_steps : {limits : Limits} {context : Context} {u : Out} (first : Place) (digits : Option (List ℕ)) (w : Compilation)
@@ -424,14 +390,14 @@ opened_keeps limits u k name o = go (open_fault limits k o.tables.arrays)
     go : (fault : Option ArrayFault) → Goes u o (array_opened_by limits fault k name o)
     go None =
         let v = with_arrays (opened k o.tables.arrays) o in
-        let m = meaning.Array (arrays_size (all_of o.tables.arrays)) in
+        let m = Meaning.Array (arrays_size (all_of o.tables.arrays)) in
         goes_then u o v (name_declared limits name m v)
         (array_goes u o (opened k o.tables.arrays) (opened_holds u k o.tables.arrays))
         (declare_keeps limits u name.bytes name.place m tt v)
     go (Some f) =
-        let v = passed_table limits setting.Arrays o in
-        goes_then u o v (name_declared limits name (meaning.Array 0) v) (table_keeps limits u setting.Arrays o)
-        (declare_keeps limits u name.bytes name.place (meaning.Array 0) tt v)
+        let v = passed_table limits Setting.Arrays o in
+        goes_then u o v (name_declared limits name (Meaning.Array 0) v) (table_keeps limits u Setting.Arrays o)
+        (declare_keeps limits u name.bytes name.place (Meaning.Array 0) tt v)
 
 listed_steps : {limits : Limits} {context : Context} {u : Out} (told : Option Finding) (k : ArrayKind) (name : Name) (w : Compilation)
     → Steps limits context u w (listed limits told k name w)
@@ -445,7 +411,7 @@ array_steps first [] w = passed_steps false w
 array_steps {limits} {context} {u} first (name ∷ names) w =
     let d = plainly_known name (name_order w.unit.tokens) w in
     steps_then (listed_steps d.finding (kind_in w.unit.tokens) name w)
-    (unit_ends first false (declared_findings name countable.Globals d) (listed limits d.finding (kind_in w.unit.tokens) name w))
+    (unit_ends first false (declared_findings name FixedLimit.Globals d) (listed limits d.finding (kind_in w.unit.tokens) name w))
 
 story_goes : (limits : Limits) (u : Out) (fault : Option ArrayFault) (a : Adding) (o : Out)
     → GoesIf (AddingStands u a) u o (story_added limits fault a o)
@@ -453,7 +419,7 @@ story_goes limits u None a o = (
   (λ e. e),
   (λ s. (array_goes u o (with_entries (values_in a) o.tables.arrays) (entries_hold u a o.tables.arrays s)).1),
 )
-story_goes limits u (Some f) a o = let g = table_keeps limits u setting.Arrays o in (g.0, (λ s. g.1))
+story_goes limits u (Some f) a o = let g = table_keeps limits u Setting.Arrays o in (g.0, (λ s. g.1))
 
 -- an entry of the story's array: what it adds stands once the output before it comes before
 more_steps : {limits : Limits} {context : Context} {u : Out} (a : Adding) (w : Compilation) → (Before u w.output → AddingStands u a)
@@ -469,10 +435,10 @@ text_steps None w = stays w
 text_steps (Some items) w = more_steps (Characters (codes_of items)) w (λ e. tt)
 
 adding_stands : (u : Out) (alone : Bool) (v : Value) → ValueStands u v → AddingStands u (adding alone v)
-adding_stands u true (value.Known count) h = tt
-adding_stands u true (value.Later t) h = h
-adding_stands u false (value.Known count) h = h
-adding_stands u false (value.Later t) h = h
+adding_stands u true (Value.Known count) h = tt
+adding_stands u true (Value.Later t) h = h
+adding_stands u false (Value.Known count) h = h
+adding_stands u false (Value.Later t) h = h
 
 value_steps : {limits : Limits} {context : Context} {u : Out} (alone : Bool) (w : Compilation)
     → Steps limits context u w (value_added limits context alone w)

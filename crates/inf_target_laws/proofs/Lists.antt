@@ -1,14 +1,8 @@
 -- Lists of what stands, put together.
-use Rattle.std.proofs.Common.{ℕ, List, [], ◌∷◌, ◌++◌, Bool, true, false, Option, Some, None, drop, take}
-use Rattle.std.specs.Prelude.{◌-◌, ◌+◌, map, nat_lt, if◌then◌else◌}
-use Rattle.std.specs.List.{flat_map}
-use Rattle.std.specs.Str.{bytes_eq}
-use Rattle.inf_area.specs.declared.cells.Cell.{Cell as CodeCell}
-use Rattle.inf_area.specs.declared.cells.Cell.TheVariants as code_cell
-use Rattle.inf_area.specs.declared.fixups.Fixup.{Fixup}
-use Rattle.inf_area.specs.declared.scale.Scale.{Scale}
-use Rattle.inf_area.specs.declared.targets.Value.{Value}
-use Rattle.inf_area.specs.Cells.{size_of}
+use Rattle.std.proofs.Common.{ℕ, List, [], ◌∷◌, ◌++◌, Bool, true, false, Option, Some, None, drop, take, flat_map, bytes_eq, ◌-◌, ◌+◌, map}
+use Rattle.std.proofs.Common.{nat_lt, if◌then◌else◌}
+use Rattle.inf_area.specs.{Cells.size_of, declared.cells.Cell.Cell as CodeCell, declared.fixups.Fixup.Fixup, declared.scale.Scale.Scale}
+use Rattle.inf_area.specs.{declared.targets.Value.Value}
 use Rattle.inf_scanner.specs.declared.tokens.Place.{Place}
 use Rattle.inf_arrays.specs.Arrays.{Listed}
 use Rattle.inf_assembler.specs.Places.{Places, closed_fixups, fixup_at, size_at}
@@ -18,20 +12,11 @@ use Rattle.inf_code.specs.Code.{Opened, cells_from, cells_with, closed_cells, kn
 use Rattle.inf_code.specs.Code.{with_label}
 use Rattle.inf_names.specs.Symbols.{Named, Standing, put}
 use Rattle.inf_objects.specs.declared.objects.Object.{Object}
+use Rattle.inf_opcode.specs.{Opcodes.row_of, declared.cells.Special.Special, declared.instructions.Branch.Branch}
+use Rattle.inf_opcode.specs.{declared.instructions.Label.Label, declared.instructions.Operand.Operand as Written}
 use Rattle.inf_opcode.specs.Cells.{Cell, Of, Plain, plain, special_size}
 use Rattle.inf_opcode.specs.Instructions.{Parts, branch_cells, heading, instruction_cells, operand_cells, store_cells}
-use Rattle.inf_opcode.specs.Opcodes.{row_of}
-use Rattle.inf_opcode.specs.declared.cells.Special.{Special}
-use Rattle.inf_opcode.specs.declared.cells.Special.TheVariants.{Branches, Jumps, Marks, Refers}
-use Rattle.inf_opcode.specs.declared.instructions.Branch.{Branch}
-use Rattle.inf_opcode.specs.declared.instructions.Label.{Label}
-use Rattle.inf_opcode.specs.declared.instructions.Operand.{Operand as Written}
-use Rattle.inf_opcode.specs.declared.instructions.Operand.TheVariants as written_as
-use Rattle.inf_output.specs.Operands.{written}
-use Rattle.inf_output.specs.Output.{Out}
-use Rattle.inf_output.specs.declared.items.Item.{Item}
-use Rattle.inf_output.specs.declared.operands.Simple.{Simple}
-use Rattle.inf_output.specs.declared.operands.Simple.TheVariants.{Known, Later, Variable}
+use Rattle.inf_output.specs.{Operands.written, Output.Out, declared.items.Item.Item, declared.operands.Simple.Simple}
 use Rattle.inf_properties.specs.declared.values.Property.{Property}
 use Rattle.inf_target_laws.specs.Lists.{AllWrittenStand, CellsStand, ItemsStand, ListedStand, NamesStand, ObjectsStand, OpenCellsStand}
 use Rattle.inf_target_laws.specs.Lists.{PropertiesStand, RoutineStands, ValuesStand}
@@ -82,14 +67,14 @@ names_put u key s (n ∷ names) stands h = go (bytes_eq key n.name) (names_put u
 
 -- Instructions as cells
 
-small_or_large : (u : Out) (b : Bool) (number : ℕ) → WrittenStands u (if b then written_as.Small number else written_as.Large number)
+small_or_large : (u : Out) (b : Bool) (number : ℕ) → WrittenStands u (if b then Written.Small number else Written.Large number)
 small_or_large u true number = tt
 small_or_large u false number = tt
 
 written_stands : (u : Out) (P : Type 0) (s : Simple) → P → SimpleStands u P s → WrittenStands u (written s)
-written_stands u P (Known number) p h = small_or_large u (nat_lt number 256) number
-written_stands u P (Variable number) p h = tt
-written_stands u P (Later t) p h = h p
+written_stands u P (Simple.Known number) p h = small_or_large u (nat_lt number 256) number
+written_stands u P (Simple.Variable number) p h = tt
+written_stands u P (Simple.Later t) p h = h p
 
 pub all_written : (u : Out) (P : Type 0) (all : List Simple) → P → SimplesStand u P all → AllWrittenStand u (map written all)
 all_written u P [] p h = tt
@@ -100,11 +85,11 @@ plain_stands u [] = tt
 plain_stands u (byte ∷ bytes) = (tt, plain_stands u bytes)
 
 operand_stands : (u : Out) (x : Written) → WrittenStands u x → OpenCellsStand u (operand_cells x)
-operand_stands u (written_as.Large number) h = (tt, (tt, tt))
-operand_stands u (written_as.Small byte) h = (tt, tt)
-operand_stands u (written_as.Variable number) h = (tt, tt)
-operand_stands u (written_as.Later t) h = (h, tt)
-operand_stands u (written_as.Offset label) h = (tt, tt)
+operand_stands u (Written.Large number) h = (tt, (tt, tt))
+operand_stands u (Written.Small byte) h = (tt, tt)
+operand_stands u (Written.Variable number) h = (tt, tt)
+operand_stands u (Written.Later t) h = (h, tt)
+operand_stands u (Written.Offset label) h = (tt, tt)
 
 operands_stand : (u : Out) (operands : List Written) → AllWrittenStand u operands → OpenCellsStand u (flat_map operand_cells operands)
 operands_stand u [] h = tt
@@ -142,7 +127,7 @@ item_joins u parts (Some o) h k = open_join u o.contents.cells (instruction_cell
 
 pub label_joins : (u : Out) (label : Label) (opened : Option Opened) → RoutineStands u opened → RoutineStands u (with_label label opened)
 label_joins u label None k = tt
-label_joins u label (Some o) k = open_join u o.contents.cells (Of (Marks label) ∷ []) k (tt, tt)
+label_joins u label (Some o) k = open_join u o.contents.cells (Of (Special.Marks label) ∷ []) k (tt, tt)
 
 -- Closed routines have the references of their cells.
 
@@ -155,10 +140,10 @@ fixups_join u [] b h k = k
 fixups_join u (fixup ∷ a) b h k = (h.0, fixups_join u a b h.1 k)
 
 fixup_stands : (u : Out) (place : ℕ) (what : Special) → SpecialStands u what → FixupsStand u (fixup_at place what)
-fixup_stands u place (Marks label) h = tt
-fixup_stands u place (Branches branch) h = tt
-fixup_stands u place (Jumps label) h = tt
-fixup_stands u place (Refers t) h = (h, tt)
+fixup_stands u place (Special.Marks label) h = tt
+fixup_stands u place (Special.Branches branch) h = tt
+fixup_stands u place (Special.Jumps label) h = tt
+fixup_stands u place (Special.Refers t) h = (h, tt)
 
 fixups_stand : (u : Out) (long : Places) (old new : ℕ) (cells : List Cell) → OpenCellsStand u cells
     → FixupsStand u (closed_fixups long old new cells)
@@ -178,7 +163,7 @@ from_stand u place [] bytes h = known_stand u bytes
 from_stand u place (fixup ∷ fixups) bytes h =
     let front = take (fixup.place - place) bytes in
     let behind = drop (fixup.place + 2 - place) bytes in
-    cells_join u (known front) (code_cell.Later fixup.target ∷ cells_from (fixup.place + 2) fixups behind) (known_stand u front)
+    cells_join u (known front) (CodeCell.Later fixup.target ∷ cells_from (fixup.place + 2) fixups behind) (known_stand u front)
     (h.0, from_stand u (fixup.place + 2) fixups behind h.1)
 
 with_stand : (u : Out) (place : ℕ) (kind : RoutineKind) (contents : Contents) (body : Option (List ℕ)) → OpenCellsStand u contents.cells

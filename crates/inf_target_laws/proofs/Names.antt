@@ -1,24 +1,17 @@
 -- Names by their numbers, and their meanings.
-use Rattle.std.proofs.Common.{arith, ◌≡◌, ◌≤◌, ◌<◌, ℕ, List, [], ◌∷◌, ◌++◌, length, Bool, true, false, Option, Some, None, refl, ap}
-use Rattle.std.proofs.Common.{sym, ◌∙◌}
-use Rattle.std.specs.Prelude.{is_some, if◌then◌else◌, unwrap_or}
-use Rattle.std.specs.Str.{bytes_eq}
+use Rattle.std.proofs.Common.{arith, ◌≡◌, ◌≤◌, ◌<◌, ℕ, List, [], ◌∷◌, ◌++◌, length, Bool, true, false, Option, Some, None, refl, ap, sym}
+use Rattle.std.proofs.Common.{◌∙◌, is_some, if◌then◌else◌, unwrap_or, bytes_eq}
 use Rattle.inf_settings.specs.Bounds.{Limits}
 use Rattle.inf_scanner.specs.declared.tokens.Place.{Place}
+use Rattle.inf_names.specs.{declared.meanings.Meaning.Meaning, declared.symbols.Found.Found, declared.symbols.ReferFault.ReferFault}
 use Rattle.inf_names.specs.Symbols.{IsDeclared, IsUsed, Named, Standing, Table, folded, found_as, found_from, found_in, index_of, number_by}
 use Rattle.inf_names.specs.Symbols.{number_of, put, standing_of, with_used, with_used_by}
 use Rattle.inf_names.specs.SystemNames.{named, system_meaning}
-use Rattle.inf_names.specs.declared.meanings.Meaning.{Meaning}
-use Rattle.inf_names.specs.declared.meanings.Meaning.TheVariants as meaning
-use Rattle.inf_names.specs.declared.symbols.Found.{Found}
-use Rattle.inf_names.specs.declared.symbols.Found.TheVariants as found
-use Rattle.inf_names.specs.declared.symbols.ReferFault.{ReferFault}
 use Rattle.inf_output.specs.Output.{Out, found_simple, referred_as_by, referred_by, routine_by, simple_by, standing_simple, used_by}
 use Rattle.inf_output.specs.Actions.{routine_of}
 use Rattle.inf_verbs.specs.Routines.{is_among, with_routine}
 use Rattle.inf_operands.specs.Operands.{found_operand, operand_by, settled_as, standing}
-use Rattle.inf_target_laws.specs.Lists.{NamesStand, RoutinesStand}
-use Rattle.inf_target_laws.specs.Standing.{Before, MeaningStands, StandingStands}
+use Rattle.inf_target_laws.specs.{Lists.NamesStand, Lists.RoutinesStand, Standing.Before, Standing.MeaningStands, Standing.StandingStands}
 use Rattle.inf_target_laws.proofs.Premises.{OperandStands, SimpleStands}
 use Rattle.inf_word_laws.proofs.Numbering.{index_put, index_within, own_by}
 
@@ -79,28 +72,28 @@ none_stands u P (Some n) h = λ p. h
 
 simple_stands : (u : Out) (P : Type 0) (m : Meaning) (number : Option ℕ) → IsWithin number (length u.names.names)
     → SimpleStands u P (simple_by (standing_simple m) number)
-simple_stands u P (meaning.Number n) number h = tt
-simple_stands u P (meaning.Variable n) number h = tt
-simple_stands u P (meaning.Attribute n) number h = tt
-simple_stands u P (meaning.Property n is_additive) number h = tt
-simple_stands u P (meaning.IndividualProperty n) number h = tt
-simple_stands u P (meaning.Object n) number h = tt
-simple_stands u P (meaning.Class n) number h = tt
-simple_stands u P (meaning.FakeAction n) number h = tt
-simple_stands u P (meaning.Text place) number h = none_stands u P number h
-simple_stands u P (meaning.Word text) number h = none_stands u P number h
-simple_stands u P (meaning.LowString place) number h = none_stands u P number h
-simple_stands u P (meaning.Array place) number h = none_stands u P number h
-simple_stands u P (meaning.Routine place) number h = none_stands u P number h
-simple_stands u P (meaning.PackedAddress place) number h = none_stands u P number h
-simple_stands u P (meaning.Function f) number h = none_stands u P number h
+simple_stands u P (Meaning.Number n) number h = tt
+simple_stands u P (Meaning.Variable n) number h = tt
+simple_stands u P (Meaning.Attribute n) number h = tt
+simple_stands u P (Meaning.Property n is_additive) number h = tt
+simple_stands u P (Meaning.IndividualProperty n) number h = tt
+simple_stands u P (Meaning.Object n) number h = tt
+simple_stands u P (Meaning.Class n) number h = tt
+simple_stands u P (Meaning.FakeAction n) number h = tt
+simple_stands u P (Meaning.Text place) number h = none_stands u P number h
+simple_stands u P (Meaning.Word text) number h = none_stands u P number h
+simple_stands u P (Meaning.LowString place) number h = none_stands u P number h
+simple_stands u P (Meaning.Array place) number h = none_stands u P number h
+simple_stands u P (Meaning.Routine place) number h = none_stands u P number h
+simple_stands u P (Meaning.PackedAddress place) number h = none_stands u P number h
+simple_stands u P (Meaning.Function f) number h = none_stands u P number h
 
 found_simple_stands : (u : Out) (P : Type 0) (f : Found Place) (number : Option ℕ) → IsWithin number (length u.names.names)
     → SimpleStands u P (found_simple f number)
-found_simple_stands u P (found.System m) number h = simple_stands u P m number h
-found_simple_stands u P (found.Declared m place) number h = simple_stands u P m number h
-found_simple_stands u P found.Used number h = none_stands u P number h
-found_simple_stands u P found.Unknown number h = none_stands u P number h
+found_simple_stands u P (Found.System m) number h = simple_stands u P m number h
+found_simple_stands u P (Found.Declared m place) number h = simple_stands u P m number h
+found_simple_stands u P Found.Used number h = none_stands u P number h
+found_simple_stands u P Found.Unknown number h = none_stands u P number h
 
 pub routine_stands : (u : Out) (P : Type 0) (limits : Limits) (fault : Option ReferFault) (name : List ℕ) (o : Out)
     → Before u (used_by limits fault name o) → SimpleStands u P (routine_by fault name o.names)
@@ -112,21 +105,21 @@ routine_stands u P limits (Some fault) name o e = never e.complete
 
 operand_stands : (u : Out) (P : Type 0) (m : Meaning) (number : Option ℕ)
     → (standing m ≡ None → P → unwrap_or number 0 < length u.names.names) → OperandStands u P (operand_by (standing m) number)
-operand_stands u P (meaning.Number n) number h = tt
-operand_stands u P (meaning.Variable n) number h = tt
-operand_stands u P (meaning.Attribute n) number h = tt
-operand_stands u P (meaning.Property n is_additive) number h = tt
-operand_stands u P (meaning.IndividualProperty n) number h = tt
-operand_stands u P (meaning.Object n) number h = tt
-operand_stands u P (meaning.Class n) number h = tt
-operand_stands u P (meaning.FakeAction n) number h = tt
-operand_stands u P (meaning.Function f) number h = tt
-operand_stands u P (meaning.Text place) number h = h refl
-operand_stands u P (meaning.Word text) number h = h refl
-operand_stands u P (meaning.LowString place) number h = h refl
-operand_stands u P (meaning.Array place) number h = h refl
-operand_stands u P (meaning.Routine place) number h = h refl
-operand_stands u P (meaning.PackedAddress place) number h = h refl
+operand_stands u P (Meaning.Number n) number h = tt
+operand_stands u P (Meaning.Variable n) number h = tt
+operand_stands u P (Meaning.Attribute n) number h = tt
+operand_stands u P (Meaning.Property n is_additive) number h = tt
+operand_stands u P (Meaning.IndividualProperty n) number h = tt
+operand_stands u P (Meaning.Object n) number h = tt
+operand_stands u P (Meaning.Class n) number h = tt
+operand_stands u P (Meaning.FakeAction n) number h = tt
+operand_stands u P (Meaning.Function f) number h = tt
+operand_stands u P (Meaning.Text place) number h = h refl
+operand_stands u P (Meaning.Word text) number h = h refl
+operand_stands u P (Meaning.LowString place) number h = h refl
+operand_stands u P (Meaning.Array place) number h = h refl
+operand_stands u P (Meaning.Routine place) number h = h refl
+operand_stands u P (Meaning.PackedAddress place) number h = h refl
 
 -- a name that the language has stands for an operand of its own
 own_stands : (u : Out) (P : Type 0) (t : Table Place) (name : List ℕ) (m : Meaning) → system_meaning t.is_debugging name ≡ Some m
@@ -161,7 +154,7 @@ referred_stands u P limits (Some fault) name place o e = tt
 -- Meanings of names that were declared
 
 abbrev pub FoundStands : Out → Found Place → Type 0
-FoundStands u (found.Declared m place) = MeaningStands u m
+FoundStands u (Found.Declared m place) = MeaningStands u m
 FoundStands u _ = Unit {0}
 
 abbrev SomeStands : Out → Option (Standing Place) → Type 0

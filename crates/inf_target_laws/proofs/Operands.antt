@@ -1,39 +1,24 @@
 -- Names, texts, words and actions that a unit uses: its operands stand then, and all that stood before.
-use Rattle.std.proofs.Common.{ℕ, List, [], ◌∷◌, ◌++◌, codes, Bool, true, false, Option, Some, None}
-use Rattle.std.specs.Prelude.{◌<◌, length, if◌then◌else◌}
+use Rattle.std.proofs.Common.{ℕ, List, [], ◌∷◌, ◌++◌, codes, Bool, true, false, Option, Some, None, ◌<◌, length, if◌then◌else◌}
 use Rattle.std.specs.Str.{str_eq_ignore_ascii_case}
-use Rattle.inf_settings.specs.Bounds.{Limits, unbounded}
-use Rattle.inf_settings.specs.declared.setting.Setting.TheVariants as setting
-use Rattle.inf_area.specs.declared.scale.Scale.{Scale}
-use Rattle.inf_area.specs.declared.targets.SystemConstant.{SystemConstant}
-use Rattle.inf_area.specs.Scales.{version}
-use Rattle.inf_characters.specs.declared.characters.CharSet.{CharSet}
-use Rattle.inf_characters.specs.declared.texts.TextItem.{TextItem}
+use Rattle.inf_settings.specs.{Bounds.Limits, Bounds.unbounded, declared.setting.Setting.Setting}
+use Rattle.inf_area.specs.{Scales.version, declared.scale.Scale.Scale, declared.targets.SystemConstant.SystemConstant}
+use Rattle.inf_characters.specs.{declared.characters.CharSet.CharSet, declared.texts.TextItem.TextItem}
 use Rattle.inf_text.specs.Packing.{packed}
-use Rattle.inf_dictionary.specs.declared.uses.WordUse.TheVariants as word_use
+use Rattle.inf_dictionary.specs.declared.uses.WordUse.{WordUse}
 use Rattle.inf_scanner.specs.declared.tokens.Place.{Place}
 use Rattle.inf_expressions.specs.declared.operators.Operand.{Operand}
-use Rattle.inf_expressions.specs.declared.operators.Operand.TheVariants as operand
 use Rattle.inf_gathering.specs.declared.gathering.Leaf.{Leaf}
-use Rattle.inf_gathering.specs.declared.gathering.Leaf.TheVariants as leaf
-use Rattle.inf_names.specs.Locals.{Local, number_of}
-use Rattle.inf_names.specs.Spellings.{Name}
-use Rattle.inf_names.specs.Symbols.{declare_fault, refer_fault}
-use Rattle.inf_names.specs.declared.meanings.Meaning.TheVariants as meaning
-use Rattle.inf_names.specs.declared.symbols.DeclareFault.{DeclareFault}
+use Rattle.inf_names.specs.{Locals.Local, Locals.local_number, Spellings.Name, Symbols.declare_fault, Symbols.refer_fault}
+use Rattle.inf_names.specs.{declared.meanings.Meaning.Meaning, declared.symbols.DeclareFault.DeclareFault}
+use Rattle.inf_output.specs.{Output.Out, Texts.used_in}
 use Rattle.inf_output.specs.Actions.{action_by, action_of, appeared, fake_number, faked, faked_by, first_seen, key_of, next_fake, numbered}
 use Rattle.inf_output.specs.Actions.{numbered_as, numbered_by, one_fake, routine_name, routine_referred, seen_by}
-use Rattle.inf_output.specs.Output.{Out}
-use Rattle.inf_output.specs.Texts.{used_in}
-use Rattle.inf_unit.specs.Tokens.{SourceToken}
-use Rattle.inf_unit.specs.Units.{bytes_at, name_at}
-use Rattle.inf_verbs.specs.Routines.{action_fault}
-use Rattle.inf_verbs.specs.declared.routines.ActionFault.{ActionFault}
+use Rattle.inf_unit.specs.{Tokens.SourceToken, Units.bytes_at, Units.name_at}
+use Rattle.inf_verbs.specs.{Routines.action_fault, declared.routines.ActionFault.ActionFault}
 use Rattle.inf_operands.specs.Operands.{Settled, is_stack, leaf_added, one_added, settled, settled_action, settled_alone, settled_by}
-use Rattle.inf_operands.specs.Operands.{settled_leaf, settled_name, settled_text, system_by, system_constant, system_operand}
-use Rattle.inf_operands.specs.Operands.{with_settled}
-use Rattle.inf_operands.specs.Texts.{text_at}
-use Rattle.inf_operands.specs.Texts.{text_packed}
+use Rattle.inf_operands.specs.Operands.{settled_leaf, settled_name, settled_text, system_by, system_constant, system_operand, with_settled}
+use Rattle.inf_operands.specs.Texts.{text_at, text_packed}
 use Rattle.inf_target_laws.specs.Standing.{Before}
 use Rattle.inf_target_laws.proofs.Names.{IsWithin, referred_stands, referred_within, routine_among}
 use Rattle.inf_target_laws.proofs.Outputs.{Goes, GoesIf, Keeps, declare_keeps, goes_given, goes_nowhere, goes_then, refer_keeps}
@@ -72,7 +57,7 @@ numbered_goes limits u routine o = go (action_fault limits routine o.tables.acti
           )
           ),
     )
-    go (Some fault) = let g = table_keeps limits u setting.Actions o in (g.0, (λ s. g.1))
+    go (Some fault) = let g = table_keeps limits u Setting.Actions o in (g.0, (λ s. g.1))
 
 as_goes : (limits : Limits) (u : Out) (routine : Option ℕ) (o : Out)
     → GoesIf (IsWithin routine (length u.names.names)) u o (numbered_as limits routine o).0
@@ -97,7 +82,7 @@ faked_keeps limits u name place o = go (first_seen (key_of name) o)
   where
     go : (first : Option Place) → Goes u o (faked_by limits first (key_of name) place o).0
     go (Some first) = goes_nowhere u o
-    go None = declare_keeps limits u (key_of name) place (meaning.FakeAction (next_fake o)) tt (one_fake o)
+    go None = declare_keeps limits u (key_of name) place (Meaning.FakeAction (next_fake o)) tt (one_fake o)
 
 -- The output behind a leaf
 
@@ -108,13 +93,13 @@ by_keeps limits u None name place o = refer_keeps limits u name place o
 
 name_keeps : (limits : Limits) (u : Out) (locals : List Local) (n : Option Name) (o : Out) → Goes u o (settled_name limits locals n o).0
 name_keeps limits u locals None o = goes_nowhere u o
-name_keeps limits u locals (Some n) o = by_keeps limits u (number_of n.bytes locals) n.bytes n.place o
+name_keeps limits u locals (Some n) o = by_keeps limits u (local_number n.bytes locals) n.bytes n.place o
 
 alone_keeps : (limits : Limits) (u : Out) (locals : List Local) (tokens : List SourceToken) (at : ℕ) (o : Out)
     → Goes u o (settled_alone limits locals tokens at o).0
-alone_keeps limits u locals tokens at o = go (is_stack (bytes_at tokens at) (number_of (bytes_at tokens at) locals))
+alone_keeps limits u locals tokens at o = go (is_stack (bytes_at tokens at) (local_number (bytes_at tokens at) locals))
   where
-    go : (b : Bool) → Goes u o (if b then (o, operand.Variable 0) else settled_name limits locals (name_at tokens at) o).0
+    go : (b : Bool) → Goes u o (if b then (o, Operand.Variable 0) else settled_name limits locals (name_at tokens at) o).0
     go true = goes_nowhere u o
     go false = name_keeps limits u locals (name_at tokens at) o
 
@@ -128,14 +113,14 @@ some_action_keeps limits u (Some n) o = action_keeps limits u n.bytes n.place o
 
 leaf_keeps : (limits : Limits) (u : Out) (set : CharSet) (locals : List Local) (tokens : List SourceToken) (l : Leaf) (o : Out)
     → Goes u o (settled_leaf limits set locals tokens l o).0
-leaf_keeps limits u set locals tokens (leaf.Name at) o = name_keeps limits u locals (name_at tokens at) o
-leaf_keeps limits u set locals tokens (leaf.Alone at) o = alone_keeps limits u locals tokens at o
-leaf_keeps limits u set locals tokens (leaf.Number number) o = goes_nowhere u o
-leaf_keeps limits u set locals tokens (leaf.Char zscii) o = goes_nowhere u o
-leaf_keeps limits u set locals tokens (leaf.Word word) o = word_keeps limits u word.text word_use.Other word.is_plural o
-leaf_keeps limits u set locals tokens (leaf.Text at) o = some_text_keeps limits u (text_at set tokens at) o
-leaf_keeps limits u set locals tokens (leaf.Action at) o = some_action_keeps limits u (name_at tokens at) o
-leaf_keeps limits u set locals tokens (leaf.System at) o = goes_nowhere u o
+leaf_keeps limits u set locals tokens (Leaf.Name at) o = name_keeps limits u locals (name_at tokens at) o
+leaf_keeps limits u set locals tokens (Leaf.Alone at) o = alone_keeps limits u locals tokens at o
+leaf_keeps limits u set locals tokens (Leaf.Number number) o = goes_nowhere u o
+leaf_keeps limits u set locals tokens (Leaf.Char zscii) o = goes_nowhere u o
+leaf_keeps limits u set locals tokens (Leaf.Word word) o = word_keeps limits u word.text WordUse.Other word.is_plural o
+leaf_keeps limits u set locals tokens (Leaf.Text at) o = some_text_keeps limits u (text_at set tokens at) o
+leaf_keeps limits u set locals tokens (Leaf.Action at) o = some_action_keeps limits u (name_at tokens at) o
+leaf_keeps limits u set locals tokens (Leaf.System at) o = goes_nowhere u o
 
 -- The operand of a leaf
 
@@ -147,13 +132,13 @@ by_stands limits u P None name place o e = referred_stands u P limits (refer_fau
 name_stands : (limits : Limits) (u : Out) (P : Type 0) (locals : List Local) (n : Option Name) (o : Out)
     → (P → Before u (settled_name limits locals n o).0) → OperandStands u P (settled_name limits locals n o).1
 name_stands limits u P locals None o e = tt
-name_stands limits u P locals (Some n) o e = by_stands limits u P (number_of n.bytes locals) n.bytes n.place o e
+name_stands limits u P locals (Some n) o e = by_stands limits u P (local_number n.bytes locals) n.bytes n.place o e
 
 alone_stands : (limits : Limits) (u : Out) (P : Type 0) (locals : List Local) (tokens : List SourceToken) (at : ℕ) (o : Out)
     → (P → Before u (settled_alone limits locals tokens at o).0) → OperandStands u P (settled_alone limits locals tokens at o).1
-alone_stands limits u P locals tokens at o = go (is_stack (bytes_at tokens at) (number_of (bytes_at tokens at) locals))
+alone_stands limits u P locals tokens at o = go (is_stack (bytes_at tokens at) (local_number (bytes_at tokens at) locals))
   where
-    go : (b : Bool) → let r = (if b then (o, operand.Variable 0) else settled_name limits locals (name_at tokens at) o) in
+    go : (b : Bool) → let r = (if b then (o, Operand.Variable 0) else settled_name limits locals (name_at tokens at) o) in
         (P → Before u r.0) → OperandStands u P r.1
     go true e = tt
     go false e = name_stands limits u P locals (name_at tokens at) o e
@@ -174,21 +159,21 @@ constant_stands u P (Some c) = λ p. tt
 system_stands : (u : Out) (P : Type 0) (name : List ℕ) (scale : Scale) → OperandStands u P (system_operand name scale)
 system_stands u P name scale = go (str_eq_ignore_ascii_case name (codes "version_number"))
   where
-    go : (b : Bool) → OperandStands u P (if b then operand.Known (version scale) else system_by (system_constant name))
+    go : (b : Bool) → OperandStands u P (if b then Operand.Known (version scale) else system_by (system_constant name))
     go true = tt
     go false = constant_stands u P (system_constant name)
 
 leaf_stands : (limits : Limits) (u : Out) (P : Type 0) (set : CharSet) (locals : List Local) (tokens : List SourceToken) (l : Leaf)
     (o : Out)
     → (P → Before u (settled_leaf limits set locals tokens l o).0) → OperandStands u P (settled_leaf limits set locals tokens l o).1
-leaf_stands limits u P set locals tokens (leaf.Name at) o e = name_stands limits u P locals (name_at tokens at) o e
-leaf_stands limits u P set locals tokens (leaf.Alone at) o e = alone_stands limits u P locals tokens at o e
-leaf_stands limits u P set locals tokens (leaf.Number number) o e = tt
-leaf_stands limits u P set locals tokens (leaf.Char zscii) o e = tt
-leaf_stands limits u P set locals tokens (leaf.Word word) o e = λ p. word_stands limits u word.text word_use.Other word.is_plural o (e p)
-leaf_stands limits u P set locals tokens (leaf.Text at) o e = text_stands limits u P (text_at set tokens at) o
-leaf_stands limits u P set locals tokens (leaf.Action at) o e = some_action_stands limits u P (name_at tokens at) o
-leaf_stands limits u P set locals tokens (leaf.System at) o e = system_stands u P (bytes_at tokens at) o.code.scale
+leaf_stands limits u P set locals tokens (Leaf.Name at) o e = name_stands limits u P locals (name_at tokens at) o e
+leaf_stands limits u P set locals tokens (Leaf.Alone at) o e = alone_stands limits u P locals tokens at o e
+leaf_stands limits u P set locals tokens (Leaf.Number number) o e = tt
+leaf_stands limits u P set locals tokens (Leaf.Char zscii) o e = tt
+leaf_stands limits u P set locals tokens (Leaf.Word word) o e = λ p. word_stands limits u word.text WordUse.Other word.is_plural o (e p)
+leaf_stands limits u P set locals tokens (Leaf.Text at) o e = text_stands limits u P (text_at set tokens at) o
+leaf_stands limits u P set locals tokens (Leaf.Action at) o e = some_action_stands limits u P (name_at tokens at) o
+leaf_stands limits u P set locals tokens (Leaf.System at) o e = system_stands u P (bytes_at tokens at) o.code.scale
 
 -- All leaves of a unit
 
@@ -219,14 +204,14 @@ settled_stand limits u P set locals tokens (l ∷ leaves) s e h =
 
 one_added_keeps : (limits : Limits) (u : Out) (set : CharSet) (tokens : List SourceToken) (l : Leaf)
     → Keeps u (one_added limits set tokens l)
-one_added_keeps limits u set tokens (leaf.Text at) o = some_text_keeps limits u (text_at set tokens at) o
-one_added_keeps limits u set tokens (leaf.Word word) o = word_keeps limits u word.text word_use.Other word.is_plural o
-one_added_keeps limits u set tokens (leaf.Action at) o = some_action_keeps limits u (name_at tokens at) o
-one_added_keeps limits u set tokens (leaf.Name at) o = goes_nowhere u o
-one_added_keeps limits u set tokens (leaf.Alone at) o = goes_nowhere u o
-one_added_keeps limits u set tokens (leaf.Number number) o = goes_nowhere u o
-one_added_keeps limits u set tokens (leaf.Char zscii) o = goes_nowhere u o
-one_added_keeps limits u set tokens (leaf.System at) o = goes_nowhere u o
+one_added_keeps limits u set tokens (Leaf.Text at) o = some_text_keeps limits u (text_at set tokens at) o
+one_added_keeps limits u set tokens (Leaf.Word word) o = word_keeps limits u word.text WordUse.Other word.is_plural o
+one_added_keeps limits u set tokens (Leaf.Action at) o = some_action_keeps limits u (name_at tokens at) o
+one_added_keeps limits u set tokens (Leaf.Name at) o = goes_nowhere u o
+one_added_keeps limits u set tokens (Leaf.Alone at) o = goes_nowhere u o
+one_added_keeps limits u set tokens (Leaf.Number number) o = goes_nowhere u o
+one_added_keeps limits u set tokens (Leaf.Char zscii) o = goes_nowhere u o
+one_added_keeps limits u set tokens (Leaf.System at) o = goes_nowhere u o
 
 pub added_keeps : (limits : Limits) (u : Out) (set : CharSet) (tokens : List SourceToken) (leaves : List Leaf)
     → Keeps u (leaf_added limits set tokens leaves)

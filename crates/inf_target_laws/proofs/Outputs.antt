@@ -1,59 +1,34 @@
 -- The steps by which an output grows keep its targets.
 use Rattle.std.proofs.Common.{◌≡◌, ◌∙◌, ◌≤◌, ℕ, List, [], ◌∷◌, length, map, Bool, true, false, Option, Some, None, refl, sym, ap, subst}
-use Rattle.std.proofs.Common.{arith}
-use Rattle.std.specs.Prelude.{is_some, ◌||◌, if◌then◌else◌}
-use Rattle.inf_settings.specs.Bounds.{Limits}
-use Rattle.inf_settings.specs.declared.setting.Setting.{Setting}
-use Rattle.inf_settings.specs.declared.setting.Setting.TheVariants as setting
+use Rattle.std.proofs.Common.{arith, is_some, ◌||◌, if◌then◌else◌}
+use Rattle.inf_settings.specs.{Bounds.Limits, declared.setting.Setting.Setting}
 use Rattle.inf_scanner.specs.declared.tokens.Place.{Place}
 use Rattle.inf_area.specs.declared.scale.Scale.{Scale}
-use Rattle.inf_assembler.specs.declared.routines.CloseFault.{CloseFault}
-use Rattle.inf_assembler.specs.declared.routines.CloseFault.TheVariants as close_fault
-use Rattle.inf_assembler.specs.declared.routines.Limit.{Limit as CodeLimit}
-use Rattle.inf_assembler.specs.declared.routines.Limit.TheVariants as code_setting
-use Rattle.inf_assembler.specs.declared.routines.RoutineKind.{RoutineKind}
+use Rattle.inf_assembler.specs.{declared.routines.CloseFault.CloseFault, declared.routines.Limit.Limit as CodeLimit}
+use Rattle.inf_assembler.specs.{declared.routines.RoutineKind.RoutineKind}
 use Rattle.inf_code.specs.Code.{Routines, begun_unless, closed_cells, fault_closed, full_begun, full_opened, is_lost_in, place_behind}
 use Rattle.inf_code.specs.Code.{with_none_open}
-use Rattle.inf_dictionary.specs.Texts.{Text}
+use Rattle.inf_dictionary.specs.{Texts.Text, declared.dictionary.AddFault.AddFault as WordFault, declared.uses.WordUse.WordUse}
 use Rattle.inf_dictionary.specs.Words.{add_fault, word_of}
-use Rattle.inf_dictionary.specs.declared.dictionary.AddFault.{AddFault as WordFault}
-use Rattle.inf_dictionary.specs.declared.dictionary.AddFault.TheVariants as word_fault
-use Rattle.inf_dictionary.specs.declared.uses.WordUse.{WordUse}
+use Rattle.inf_names.specs.{declared.meanings.Meaning.Meaning, declared.symbols.DeclareFault.DeclareFault, declared.symbols.Found.Found}
+use Rattle.inf_names.specs.{declared.symbols.ReferFault.ReferFault}
 use Rattle.inf_names.specs.Symbols.{IsDeclared, IsUsed, declare_fault, folded, found_in, refer_fault, with_used_by}
-use Rattle.inf_names.specs.declared.meanings.Meaning.{Meaning}
-use Rattle.inf_names.specs.declared.symbols.DeclareFault.{DeclareFault}
-use Rattle.inf_names.specs.declared.symbols.DeclareFault.TheVariants as declaring
-use Rattle.inf_names.specs.declared.symbols.Found.{Found}
-use Rattle.inf_names.specs.declared.symbols.Found.TheVariants as found
-use Rattle.inf_names.specs.declared.symbols.ReferFault.{ReferFault}
-use Rattle.inf_opcode.specs.declared.instructions.Branch.{Branch}
-use Rattle.inf_opcode.specs.declared.instructions.Label.{Label}
-use Rattle.inf_opcode.specs.declared.instructions.Operand.TheVariants.{Offset, Small}
-use Rattle.inf_opcode.specs.declared.opcodes.Opcode.{Opcode}
-use Rattle.inf_opcode.specs.declared.opcodes.Opcode.TheVariants as opcode
+use Rattle.inf_opcode.specs.{declared.instructions.Branch.Branch, declared.instructions.Label.Label, declared.instructions.Operand.Operand}
+use Rattle.inf_opcode.specs.{declared.opcodes.Opcode.Opcode}
+use Rattle.inf_output.specs.{Operands.written, Strings.fits, Veneer.name_of, declared.items.Item.Item, declared.operands.Simple.Simple}
+use Rattle.inf_output.specs.{declared.past.Past.Past, declared.veneer.Veneer.Veneer}
 use Rattle.inf_output.specs.Output.{Code, Out, begun, begun_by, closed, closed_by, code_closed, declared, declared_by, fitted, full_item}
 use Rattle.inf_output.specs.Output.{in_routine, instruction, items_of, jumped, laid, laid_all, laid_by, marked, naming, opened, opened_by}
 use Rattle.inf_output.specs.Output.{passed_limit, passed_table, past_by, past_of, referred, referred_by, symbols_passed, used, used_by}
 use Rattle.inf_output.specs.Output.{with_labels_left, with_low_text, with_low_text_by, with_scale, with_text, with_text_by, with_word}
 use Rattle.inf_output.specs.Output.{with_word_by, without, without_item, without_lost}
-use Rattle.inf_output.specs.Operands.{written}
-use Rattle.inf_output.specs.Strings.{fits}
-use Rattle.inf_output.specs.Veneer.{name_of}
-use Rattle.inf_output.specs.declared.items.Item.{Item}
-use Rattle.inf_output.specs.declared.items.Item.TheVariants.{Instruction, Mark}
-use Rattle.inf_output.specs.declared.operands.Simple.{Simple}
-use Rattle.inf_output.specs.declared.past.Past.{Past}
-use Rattle.inf_output.specs.declared.veneer.Veneer.{Veneer}
 use Rattle.inf_tables.specs.LowStrings.{low_fits}
 use Rattle.inf_word_laws.specs.Standing.{Stands, has_word, is_limited, is_limited_by}
-use Rattle.inf_word_laws.proofs.Numbering.{put_longer}
-use Rattle.inf_word_laws.proofs.Steps.{steps_keep_words, used_words_stand}
-use Rattle.inf_target_laws.specs.Lists.{ItemStands, ItemsStand}
-use Rattle.inf_target_laws.specs.Outputs.{Holds}
+use Rattle.inf_word_laws.proofs.{Numbering.put_longer, Steps.steps_keep_words, Steps.used_words_stand}
+use Rattle.inf_target_laws.specs.{Lists.ItemStands, Lists.ItemsStand, Outputs.Holds}
 use Rattle.inf_target_laws.specs.Standing.{Before, IsBefore, MeaningStands, is_short_by}
+use Rattle.inf_target_laws.proofs.{Names.never, Premises.SimplesStand}
 use Rattle.inf_target_laws.proofs.Lists.{all_written, cells_join, closed_stand, item_joins, items_join, label_joins, names_put}
-use Rattle.inf_target_laws.proofs.Names.{never}
-use Rattle.inf_target_laws.proofs.Premises.{SimplesStand}
 
 -- From one output to another: the first comes before each one before which the second comes, and what it has stands there as well behind
 -- the step as before it.
@@ -128,20 +103,20 @@ symbols_keep limits u o = ((λ e. never e.complete), (λ e h. never e.complete))
 -- Items
 
 lost_symbols : (item : Item) (past : Past) → (without_lost item past).symbols ≡ past.symbols
-lost_symbols (Instruction parts) past = refl
-lost_symbols (Mark label) past = refl
+lost_symbols (Item.Instruction parts) past = refl
+lost_symbols (Item.Mark label) past = refl
 
 item_symbols : (item : Item) (past : Past) → (without item past).symbols ≡ past.symbols
-item_symbols (Instruction parts) past = refl
-item_symbols (Mark label) past = refl
+item_symbols (Item.Instruction parts) past = refl
+item_symbols (Item.Mark label) past = refl
 
 lost_tables : (item : Item) (past : Past) → (without_lost item past).tables ≡ past.tables
-lost_tables (Instruction parts) past = refl
-lost_tables (Mark label) past = refl
+lost_tables (Item.Instruction parts) past = refl
+lost_tables (Item.Mark label) past = refl
 
 item_tables : (item : Item) (past : Past) → (without item past).tables ≡ past.tables
-item_tables (Instruction parts) past = refl
-item_tables (Mark label) past = refl
+item_tables (Item.Instruction parts) past = refl
+item_tables (Item.Mark label) past = refl
 
 passed_symbols : (code : Routines) (item : Item) (past : Past) → (without_item code item past).symbols ≡ past.symbols
 passed_symbols code item past = go (is_lost_in code.opened)
@@ -157,7 +132,7 @@ passed_tables code item past = go (is_lost_in code.opened)
     go true = lost_tables item past
     go false = item_tables item past
 
-passed_goes : (limits : Limits) (u : Out) (item : Item) (o : Out) → Goes u o (fitted limits (Some code_setting.Code) item o)
+passed_goes : (limits : Limits) (u : Out) (item : Item) (o : Out) → Goes u o (fitted limits (Some CodeLimit.Code) item o)
 passed_goes limits u item o = (
   before_past limits u o o.code (without_item o.code item (past_of limits o)) (passed_symbols o.code item (past_of limits o))
       (passed_tables o.code item (past_of limits o)),
@@ -165,7 +140,7 @@ passed_goes limits u item o = (
 )
 
 grown_goes : (limits : Limits) (u : Out) (item : Item) (o : Out) → GoesIf (ItemStands u item) u o (fitted limits None item o)
-grown_goes limits u (Instruction parts) o = (
+grown_goes limits u (Item.Instruction parts) o = (
   (λ e. e),
   (
       λ s e h. (
@@ -174,7 +149,7 @@ grown_goes limits u (Instruction parts) o = (
       )
       ),
 )
-grown_goes limits u (Mark label) o = (
+grown_goes limits u (Item.Mark label) o = (
   (λ e. e),
   (
       λ s e h. (
@@ -231,7 +206,7 @@ pub instruction_keeps : (limits : Limits) (u : Out) (P : Type 0) (opcode : Opcod
 unfolding instruction
 instruction_keeps limits u P opcode operands store branch s =
     item_keeps limits u P
-    (Instruction (record { opcode = opcode; operands = map written operands; store = store; branch = branch; text = [] }))
+    (Item.Instruction (record { opcode = opcode; operands = map written operands; store = store; branch = branch; text = [] }))
     (λ p. all_written u P operands p s)
 
 -- an output comes before each before which the one behind an instruction does, whatever the operands are
@@ -240,15 +215,15 @@ pub instruction_before : (limits : Limits) (u : Out) (opcode : Opcode) (operands
 unfolding instruction
 instruction_before limits u opcode operands store branch o =
     (item_goes limits u
-    (Instruction (record { opcode = opcode; operands = map written operands; store = store; branch = branch; text = [] })) o).0
+    (Item.Instruction (record { opcode = opcode; operands = map written operands; store = store; branch = branch; text = [] })) o).0
 
 pub naming_keeps : (limits : Limits) (u : Out) (P : Type 0) (opcode : Opcode) (variable : ℕ) (operands : List Simple) (store : Option ℕ)
     (branch : Option Branch) → SimplesStand u P operands → KeepsIf u P (naming limits opcode variable operands store branch)
 unfolding naming
 naming_keeps limits u P opcode variable operands store branch s =
-    item_keeps limits u P (Instruction (record {
+    item_keeps limits u P (Item.Instruction (record {
       opcode = opcode;
-      operands = Small variable ∷ map written operands;
+      operands = Operand.Small variable ∷ map written operands;
       store = store;
       branch = branch;
       text = [];
@@ -256,26 +231,26 @@ naming_keeps limits u P opcode variable operands store branch s =
 
 pub mark_keeps : (limits : Limits) (u : Out) (P : Type 0) (label : Label) → KeepsIf u P (marked limits label)
 unfolding marked
-mark_keeps limits u P label = item_keeps limits u P (Mark label) (λ p. tt)
+mark_keeps limits u P label = item_keeps limits u P (Item.Mark label) (λ p. tt)
 
 pub jump_keeps : (limits : Limits) (u : Out) (P : Type 0) (label : Label) → KeepsIf u P (jumped limits label)
 unfolding jumped
 jump_keeps limits u P label =
     item_keeps limits u P
-    (Instruction (record { opcode = opcode.Jump; operands = Offset label ∷ []; store = None; branch = None; text = [] }))
+    (Item.Instruction (record { opcode = Opcode.Jump; operands = Operand.Offset label ∷ []; store = None; branch = None; text = [] }))
     (λ p. (tt, tt))
 
 -- Routines
 
 limit_symbols : (limit : CodeLimit) (past : Past) → (passed_limit limit past).symbols ≡ past.symbols
-limit_symbols code_setting.Labels past = refl
-limit_symbols code_setting.Code past = refl
-limit_symbols code_setting.Refs past = refl
+limit_symbols CodeLimit.Labels past = refl
+limit_symbols CodeLimit.Code past = refl
+limit_symbols CodeLimit.Refs past = refl
 
 limit_tables : (limit : CodeLimit) (past : Past) → (passed_limit limit past).tables ≡ past.tables
-limit_tables code_setting.Labels past = refl
-limit_tables code_setting.Code past = refl
-limit_tables code_setting.Refs past = refl
+limit_tables CodeLimit.Labels past = refl
+limit_tables CodeLimit.Code past = refl
+limit_tables CodeLimit.Refs past = refl
 
 limit_before : (limits : Limits) (u o : Out) (code : Routines) (limit : CodeLimit)
     → IsBefore (Some (passed_limit limit (past_by limits o.past code))) o.tables.dictionary.list o.names.names u → Before u o
@@ -317,17 +292,17 @@ by_closed limits u kind o None = (
       )
       ),
 )
-by_closed limits u kind o (Some (close_fault.Full limit)) = (
+by_closed limits u kind o (Some (CloseFault.Full limit)) = (
   limit_before limits u o (with_none_open o.code) limit,
   (λ e h. (record { of_finished = h.0.of_finished; of_opened = tt; of_kept = h.0.of_kept }, h.1)),
 )
-by_closed limits u kind o (Some (close_fault.LabelMissing label)) = none_open_keeps u o
-by_closed limits u kind o (Some (close_fault.LabelTwice label)) = none_open_keeps u o
-by_closed limits u kind o (Some close_fault.TooFar) = none_open_keeps u o
-by_closed limits u kind o (Some close_fault.Memory) = none_open_keeps u o
+by_closed limits u kind o (Some (CloseFault.LabelMissing label)) = none_open_keeps u o
+by_closed limits u kind o (Some (CloseFault.LabelTwice label)) = none_open_keeps u o
+by_closed limits u kind o (Some CloseFault.TooFar) = none_open_keeps u o
+by_closed limits u kind o (Some CloseFault.Memory) = none_open_keeps u o
 
 labels_keep : (limits : Limits) (u : Out) (left : Option ℕ) → Keeps u (with_labels_left limits left)
-labels_keep limits u None o = (limit_before limits u o o.code code_setting.Labels, (λ e h. h))
+labels_keep limits u None o = (limit_before limits u o o.code CodeLimit.Labels, (λ e h. h))
 labels_keep limits u (Some left) o = goes_nowhere u o
 
 pub close_keeps : (limits : Limits) (u : Out) (kind : RoutineKind) → Keeps u (closed limits kind)
@@ -370,7 +345,7 @@ low_text_keeps limits u text o = go (low_fits limits text o.tables.low_strings)
   where
     go : (b : Bool) → Goes u o (with_low_text_by limits b text o)
     go true = goes_nowhere u o
-    go false = table_keeps limits u setting.LowStrings o
+    go false = table_keeps limits u Setting.LowStrings o
 
 second_false : (a b : Bool) → (a || b) ≡ false → b ≡ false
 second_false true b e = never e
@@ -404,9 +379,9 @@ used_before limits u text how is_plural o complete e = record {
     same : (f : Option WordFault) → length (with_word_by limits f text how is_plural o).names.names ≤ length u.names.names
         → length o.names.names ≤ length u.names.names
     same None few = few
-    same (Some word_fault.Full) few = few
-    same (Some word_fault.OtherVerb) few = few
-    same (Some word_fault.Memory) few = few
+    same (Some WordFault.Full) few = few
+    same (Some WordFault.OtherVerb) few = few
+    same (Some WordFault.Memory) few = few
 
     names : length (with_word limits text how is_plural o).names.names ≤ length u.names.names → length o.names.names ≤ length u.names.names
     names = same fault
@@ -421,16 +396,16 @@ word_keeps limits u text how is_plural o =
 
     complete : (f : Option WordFault) → is_short_by (with_word_by limits f text how is_plural o).past ≡ false → is_short_by o.past ≡ false
     complete None e = e
-    complete (Some word_fault.Full) e = never (sym (or_true (past_of limits o).symbols) ∙ e)
-    complete (Some word_fault.OtherVerb) e = e
-    complete (Some word_fault.Memory) e = e
+    complete (Some WordFault.Full) e = never (sym (or_true (past_of limits o).symbols) ∙ e)
+    complete (Some WordFault.OtherVerb) e = e
+    complete (Some WordFault.Memory) e = e
 
     holds : (f : Option WordFault) → is_short_by (with_word_by limits f text how is_plural o).past ≡ false → Holds u o
         → Holds u (with_word_by limits f text how is_plural o)
     holds None e h = h
-    holds (Some word_fault.Full) e h = never (sym (or_true (past_of limits o).symbols) ∙ e)
-    holds (Some word_fault.OtherVerb) e h = h
-    holds (Some word_fault.Memory) e h = h
+    holds (Some WordFault.Full) e h = never (sym (or_true (past_of limits o).symbols) ∙ e)
+    holds (Some WordFault.OtherVerb) e h = h
+    holds (Some WordFault.Memory) e h = h
 
 -- a word that is used stands wherever the output behind its use comes before
 pub word_stands : (limits : Limits) (u : Out) (text : Text) (how : WordUse) (is_plural : Bool) (o : Out)
@@ -463,9 +438,9 @@ declare_goes limits u name place m o = go (declare_fault limits name o.names) re
           (h.0, (h.1.0, (h.1.1.0, names_put u (folded name) (IsDeclared o.names.declared m place) o.names.names (s is) h.1.1.1)))
           ),
     )
-    go (Some declaring.Full) is = ((λ e. never e.complete), (λ s e h. never e.complete))
-    go (Some (declaring.Present first)) is = ((λ e. e), (λ s e h. h))
-    go (Some declaring.Memory) is = ((λ e. e), (λ s e h. h))
+    go (Some DeclareFault.Full) is = ((λ e. never e.complete), (λ s e h. never e.complete))
+    go (Some (DeclareFault.Present first)) is = ((λ e. e), (λ s e h. h))
+    go (Some DeclareFault.Memory) is = ((λ e. e), (λ s e h. h))
 
 pub declare_keeps : (limits : Limits) (u : Out) (name : List ℕ) (place : Place) (m : Meaning) → MeaningStands u m
     → Keeps u (declared limits name place m)
@@ -474,7 +449,7 @@ declare_keeps limits u name place m s o = let g = declare_goes limits u name pla
 -- a name is used, as far as it is among the names then
 used_goes : (u : Out) (f : Found Place) (name : List ℕ) (place : Place) (o : Out)
     → Goes u o (record o { names = with_used_by f name place o.names })
-used_goes u found.Unknown name place o = (
+used_goes u Found.Unknown name place o = (
   (
       λ e. record {
         complete = e.complete;
@@ -484,9 +459,9 @@ used_goes u found.Unknown name place o = (
       ),
   (λ e h. (h.0, (h.1.0, (h.1.1.0, names_put u (folded name) (IsUsed name place) o.names.names tt h.1.1.1)))),
 )
-used_goes u found.Used name place o = goes_nowhere u o
-used_goes u (found.System m) name place o = goes_nowhere u o
-used_goes u (found.Declared m first) name place o = goes_nowhere u o
+used_goes u Found.Used name place o = goes_nowhere u o
+used_goes u (Found.System m) name place o = goes_nowhere u o
+used_goes u (Found.Declared m first) name place o = goes_nowhere u o
 
 pub refer_keeps : (limits : Limits) (u : Out) (name : List ℕ) (place : Place) → Keeps u (referred limits name place)
 refer_keeps limits u name place o = go (refer_fault limits name o.names)

@@ -2,26 +2,17 @@
 use Rattle.std.proofs.Common.{ℕ, zero, suc, List, [], ◌∷◌, ◌++◌, Bool, true, false, Option, Some, None, take, length}
 use Rattle.std.specs.Prelude.{◌==◌, if◌then◌else◌, not}
 use Rattle.inf_settings.specs.Bounds.{Limits}
-use Rattle.inf_opcode.specs.declared.instructions.Branch.{Branch}
-use Rattle.inf_opcode.specs.declared.instructions.Label.{Label}
-use Rattle.inf_opcode.specs.declared.opcodes.Opcode.{Opcode}
-use Rattle.inf_opcode.specs.declared.opcodes.Opcode.TheVariants as opcode
+use Rattle.inf_opcode.specs.{declared.instructions.Branch.Branch, declared.instructions.Label.Label, declared.opcodes.Opcode.Opcode}
+use Rattle.inf_output.specs.{Veneer.name_of, declared.items.Item.Item, declared.operands.Simple.Simple, declared.veneer.Veneer.Veneer}
 use Rattle.inf_output.specs.Output.{Code, Out, behind, instruction, jumped, laid, marked, naming, next_label, nothing, routine, to, used}
 use Rattle.inf_output.specs.Output.{with_label, ◌▸◌}
-use Rattle.inf_output.specs.declared.items.Item.{Item}
-use Rattle.inf_output.specs.declared.operands.Simple.{Simple}
-use Rattle.inf_output.specs.declared.operands.Simple.TheVariants.{Known, Later, Variable}
-use Rattle.inf_output.specs.declared.veneer.Veneer.{Veneer}
 use Rattle.inf_templates.specs.Parts.{Part, SP, call, call_opcode, call_routine, calling, calling_routine, evaluated, evaluated_by, is}
 use Rattle.inf_templates.specs.Parts.{jump_zero, load, operand_by, operand_of, operands, put, worked}
 use Rattle.inf_names.specs.Symbols.{refer_fault}
-use Rattle.inf_output.specs.Veneer.{name_of}
-use Rattle.inf_target_laws.specs.Lists.{ItemStands}
-use Rattle.inf_target_laws.specs.Standing.{Before}
-use Rattle.inf_target_laws.proofs.Names.{routine_stands}
+use Rattle.inf_target_laws.specs.{Lists.ItemStands, Standing.Before}
+use Rattle.inf_target_laws.proofs.{Names.routine_stands, Premises.MaybeStands, Premises.SimpleStands, Premises.SimplesStand}
 use Rattle.inf_target_laws.proofs.Outputs.{GoesIf, Sound, if_nowhere, if_then, instruction_before, instruction_keeps, item_keeps}
 use Rattle.inf_target_laws.proofs.Outputs.{jump_keeps, mark_keeps, naming_keeps, used_keeps}
-use Rattle.inf_target_laws.proofs.Premises.{MaybeStands, SimpleStands, SimplesStand}
 
 -- Pieces of code put together
 
@@ -109,14 +100,14 @@ worked_sound {u} {P} limits opcode ps store branch h =
 
 pub put_sound : {u : Out} {P : Type 0} (limits : Limits) (s : Simple) → SimpleStands u P s → (d : ℕ) → Sound limits u P (put limits s d)
 put_sound {u} {P} limits s h d =
-    sound_if (d == SP) (sound_instruction opcode.Push (s ∷ []) None None (h, tt)) (sound_naming opcode.Store d (s ∷ []) None None (h, tt))
+    sound_if (d == SP) (sound_instruction Opcode.Push (s ∷ []) None None (h, tt)) (sound_naming Opcode.Store d (s ∷ []) None None (h, tt))
 
 pub load_sound : {u : Out} {P : Type 0} (limits : Limits) (variable d : ℕ) → Sound limits u P (load limits variable d)
-load_sound {u} {P} limits variable d = sound_naming opcode.Load variable [] (Some d) None tt
+load_sound {u} {P} limits variable d = sound_naming Opcode.Load variable [] (Some d) None tt
 
 pub zero_sound : {u : Out} {P : Type 0} (limits : Limits) (s : Simple) → SimpleStands u P s → (sense : Bool) (label : Label)
     → Sound limits u P (jump_zero limits s sense label)
-zero_sound {u} {P} limits s h sense label = sound_instruction opcode.Jz (s ∷ []) None (to (not sense) label) (h, tt)
+zero_sound {u} {P} limits s h sense label = sound_instruction Opcode.Jz (s ∷ []) None (to (not sense) label) (h, tt)
 
 pub calling_sound : {u : Out} {P : Type 0} (limits : Limits) (routine : Simple) (arguments : List Simple) (store : Option ℕ)
     → SimpleStands u P routine → SimplesStand u P arguments → Sound limits u P (calling limits routine arguments store)
@@ -138,9 +129,9 @@ veneer_stands limits u v o e = routine_stands u (Unit {0}) limits (refer_fault l
 
 -- operands stand where what they need is given
 given_stand : (u : Out) (P : Type 0) (s : Simple) → P → SimpleStands u P s → SimpleStands u (Unit {0}) s
-given_stand u P (Known number) p h = tt
-given_stand u P (Variable number) p h = tt
-given_stand u P (Later t) p h = λ x. h p
+given_stand u P (Simple.Known number) p h = tt
+given_stand u P (Simple.Variable number) p h = tt
+given_stand u P (Simple.Later t) p h = λ x. h p
 
 all_given : (u : Out) (P : Type 0) (all : List Simple) → P → SimplesStand u P all → SimplesStand u (Unit {0}) all
 all_given u P [] p h = tt

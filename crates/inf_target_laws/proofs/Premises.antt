@@ -1,16 +1,11 @@
 -- Operands and trees of a unit whose targets stand, once something is given: the output behind their use comes before the one at hand.
 use Rattle.std.proofs.Common.{List, [], ◌∷◌, Option, Some, None}
-use Rattle.inf_expressions.specs.Rooted.{Rooted}
-use Rattle.inf_expressions.specs.Trees.{Tree, Leaf, One, Two}
-use Rattle.inf_expressions.specs.declared.operators.Operand.{Operand}
-use Rattle.inf_expressions.specs.declared.operators.Operand.TheVariants as operand
-use Rattle.inf_output.specs.Output.{Out}
-use Rattle.inf_output.specs.declared.operands.Simple.{Simple}
-use Rattle.inf_output.specs.declared.operands.Simple.TheVariants as simple
+use Rattle.inf_expressions.specs.{Rooted.Rooted, Trees.Leaf, Trees.One, Trees.Tree, Trees.Two, declared.operators.Operand.Operand}
+use Rattle.inf_output.specs.{Output.Out, declared.operands.Simple.Simple}
 use Rattle.inf_target_laws.specs.Standing.{TargetStands}
 
 abbrev pub OperandStands : Out → Type 0 → Operand → Type 0
-OperandStands u P (operand.Later t) = P → TargetStands u t
+OperandStands u P (Operand.Later t) = P → TargetStands u t
 OperandStands u P _ = Unit {0}
 
 abbrev pub OperandsStand : Out → Type 0 → List Operand → Type 0
@@ -18,7 +13,7 @@ OperandsStand u P [] = Unit {0}
 OperandsStand u P (x ∷ operands) = OperandStands u P x × OperandsStand u P operands
 
 abbrev pub SimpleStands : Out → Type 0 → Simple → Type 0
-SimpleStands u P (simple.Later t) = P → TargetStands u t
+SimpleStands u P (Simple.Later t) = P → TargetStands u t
 SimpleStands u P _ = Unit {0}
 
 abbrev pub SimplesStand : Out → Type 0 → List Simple → Type 0

@@ -1,54 +1,33 @@
 -- The code of statements keeps targets, where their trees stand.
-use Rattle.std.proofs.Common.{ℕ, List, [], ◌∷◌, Bool, true, false, Option, Some, None}
-use Rattle.std.specs.Prelude.{◌==◌, codes, if◌then◌else◌, unwrap_or}
+use Rattle.std.proofs.Common.{ℕ, List, [], ◌∷◌, Bool, true, false, Option, Some, None, ◌==◌, codes, if◌then◌else◌, unwrap_or}
 use Rattle.std.specs.Str.{str_eq_ignore_ascii_case}
 use Rattle.inf_settings.specs.Bounds.{Limits}
 use Rattle.inf_area.specs.declared.targets.Target.{Target}
-use Rattle.inf_characters.specs.declared.characters.CharSet.{CharSet}
-use Rattle.inf_characters.specs.declared.texts.TextItem.{TextItem}
+use Rattle.inf_characters.specs.{declared.characters.CharSet.CharSet, declared.texts.TextItem.TextItem}
 use Rattle.inf_text.specs.Packing.{packed}
-use Rattle.inf_opcode.specs.Instructions.{bare}
-use Rattle.inf_opcode.specs.Opcodes.{row_of}
-use Rattle.inf_opcode.specs.declared.instructions.Branch.{Branch}
-use Rattle.inf_opcode.specs.declared.instructions.Destination.TheVariants as destination
-use Rattle.inf_opcode.specs.declared.instructions.Label.{Label}
-use Rattle.inf_opcode.specs.declared.opcodes.Opcode.{Opcode}
-use Rattle.inf_opcode.specs.declared.opcodes.Opcode.TheVariants as opcode
+use Rattle.inf_opcode.specs.{Instructions.bare, Opcodes.row_of, declared.instructions.Branch.Branch}
+use Rattle.inf_opcode.specs.{declared.instructions.Destination.Destination, declared.instructions.Label.Label}
+use Rattle.inf_opcode.specs.{declared.opcodes.Opcode.Opcode}
 use Rattle.inf_expressions.specs.Trees.{Tree}
 use Rattle.inf_names.specs.Locals.{Local}
-use Rattle.inf_output.specs.Output.{Code, Out, behind, low_string_at, with_low_text}
-use Rattle.inf_output.specs.Texts.{used_in}
-use Rattle.inf_output.specs.declared.items.Item.TheVariants.{Instruction}
-use Rattle.inf_output.specs.declared.operands.Simple.{Simple}
-use Rattle.inf_output.specs.declared.operands.Simple.TheVariants.{Known, Later, Variable}
-use Rattle.inf_output.specs.declared.veneer.Veneer.{Veneer}
-use Rattle.inf_output.specs.declared.veneer.Veneer.TheVariants as veneer
-use Rattle.inf_templates.specs.Meaning.{Meaning, meaning, part}
-use Rattle.inf_templates.specs.Parts.{Part, SP, TEMP, is}
-use Rattle.inf_unit.specs.Opcodes.{opcode_of}
-use Rattle.inf_unit.specs.Tokens.{SourceToken}
-use Rattle.inf_unit.specs.Units.{bytes_at}
-use Rattle.inf_unit.specs.declared.items.Item.{Item}
-use Rattle.inf_unit.specs.declared.items.Item.TheVariants as item
-use Rattle.inf_unit.specs.declared.items.PrintRule.{PrintRule}
-use Rattle.inf_unit.specs.declared.items.PrintRule.TheVariants as rule
-use Rattle.inf_constructs.specs.Constructs.{Laying, left_to}
-use Rattle.inf_constructs.specs.Labels.{NamedLabel}
+use Rattle.inf_output.specs.{Output.Code, Output.Out, Output.behind, Output.low_string_at, Output.with_low_text, Texts.used_in}
+use Rattle.inf_output.specs.{declared.items.Item.TheVariants.Instruction, declared.operands.Simple.Simple, declared.veneer.Veneer.Veneer}
+use Rattle.inf_templates.specs.{Meaning.Meaning, Meaning.meaning, Meaning.part, Parts.Part, Parts.SP, Parts.TEMP, Parts.is}
+use Rattle.inf_unit.specs.{Opcodes.opcode_of, Tokens.SourceToken, Units.bytes_at, declared.items.Item.Item}
+use Rattle.inf_unit.specs.{declared.items.PrintRule.PrintRule}
+use Rattle.inf_constructs.specs.{Constructs.Laying, Constructs.left_to, Labels.NamedLabel}
+use Rattle.inf_statements.specs.{declared.assembly.Ends.Ends, declared.statements.Statement.Statement}
 use Rattle.inf_statements.specs.Assembly.{branch_to, branched, branched_to, ends_of, fits, instructed, jumped_on, labelled, line_instructed}
 use Rattle.inf_statements.specs.Assembly.{line_laid, line_laid_as, line_laid_by, named_first, operands_in, placed, printing_of}
 use Rattle.inf_statements.specs.Assembly.{some_printed, store_of, text_printed, variable_of}
 use Rattle.inf_statements.specs.Effects.{Site, jump_laid, last_text, name_behind, place_laid, statement_code, statement_laid}
-use Rattle.inf_statements.specs.Printing.{called_with, ended, ends_behind, item_code, items_printed, rule_code, text_opcode}
-use Rattle.inf_operands.specs.Texts.{text_at}
-use Rattle.inf_statements.specs.Printing.{rest_behind, trees_behind, veneer_called}
+use Rattle.inf_statements.specs.Printing.{called_with, ended, ends_behind, item_code, items_printed, rule_code, text_opcode, rest_behind}
+use Rattle.inf_statements.specs.Printing.{trees_behind, veneer_called}
 use Rattle.inf_statements.specs.Statements.{abbreviations, action_laid, action_on, alone, are_several, attribute_code, attribute_opcode}
 use Rattle.inf_statements.specs.Statements.{attributes_changed, attributes_given, given_by, jumped_to, moved, one_worked, plain, printed}
 use Rattle.inf_statements.specs.Statements.{rest, returned, returned_by, returned_number, spaced, string_changed, string_set, style_of}
 use Rattle.inf_statements.specs.Statements.{styled_by, switched, tested, unless}
-use Rattle.inf_operands.specs.Texts.{text_packed}
-use Rattle.inf_statements.specs.declared.assembly.Ends.{Ends}
-use Rattle.inf_statements.specs.declared.statements.Statement.{Statement}
-use Rattle.inf_statements.specs.declared.statements.Statement.TheVariants as statement
+use Rattle.inf_operands.specs.Texts.{text_at, text_packed}
 use Rattle.inf_target_laws.proofs.Outputs.{GoesIf, Sound, if_nowhere, if_then, item_keeps, low_text_keeps}
 use Rattle.inf_target_laws.proofs.Pieces.{PartSound, ask_sound, by_stands, call_sound, is_sound, sound_if, sound_instruction, sound_jump}
 use Rattle.inf_target_laws.proofs.Pieces.{sound_mark, sound_naming, sound_nothing, sound_then, worked_sound}
@@ -79,7 +58,7 @@ one_sound {u} {P} limits op (e ∷ trees) h = worked_sound limits op (part (mean
 -- Printing
 
 ended_sound : {u : Out} {P : Type 0} (limits : Limits) (ends : Bool) → Sound limits u P (ended limits ends)
-ended_sound {u} {P} limits true = sound_then (plain_sound limits opcode.NewLine) (plain_sound limits opcode.Rtrue)
+ended_sound {u} {P} limits true = sound_then (plain_sound limits Opcode.NewLine) (plain_sound limits Opcode.Rtrue)
 ended_sound {u} {P} limits false = sound_nothing
 
 called_sound : {u : Out} {P : Type 0} (limits : Limits) (trees : List Tree) → TreesStand u P trees
@@ -98,57 +77,57 @@ veneer_sound {u} {P} limits v (e ∷ trees) h = ask_sound limits v (part (meanin
 rule_sound : {u : Out} {P : Type 0} (limits : Limits) (r : PrintRule) (trees : List Tree) → TreesStand u P trees
     → Sound limits u P (rule_code limits r trees)
 unfolding rule_code
-rule_sound {u} {P} limits rule.Character trees h = one_sound limits opcode.PrintChar trees h
-rule_sound {u} {P} limits rule.String trees h = one_sound limits opcode.PrintPaddr trees h
-rule_sound {u} {P} limits rule.Address trees h = one_sound limits opcode.PrintAddr trees h
-rule_sound {u} {P} limits rule.Object trees h = one_sound limits opcode.PrintObj trees h
-rule_sound {u} {P} limits rule.ShortName trees h = veneer_sound limits veneer.ShortName trees h
-rule_sound {u} {P} limits rule.DefiniteArticle trees h = veneer_sound limits veneer.DefiniteArticle trees h
-rule_sound {u} {P} limits rule.CapitalArticle trees h = veneer_sound limits veneer.CapitalArticle trees h
-rule_sound {u} {P} limits rule.IndefiniteArticle trees h = veneer_sound limits veneer.IndefiniteArticle trees h
-rule_sound {u} {P} limits rule.EnglishNumber trees h = veneer_sound limits veneer.EnglishNumber trees h
-rule_sound {u} {P} limits rule.Routine trees h = called_sound limits trees h
+rule_sound {u} {P} limits PrintRule.Character trees h = one_sound limits Opcode.PrintChar trees h
+rule_sound {u} {P} limits PrintRule.String trees h = one_sound limits Opcode.PrintPaddr trees h
+rule_sound {u} {P} limits PrintRule.Address trees h = one_sound limits Opcode.PrintAddr trees h
+rule_sound {u} {P} limits PrintRule.Object trees h = one_sound limits Opcode.PrintObj trees h
+rule_sound {u} {P} limits PrintRule.ShortName trees h = veneer_sound limits Veneer.ShortName trees h
+rule_sound {u} {P} limits PrintRule.DefiniteArticle trees h = veneer_sound limits Veneer.DefiniteArticle trees h
+rule_sound {u} {P} limits PrintRule.CapitalArticle trees h = veneer_sound limits Veneer.CapitalArticle trees h
+rule_sound {u} {P} limits PrintRule.IndefiniteArticle trees h = veneer_sound limits Veneer.IndefiniteArticle trees h
+rule_sound {u} {P} limits PrintRule.EnglishNumber trees h = veneer_sound limits Veneer.EnglishNumber trees h
+rule_sound {u} {P} limits PrintRule.Routine trees h = called_sound limits trees h
 
 item_sound : {u : Out} {P : Type 0} (limits : Limits) (set : CharSet) (tokens : List SourceToken) (returns : Bool) (others : List Item)
     (i : Item) (trees : List Tree)
     → TreesStand u P trees → Sound limits u P (item_code limits set tokens returns others i trees)
-item_sound {u} {P} limits set tokens returns others (item.Text at) trees h =
+item_sound {u} {P} limits set tokens returns others (Item.Text at) trees h =
     printed_sound limits (text_opcode returns others) (text_at set tokens at)
-item_sound {u} {P} limits set tokens returns others item.Value trees h = one_sound limits opcode.PrintNum trees h
-item_sound {u} {P} limits set tokens returns others (item.Ruled r) trees h = rule_sound limits r trees h
-item_sound {u} {P} limits set tokens returns others item.Set trees h = sound_nothing
-item_sound {u} {P} limits set tokens returns others item.Clear trees h = sound_nothing
-item_sound {u} {P} limits set tokens returns others item.Default trees h = sound_nothing
-item_sound {u} {P} limits set tokens returns others (item.Store at) trees h = sound_nothing
-item_sound {u} {P} limits set tokens returns others (item.Branch at sense) trees h = sound_nothing
-item_sound {u} {P} limits set tokens returns others (item.Jump at) trees h = sound_nothing
+item_sound {u} {P} limits set tokens returns others Item.Value trees h = one_sound limits Opcode.PrintNum trees h
+item_sound {u} {P} limits set tokens returns others (Item.Ruled r) trees h = rule_sound limits r trees h
+item_sound {u} {P} limits set tokens returns others Item.Set trees h = sound_nothing
+item_sound {u} {P} limits set tokens returns others Item.Clear trees h = sound_nothing
+item_sound {u} {P} limits set tokens returns others Item.Default trees h = sound_nothing
+item_sound {u} {P} limits set tokens returns others (Item.Store at) trees h = sound_nothing
+item_sound {u} {P} limits set tokens returns others (Item.Branch at sense) trees h = sound_nothing
+item_sound {u} {P} limits set tokens returns others (Item.Jump at) trees h = sound_nothing
 
 rest_stand : (u : Out) (P : Type 0) (trees : List Tree) → TreesStand u P trees → TreesStand u P (rest trees)
 rest_stand u P [] h = tt
 rest_stand u P (e ∷ trees) h = h.1
 
 ruled_stand : (u : Out) (P : Type 0) (r : PrintRule) (trees : List Tree) → TreesStand u P trees → TreesStand u P (rest_behind r trees)
-ruled_stand u P rule.Routine trees h = rest_stand u P (rest trees) (rest_stand u P trees h)
-ruled_stand u P rule.Character trees h = rest_stand u P trees h
-ruled_stand u P rule.String trees h = rest_stand u P trees h
-ruled_stand u P rule.Address trees h = rest_stand u P trees h
-ruled_stand u P rule.Object trees h = rest_stand u P trees h
-ruled_stand u P rule.ShortName trees h = rest_stand u P trees h
-ruled_stand u P rule.DefiniteArticle trees h = rest_stand u P trees h
-ruled_stand u P rule.CapitalArticle trees h = rest_stand u P trees h
-ruled_stand u P rule.IndefiniteArticle trees h = rest_stand u P trees h
-ruled_stand u P rule.EnglishNumber trees h = rest_stand u P trees h
+ruled_stand u P PrintRule.Routine trees h = rest_stand u P (rest trees) (rest_stand u P trees h)
+ruled_stand u P PrintRule.Character trees h = rest_stand u P trees h
+ruled_stand u P PrintRule.String trees h = rest_stand u P trees h
+ruled_stand u P PrintRule.Address trees h = rest_stand u P trees h
+ruled_stand u P PrintRule.Object trees h = rest_stand u P trees h
+ruled_stand u P PrintRule.ShortName trees h = rest_stand u P trees h
+ruled_stand u P PrintRule.DefiniteArticle trees h = rest_stand u P trees h
+ruled_stand u P PrintRule.CapitalArticle trees h = rest_stand u P trees h
+ruled_stand u P PrintRule.IndefiniteArticle trees h = rest_stand u P trees h
+ruled_stand u P PrintRule.EnglishNumber trees h = rest_stand u P trees h
 
 behind_stand : (u : Out) (P : Type 0) (i : Item) (trees : List Tree) → TreesStand u P trees → TreesStand u P (trees_behind i trees)
-behind_stand u P item.Value trees h = rest_stand u P trees h
-behind_stand u P (item.Ruled r) trees h = ruled_stand u P r trees h
-behind_stand u P (item.Text at) trees h = h
-behind_stand u P item.Set trees h = h
-behind_stand u P item.Clear trees h = h
-behind_stand u P item.Default trees h = h
-behind_stand u P (item.Store at) trees h = h
-behind_stand u P (item.Branch at sense) trees h = h
-behind_stand u P (item.Jump at) trees h = h
+behind_stand u P Item.Value trees h = rest_stand u P trees h
+behind_stand u P (Item.Ruled r) trees h = ruled_stand u P r trees h
+behind_stand u P (Item.Text at) trees h = h
+behind_stand u P Item.Set trees h = h
+behind_stand u P Item.Clear trees h = h
+behind_stand u P Item.Default trees h = h
+behind_stand u P (Item.Store at) trees h = h
+behind_stand u P (Item.Branch at sense) trees h = h
+behind_stand u P (Item.Jump at) trees h = h
 
 items_sound : {u : Out} {P : Type 0} (limits : Limits) (set : CharSet) (tokens : List SourceToken) (returns ends : Bool) (items : List Item)
     (trees : List Tree) → TreesStand u P trees → Sound limits u P (items_printed limits set tokens returns ends items trees)
@@ -161,19 +140,19 @@ items_sound {u} {P} limits set tokens returns ends (i ∷ items) trees h =
 
 number_sound : {u : Out} {P : Type 0} (limits : Limits) (n : ℕ) → Sound limits u P (returned_number limits n)
 number_sound {u} {P} limits n =
-    sound_if (n == 1) (plain_sound limits opcode.Rtrue)
-    (sound_if (n == 0) (plain_sound limits opcode.Rfalse) (sound_instruction opcode.Ret (Known n ∷ []) None None (tt, tt)))
+    sound_if (n == 1) (plain_sound limits Opcode.Rtrue)
+    (sound_if (n == 0) (plain_sound limits Opcode.Rfalse) (sound_instruction Opcode.Ret (Simple.Known n ∷ []) None None (tt, tt)))
 
 returned_by_sound : {u : Out} {P : Type 0} (limits : Limits) (x : Option Simple) (m : Meaning) → MaybeStands u P x
     → MeaningSound limits u P m → Sound limits u P (returned_by limits x m)
-returned_by_sound {u} {P} limits (Some (Known n)) m s h = number_sound limits n
-returned_by_sound {u} {P} limits (Some (Variable v)) m s h = sound_instruction opcode.Ret (Variable v ∷ []) None None (tt, tt)
-returned_by_sound {u} {P} limits (Some (Later t)) m s h = sound_instruction opcode.Ret (Later t ∷ []) None None (s, tt)
-returned_by_sound {u} {P} limits None m s h = sound_then (h.value SP) (plain_sound limits opcode.RetPopped)
+returned_by_sound {u} {P} limits (Some (Simple.Known n)) m s h = number_sound limits n
+returned_by_sound {u} {P} limits (Some (Simple.Variable v)) m s h = sound_instruction Opcode.Ret (Simple.Variable v ∷ []) None None (tt, tt)
+returned_by_sound {u} {P} limits (Some (Simple.Later t)) m s h = sound_instruction Opcode.Ret (Simple.Later t ∷ []) None None (s, tt)
+returned_by_sound {u} {P} limits None m s h = sound_then (h.value SP) (plain_sound limits Opcode.RetPopped)
 
 returned_sound : {u : Out} {P : Type 0} (limits : Limits) (trees : List Tree) → TreesStand u P trees
     → Sound limits u P (returned limits trees)
-returned_sound {u} {P} limits [] h = plain_sound limits opcode.Rtrue
+returned_sound {u} {P} limits [] h = plain_sound limits Opcode.Rtrue
 returned_sound {u} {P} limits (e ∷ trees) h =
     let m = meaning_sound limits e h.0 in returned_by_sound limits (meaning limits e).operand (meaning limits e) m.operand m
 
@@ -186,19 +165,19 @@ moved_sound : {u : Out} {P : Type 0} (limits : Limits) (trees : List Tree) → T
 moved_sound {u} {P} limits [] h = sound_nothing
 moved_sound {u} {P} limits (a ∷ []) h = sound_nothing
 moved_sound {u} {P} limits (a ∷ b ∷ trees) h =
-    worked_sound limits opcode.InsertObj (part (meaning limits a) ∷ part (meaning limits b) ∷ []) None None
+    worked_sound limits Opcode.InsertObj (part (meaning limits a) ∷ part (meaning limits b) ∷ []) None None
     (tree_sound limits a h.0, (tree_sound limits b h.1.0, tt))
 
 spaced_sound : {u : Out} {P : Type 0} (limits : Limits) (trees : List Tree) → TreesStand u P trees → Sound limits u P (spaced limits trees)
 spaced_sound {u} {P} limits [] h = sound_nothing
-spaced_sound {u} {P} limits (e ∷ trees) h = ask_sound limits veneer.Spaces (part (meaning limits e) ∷ []) None (tree_sound limits e h.0, tt)
+spaced_sound {u} {P} limits (e ∷ trees) h = ask_sound limits Veneer.Spaces (part (meaning limits e) ∷ []) None (tree_sound limits e h.0, tt)
 
-set_sound : {u : Out} {P : Type 0} (limits : Limits) (low : Target) → SimpleStands u P (Later low) → (trees : List Tree)
+set_sound : {u : Out} {P : Type 0} (limits : Limits) (low : Target) → SimpleStands u P (Simple.Later low) → (trees : List Tree)
     → TreesStand u P trees → Sound limits u P (string_set limits low trees)
 set_sound {u} {P} limits low s [] h = sound_nothing
 set_sound {u} {P} limits low s (e ∷ trees) h =
-    worked_sound limits opcode.Storew (is (Later abbreviations) ∷ part (meaning limits e) ∷ is (Later low) ∷ []) None None
-    (is_sound limits (Later abbreviations) (λ p. tt), (tree_sound limits e h.0, (is_sound limits (Later low) s, tt)))
+    worked_sound limits Opcode.Storew (is (Simple.Later abbreviations) ∷ part (meaning limits e) ∷ is (Simple.Later low) ∷ []) None None
+    (is_sound limits (Simple.Later abbreviations) (λ p. tt), (tree_sound limits e h.0, (is_sound limits (Simple.Later low) s, tt)))
 
 changed_sound : {u : Out} {P : Type 0} (limits : Limits) (text : Option (List TextItem)) (trees : List Tree) → TreesStand u P trees
     → Sound limits u P (string_changed limits text trees)
@@ -214,11 +193,11 @@ changed_sound {u} {P} limits (Some text) trees h = record {
 
 on_sound : {u : Out} {P : Type 0} (limits : Limits) (action : Part) → PartSound limits u P action → (trees : List Tree)
     → TreesStand u P trees → Sound limits u P (action_on limits action trees)
-on_sound {u} {P} limits action s [] h = ask_sound limits veneer.Process (action ∷ []) None (s, tt)
+on_sound {u} {P} limits action s [] h = ask_sound limits Veneer.Process (action ∷ []) None (s, tt)
 on_sound {u} {P} limits action s (a ∷ []) h =
-    ask_sound limits veneer.Process (action ∷ part (meaning limits a) ∷ []) None (s, (tree_sound limits a h.0, tt))
+    ask_sound limits Veneer.Process (action ∷ part (meaning limits a) ∷ []) None (s, (tree_sound limits a h.0, tt))
 on_sound {u} {P} limits action s (a ∷ b ∷ trees) h =
-    ask_sound limits veneer.Process (action ∷ part (meaning limits a) ∷ part (meaning limits b) ∷ []) None
+    ask_sound limits Veneer.Process (action ∷ part (meaning limits a) ∷ part (meaning limits b) ∷ []) None
     (s, (tree_sound limits a h.0, (tree_sound limits b h.1.0, tt)))
 
 action_sound : {u : Out} {P : Type 0} (limits : Limits) (trees : List Tree) → TreesStand u P trees
@@ -259,7 +238,8 @@ given_sound : {u : Out} {P : Type 0} (limits : Limits) (several : Bool) (x : Opt
     → (items : List Item) (attributes : List Tree) → TreesStand u P attributes
     → Sound limits u P (given_by limits several x m items attributes)
 given_sound {u} {P} limits true None m s items attributes h =
-    sound_then (s.value TEMP) (attributes_sound limits (is (Variable TEMP)) (is_sound limits (Variable TEMP) tt) items attributes h)
+    sound_then (s.value TEMP) (attributes_sound limits (is (Simple.Variable TEMP)) (is_sound limits (Simple.Variable TEMP) tt) items
+    attributes h)
 given_sound {u} {P} limits true (Some x) m s items attributes h =
     attributes_sound limits (part m) (part_sound limits m s) items attributes h
 given_sound {u} {P} limits false None m s items attributes h = attributes_sound limits (part m) (part_sound limits m s) items attributes h
@@ -274,7 +254,7 @@ give_sound {u} {P} limits items (e ∷ trees) h =
 
 styled_sound : {u : Out} {P : Type 0} (limits : Limits) (style : Option ℕ) → Sound limits u P (styled_by limits style)
 styled_sound {u} {P} limits None = sound_nothing
-styled_sound {u} {P} limits (Some style) = sound_instruction opcode.SetTextStyle (Known style ∷ []) None None (tt, tt)
+styled_sound {u} {P} limits (Some style) = sound_instruction Opcode.SetTextStyle (Simple.Known style ∷ []) None None (tt, tt)
 
 to_sound : {u : Out} {P : Type 0} (limits : Limits) (label : Option Label) → Sound limits u P (jumped_to limits label)
 to_sound {u} {P} limits None = sound_nothing
@@ -282,28 +262,28 @@ to_sound {u} {P} limits (Some label) = sound_jump label
 
 code_sound : {u : Out} {P : Type 0} (limits : Limits) (s : Site) (trees : List Tree) (st : Statement) → TreesStand u P trees
     → Sound limits u P (statement_code limits s trees st)
-code_sound {u} {P} limits s trees statement.Empty h = sound_nothing
-code_sound {u} {P} limits s trees statement.Expression h = alone_sound limits trees h
-code_sound {u} {P} limits s trees statement.Print h = items_sound limits s.set s.tokens false false s.items trees h
-code_sound {u} {P} limits s trees statement.PrintReturn h = items_sound limits s.set s.tokens true false s.items trees h
-code_sound {u} {P} limits s trees statement.Return h = returned_sound limits trees h
-code_sound {u} {P} limits s trees statement.NewLine h = plain_sound limits opcode.NewLine
-code_sound {u} {P} limits s trees statement.Quit h = plain_sound limits opcode.Quit
-code_sound {u} {P} limits s trees statement.ReturnTrue h = plain_sound limits opcode.Rtrue
-code_sound {u} {P} limits s trees statement.ReturnFalse h = plain_sound limits opcode.Rfalse
-code_sound {u} {P} limits s trees statement.Break h = to_sound limits (left_to false s.constructs)
-code_sound {u} {P} limits s trees statement.Continue h = to_sound limits (left_to true s.constructs)
-code_sound {u} {P} limits s trees statement.Give h = give_sound limits s.items trees h
-code_sound {u} {P} limits s trees statement.String h = changed_sound limits (last_text s) trees h
-code_sound {u} {P} limits s trees statement.Move h = moved_sound limits trees h
-code_sound {u} {P} limits s trees statement.Action h = action_sound limits trees h
-code_sound {u} {P} limits s trees statement.ActionReturn h = sound_then (action_sound limits trees h) (plain_sound limits opcode.Rtrue)
-code_sound {u} {P} limits s trees statement.Remove h = one_sound limits opcode.RemoveObj trees h
-code_sound {u} {P} limits s trees statement.Spaces h = spaced_sound limits trees h
-code_sound {u} {P} limits s trees statement.Style h = styled_sound limits (style_of (name_behind s))
-code_sound {u} {P} limits s trees statement.Place h = sound_nothing
-code_sound {u} {P} limits s trees statement.Jump h = sound_nothing
-code_sound {u} {P} limits s trees statement.Assembly h = sound_nothing
+code_sound {u} {P} limits s trees Statement.Empty h = sound_nothing
+code_sound {u} {P} limits s trees Statement.Expression h = alone_sound limits trees h
+code_sound {u} {P} limits s trees Statement.Print h = items_sound limits s.set s.tokens false false s.items trees h
+code_sound {u} {P} limits s trees Statement.PrintReturn h = items_sound limits s.set s.tokens true false s.items trees h
+code_sound {u} {P} limits s trees Statement.Return h = returned_sound limits trees h
+code_sound {u} {P} limits s trees Statement.NewLine h = plain_sound limits Opcode.NewLine
+code_sound {u} {P} limits s trees Statement.Quit h = plain_sound limits Opcode.Quit
+code_sound {u} {P} limits s trees Statement.ReturnTrue h = plain_sound limits Opcode.Rtrue
+code_sound {u} {P} limits s trees Statement.ReturnFalse h = plain_sound limits Opcode.Rfalse
+code_sound {u} {P} limits s trees Statement.Break h = to_sound limits (left_to false s.constructs)
+code_sound {u} {P} limits s trees Statement.Continue h = to_sound limits (left_to true s.constructs)
+code_sound {u} {P} limits s trees Statement.Give h = give_sound limits s.items trees h
+code_sound {u} {P} limits s trees Statement.String h = changed_sound limits (last_text s) trees h
+code_sound {u} {P} limits s trees Statement.Move h = moved_sound limits trees h
+code_sound {u} {P} limits s trees Statement.Action h = action_sound limits trees h
+code_sound {u} {P} limits s trees Statement.ActionReturn h = sound_then (action_sound limits trees h) (plain_sound limits Opcode.Rtrue)
+code_sound {u} {P} limits s trees Statement.Remove h = one_sound limits Opcode.RemoveObj trees h
+code_sound {u} {P} limits s trees Statement.Spaces h = spaced_sound limits trees h
+code_sound {u} {P} limits s trees Statement.Style h = styled_sound limits (style_of (name_behind s))
+code_sound {u} {P} limits s trees Statement.Place h = sound_nothing
+code_sound {u} {P} limits s trees Statement.Jump h = sound_nothing
+code_sound {u} {P} limits s trees Statement.Assembly h = sound_nothing
 
 -- Assembly lines
 
@@ -327,8 +307,8 @@ branched_gives {u} {P} limits name sense labels = record {
   keeps = λ o.
       let l = labelled name labels o in
       one_of u P o (str_eq_ignore_ascii_case name (codes "rtrue")) (str_eq_ignore_ascii_case name (codes "rfalse"))
-      (branch_to sense destination.ReturnTrue, labels) (branch_to sense destination.ReturnFalse, labels)
-      (branch_to sense (destination.To l.0.0), l.0.1);
+      (branch_to sense Destination.ReturnTrue, labels) (branch_to sense Destination.ReturnFalse, labels)
+      (branch_to sense (Destination.To l.0.0), l.0.1);
 }
 
 branch_gives : {u : Out} {P : Type 0} (limits : Limits) (tokens : List SourceToken) (b : Option (ℕ × Bool)) (labels : List NamedLabel)
@@ -430,29 +410,29 @@ place_gives {u} {P} limits name labels = record {
 pub statement_gives : {u : Out} {P : Type 0} (limits : Limits) (s : Site) (st : Statement) (trees : List Tree) → TreesStand u P trees
     → (labels : List NamedLabel) → Gives limits u P (statement_laid limits s st trees labels)
 unfolding statement_laid
-statement_gives {u} {P} limits s statement.Jump trees h labels = jump_gives limits (name_behind s) labels
-statement_gives {u} {P} limits s statement.Place trees h labels = place_gives limits (name_behind s) labels
-statement_gives {u} {P} limits s statement.Assembly trees h labels =
+statement_gives {u} {P} limits s Statement.Jump trees h labels = jump_gives limits (name_behind s) labels
+statement_gives {u} {P} limits s Statement.Place trees h labels = place_gives limits (name_behind s) labels
+statement_gives {u} {P} limits s Statement.Assembly trees h labels =
     line_gives limits s.set s.locals s.tokens (opcode_of (name_behind s)) (ends_of s.items) trees h labels
-statement_gives {u} {P} limits s statement.Empty trees h labels = gives_code labels (code_sound limits s trees statement.Empty h)
-statement_gives {u} {P} limits s statement.Expression trees h labels = gives_code labels (code_sound limits s trees statement.Expression h)
-statement_gives {u} {P} limits s statement.Print trees h labels = gives_code labels (code_sound limits s trees statement.Print h)
-statement_gives {u} {P} limits s statement.PrintReturn trees h labels =
-    gives_code labels (code_sound limits s trees statement.PrintReturn h)
-statement_gives {u} {P} limits s statement.Return trees h labels = gives_code labels (code_sound limits s trees statement.Return h)
-statement_gives {u} {P} limits s statement.NewLine trees h labels = gives_code labels (code_sound limits s trees statement.NewLine h)
-statement_gives {u} {P} limits s statement.Quit trees h labels = gives_code labels (code_sound limits s trees statement.Quit h)
-statement_gives {u} {P} limits s statement.ReturnTrue trees h labels = gives_code labels (code_sound limits s trees statement.ReturnTrue h)
-statement_gives {u} {P} limits s statement.ReturnFalse trees h labels =
-    gives_code labels (code_sound limits s trees statement.ReturnFalse h)
-statement_gives {u} {P} limits s statement.Break trees h labels = gives_code labels (code_sound limits s trees statement.Break h)
-statement_gives {u} {P} limits s statement.Continue trees h labels = gives_code labels (code_sound limits s trees statement.Continue h)
-statement_gives {u} {P} limits s statement.Give trees h labels = gives_code labels (code_sound limits s trees statement.Give h)
-statement_gives {u} {P} limits s statement.Move trees h labels = gives_code labels (code_sound limits s trees statement.Move h)
-statement_gives {u} {P} limits s statement.Remove trees h labels = gives_code labels (code_sound limits s trees statement.Remove h)
-statement_gives {u} {P} limits s statement.Spaces trees h labels = gives_code labels (code_sound limits s trees statement.Spaces h)
-statement_gives {u} {P} limits s statement.String trees h labels = gives_code labels (code_sound limits s trees statement.String h)
-statement_gives {u} {P} limits s statement.Style trees h labels = gives_code labels (code_sound limits s trees statement.Style h)
-statement_gives {u} {P} limits s statement.Action trees h labels = gives_code labels (code_sound limits s trees statement.Action h)
-statement_gives {u} {P} limits s statement.ActionReturn trees h labels =
-    gives_code labels (code_sound limits s trees statement.ActionReturn h)
+statement_gives {u} {P} limits s Statement.Empty trees h labels = gives_code labels (code_sound limits s trees Statement.Empty h)
+statement_gives {u} {P} limits s Statement.Expression trees h labels = gives_code labels (code_sound limits s trees Statement.Expression h)
+statement_gives {u} {P} limits s Statement.Print trees h labels = gives_code labels (code_sound limits s trees Statement.Print h)
+statement_gives {u} {P} limits s Statement.PrintReturn trees h labels =
+    gives_code labels (code_sound limits s trees Statement.PrintReturn h)
+statement_gives {u} {P} limits s Statement.Return trees h labels = gives_code labels (code_sound limits s trees Statement.Return h)
+statement_gives {u} {P} limits s Statement.NewLine trees h labels = gives_code labels (code_sound limits s trees Statement.NewLine h)
+statement_gives {u} {P} limits s Statement.Quit trees h labels = gives_code labels (code_sound limits s trees Statement.Quit h)
+statement_gives {u} {P} limits s Statement.ReturnTrue trees h labels = gives_code labels (code_sound limits s trees Statement.ReturnTrue h)
+statement_gives {u} {P} limits s Statement.ReturnFalse trees h labels =
+    gives_code labels (code_sound limits s trees Statement.ReturnFalse h)
+statement_gives {u} {P} limits s Statement.Break trees h labels = gives_code labels (code_sound limits s trees Statement.Break h)
+statement_gives {u} {P} limits s Statement.Continue trees h labels = gives_code labels (code_sound limits s trees Statement.Continue h)
+statement_gives {u} {P} limits s Statement.Give trees h labels = gives_code labels (code_sound limits s trees Statement.Give h)
+statement_gives {u} {P} limits s Statement.Move trees h labels = gives_code labels (code_sound limits s trees Statement.Move h)
+statement_gives {u} {P} limits s Statement.Remove trees h labels = gives_code labels (code_sound limits s trees Statement.Remove h)
+statement_gives {u} {P} limits s Statement.Spaces trees h labels = gives_code labels (code_sound limits s trees Statement.Spaces h)
+statement_gives {u} {P} limits s Statement.String trees h labels = gives_code labels (code_sound limits s trees Statement.String h)
+statement_gives {u} {P} limits s Statement.Style trees h labels = gives_code labels (code_sound limits s trees Statement.Style h)
+statement_gives {u} {P} limits s Statement.Action trees h labels = gives_code labels (code_sound limits s trees Statement.Action h)
+statement_gives {u} {P} limits s Statement.ActionReturn trees h labels =
+    gives_code labels (code_sound limits s trees Statement.ActionReturn h)

@@ -1,56 +1,39 @@
 -- Targets in the story of a reading are found.
 use Rattle.std.proofs.Common.{◌≡◌, ℕ, List, [], ◌∷◌, ◌++◌, length, map, Bool, true, false, Option, Some, None, refl, sym, arith, subst}
 use Rattle.std.specs.Prelude.{◌-◌, ◌*◌, ◌&&◌, ◌||◌, ◌==◌, not, if◌then◌else◌, is_some, replicate}
-use Rattle.inf_settings.specs.Bounds.{Limits, limits_of}
-use Rattle.inf_settings.specs.declared.setting.Setting.{Setting}
-use Rattle.inf_settings.specs.declared.setting.Setting.TheVariants as setting
+use Rattle.inf_settings.specs.{Bounds.Limits, Bounds.limits_of, declared.setting.Setting.Setting}
 use Rattle.inf_scanner.specs.declared.tokens.Place.{Place}
-use Rattle.inf_area.specs.Cells.{values_cells}
-use Rattle.inf_area.specs.declared.targets.Target.{Target}
-use Rattle.inf_area.specs.declared.targets.Target.TheVariants as target
-use Rattle.inf_area.specs.declared.targets.Value.{Value}
-use Rattle.inf_area.specs.declared.targets.Value.TheVariants as value
-use Rattle.inf_arrays.specs.Globals.{all_globals}
-use Rattle.inf_arrays.specs.Arrays.{all_of}
+use Rattle.inf_area.specs.{Cells.values_cells, declared.targets.Target.Target, declared.targets.Value.Value}
+use Rattle.inf_arrays.specs.{Arrays.all_of, Globals.all_globals}
 use Rattle.inf_code.specs.Code.{Routines}
 use Rattle.inf_devices.specs.Files.{Sources}
-use Rattle.inf_dictionary.specs.Texts.{Text}
-use Rattle.inf_dictionary.specs.Words.{dictionary_bytes}
-use Rattle.inf_dictionary.specs.declared.uses.Word.{Word}
+use Rattle.inf_dictionary.specs.{Texts.Text, Words.dictionary_bytes, declared.uses.Word.Word}
 use Rattle.inf_link.specs.Targets.{Lookup}
 use Rattle.inf_names.specs.Symbols.{IsDeclared, IsUsed, Named, Standing, meaning_in}
 use Rattle.inf_names.specs.declared.meanings.Meaning.{Meaning}
-use Rattle.inf_names.specs.declared.meanings.Meaning.TheVariants as meaning
+use Rattle.inf_output.specs.{Strings.StringArea, declared.past.Past.Past}
 use Rattle.inf_output.specs.Output.{Out, counted, full, full_of, full_past, less, or_full, past_by}
-use Rattle.inf_output.specs.Strings.{StringArea}
-use Rattle.inf_output.specs.declared.past.Past.{Past}
 use Rattle.inf_objects.specs.declared.objects.Object.{Object}
 use Rattle.inf_story.specs.Names.{value_by, values_of, with_value}
 use Rattle.inf_story.specs.Tables.{abbreviations, areas, declared_at, looked_up, three_spaces, undeclared}
+use Rattle.inf_tables.specs.{Tables.AllTables, Tables.references, declared.kinds.DeclaredProperty.DeclaredProperty}
 use Rattle.inf_tables.specs.Areas.{all_defaults, all_objects, class_numbers_from, first_names, first_object, first_objects, parents_of}
-use Rattle.inf_tables.specs.Tables.{AllTables, references}
-use Rattle.inf_tables.specs.declared.kinds.DeclaredProperty.{DeclaredProperty}
 use Rattle.inf_report.specs.Messages.{Undeclared}
 use Rattle.inf_unit.specs.Messages.{FileNames, Reported, location}
 use Rattle.inf_unit.specs.Names.{main_of, with_all_undeclared, with_undeclared}
 use Rattle.inf_verbs.specs.Verbs.{address_cells, parts_cells}
 use Rattle.inf_compilation.specs.Actions.{Compilation, begun_at}
 use Rattle.inf_session.specs.Choices.{Choices}
-use Rattle.inf_ending.specs.Ending.{begun, begun_from, is_clean, laid, named, refused, told_of}
-use Rattle.inf_ending.specs.Ending.{first_place}
+use Rattle.inf_ending.specs.Ending.{begun, begun_from, is_clean, laid, named, refused, told_of, first_place}
 use Rattle.inf_limit_laws.proofs.Ways.{Remains, none_full, with_error_stays}
 use Rattle.inf_word_laws.proofs.Values.{names_are_found}
-use Rattle.inf_target_laws.specs.Lists.{DefaultsStand, NamesStand, ObjectsStand, ValuesStand}
-use Rattle.inf_target_laws.specs.Outputs.{Holds}
+use Rattle.inf_target_laws.specs.{Lists.DefaultsStand, Lists.NamesStand, Lists.ObjectsStand, Lists.ValuesStand, Outputs.Holds}
 use Rattle.inf_target_laws.specs.Standing.{MeaningStands, StandingStands, TargetStands, ValueStands, is_short, is_short_by}
 use Rattle.inf_target_laws.specs.Story.{AllFound, AreasFound, IsFound, StoriesAreWhole, StoryIsWhole}
+use Rattle.inf_target_laws.proofs.{Lists.objects_join, Names.never, Names.no_some, Whole.end_stands, Worlds.all_arrays}
 use Rattle.inf_target_laws.proofs.Areas.{Finds, addresses_found, arrays_found, bytes_found, code_found, individuals_found}
 use Rattle.inf_target_laws.proofs.Areas.{individuals_placed, join, known_values, numbers_found, objects_found, routines_found, tables_found}
 use Rattle.inf_target_laws.proofs.Areas.{tables_placed, values_found, values_joined, values_written, verbs_found, verbs_placed}
-use Rattle.inf_target_laws.proofs.Lists.{objects_join}
-use Rattle.inf_target_laws.proofs.Names.{never, no_some}
-use Rattle.inf_target_laws.proofs.Whole.{end_stands}
-use Rattle.inf_target_laws.proofs.Worlds.{all_arrays}
 
 -- Targets that stand are found, where all names have values.
 
@@ -59,11 +42,11 @@ all_finds : (u : Out) (names : List Value) → values_of u.names.names ≡ Some 
 all_finds u names are = record { finds = finds }
   where
     finds : (t : Target) → TargetStands u t → IsFound (looked_up names u.tables) u.tables.dictionary.list t
-    finds (target.Name number) h = (names_are_found u.names.names names are).found u.tables number h
-    finds (target.Word text) h = h
-    finds (target.Part area part) h = absurd h
-    finds (target.Place area place) h = tt
-    finds (target.System constant) h = tt
+    finds (Target.Name number) h = (names_are_found u.names.names names are).found u.tables number h
+    finds (Target.Word text) h = h
+    finds (Target.Part area part) h = absurd h
+    finds (Target.Place area place) h = tt
+    finds (Target.System constant) h = tt
 
 -- Values of names
 
@@ -76,21 +59,21 @@ MaybeMeaning u (Some m) = MeaningStands u m
 
 meaning_value : (u : Out) (m : Option Meaning) (v : Value) → value_by m ≡ Some v → MaybeMeaning u m → ValueStands u v
 meaning_value u None v e h = no_some (sym e)
-meaning_value u (Some (meaning.Number number)) v e h = subst (ValueStands u) (same_some e) tt
-meaning_value u (Some (meaning.Variable number)) v e h = subst (ValueStands u) (same_some e) tt
-meaning_value u (Some (meaning.Attribute number)) v e h = subst (ValueStands u) (same_some e) tt
-meaning_value u (Some (meaning.Property number is_additive)) v e h = subst (ValueStands u) (same_some e) tt
-meaning_value u (Some (meaning.IndividualProperty number)) v e h = subst (ValueStands u) (same_some e) tt
-meaning_value u (Some (meaning.Object number)) v e h = subst (ValueStands u) (same_some e) tt
-meaning_value u (Some (meaning.Class number)) v e h = subst (ValueStands u) (same_some e) tt
-meaning_value u (Some (meaning.FakeAction number)) v e h = subst (ValueStands u) (same_some e) tt
-meaning_value u (Some (meaning.Text place)) v e h = subst (ValueStands u) (same_some e) tt
-meaning_value u (Some (meaning.LowString place)) v e h = subst (ValueStands u) (same_some e) tt
-meaning_value u (Some (meaning.Array place)) v e h = subst (ValueStands u) (same_some e) tt
-meaning_value u (Some (meaning.Routine place)) v e h = subst (ValueStands u) (same_some e) tt
-meaning_value u (Some (meaning.PackedAddress place)) v e h = subst (ValueStands u) (same_some e) tt
-meaning_value u (Some (meaning.Word text)) v e h = subst (ValueStands u) (same_some e) h
-meaning_value u (Some (meaning.Function function)) v e h = no_some (sym e)
+meaning_value u (Some (Meaning.Number number)) v e h = subst (ValueStands u) (same_some e) tt
+meaning_value u (Some (Meaning.Variable number)) v e h = subst (ValueStands u) (same_some e) tt
+meaning_value u (Some (Meaning.Attribute number)) v e h = subst (ValueStands u) (same_some e) tt
+meaning_value u (Some (Meaning.Property number is_additive)) v e h = subst (ValueStands u) (same_some e) tt
+meaning_value u (Some (Meaning.IndividualProperty number)) v e h = subst (ValueStands u) (same_some e) tt
+meaning_value u (Some (Meaning.Object number)) v e h = subst (ValueStands u) (same_some e) tt
+meaning_value u (Some (Meaning.Class number)) v e h = subst (ValueStands u) (same_some e) tt
+meaning_value u (Some (Meaning.FakeAction number)) v e h = subst (ValueStands u) (same_some e) tt
+meaning_value u (Some (Meaning.Text place)) v e h = subst (ValueStands u) (same_some e) tt
+meaning_value u (Some (Meaning.LowString place)) v e h = subst (ValueStands u) (same_some e) tt
+meaning_value u (Some (Meaning.Array place)) v e h = subst (ValueStands u) (same_some e) tt
+meaning_value u (Some (Meaning.Routine place)) v e h = subst (ValueStands u) (same_some e) tt
+meaning_value u (Some (Meaning.PackedAddress place)) v e h = subst (ValueStands u) (same_some e) tt
+meaning_value u (Some (Meaning.Word text)) v e h = subst (ValueStands u) (same_some e) h
+meaning_value u (Some (Meaning.Function function)) v e h = no_some (sym e)
 
 standing_meaning : (u : Out) (s : Standing Place) → StandingStands u s → MaybeMeaning u (meaning_in (Some s))
 standing_meaning u (IsDeclared number m place) h = h
@@ -152,25 +135,25 @@ module _ (u : Out) (names : List Value) (are : values_of u.names.names ≡ Some 
       let rest = undeclared (64 - length places) in
       join u targets words (undeclared 32 ++ map declared_at places) rest
       (join u targets words (undeclared 32) (map declared_at places)
-      (values_written u targets words (replicate 32 (value.Known 32)) (known_values u targets words 32 32))
+      (values_written u targets words (replicate 32 (Value.Known 32)) (known_values u targets words 32 32))
       (places_found targets words places))
-      (values_written u targets words (replicate (64 - length places) (value.Known 32))
+      (values_written u targets words (replicate (64 - length places) (Value.Known 32))
       (known_values u targets words (64 - length places) 32))
 
   defaults_found : AllFound targets words (values_cells (all_defaults u.tables.world.declared))
   defaults_found =
       let declared = u.tables.world.declared in
       let own = map (λ (d : DeclaredProperty). d.default) declared in
-      let rest = replicate (60 - length declared) (value.Known 0) in
+      let rest = replicate (60 - length declared) (Value.Known 0) in
       values_written u targets words (all_defaults declared)
-      (values_joined u targets words (replicate 3 (value.Known 0)) (own ++ rest) (known_values u targets words 3 0)
+      (values_joined u targets words (replicate 3 (Value.Known 0)) (own ++ rest) (known_values u targets words 3 0)
       (values_joined u targets words own rest
       (values_found u targets words finds own (defaults_stand u declared h.1.1.0.of_declared))
       (known_values u targets words (60 - length declared) 0)))
 
   globals_found : AllFound targets words (values_cells (all_globals u.tables.globals))
   globals_found =
-      let rest = replicate (240 - length u.tables.globals) (value.Known 0) in
+      let rest = replicate (240 - length u.tables.globals) (Value.Known 0) in
       values_written u targets words (all_globals u.tables.globals)
       (values_joined u targets words u.tables.globals rest
       (values_found u targets words finds u.tables.globals h.1.0.of_globals)
@@ -221,16 +204,16 @@ short_full : (past : Past) (refs : ℕ) → is_short_by (Some past) ≡ true →
 short_full past refs short none = symbols past.symbols past.tables past.labels short none
   where
     others : Option Setting
-    others = full_of past.code setting.Code (if past.strings then Some setting.Strings else
-        full_of (less past.refs refs) setting.References None)
+    others = full_of past.code Setting.Code (if past.strings then Some Setting.Strings else
+        full_of (less past.refs refs) Setting.References None)
 
-    labels : (o : Option ℕ) (t : Option Setting) → is_some t ≡ true → full_of o setting.Labels (or_full t others) ≡ None → ⊥
+    labels : (o : Option ℕ) (t : Option Setting) → is_some t ≡ true → full_of o Setting.Labels (or_full t others) ≡ None → ⊥
     labels None t is none = cc
     labels (Some rest) (Some limit) is none = cc
     labels (Some rest) None is none = cc
 
     symbols : (s : Bool) (t : Option Setting) (l : Option ℕ) → (s || is_some t) ≡ true
-        → (if s then Some setting.Symbols else full_of l setting.Labels (or_full t others)) ≡ None → ⊥
+        → (if s then Some Setting.Symbols else full_of l Setting.Labels (or_full t others)) ≡ None → ⊥
     symbols true t l is none = cc
     symbols false t l is none = labels l t is none
 

@@ -1,32 +1,14 @@
 -- The code of expressions keeps targets, where the operands of its trees stand.
-use Rattle.std.proofs.Common.{ℕ, List, [], ◌∷◌, ◌++◌, Bool, true, false, Option, Some, None, take, length}
-use Rattle.std.specs.Prelude.{if◌then◌else◌, nat_lt, not}
+use Rattle.std.proofs.Common.{ℕ, List, [], ◌∷◌, ◌++◌, Bool, true, false, Option, Some, None, take, length, if◌then◌else◌, nat_lt, not}
 use Rattle.inf_settings.specs.Bounds.{Limits}
-use Rattle.inf_opcode.specs.declared.instructions.Label.{Label}
-use Rattle.inf_opcode.specs.declared.opcodes.Opcode.{Opcode}
-use Rattle.inf_opcode.specs.declared.opcodes.Opcode.TheVariants as opcode
+use Rattle.inf_opcode.specs.{declared.instructions.Label.Label, declared.opcodes.Opcode.Opcode}
+use Rattle.inf_expressions.specs.declared.{operators.Binary.Binary, operators.Direction.Direction, operators.Operand.Operand}
+use Rattle.inf_expressions.specs.declared.{operators.Operation.Operation, operators.PropertyPart.PropertyPart, operators.Test.Test}
+use Rattle.inf_expressions.specs.declared.{operators.Unary.Unary}
 use Rattle.inf_expressions.specs.Trees.{Tree, Leaf, One, Two}
-use Rattle.inf_expressions.specs.declared.operators.Binary.{Binary}
-use Rattle.inf_expressions.specs.declared.operators.Binary.TheVariants as binary
-use Rattle.inf_expressions.specs.declared.operators.Direction.{Direction}
-use Rattle.inf_expressions.specs.declared.operators.Direction.TheVariants as step
-use Rattle.inf_expressions.specs.declared.operators.Operand.{Operand}
-use Rattle.inf_expressions.specs.declared.operators.Operand.TheVariants as operand
-use Rattle.inf_expressions.specs.declared.operators.Operation.{Operation}
-use Rattle.inf_expressions.specs.declared.operators.Operation.TheVariants as operation
-use Rattle.inf_expressions.specs.declared.operators.PropertyPart.{PropertyPart}
-use Rattle.inf_expressions.specs.declared.operators.PropertyPart.TheVariants as property
-use Rattle.inf_expressions.specs.declared.operators.Test.{Test}
-use Rattle.inf_expressions.specs.declared.operators.Test.TheVariants as test
-use Rattle.inf_expressions.specs.declared.operators.Unary.{Unary}
-use Rattle.inf_expressions.specs.declared.operators.Unary.TheVariants as unary
+use Rattle.inf_output.specs.{declared.operands.Simple.Simple, declared.veneer.Veneer.Veneer}
 use Rattle.inf_output.specs.Output.{Code, Out, marked, to, with_label, ◌▸◌}
-use Rattle.inf_output.specs.declared.operands.Simple.{Simple}
-use Rattle.inf_output.specs.declared.operands.Simple.TheVariants.{Known, Later, Variable}
-use Rattle.inf_output.specs.declared.veneer.Veneer.{Veneer}
-use Rattle.inf_output.specs.declared.veneer.Veneer.TheVariants as veneer
 use Rattle.inf_templates.specs.declared.tasks.Memory.{Memory}
-use Rattle.inf_templates.specs.declared.tasks.Memory.TheVariants as memory
 use Rattle.inf_templates.specs.Meaning.{InMemory, InVariable, Meaning, Nowhere, Target, and_branch, asking, assign_alone, assign_value}
 use Rattle.inf_templates.specs.Meaning.{assigned_alone, assigned_value, both, branching, by, call_of, called, called_by, compared, computed}
 use Rattle.inf_templates.specs.Meaning.{condition, either, group, is_true, jump_if, kept_tests, leaf, leaf_branch, leaf_target, leaves_new}
@@ -65,15 +47,15 @@ if_jump {u} {P} limits false label = sound_nothing
 
 leaf_branch_sound : {u : Out} {P : Type 0} (limits : Limits) (s : Simple) → SimpleStands u P s → (sense : Bool) (label : Label)
     → Sound limits u P (leaf_branch limits s sense label)
-leaf_branch_sound {u} {P} limits (Known number) h sense label =
+leaf_branch_sound {u} {P} limits (Simple.Known number) h sense label =
     if_jump limits (if sense then is_true number else not (is_true number)) label
-leaf_branch_sound {u} {P} limits (Variable number) h sense label = zero_sound limits (Variable number) tt sense label
-leaf_branch_sound {u} {P} limits (Later t) h sense label = zero_sound limits (Later t) h sense label
+leaf_branch_sound {u} {P} limits (Simple.Variable number) h sense label = zero_sound limits (Simple.Variable number) tt sense label
+leaf_branch_sound {u} {P} limits (Simple.Later t) h sense label = zero_sound limits (Simple.Later t) h sense label
 
 leaf_target_sound : (u : Out) (P : Type 0) (limits : Limits) (s : Simple) → TargetSound limits u P (leaf_target s)
-leaf_target_sound u P limits (Known number) = tt
-leaf_target_sound u P limits (Variable number) = tt
-leaf_target_sound u P limits (Later target) = tt
+leaf_target_sound u P limits (Simple.Known number) = tt
+leaf_target_sound u P limits (Simple.Variable number) = tt
+leaf_target_sound u P limits (Simple.Later target) = tt
 
 leaf_sound : {u : Out} {P : Type 0} (limits : Limits) (s : Simple) → SimpleStands u P s → MeaningSound limits u P (leaf limits s)
 leaf_sound {u} {P} limits s h = record {
@@ -102,14 +84,14 @@ made_sound {u} {P} limits value alone branch h k b = record {
 valued_sound : {u : Out} {P : Type 0} (limits : Limits) (value : ℕ → Code) (alone : Code) → ((d : ℕ) → Sound limits u P (value d))
     → Sound limits u P alone → MeaningSound limits u P (valued limits value alone)
 valued_sound {u} {P} limits value alone h k =
-    made_sound limits value alone (λ sense label. value SP ▸ jump_zero limits (Variable SP) sense label) h k
-    (λ sense label. sound_then (h SP) (zero_sound limits (Variable SP) tt sense label))
+    made_sound limits value alone (λ sense label. value SP ▸ jump_zero limits (Simple.Variable SP) sense label) h k
+    (λ sense label. sound_then (h SP) (zero_sound limits (Simple.Variable SP) tt sense label))
 
 truth_behind_sound : {u : Out} {P : Type 0} (limits : Limits) (fails last : Label) (d : ℕ)
     → Sound limits u P (truth_behind limits fails last d)
 truth_behind_sound {u} {P} limits fails last d =
-    sound_then (put_sound limits (Known 1) tt d) (sound_then (sound_jump last) (sound_then (sound_mark fails)
-    (sound_then (put_sound limits (Known 0) tt d) (sound_mark last))))
+    sound_then (put_sound limits (Simple.Known 1) tt d) (sound_then (sound_jump last) (sound_then (sound_mark fails)
+    (sound_then (put_sound limits (Simple.Known 0) tt d) (sound_mark last))))
 
 truth_sound : {u : Out} {P : Type 0} (limits : Limits) (branch : Bool → Label → Code)
     → ((sense : Bool) (label : Label) → Sound limits u P (branch sense label)) → (d : ℕ) → Sound limits u P (truth limits branch d)
@@ -140,9 +122,9 @@ parts_sound {u} {P} limits m h = (h.first, h.others)
 
 stored_sound : {u : Out} {P : Type 0} (limits : Limits) (m : Memory) (all : List Simple) → SimplesStand u P all
     → Sound limits u P (stored limits m all)
-stored_sound {u} {P} limits memory.Byte all h = sound_instruction opcode.Storeb all None None h
-stored_sound {u} {P} limits memory.Word all h = sound_instruction opcode.Storew all None None h
-stored_sound {u} {P} limits memory.Property all h = asked_sound limits veneer.WriteProperty all None h
+stored_sound {u} {P} limits Memory.Byte all h = sound_instruction Opcode.Storeb all None None h
+stored_sound {u} {P} limits Memory.Word all h = sound_instruction Opcode.Storew all None None h
+stored_sound {u} {P} limits Memory.Property all h = asked_sound limits Veneer.WriteProperty all None h
 
 assigned_value_sound : {u : Out} {P : Type 0} (limits : Limits) (t : Target) (a : Meaning) (d : ℕ) → TargetSound limits u P t
     → MeaningSound limits u P a → Sound limits u P (assigned_value limits t a d)
@@ -173,12 +155,12 @@ assign_alone_sound {u} {P} limits v a h k = assigned_alone_sound limits v.target
 -- Steps
 
 stepping_sound : {u : Out} {P : Type 0} (limits : Limits) (s : Direction) (v : ℕ) → Sound limits u P (stepping limits s v)
-stepping_sound {u} {P} limits step.Up v = sound_naming opcode.Inc v [] None None tt
-stepping_sound {u} {P} limits step.Down v = sound_naming opcode.Dec v [] None None tt
+stepping_sound {u} {P} limits Direction.Up v = sound_naming Opcode.Inc v [] None None tt
+stepping_sound {u} {P} limits Direction.Down v = sound_naming Opcode.Dec v [] None None tt
 
 step_stands : (u : Out) (P : Type 0) (s : Direction) → SimpleStands u P (by s)
-step_stands u P step.Up = tt
-step_stands u P step.Down = tt
+step_stands u P Direction.Up = tt
+step_stands u P Direction.Down = tt
 
 new_stands : (u : Out) (P : Type 0) (before : Bool) → SimpleStands u P (leaves_new before)
 new_stands u P true = tt
@@ -231,10 +213,10 @@ called_by_sound : {u : Out} {P : Type 0} (limits : Limits) (t : Target) (f : Mea
     → TargetSound limits u P t → MeaningSound limits u P f → AllSound limits u P ps → Sound limits u P (called_by limits t f ps store)
 called_by_sound {u} {P} limits Nowhere f ps store t h k = call_sound limits (part f) ps store (part_sound limits f h) k
 called_by_sound {u} {P} limits (InVariable v) f ps store t h k = call_sound limits (part f) ps store (part_sound limits f h) k
-called_by_sound {u} {P} limits (InMemory memory.Byte qs) f ps store t h k = call_sound limits (part f) ps store (part_sound limits f h) k
-called_by_sound {u} {P} limits (InMemory memory.Word qs) f ps store t h k = call_sound limits (part f) ps store (part_sound limits f h) k
-called_by_sound {u} {P} limits (InMemory memory.Property qs) f ps store t h k =
-    ask_sound limits veneer.CallProperty (qs ++ ps) store (all_joined u P limits qs ps t k)
+called_by_sound {u} {P} limits (InMemory Memory.Byte qs) f ps store t h k = call_sound limits (part f) ps store (part_sound limits f h) k
+called_by_sound {u} {P} limits (InMemory Memory.Word qs) f ps store t h k = call_sound limits (part f) ps store (part_sound limits f h) k
+called_by_sound {u} {P} limits (InMemory Memory.Property qs) f ps store t h k =
+    ask_sound limits Veneer.CallProperty (qs ++ ps) store (all_joined u P limits qs ps t k)
 
 call_of_sound : {u : Out} {P : Type 0} (limits : Limits) (f : Meaning) (ps : List Part) → MeaningSound limits u P f → AllSound limits u P ps
     → (store : Option ℕ) → Sound limits u P (call_of limits f ps store)
@@ -280,19 +262,19 @@ branching_sound {u} {P} limits opcode all sense label h = sound_instruction opco
 asking_sound : {u : Out} {P : Type 0} (limits : Limits) (v : Veneer) (all : List Simple) (sense : Bool) (label : Label)
     → SimplesStand u P all → Sound limits u P (asking limits v all sense label)
 asking_sound {u} {P} limits v all sense label h =
-    sound_then (asked_sound limits v all (Some SP) h) (zero_sound limits (Variable SP) tt sense label)
+    sound_then (asked_sound limits v all (Some SP) h) (zero_sound limits (Simple.Variable SP) tt sense label)
 
 compared_sound : {u : Out} {P : Type 0} (limits : Limits) (t : Test) (all : List Simple) (sense : Bool) (label : Label)
     → SimplesStand u P all → Sound limits u P (compared limits t all sense label)
-compared_sound {u} {P} limits test.Equal all sense label h = branching_sound limits opcode.Je all sense label h
-compared_sound {u} {P} limits test.Less all sense label h = branching_sound limits opcode.Jl all sense label h
-compared_sound {u} {P} limits test.Greater all sense label h = branching_sound limits opcode.Jg all sense label h
-compared_sound {u} {P} limits test.AtMost all sense label h = branching_sound limits opcode.Jg all (not sense) label h
-compared_sound {u} {P} limits test.AtLeast all sense label h = branching_sound limits opcode.Jl all (not sense) label h
-compared_sound {u} {P} limits test.Has all sense label h = branching_sound limits opcode.TestAttr all sense label h
-compared_sound {u} {P} limits test.In all sense label h = branching_sound limits opcode.Jin all sense label h
-compared_sound {u} {P} limits test.OfClass all sense label h = asking_sound limits veneer.OfClass all sense label h
-compared_sound {u} {P} limits test.Provides all sense label h = asking_sound limits veneer.Provides all sense label h
+compared_sound {u} {P} limits Test.Equal all sense label h = branching_sound limits Opcode.Je all sense label h
+compared_sound {u} {P} limits Test.Less all sense label h = branching_sound limits Opcode.Jl all sense label h
+compared_sound {u} {P} limits Test.Greater all sense label h = branching_sound limits Opcode.Jg all sense label h
+compared_sound {u} {P} limits Test.AtMost all sense label h = branching_sound limits Opcode.Jg all (not sense) label h
+compared_sound {u} {P} limits Test.AtLeast all sense label h = branching_sound limits Opcode.Jl all (not sense) label h
+compared_sound {u} {P} limits Test.Has all sense label h = branching_sound limits Opcode.TestAttr all sense label h
+compared_sound {u} {P} limits Test.In all sense label h = branching_sound limits Opcode.Jin all sense label h
+compared_sound {u} {P} limits Test.OfClass all sense label h = asking_sound limits Veneer.OfClass all sense label h
+compared_sound {u} {P} limits Test.Provides all sense label h = asking_sound limits Veneer.Provides all sense label h
 
 tested_sound : {u : Out} {P : Type 0} (limits : Limits) (t : Test) (ps : List Part) (sense : Bool) (label : Label) → AllSound limits u P ps
     → Sound limits u P (tested limits t ps sense label)
@@ -305,13 +287,13 @@ triple_sound : {u : Out} {P : Type 0} (limits : Limits) (x : Simple) (ps : List 
 unfolding triple_tests
 triple_sound {u} {P} limits x [] sense label there k h = sound_nothing
 triple_sound {u} {P} limits x (b ∷ []) sense label there k h =
-    tested_sound limits test.Equal (is x ∷ b ∷ []) sense label (is_sound limits x k, (h.0, tt))
+    tested_sound limits Test.Equal (is x ∷ b ∷ []) sense label (is_sound limits x k, (h.0, tt))
 triple_sound {u} {P} limits x (b ∷ c ∷ []) sense label there k h =
-    tested_sound limits test.Equal (is x ∷ b ∷ c ∷ []) sense label (is_sound limits x k, (h.0, (h.1.0, tt)))
+    tested_sound limits Test.Equal (is x ∷ b ∷ c ∷ []) sense label (is_sound limits x k, (h.0, (h.1.0, tt)))
 triple_sound {u} {P} limits x (b ∷ c ∷ d ∷ []) sense label there k h =
-    tested_sound limits test.Equal (is x ∷ b ∷ c ∷ d ∷ []) sense label (is_sound limits x k, (h.0, (h.1.0, (h.1.1.0, tt))))
+    tested_sound limits Test.Equal (is x ∷ b ∷ c ∷ d ∷ []) sense label (is_sound limits x k, (h.0, (h.1.0, (h.1.1.0, tt))))
 triple_sound {u} {P} limits x (b ∷ c ∷ d ∷ e ∷ others) sense label there k h =
-    sound_then (tested_sound limits test.Equal (is x ∷ b ∷ c ∷ d ∷ []) true there (is_sound limits x k, (h.0, (h.1.0, (h.1.1.0, tt)))))
+    sound_then (tested_sound limits Test.Equal (is x ∷ b ∷ c ∷ d ∷ []) true there (is_sound limits x k, (h.0, (h.1.0, (h.1.1.0, tt)))))
     (triple_sound limits x (e ∷ others) sense label there k h.1.1.1)
 
 single_sound : {u : Out} {P : Type 0} (limits : Limits) (t : Test) (x : Simple) (ps : List Part) (sense : Bool) (label there : Label)
@@ -341,7 +323,7 @@ kept_tests_sound : {u : Out} {P : Type 0} (limits : Limits) (b : Bool) (t : Test
     (label there : Label)
     → MeaningSound limits u P a → AllSound limits u P ps → Sound limits u P (kept_tests limits b t a ps sense label there)
 kept_tests_sound {u} {P} limits true t a ps sense label there h k =
-    sound_then (h.value TEMP) (tests_sound limits t (Variable TEMP) ps sense label there tt k)
+    sound_then (h.value TEMP) (tests_sound limits t (Simple.Variable TEMP) ps sense label there tt k)
 kept_tests_sound {u} {P} limits false t a ps sense label there h k =
     at_once_sound limits t (part a) ps sense label (part_sound limits a h) k
 
@@ -364,41 +346,41 @@ test_sound {u} {P} limits t a b h k sense label =
 
 one_sound : {u : Out} {P : Type 0} (limits : Limits) (op : Unary) (a : Meaning) → MeaningSound limits u P a
     → MeaningSound limits u P (one limits op a)
-one_sound {u} {P} limits unary.Negate a h =
-    computed_sound limits opcode.Sub (is (Known 0) ∷ part a ∷ []) (is_sound limits (Known 0) tt, (part_sound limits a h, tt))
-one_sound {u} {P} limits unary.Not a h =
+one_sound {u} {P} limits Unary.Negate a h =
+    computed_sound limits Opcode.Sub (is (Simple.Known 0) ∷ part a ∷ []) (is_sound limits (Simple.Known 0) tt, (part_sound limits a h, tt))
+one_sound {u} {P} limits Unary.Not a h =
     condition_sound limits (λ sense label. a.branch (not sense) label) (λ sense label. h.branch (not sense) label)
-one_sound {u} {P} limits (unary.Single s) a h = computed_sound limits (single_opcode s) (part a ∷ []) (part_sound limits a h, tt)
-one_sound {u} {P} limits (unary.Before s) a h = stepped_sound limits true s a h
-one_sound {u} {P} limits (unary.Behind s) a h = stepped_sound limits false s a h
-one_sound {u} {P} limits (unary.Relative r) a h =
+one_sound {u} {P} limits (Unary.Single s) a h = computed_sound limits (single_opcode s) (part a ∷ []) (part_sound limits a h, tt)
+one_sound {u} {P} limits (Unary.Before s) a h = stepped_sound limits true s a h
+one_sound {u} {P} limits (Unary.Behind s) a h = stepped_sound limits false s a h
+one_sound {u} {P} limits (Unary.Relative r) a h =
     valued_sound limits (related limits (related_opcode r) (part a)) (related limits (related_opcode r) (part a) TEMP)
     (related_sound limits (related_opcode r) (part a) (part_sound limits a h))
     (related_sound limits (related_opcode r) (part a) (part_sound limits a h) TEMP)
-one_sound {u} {P} limits unary.Children a h =
-    called_sound limits (call_routine limits veneer.Children (part a ∷ []))
-    (λ store. ask_sound limits veneer.Children (part a ∷ []) store (part_sound limits a h, tt))
-one_sound {u} {P} limits unary.Call a h = called_sound limits (call_of limits a []) (call_of_sound limits a [] h tt)
-one_sound {u} {P} limits unary.Indirect a h =
+one_sound {u} {P} limits Unary.Children a h =
+    called_sound limits (call_routine limits Veneer.Children (part a ∷ []))
+    (λ store. ask_sound limits Veneer.Children (part a ∷ []) store (part_sound limits a h, tt))
+one_sound {u} {P} limits Unary.Call a h = called_sound limits (call_of limits a []) (call_of_sound limits a [] h tt)
+one_sound {u} {P} limits Unary.Indirect a h =
     called_sound limits (call limits a.first a.others) (λ store. call_sound limits a.first a.others store h.first h.others)
 
 operation_target_sound : (u : Out) (P : Type 0) (limits : Limits) (o : Operation) (ps : List Part) → AllSound limits u P ps
     → TargetSound limits u P (operation_target o ps)
-operation_target_sound u P limits operation.Byte ps h = h
-operation_target_sound u P limits operation.Word ps h = h
-operation_target_sound u P limits operation.Add ps h = tt
-operation_target_sound u P limits operation.Subtract ps h = tt
-operation_target_sound u P limits operation.Multiply ps h = tt
-operation_target_sound u P limits operation.Divide ps h = tt
-operation_target_sound u P limits operation.Remainder ps h = tt
-operation_target_sound u P limits operation.BitAnd ps h = tt
-operation_target_sound u P limits operation.BitOr ps h = tt
+operation_target_sound u P limits Operation.Byte ps h = h
+operation_target_sound u P limits Operation.Word ps h = h
+operation_target_sound u P limits Operation.Add ps h = tt
+operation_target_sound u P limits Operation.Subtract ps h = tt
+operation_target_sound u P limits Operation.Multiply ps h = tt
+operation_target_sound u P limits Operation.Divide ps h = tt
+operation_target_sound u P limits Operation.Remainder ps h = tt
+operation_target_sound u P limits Operation.BitAnd ps h = tt
+operation_target_sound u P limits Operation.BitOr ps h = tt
 
 property_target_sound : (u : Out) (P : Type 0) (limits : Limits) (p : PropertyPart) (ps : List Part) → AllSound limits u P ps
     → TargetSound limits u P (property_target p ps)
-property_target_sound u P limits property.Value ps h = h
-property_target_sound u P limits property.Address ps h = tt
-property_target_sound u P limits property.Length ps h = tt
+property_target_sound u P limits PropertyPart.Value ps h = h
+property_target_sound u P limits PropertyPart.Address ps h = tt
+property_target_sound u P limits PropertyPart.Length ps h = tt
 
 -- a meaning with another target
 with_target : {u : Out} {P : Type 0} (limits : Limits) (m : Meaning) (t : Target) → MeaningSound limits u P m → TargetSound limits u P t
@@ -415,31 +397,31 @@ with_target {u} {P} limits m t h k = record {
 
 two_sound : {u : Out} {P : Type 0} (limits : Limits) (op : Binary) (a b : Meaning) → MeaningSound limits u P a → MeaningSound limits u P b
     → MeaningSound limits u P (two limits op a b)
-two_sound {u} {P} limits (binary.Operation o) a b h k =
+two_sound {u} {P} limits (Binary.Operation o) a b h k =
     let ps = part a ∷ part b ∷ [] in
     let all : AllSound limits u P ps = (part_sound limits a h, (part_sound limits b k, tt)) in
     with_target limits (computed limits (operation_opcode o) ps) (operation_target o ps) (computed_sound limits (operation_opcode o) ps all)
     (operation_target_sound u P limits o ps all)
-two_sound {u} {P} limits (binary.Property p) a b h k =
+two_sound {u} {P} limits (Binary.Property p) a b h k =
     let ps = part a ∷ part b ∷ [] in
     let all : AllSound limits u P ps = (part_sound limits a h, (part_sound limits b k, tt)) in
     with_target limits (called limits (call_routine limits (reader p) ps)) (property_target p ps)
     (called_sound limits (call_routine limits (reader p) ps) (λ store. ask_sound limits (reader p) ps store all))
     (property_target_sound u P limits p ps all)
-two_sound {u} {P} limits (binary.Test t) a b h k = condition_sound limits (test_branch limits t a b) (test_sound limits t a b h k)
-two_sound {u} {P} limits (binary.Fails t) a b h k =
+two_sound {u} {P} limits (Binary.Test t) a b h k = condition_sound limits (test_branch limits t a b) (test_sound limits t a b h k)
+two_sound {u} {P} limits (Binary.Fails t) a b h k =
     condition_sound limits (λ sense. test_branch limits t a b (not sense)) (λ sense. test_sound limits t a b h k (not sense))
-two_sound {u} {P} limits binary.Assign a b h k =
+two_sound {u} {P} limits Binary.Assign a b h k =
     valued_sound limits (assign_value limits a b) (assign_alone limits a b) (assign_value_sound limits a b h k)
     (assign_alone_sound limits a b h k)
-two_sound {u} {P} limits binary.Comma a b h k =
+two_sound {u} {P} limits Binary.Comma a b h k =
     valued_sound limits (λ d. a.alone ▸ b.value d) (a.alone ▸ b.value TEMP) (λ d. sound_then h.alone (k.value d))
     (sound_then h.alone (k.value TEMP))
-two_sound {u} {P} limits binary.And a b h k = condition_sound limits (and_branch limits a b) (and_sound limits a b h k)
-two_sound {u} {P} limits binary.Or a b h k = condition_sound limits (or_branch limits a b) (or_sound limits a b h k)
-two_sound {u} {P} limits binary.Call a b h k =
+two_sound {u} {P} limits Binary.And a b h k = condition_sound limits (and_branch limits a b) (and_sound limits a b h k)
+two_sound {u} {P} limits Binary.Or a b h k = condition_sound limits (or_branch limits a b) (or_sound limits a b h k)
+two_sound {u} {P} limits Binary.Call a b h k =
     called_sound limits (call_of limits a (parts b)) (call_of_sound limits a (parts b) h (parts_sound limits b k))
-two_sound {u} {P} limits binary.Then a b h k =
+two_sound {u} {P} limits Binary.Then a b h k =
     let v = valued_sound limits a.value a.alone h.value h.alone in
     record {
       operand = tt;
@@ -450,14 +432,14 @@ two_sound {u} {P} limits binary.Then a b h k =
       first = part_sound limits a h;
       others = parts_sound limits b k;
     }
-two_sound {u} {P} limits binary.To a b h k = valued_sound limits a.value a.alone h.value h.alone
+two_sound {u} {P} limits Binary.To a b h k = valued_sound limits a.value a.alone h.value h.alone
 
 simple_stands : (u : Out) (P : Type 0) (x : Operand) → OperandStands u P x → SimpleStands u P (simple x)
-simple_stands u P (operand.Known number) h = tt
-simple_stands u P (operand.Variable number) h = tt
-simple_stands u P (operand.Later t) h = h
-simple_stands u P (operand.Function f) h = tt
-simple_stands u P operand.Unknown h = tt
+simple_stands u P (Operand.Known number) h = tt
+simple_stands u P (Operand.Variable number) h = tt
+simple_stands u P (Operand.Later t) h = h
+simple_stands u P (Operand.Function f) h = tt
+simple_stands u P Operand.Unknown h = tt
 
 pub meaning_sound : {u : Out} {P : Type 0} (limits : Limits) (t : Tree) → TreeStands u P t → MeaningSound limits u P (meaning limits t)
 meaning_sound {u} {P} limits (Leaf x) s = leaf_sound limits (simple x) (simple_stands u P x s)

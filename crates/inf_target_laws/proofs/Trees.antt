@@ -1,24 +1,14 @@
 -- Trees of a unit stand where its operands do.
 use Rattle.std.proofs.Common.{ℕ, zero, suc, List, [], ◌∷◌, ◌++◌, Bool, true, false, Option, Some, None, sym, subst}
-use Rattle.std.specs.Prelude.{◌==◌, ◌-◌, map, reverse, if◌then◌else◌}
 use Rattle.std.proofs.lemmas.List.{reverse-append}
+use Rattle.std.specs.Prelude.{◌==◌, ◌-◌, map, reverse, if◌then◌else◌}
+use Rattle.inf_expressions.specs.{Questions.children_of, Questions.is_list, Questions.range_of, Rooted.Rooted, Rooted.bracketed_latest}
+use Rattle.inf_expressions.specs.{Rooted.with_two, Rooted.with_unary, Trees.Leaf, Trees.One, Trees.Tree, Trees.Two}
+use Rattle.inf_expressions.specs.declared.{operators.Binary.Binary, operators.Function.Function, operators.Operand.Operand}
+use Rattle.inf_expressions.specs.declared.{operators.Test.Test, operators.Unary.Unary, symbols.Symbol.Symbol, units.Wanted.Wanted}
 use Rattle.inf_expressions.specs.Folding.{built, folded, folded_single, function_of, known, number_or}
-use Rattle.inf_expressions.specs.Questions.{children_of, is_list, range_of}
-use Rattle.inf_expressions.specs.Rooted.{Rooted, bracketed_latest, with_two, with_unary}
-use Rattle.inf_expressions.specs.Trees.{Tree, Leaf, One, Two}
 use Rattle.inf_expressions.specs.Units.{Gathered, acted, call_joined, called, gathered, listed, nothing_gathered, operand_at, parted}
 use Rattle.inf_expressions.specs.Units.{trees_of, with_unary_of}
-use Rattle.inf_expressions.specs.declared.operators.Binary.{Binary}
-use Rattle.inf_expressions.specs.declared.operators.Binary.TheVariants as binary
-use Rattle.inf_expressions.specs.declared.operators.Function.{Function}
-use Rattle.inf_expressions.specs.declared.operators.Operand.{Operand}
-use Rattle.inf_expressions.specs.declared.operators.Test.TheVariants as test
-use Rattle.inf_expressions.specs.declared.operators.Unary.{Unary}
-use Rattle.inf_expressions.specs.declared.operators.Unary.TheVariants as unary
-use Rattle.inf_expressions.specs.declared.symbols.Symbol.{Symbol}
-use Rattle.inf_expressions.specs.declared.symbols.Symbol.TheVariants as symbol
-use Rattle.inf_expressions.specs.declared.units.Wanted.{Wanted}
-use Rattle.inf_expressions.specs.declared.units.Wanted.TheVariants as wanted
 use Rattle.inf_constructs.specs.Roots.{tree_in}
 use Rattle.inf_output.specs.Output.{Out}
 use Rattle.inf_target_laws.proofs.Premises.{OperandStands, OperandsStand, RootsStand, TreeStands, TreesStand}
@@ -31,18 +21,18 @@ number_stands u P None t h = h
 
 built_stands : (u : Out) (P : Type 0) (op : Binary) (f : Option Function) (a b : Tree) → TreeStands u P a → TreeStands u P b
     → TreeStands u P (built op f a b)
-built_stands u P binary.Call (Some f) a b h k = k
-built_stands u P binary.Call None a b h k = (h, k)
-built_stands u P (binary.Operation o) f a b h k = (h, k)
-built_stands u P (binary.Property p) f a b h k = (h, k)
-built_stands u P (binary.Test t) f a b h k = (h, k)
-built_stands u P (binary.Fails t) f a b h k = (h, k)
-built_stands u P binary.Assign f a b h k = (h, k)
-built_stands u P binary.Comma f a b h k = (h, k)
-built_stands u P binary.And f a b h k = (h, k)
-built_stands u P binary.Or f a b h k = (h, k)
-built_stands u P binary.Then f a b h k = (h, k)
-built_stands u P binary.To f a b h k = (h, k)
+built_stands u P Binary.Call (Some f) a b h k = k
+built_stands u P Binary.Call None a b h k = (h, k)
+built_stands u P (Binary.Operation o) f a b h k = (h, k)
+built_stands u P (Binary.Property p) f a b h k = (h, k)
+built_stands u P (Binary.Test t) f a b h k = (h, k)
+built_stands u P (Binary.Fails t) f a b h k = (h, k)
+built_stands u P Binary.Assign f a b h k = (h, k)
+built_stands u P Binary.Comma f a b h k = (h, k)
+built_stands u P Binary.And f a b h k = (h, k)
+built_stands u P Binary.Or f a b h k = (h, k)
+built_stands u P Binary.Then f a b h k = (h, k)
+built_stands u P Binary.To f a b h k = (h, k)
 
 two_stand : (u : Out) (P : Type 0) (op : Binary) (trees : List Rooted) → RootsStand u P trees → RootsStand u P (with_two op trees)
 two_stand u P op [] h = tt
@@ -67,7 +57,7 @@ bracketed_stands u P order (a ∷ trees) h = h
 
 listed_stands : (u : Out) (P : Type 0) (unit n : ℕ) (g : Gathered) → RootsStand u P g.trees → RootsStand u P (listed unit n g).trees
 listed_stands u P unit zero g h = h
-listed_stands u P unit (suc n) g h = two_stand u P binary.Then (listed unit n g).trees (listed_stands u P unit n g h)
+listed_stands u P unit (suc n) g h = two_stand u P Binary.Then (listed unit n g).trees (listed_stands u P unit n g h)
 
 called_stands : (u : Out) (P : Type 0) (unit given : ℕ) (g : Gathered) → RootsStand u P g.trees → RootsStand u P (called unit given g).trees
 called_stands u P unit given g h = go (given == 0)
@@ -75,18 +65,18 @@ called_stands u P unit given g h = go (given == 0)
     all : Gathered
     all = listed unit (given - 1) g
 
-    go : (b : Bool) → RootsStand u P (if◌then◌else◌ {A = Gathered} b (with_unary_of unary.Call None g) (call_joined unit given all)).trees
-    go true = unary_stands u P unary.Call None g.trees h
-    go false = two_stand u P binary.Call all.trees (listed_stands u P unit (given - 1) g h)
+    go : (b : Bool) → RootsStand u P (if◌then◌else◌ {A = Gathered} b (with_unary_of Unary.Call None g) (call_joined unit given all)).trees
+    go true = unary_stands u P Unary.Call None g.trees h
+    go false = two_stand u P Binary.Call all.trees (listed_stands u P unit (given - 1) g h)
 
 parted_stands : (u : Out) (P : Type 0) (w : Wanted) (unit : ℕ) (g : Gathered) → RootsStand u P g.trees
     → RootsStand u P (parted w unit g).trees
-parted_stands u P wanted.Case unit g h = h
-parted_stands u P wanted.Value unit g h = two_stand u P binary.Comma g.trees h
-parted_stands u P wanted.Loop unit g h = two_stand u P binary.Comma g.trees h
-parted_stands u P wanted.Constant unit g h = two_stand u P binary.Comma g.trees h
-parted_stands u P wanted.Operand unit g h = two_stand u P binary.Comma g.trees h
-parted_stands u P wanted.Number unit g h = two_stand u P binary.Comma g.trees h
+parted_stands u P Wanted.Case unit g h = h
+parted_stands u P Wanted.Value unit g h = two_stand u P Binary.Comma g.trees h
+parted_stands u P Wanted.Loop unit g h = two_stand u P Binary.Comma g.trees h
+parted_stands u P Wanted.Constant unit g h = two_stand u P Binary.Comma g.trees h
+parted_stands u P Wanted.Operand unit g h = two_stand u P Binary.Comma g.trees h
+parted_stands u P Wanted.Number unit g h = two_stand u P Binary.Comma g.trees h
 
 at_stands : (u : Out) (P : Type 0) (operands : List Operand) (leaf : ℕ) → OperandsStand u P operands
     → OperandStands u P (operand_at operands leaf)
@@ -96,14 +86,14 @@ at_stands u P (x ∷ operands) (suc leaf) h = at_stands u P operands leaf h.1
 
 acted_stands : (u : Out) (P : Type 0) (w : Wanted) (unit : ℕ) (operands : List Operand) (s : Symbol) (g : Gathered)
     → OperandsStand u P operands → RootsStand u P g.trees → RootsStand u P (acted w unit operands s g).trees
-acted_stands u P w unit operands (symbol.Leaf first token leaf) g all h = (at_stands u P operands leaf all, h)
-acted_stands u P w unit operands (symbol.Bracketed order) g all h = bracketed_stands u P order g.trees h
-acted_stands u P w unit operands (symbol.Prefix order op) g all h = unary_stands u P op (Some order) g.trees h
-acted_stands u P w unit operands (symbol.Suffix op) g all h = unary_stands u P op None g.trees h
-acted_stands u P w unit operands (symbol.Two op) g all h = two_stand u P op g.trees h
-acted_stands u P w unit operands symbol.Comma g all h = parted_stands u P w unit g h
-acted_stands u P w unit operands (symbol.List joints) g all h = listed_stands u P unit joints g h
-acted_stands u P w unit operands (symbol.Call given) g all h = called_stands u P unit given g h
+acted_stands u P w unit operands (Symbol.Leaf first token leaf) g all h = (at_stands u P operands leaf all, h)
+acted_stands u P w unit operands (Symbol.Bracketed order) g all h = bracketed_stands u P order g.trees h
+acted_stands u P w unit operands (Symbol.Prefix order op) g all h = unary_stands u P op (Some order) g.trees h
+acted_stands u P w unit operands (Symbol.Suffix op) g all h = unary_stands u P op None g.trees h
+acted_stands u P w unit operands (Symbol.Two op) g all h = two_stand u P op g.trees h
+acted_stands u P w unit operands Symbol.Comma g all h = parted_stands u P w unit g h
+acted_stands u P w unit operands (Symbol.List joints) g all h = listed_stands u P unit joints g h
+acted_stands u P w unit operands (Symbol.Call given) g all h = called_stands u P unit given g h
 
 gathered_stand : (u : Out) (P : Type 0) (w : Wanted) (unit : ℕ) (operands : List Operand) (symbols : List Symbol) (g : Gathered)
     → OperandsStand u P operands → RootsStand u P g.trees → RootsStand u P (gathered w unit operands symbols g).trees
@@ -140,7 +130,7 @@ EndsStand u P None = Unit {0}
 EndsStand u P (Some ends) = TreeStands u P ends.0 × TreeStands u P ends.1
 
 pub range_stands : (u : Out) (P : Type 0) (t : Tree) → TreeStands u P t → EndsStand u P (range_of t)
-range_stands u P (Two binary.To a b) h = h
+range_stands u P (Two Binary.To a b) h = h
 range_stands u P t h = tt
 
 abbrev pub ChildStands : Out → Type 0 → Option Tree → Type 0
@@ -148,7 +138,7 @@ ChildStands u P None = Unit {0}
 ChildStands u P (Some e) = TreeStands u P e
 
 pub child_stands : (u : Out) (P : Type 0) (t : Tree) → TreeStands u P t → ChildStands u P (children_of t)
-child_stands u P (Two (binary.Test test.In) (Leaf v) e) h = by_list (is_list e)
+child_stands u P (Two (Binary.Test Test.In) (Leaf v) e) h = by_list (is_list e)
   where
     by_list : (b : Bool) → ChildStands u P (if b then None else Some e)
     by_list true = tt

@@ -1,53 +1,34 @@
 -- Turns of a reading, token by token, and the supplied routines behind it.
-use Rattle.std.proofs.Common.{ℕ, List, [], ◌∷◌, Bool, true, false, Option, Some, None}
-use Rattle.std.specs.Prelude.{if◌then◌else◌}
+use Rattle.std.proofs.Common.{ℕ, List, [], ◌∷◌, Bool, true, false, Option, Some, None, if◌then◌else◌}
 use Rattle.inf_settings.specs.Bounds.{Limits}
 use Rattle.inf_scanner.specs.declared.tokens.Place.{Place}
 use Rattle.inf_gathering.specs.declared.gathering.Leaf.{Leaf}
-use Rattle.inf_gathering.specs.declared.gathering.Leaf.TheVariants as leaf
 use Rattle.inf_devices.specs.Files.{Sources}
-use Rattle.inf_machine.specs.Machine.{fits, taken}
-use Rattle.inf_machine.specs.declared.symbols.Symbol.{Symbol}
+use Rattle.inf_machine.specs.{Machine.fits, Machine.taken, declared.symbols.Symbol.Symbol}
 use Rattle.inf_syntax.specs.declared.actions.Action.{Action}
-use Rattle.inf_grammar.specs.Language.{grammar, known}
-use Rattle.inf_grammar.specs.Routines.{closings}
+use Rattle.inf_grammar.specs.{Language.grammar, Language.known, Routines.closings}
 use Rattle.inf_names.specs.Spellings.{Name}
 use Rattle.inf_report.specs.Messages.{NoInclude, TooManyFiles}
 use Rattle.inf_sources.specs.Inclusions.{Inclusion, Opens, OpensNone, Waiting, inclusion}
 use Rattle.inf_sources.specs.declared.open_files.Included.{Included}
-use Rattle.inf_sources.specs.declared.open_files.Included.TheVariants as answer
 use Rattle.inf_output.specs.Output.{Out}
+use Rattle.inf_unit.specs.{Messages.location, Messages.with_fatal, Tokens.SourceToken, Tokens.atom_of, Tokens.is_end, Units.name_at}
 use Rattle.inf_unit.specs.Directives.{Characters, End, Include, Nothing, Request}
-use Rattle.inf_unit.specs.Messages.{location, with_fatal}
-use Rattle.inf_unit.specs.Tokens.{SourceToken, atom_of, is_end}
-use Rattle.inf_unit.specs.Units.{name_at}
-use Rattle.inf_compilation.specs.Actions.{Compilation, piece_begun as work_begun}
-use Rattle.inf_compilation.specs.Context.{Context}
-use Rattle.inf_compilation.specs.Nesting.{closed_ahead}
-use Rattle.inf_conditionals.specs.Ends.{file_told, piece_told, with_lone}
-use Rattle.inf_conditionals.specs.Judging.{judged}
-use Rattle.inf_conditionals.specs.Operands.{action_added, actions_added, appeared_by}
-use Rattle.inf_conditionals.specs.Said.{Deep, Long, Right, Said, Wrong}
-use Rattle.inf_conditionals.specs.declared.filtered.Filtered.{Filtered}
-use Rattle.inf_conditionals.specs.declared.filtered.Forwarded.{Forwarded}
-use Rattle.inf_conditionals.specs.declared.filtered.Forwarded.TheVariants as handed
-use Rattle.inf_conditionals.specs.declared.filtered.Sign.{Sign}
-use Rattle.inf_reader.specs.Acting.{all_acted, cut_at}
+use Rattle.inf_compilation.specs.{Actions.Compilation, Actions.piece_begun as work_begun, Context.Context, Nesting.closed_ahead}
+use Rattle.inf_conditionals.specs.{Ends.file_told, Ends.piece_told, Ends.with_lone, Judging.judged, Operands.action_added}
+use Rattle.inf_conditionals.specs.{Operands.actions_added, Operands.appeared_by, Said.Deep, Said.Long, Said.Right, Said.Said, Said.Wrong}
+use Rattle.inf_conditionals.specs.{declared.filtered.Filtered.Filtered, declared.filtered.Forwarded.Forwarded, declared.filtered.Sign.Sign}
+use Rattle.inf_reader.specs.{Acting.all_acted, Acting.cut_at, Tests.complaint_of, declared.recovery.Recovery.Recovery}
 use Rattle.inf_reader.specs.Handing.{handed_as, hash, judged_taken, lone_told, said_told, sign_taken, site_of, token_taken, unfit_in}
 use Rattle.inf_reader.specs.Handing.{unit_ended}
 use Rattle.inf_reader.specs.Reading.{Reading, ReaderState, bad, is_mode_ended, judged as token_judged, piece_begun, read_at, step, step_in}
 use Rattle.inf_reader.specs.Reading.{took, with_complaint}
-use Rattle.inf_reader.specs.Tests.{complaint_of}
-use Rattle.inf_reader.specs.declared.recovery.Recovery.{Recovery}
-use Rattle.inf_reader.specs.declared.recovery.Recovery.TheVariants as mode
 use Rattle.inf_session.specs.Choices.{Choices}
 use Rattle.inf_session.specs.Session.{State, answered, asked_nothing, carried_out, context_of, file_closed, followed, has_ended}
 use Rattle.inf_session.specs.Session.{included_by, is_resting, left, left_by, none_included, piece_closed, rested, stand_of, stepped}
 use Rattle.inf_session.specs.Session.{token_of, turn}
-use Rattle.inf_target_laws.proofs.Actions.{all_acted_steps, cut_at_steps, took_steps}
-use Rattle.inf_target_laws.proofs.Operands.{action_keeps}
-use Rattle.inf_target_laws.proofs.Outputs.{Keeps, goes_nowhere, goes_then}
-use Rattle.inf_target_laws.proofs.Units.{ahead_steps}
+use Rattle.inf_target_laws.proofs.{Actions.all_acted_steps, Actions.cut_at_steps, Actions.took_steps, Operands.action_keeps, Outputs.Keeps}
+use Rattle.inf_target_laws.proofs.{Outputs.goes_nowhere, Outputs.goes_then, Units.ahead_steps}
 use Rattle.inf_target_laws.proofs.Ways.{Steps, begun_ends, report_steps, stays, steps_then}
 
 -- Actions of a condition
@@ -57,14 +38,14 @@ appeared_by_keeps limits u None o = goes_nowhere u o
 appeared_by_keeps limits u (Some n) o = action_keeps limits u n.bytes n.place o
 
 one_action_keeps : (limits : Limits) (u : Out) (tokens : List SourceToken) (l : Leaf) → Keeps u (action_added limits tokens l)
-one_action_keeps limits u tokens (leaf.Action at) o = appeared_by_keeps limits u (name_at tokens at) o
-one_action_keeps limits u tokens (leaf.Name at) o = goes_nowhere u o
-one_action_keeps limits u tokens (leaf.Alone at) o = goes_nowhere u o
-one_action_keeps limits u tokens (leaf.Number number) o = goes_nowhere u o
-one_action_keeps limits u tokens (leaf.Char zscii) o = goes_nowhere u o
-one_action_keeps limits u tokens (leaf.Word word) o = goes_nowhere u o
-one_action_keeps limits u tokens (leaf.Text at) o = goes_nowhere u o
-one_action_keeps limits u tokens (leaf.System at) o = goes_nowhere u o
+one_action_keeps limits u tokens (Leaf.Action at) o = appeared_by_keeps limits u (name_at tokens at) o
+one_action_keeps limits u tokens (Leaf.Name at) o = goes_nowhere u o
+one_action_keeps limits u tokens (Leaf.Alone at) o = goes_nowhere u o
+one_action_keeps limits u tokens (Leaf.Number number) o = goes_nowhere u o
+one_action_keeps limits u tokens (Leaf.Char zscii) o = goes_nowhere u o
+one_action_keeps limits u tokens (Leaf.Word word) o = goes_nowhere u o
+one_action_keeps limits u tokens (Leaf.Text at) o = goes_nowhere u o
+one_action_keeps limits u tokens (Leaf.System at) o = goes_nowhere u o
 
 actions_keep : (limits : Limits) (u : Out) (tokens : List SourceToken) (leaves : List Leaf) → Keeps u (actions_added limits tokens leaves)
 actions_keep limits u tokens [] o = goes_nowhere u o
@@ -106,17 +87,17 @@ piece_steps w = record { on = λ e. e; kept = λ e h. (h.0, tt) }
 at_steps : {limits : Limits} {context : Context} {u : Out} (t : SourceToken) (stack : List (Symbol Action)) (r : Reading) (w : Compilation)
     → Steps limits context u w (read_at limits context t stack r w).work
 at_steps {limits} {context} {u} t [] r w =
-    either_steps (is_end t.kind) w (record { reading = record r { mode = mode.Ended }; work = w })
+    either_steps (is_end t.kind) w (record { reading = record r { mode = Recovery.Ended }; work = w })
     (token_judged limits context t (piece_begun r) (work_begun w)) (stays w)
     (steps_then (piece_steps w) (judged_steps t (piece_begun r) (work_begun w)))
 at_steps t (symbol ∷ symbols) r w = judged_steps t r w
 
 in_steps : {limits : Limits} {context : Context} {u : Out} (m : Recovery) (t : SourceToken) (r : Reading) (w : Compilation)
     → Steps limits context u w (step_in limits m context t r w).work
-in_steps mode.Reads t r w = at_steps t r.stack r w
-in_steps mode.SkipsRoutine t r w = stays w
-in_steps mode.SkipsDirective t r w = stays w
-in_steps mode.Ended t r w = stays w
+in_steps Recovery.Reads t r w = at_steps t r.stack r w
+in_steps Recovery.SkipsRoutine t r w = stays w
+in_steps Recovery.SkipsDirective t r w = stays w
+in_steps Recovery.Ended t r w = stays w
 
 token_steps : {limits : Limits} {context : Context} {u : Out} (t : SourceToken) (r : Reading) (w : Compilation)
     → Steps limits context u w (step limits context t r w).work
@@ -124,16 +105,16 @@ token_steps t r w = in_steps r.mode t r w
 
 unfit_steps : {limits : Limits} {context : Context} {u : Out} (m : Recovery) (t : SourceToken) (s : ReaderState)
     → Steps limits context u s.work (unfit_in limits m context t s).work
-unfit_steps mode.Reads t s = bad_steps t s.reading s.work
-unfit_steps mode.SkipsRoutine t s = token_steps t s.reading s.work
-unfit_steps mode.SkipsDirective t s = token_steps t s.reading s.work
-unfit_steps mode.Ended t s = token_steps t s.reading s.work
+unfit_steps Recovery.Reads t s = bad_steps t s.reading s.work
+unfit_steps Recovery.SkipsRoutine t s = token_steps t s.reading s.work
+unfit_steps Recovery.SkipsDirective t s = token_steps t s.reading s.work
+unfit_steps Recovery.Ended t s = token_steps t s.reading s.work
 
 handed_steps : {limits : Limits} {context : Context} {u : Out} (h : Forwarded) (t : SourceToken) (s : ReaderState)
     → Steps limits context u s.work (handed_as limits h context t s).work
-handed_steps handed.Kept t s = token_steps t s.reading s.work
-handed_steps handed.Unfit t s = unfit_steps s.reading.mode t s
-handed_steps handed.Condition t s = stays s.work
+handed_steps Forwarded.Kept t s = token_steps t s.reading s.work
+handed_steps Forwarded.Unfit t s = unfit_steps s.reading.mode t s
+handed_steps Forwarded.Condition t s = stays s.work
 
 sign_steps : {limits : Limits} {context : Context} {u : Out} (sign : Option Sign) (s : ReaderState)
     → Steps limits context u s.work (sign_taken limits sign context s).work
@@ -213,10 +194,10 @@ closed_steps s = report_steps s.work (file_told s.nesting.names s.conditions s.w
 
 none_steps : {limits : Limits} {context : Context} {u : Out} (unit : Place) (text : List ℕ) (why : Included) (s : State)
     → Steps limits context u s.work (none_included unit text why s).work
-none_steps unit text answer.Entered s = stays s.work
-none_steps unit text answer.NotThere s =
+none_steps unit text Included.Entered s = stays s.work
+none_steps unit text Included.NotThere s =
     report_steps s.work (with_fatal (location s.nesting.names unit) (NoInclude text) s.work.report)
-none_steps unit text answer.TooDeep s =
+none_steps unit text Included.TooDeep s =
     report_steps s.work (with_fatal (location s.nesting.names unit) TooManyFiles s.work.report)
 
 included_steps : {limits : Limits} {context : Context} {u : Out} (sources : Sources) (o : Choices) (unit : Place) (text : List ℕ)

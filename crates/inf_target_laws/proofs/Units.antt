@@ -1,56 +1,37 @@
 -- The units of a routine, and the statements that hold others.
-use Rattle.std.proofs.Common.{◌≡◌, ℕ, List, [], ◌∷◌, Bool, true, false, Option, Some, None, refl}
-use Rattle.std.specs.Prelude.{length, is_some, map, nat_lt, ◌-◌}
+use Rattle.std.proofs.Common.{◌≡◌, ℕ, List, [], ◌∷◌, Bool, true, false, Option, Some, None, refl, length, is_some, map, nat_lt, ◌-◌}
 use Rattle.inf_settings.specs.Bounds.{Limits}
 use Rattle.inf_scanner.specs.declared.tokens.Place.{Place}
 use Rattle.inf_assembler.specs.declared.routines.RoutineKind.{RoutineKind}
-use Rattle.inf_assembler.specs.declared.routines.RoutineKind.TheVariants as routine_kind
 use Rattle.inf_code.specs.Code.{place_behind}
-use Rattle.inf_expressions.specs.Findings.{out_of_range}
-use Rattle.inf_expressions.specs.Rooted.{Rooted}
-use Rattle.inf_expressions.specs.Trees.{Tree, Leaf as LeafTree}
-use Rattle.inf_expressions.specs.declared.operators.Operand.TheVariants as operand
-use Rattle.inf_expressions.specs.declared.findings.Finding.{Finding}
-use Rattle.inf_expressions.specs.declared.units.Wanted.TheVariants as wanted
-use Rattle.inf_names.specs.Locals.{Headed}
-use Rattle.inf_names.specs.Spellings.{Name}
-use Rattle.inf_names.specs.Symbols.{declare_fault, found_in as found_in_names}
-use Rattle.inf_names.specs.declared.meanings.Meaning.{Meaning}
-use Rattle.inf_names.specs.declared.meanings.Meaning.TheVariants as meaning
-use Rattle.inf_names.specs.declared.symbols.DeclareFault.{DeclareFault}
-use Rattle.inf_names.specs.declared.symbols.Found.{Found}
-use Rattle.inf_names.specs.declared.symbols.Found.TheVariants as found
-use Rattle.inf_dictionary.specs.declared.uses.WordUse.TheVariants as word_use
+use Rattle.inf_expressions.specs.{Findings.out_of_range, Rooted.Rooted, Trees.Leaf as LeafTree, Trees.Tree}
+use Rattle.inf_expressions.specs.{declared.findings.Finding.Finding, declared.operators.Operand.Operand, declared.units.Wanted.Wanted}
+use Rattle.inf_names.specs.{Locals.Headed, Spellings.Name, Symbols.declare_fault, Symbols.found_in as found_in_names}
+use Rattle.inf_names.specs.{declared.meanings.Meaning.Meaning, declared.symbols.DeclareFault.DeclareFault, declared.symbols.Found.Found}
+use Rattle.inf_dictionary.specs.declared.uses.WordUse.{WordUse}
 use Rattle.inf_gathering.specs.declared.gathering.Leaf.{Leaf}
-use Rattle.inf_gathering.specs.declared.gathering.Leaf.TheVariants as leaf
 use Rattle.inf_operands.specs.Operands.{leaf_added}
 use Rattle.inf_statements.specs.Statements.{alone}
 use Rattle.inf_output.specs.Output.{Out, apart, declared, opened, with_word}
 use Rattle.inf_unit.specs.Units.{first_place, last_place, name_order, names_in}
+use Rattle.inf_constructs.specs.{Roots.tree_in, declared.constructs.Construct.Construct, declared.constructs.Kind.Kind}
 use Rattle.inf_constructs.specs.Constructs.{Laying, are_own, begun, between, cases_begun, changed, condition_label, ended, entered}
 use Rattle.inf_constructs.specs.Constructs.{looped_over, next_case, stepped}
-use Rattle.inf_constructs.specs.Roots.{tree_in}
-use Rattle.inf_constructs.specs.declared.constructs.Construct.{Construct}
-use Rattle.inf_constructs.specs.declared.constructs.Kind.{Kind}
+use Rattle.inf_compilation.specs.{Context.Context, Findings.Findings, Findings.again_by, Findings.found_alone, Findings.header_findings}
+use Rattle.inf_compilation.specs.{Findings.nothing_found, Nesting.closed_ahead, Nesting.construct_closed, Nesting.construct_ended}
+use Rattle.inf_compilation.specs.{Nesting.construct_joined, Nesting.construct_opened, Nesting.constructs_laid}
 use Rattle.inf_compilation.specs.Actions.{Compilation, cases_ended, close, close_as, constant, constant_added, constant_declared}
 use Rattle.inf_compilation.specs.Actions.{constant_finding, constant_findings, as_constant, constant_meaning, constant_of, declared_meaning}
 use Rattle.inf_compilation.specs.Actions.{finding_at, header_end, header_named, header_of, header_with, is_deep, is_first_declared}
 use Rattle.inf_compilation.specs.Actions.{is_to_be_replaced, kind_ended, named, nested, new_stub, opened_with, operands_of, replace}
 use Rattle.inf_compilation.specs.Actions.{routine_declared, settled_of, stub, stub_code, stub_locals, stubbed, trees_at, leaf_meaning}
 use Rattle.inf_compilation.specs.Actions.{named_leaf}
-use Rattle.inf_compilation.specs.Context.{Context}
-use Rattle.inf_compilation.specs.Findings.{Findings, again_by, found_alone, header_findings, nothing_found}
-use Rattle.inf_parts.specs.Parts.{actions_named, case_prepared}
-use Rattle.inf_compilation.specs.Nesting.{closed_ahead, construct_closed, construct_ended, construct_joined}
-use Rattle.inf_parts.specs.Parts.{found_in, has_last, is_default, order_of, part_begun}
-use Rattle.inf_compilation.specs.Nesting.{construct_opened, constructs_laid}
-use Rattle.inf_parts.specs.Parts.{part_carried, part_effect, part_ended, part_finished, part_prepared, place_of, site_of, wanted_of}
+use Rattle.inf_parts.specs.Parts.{actions_named, case_prepared, found_in, has_last, is_default, order_of, part_begun, part_carried}
+use Rattle.inf_parts.specs.Parts.{part_effect, part_ended, part_finished, part_prepared, place_of, site_of, wanted_of}
 use Rattle.inf_parts.specs.declared.parts.Part.{Part}
-use Rattle.inf_parts.specs.declared.parts.Part.TheVariants as part
 use Rattle.inf_declarations.specs.Defaults.{default}
-use Rattle.inf_target_laws.specs.Lists.{NamesStand, StepsStand}
-use Rattle.inf_target_laws.specs.Outputs.{Holds}
-use Rattle.inf_target_laws.specs.Standing.{Before, MeaningStands}
+use Rattle.inf_target_laws.specs.{Lists.NamesStand, Lists.StepsStand, Outputs.Holds, Standing.Before, Standing.MeaningStands}
+use Rattle.inf_target_laws.proofs.{Premises.OperandsStand, Premises.RootsStand, Trees.roots_stand, Trees.trees_stand}
 use Rattle.inf_target_laws.proofs.Constructs.{Moves, all_ended_goes, all_ended_steps, begun_moves, between_gives, between_leaves}
 use Rattle.inf_target_laws.proofs.Constructs.{case_sound, cases_moves, changed_moves, ended_moves, entered_gives, entered_leaves}
 use Rattle.inf_target_laws.proofs.Constructs.{looped_over_moves}
@@ -58,9 +39,7 @@ use Rattle.inf_target_laws.proofs.Names.{FoundStands, found_meaning, no_some}
 use Rattle.inf_target_laws.proofs.Operands.{added_keeps, settled_keeps, settled_stand}
 use Rattle.inf_target_laws.proofs.Outputs.{Goes, GoesIf, close_keeps, declare_goes, declare_keeps, goes_then, open_keeps, refer_keeps}
 use Rattle.inf_target_laws.proofs.Outputs.{word_stands}
-use Rattle.inf_target_laws.proofs.Premises.{OperandsStand, RootsStand}
 use Rattle.inf_target_laws.proofs.Statements.{alone_sound, statement_gives, switched_sound, tested_sound}
-use Rattle.inf_target_laws.proofs.Trees.{roots_stand, trees_stand}
 use Rattle.inf_target_laws.proofs.Ways.{Steps, nested_steps, output_steps, passed_steps, stays, steps_if, steps_then, unit_ends, unit_steps}
 
 -- Open statements
@@ -114,17 +93,17 @@ step_held u o (c ∷ constructs) h k =
 effect_steps : {limits : Limits} {context : Context} {u : Out} (p : Part) (trees : List Rooted) (w : Compilation)
     → RootsStand u (Before u w.output) trees → Steps limits context u w (part_effect limits context p trees w)
 unfolding part_effect
-effect_steps {limits} {context} {u} (part.Statement s) trees w h =
+effect_steps {limits} {context} {u} (Part.Statement s) trees w h =
     let all = trees_stand u (Before u w.output) trees h in
     let g =
     (statement_gives {u = u} {P = Before u w.output} limits (site_of context w) s (map tree_in trees) all w.labels).keeps w.output in
     record { on = g.0; kept = λ e k. (g.1 (g.0 e) e k.0, k.1) }
-effect_steps {limits} {context} {u} part.Condition trees w h =
+effect_steps {limits} {context} {u} Part.Condition trees w h =
     given_steps w _ ((tested_sound limits (condition_label w.constructs) (map tree_in trees)
     (trees_stand u (Before u w.output) trees h)).keeps w.output)
-effect_steps {limits} {context} {u} part.Start trees w h =
+effect_steps {limits} {context} {u} Part.Start trees w h =
     given_steps w _ ((alone_sound limits (map tree_in trees) (trees_stand u (Before u w.output) trees h)).keeps w.output)
-effect_steps {limits} {context} {u} part.Step trees w h =
+effect_steps {limits} {context} {u} Part.Step trees w h =
     let all = trees_stand u (Before u w.output) trees h in
     let g = (alone_sound {u = u} {P = Before u w.output} limits (map tree_in trees) all).keeps (apart w.output) in
     record {
@@ -134,13 +113,13 @@ effect_steps {limits} {context} {u} part.Step trees w h =
           (record { of_finished = k.0.0.of_finished; of_opened = k.0.0.of_opened; of_kept = tt }, k.0.1) in
           step_held u (alone limits (map tree_in trees) (apart w.output)) w.constructs (g.1 (g.0 e) e aside) k.1;
     }
-effect_steps {limits} {context} {u} part.Loop trees w h =
+effect_steps {limits} {context} {u} Part.Loop trees w h =
     let m : Moves limits u (Before u w.output) w.constructs (looped_over limits trees w.constructs) =
     looped_over_moves limits trees h w.constructs in
     constructs_step (Before u w.output) w (looped_over limits trees w.constructs) (m.keeps w.output).0 m
-effect_steps {limits} {context} {u} part.Switched trees w h =
+effect_steps {limits} {context} {u} Part.Switched trees w h =
     given_steps w _ ((switched_sound limits (map tree_in trees) (trees_stand u (Before u w.output) trees h)).keeps w.output)
-effect_steps {limits} {context} {u} part.Case trees w h =
+effect_steps {limits} {context} {u} Part.Case trees w h =
     given_steps w _ ((case_sound limits (next_case w.constructs) (map tree_in trees)
     (trees_stand u (Before u w.output) trees h)).keeps w.output)
 
@@ -169,16 +148,16 @@ carried_steps {limits} {context} {u} first p None w =
 
 begun_steps : {limits : Limits} {context : Context} {u : Out} (p : Part) (w : Compilation)
     → Steps limits context u w (part_begun limits p w)
-begun_steps {limits} {context} {u} part.Case w =
+begun_steps {limits} {context} {u} Part.Case w =
     constructs_step (Unit {0}) w (changed (entered limits (is_default w.unit.items)) w.constructs) (λ e. tt)
     (changed_moves limits (entered limits (is_default w.unit.items)) (entered_gives limits (is_default w.unit.items))
     (entered_leaves limits (is_default w.unit.items)) w.constructs)
-begun_steps {limits} {context} {u} (part.Statement s) w = stays w
-begun_steps {limits} {context} {u} part.Condition w = stays w
-begun_steps {limits} {context} {u} part.Start w = stays w
-begun_steps {limits} {context} {u} part.Step w = stays w
-begun_steps {limits} {context} {u} part.Loop w = stays w
-begun_steps {limits} {context} {u} part.Switched w = stays w
+begun_steps {limits} {context} {u} (Part.Statement s) w = stays w
+begun_steps {limits} {context} {u} Part.Condition w = stays w
+begun_steps {limits} {context} {u} Part.Start w = stays w
+begun_steps {limits} {context} {u} Part.Step w = stays w
+begun_steps {limits} {context} {u} Part.Loop w = stays w
+begun_steps {limits} {context} {u} Part.Switched w = stays w
 
 naming_steps : {limits : Limits} {context : Context} {u : Out} (w : Compilation) → Steps limits context u w (named w)
 naming_steps {limits} {context} {u} w = record { on = λ e. e; kept = λ e h. h }
@@ -196,16 +175,16 @@ actions_steps false w = stays w
 
 prepared_steps : {limits : Limits} {context : Context} {u : Out} (p : Part) (w : Compilation)
     → Steps limits context u w (case_prepared limits p w)
-prepared_steps {limits} {context} {u} part.Case w =
+prepared_steps {limits} {context} {u} Part.Case w =
     let begun = constructs_laid (cases_begun limits w.constructs) w in
     steps_then (constructs_step (Unit {0}) w (cases_begun limits w.constructs) (λ e. tt) (cases_moves limits w.constructs))
     (actions_steps (are_own begun.constructs) begun)
-prepared_steps {limits} {context} {u} (part.Statement s) w = stays w
-prepared_steps {limits} {context} {u} part.Condition w = stays w
-prepared_steps {limits} {context} {u} part.Start w = stays w
-prepared_steps {limits} {context} {u} part.Step w = stays w
-prepared_steps {limits} {context} {u} part.Loop w = stays w
-prepared_steps {limits} {context} {u} part.Switched w = stays w
+prepared_steps {limits} {context} {u} (Part.Statement s) w = stays w
+prepared_steps {limits} {context} {u} Part.Condition w = stays w
+prepared_steps {limits} {context} {u} Part.Start w = stays w
+prepared_steps {limits} {context} {u} Part.Step w = stays w
+prepared_steps {limits} {context} {u} Part.Loop w = stays w
+prepared_steps {limits} {context} {u} Part.Switched w = stays w
 
 pub part_steps : {limits : Limits} {context : Context} {u : Out} (place : Place) (p : Part) (w : Compilation)
     → Steps limits context u w (part_ended limits context place p w)
@@ -224,7 +203,7 @@ opened_steps {limits} {context} {u} first h told w =
 routine_steps : {limits : Limits} {context : Context} {u : Out} (name : Name) (w : Compilation)
     → Steps limits context u w (routine_declared limits name w)
 routine_steps {limits} {context} {u} name w =
-    output_steps w _ (declare_keeps limits u name.bytes name.place (meaning.Routine (place_behind w.output.code.finished)) tt w.output)
+    output_steps w _ (declare_keeps limits u name.bytes name.place (Meaning.Routine (place_behind w.output.code.finished)) tt w.output)
 
 header_with_steps : {limits : Limits} {context : Context} {u : Out} (first : Place) (name : Name) (h : Headed) (w : Compilation)
     → Steps limits context u w (header_with limits context first name h w)
@@ -271,22 +250,22 @@ SomeMeaning u None = Unit {0}
 SomeMeaning u (Some m) = MeaningStands u m
 
 constant_as : (u : Out) (m : Meaning) → MeaningStands u m → MeaningStands u (as_constant m)
-constant_as u (meaning.Routine place) h = tt
+constant_as u (Meaning.Routine place) h = tt
 constant_as u m h = h
 
 declared_stands : (u : Out) (f : Found Place) → FoundStands u f → SomeMeaning u (declared_meaning f)
-declared_stands u (found.Declared m place) h = constant_as u m h
-declared_stands u (found.System m) h = tt
-declared_stands u found.Used h = tt
-declared_stands u found.Unknown h = tt
+declared_stands u (Found.Declared m place) h = constant_as u m h
+declared_stands u (Found.System m) h = tt
+declared_stands u Found.Used h = tt
+declared_stands u Found.Unknown h = tt
 
 leaf_meaning_stands : (limits : Limits) (u : Out) (context : Context) (w : Compilation) (leaves : List Leaf) (o : Out)
     → NamesStand u w.output.names.names → Before u (leaf_added limits context.set w.unit.tokens leaves o)
     → SomeMeaning u (leaf_meaning leaves w)
-leaf_meaning_stands limits u context w (leaf.Text at ∷ leaves) o h e = tt
-leaf_meaning_stands limits u context w (leaf.Word word ∷ leaves) o h e =
-    let v = with_word limits word.text word_use.Other word.is_plural o in
-    word_stands limits u word.text word_use.Other word.is_plural o ((added_keeps limits u context.set w.unit.tokens leaves v).0 e)
+leaf_meaning_stands limits u context w (Leaf.Text at ∷ leaves) o h e = tt
+leaf_meaning_stands limits u context w (Leaf.Word word ∷ leaves) o h e =
+    let v = with_word limits word.text WordUse.Other word.is_plural o in
+    word_stands limits u word.text WordUse.Other word.is_plural o ((added_keeps limits u context.set w.unit.tokens leaves v).0 e)
 leaf_meaning_stands limits u context w leaves o h e =
     declared_stands u (found_in_names (named_leaf w.unit.tokens leaves) w.output.names)
     (found_meaning u (named_leaf w.unit.tokens leaves) w.output.names h)
@@ -295,8 +274,8 @@ constant_of_stands : (limits : Limits) (u : Out) (context : Context) (w : Compil
     → NamesStand u w.output.names.names → Before u (leaf_added limits context.set w.unit.tokens w.unit.gathering.leaves o)
     → SomeMeaning u (constant_of trees w)
 constant_of_stands limits u context w [] o h e = tt
-constant_of_stands limits u context w (LeafTree (operand.Known number) ∷ trees) o h e = tt
-constant_of_stands limits u context w (LeafTree (operand.Later t) ∷ trees) o h e =
+constant_of_stands limits u context w (LeafTree (Operand.Known number) ∷ trees) o h e = tt
+constant_of_stands limits u context w (LeafTree (Operand.Later t) ∷ trees) o h e =
     leaf_meaning_stands limits u context w w.unit.gathering.leaves o h e
 constant_of_stands limits u context w (e ∷ trees) o h before = tt
 
@@ -347,8 +326,8 @@ pub constant_steps : {limits : Limits} {context : Context} {u : Out} (first : Pl
     → Steps limits context u w (constant limits context first names w)
 constant_steps first [] w = passed_steps true w
 constant_steps {limits} {context} {u} first (name ∷ names) w =
-    let trees = map tree_in (trees_at 0 wanted.Constant (operands_of w) w) in
-    declared_steps first name trees (constant_finding (constant_of trees w) (finding_at 0 wanted.Constant w)) w
+    let trees = map tree_in (trees_at 0 Wanted.Constant (operands_of w) w) in
+    declared_steps first name trees (constant_finding (constant_of trees w) (finding_at 0 Wanted.Constant w)) w
 
 -- Stubs and routines that are to be replaced
 
@@ -361,7 +340,7 @@ replace_steps {limits} {context} {u} first (name ∷ names) w =
 stub_keeps : (limits : Limits) (u : Out) (locals : ℕ) (o : Out) → Goes u o (stub_code limits locals o)
 stub_keeps limits u locals o =
     let v = opened limits locals false o in
-    goes_then u o v (stub_code limits locals o) (open_keeps limits u locals false o) (close_keeps limits u routine_kind.Embedded v)
+    goes_then u o v (stub_code limits locals o) (open_keeps limits u locals false o) (close_keeps limits u RoutineKind.Embedded v)
 
 stubbed_steps : {limits : Limits} {context : Context} {u : Out} (first : Place) (w : Compilation)
     → Steps limits context u w (stubbed limits context first w)

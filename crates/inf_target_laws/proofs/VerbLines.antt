@@ -1,48 +1,29 @@
 -- The directives `Verb`, `Extend` and `Fake_action`, and the lines of the first two.
 use Rattle.std.proofs.Common.{ℕ, zero, suc, List, [], ◌∷◌, ◌++◌, Bool, true, false, Option, Some, None}
 use Rattle.std.specs.Prelude.{◌+◌, if◌then◌else◌, length, slice_index_or, slice_set}
-use Rattle.inf_settings.specs.Bounds.{Limits}
-use Rattle.inf_settings.specs.declared.setting.Setting.TheVariants as setting
-use Rattle.inf_scanner.specs.declared.tokens.DictionaryWord.{DictionaryWord}
-use Rattle.inf_scanner.specs.declared.tokens.Place.{Place}
-use Rattle.inf_scanner.specs.declared.tokens.TokenKind.{TokenKind}
-use Rattle.inf_scanner.specs.declared.tokens.TokenKind.TheVariants as kind
+use Rattle.inf_settings.specs.{Bounds.Limits, declared.setting.Setting.Setting}
+use Rattle.inf_scanner.specs.declared.{tokens.DictionaryWord.DictionaryWord, tokens.Place.Place, tokens.TokenKind.TokenKind}
 use Rattle.inf_dictionary.specs.declared.uses.WordUse.{WordUse}
-use Rattle.inf_dictionary.specs.declared.uses.WordUse.TheVariants as word_use
 use Rattle.inf_expressions.specs.declared.findings.Finding.{Finding}
-use Rattle.inf_names.specs.Spellings.{Name}
-use Rattle.inf_names.specs.Symbols.{found_in, refer_fault}
-use Rattle.inf_output.specs.Actions.{faked, routine_referred}
-use Rattle.inf_output.specs.Output.{Out}
+use Rattle.inf_names.specs.{Spellings.Name, Symbols.found_in, Symbols.refer_fault}
+use Rattle.inf_output.specs.{Actions.faked, Actions.routine_referred, Output.Out}
 use Rattle.inf_unit.specs.Tokens.{SourceToken}
 use Rattle.inf_unit.specs.Units.{bytes_at, first_place, kind_at, name_at, name_order, next_place}
-use Rattle.inf_verbs.specs.Lines.{LineOf, token_value}
-use Rattle.inf_verbs.specs.declared.lines.LineToken.{LineToken}
+use Rattle.inf_verbs.specs.{Lines.LineOf, Lines.token_value, declared.lines.LineToken.LineToken, declared.lines.Noun.Noun}
+use Rattle.inf_verbs.specs.{declared.verbs.LineFault.LineFault, declared.verbs.LinePlace.LinePlace, declared.verbs.VerbFault.VerbFault}
 use Rattle.inf_verbs.specs.Verbs.{AllVerbs, VerbOf, add_fault, extended, line_fault_of, no_lines, verb_at, with_extended, with_line}
 use Rattle.inf_verbs.specs.Verbs.{with_line_of, with_verb}
-use Rattle.inf_verbs.specs.declared.verbs.LineFault.{LineFault}
-use Rattle.inf_verbs.specs.declared.verbs.LinePlace.{LinePlace}
-use Rattle.inf_verbs.specs.declared.verbs.LinePlace.TheVariants as line_place
-use Rattle.inf_verbs.specs.declared.lines.Noun.{Noun}
-use Rattle.inf_verbs.specs.declared.verbs.VerbFault.{VerbFault}
-use Rattle.inf_verbs.specs.declared.verbs.VerbFault.TheVariants as refused
-use Rattle.inf_compilation.specs.Actions.{Compilation}
-use Rattle.inf_compilation.specs.Context.{Context}
-use Rattle.inf_compilation.specs.Findings.{again_by}
-use Rattle.inf_compilation.specs.declared.compilation.Extending.{Extending}
+use Rattle.inf_compilation.specs.{Actions.Compilation, Context.Context, Findings.again_by, declared.compilation.Extending.Extending}
+use Rattle.inf_verb_lines.specs.{declared.lines.Named.Named, declared.verbs.VerbHead.VerbHead}
 use Rattle.inf_verb_lines.specs.Verbs.{action_by, arrow_in, attribute_in, extend_header, extend_with, fake_action, fake_findings, has_verb}
 use Rattle.inf_verb_lines.specs.Verbs.{head_finding, header_opened, like_used, line_added, line_ended, is_reverse, line_kept_by, line_token}
 use Rattle.inf_verb_lines.specs.Verbs.{with_token, line_laid, line_token_by, line_tokens, lines_extended, lone_by, name_token, named_at}
 use Rattle.inf_verb_lines.specs.Verbs.{new_verb, new_verb_by, noun_named, one_line, one_line_by, parsing_as, parsing_routine, place_named}
 use Rattle.inf_verb_lines.specs.Verbs.{tokens_finding, verb_begun, verb_extended, verb_findings, verb_head, verb_header, verb_named}
 use Rattle.inf_verb_lines.specs.Verbs.{verb_opened, verb_use, with_verbs, word_at, word_used, words_given, words_used}
-use Rattle.inf_verb_lines.specs.declared.lines.Named.{Named}
-use Rattle.inf_verb_lines.specs.declared.lines.Named.TheVariants as named
-use Rattle.inf_verb_lines.specs.declared.verbs.VerbHead.{VerbHead}
 use Rattle.inf_target_laws.specs.Lists.{LinesStand, TokensStand, VerbStands, VerbsStand}
 use Rattle.inf_target_laws.specs.Standing.{Before, ValueStands}
-use Rattle.inf_target_laws.proofs.Names.{IsWithin, referred_within, routine_among}
-use Rattle.inf_target_laws.proofs.Operands.{action_keeps, faked_keeps}
+use Rattle.inf_target_laws.proofs.{Names.IsWithin, Names.referred_within, Names.routine_among, Operands.action_keeps, Operands.faked_keeps}
 use Rattle.inf_target_laws.proofs.Outputs.{Goes, GoesIf, Keeps, goes_given, goes_nowhere, goes_then, refer_keeps, table_keeps, word_keeps}
 use Rattle.inf_target_laws.proofs.Outputs.{word_stands}
 use Rattle.inf_target_laws.proofs.Ways.{Steps, output_steps, passed_steps, stays, steps_then, unit_ends}
@@ -89,15 +70,15 @@ verb_stands u (v ∷ verbs) zero h = h.0
 verb_stands u (v ∷ verbs) (suc number) h = verb_stands u verbs number h.1
 
 extended_stands : (u : Out) (place : LinePlace) (verb : VerbOf) → VerbStands u verb → VerbStands u (extended place verb)
-extended_stands u line_place.First verb h = (tt, lines_join u verb.first verb.rest h.0 h.1)
-extended_stands u line_place.Last verb h = h
-extended_stands u line_place.Replace verb h = (tt, tt)
+extended_stands u LinePlace.First verb h = (tt, lines_join u verb.first verb.rest h.0 h.1)
+extended_stands u LinePlace.Last verb h = h
+extended_stands u LinePlace.Replace verb h = (tt, tt)
 
 line_stands : (u : Out) (place : LinePlace) (line : LineOf) (verb : VerbOf) → TokensStand u line.tokens → VerbStands u verb
     → VerbStands u (with_line place line verb)
-line_stands u line_place.First line verb s h = (lines_join u verb.first (line ∷ []) h.0 (s, tt), h.1)
-line_stands u line_place.Last line verb s h = (h.0, lines_join u verb.rest (line ∷ []) h.1 (s, tt))
-line_stands u line_place.Replace line verb s h = (h.0, lines_join u verb.rest (line ∷ []) h.1 (s, tt))
+line_stands u LinePlace.First line verb s h = (lines_join u verb.first (line ∷ []) h.0 (s, tt), h.1)
+line_stands u LinePlace.Last line verb s h = (h.0, lines_join u verb.rest (line ∷ []) h.1 (s, tt))
+line_stands u LinePlace.Replace line verb s h = (h.0, lines_join u verb.rest (line ∷ []) h.1 (s, tt))
 
 -- The header of `Verb`
 
@@ -106,10 +87,10 @@ new_keeps limits u o = go (add_fault limits o.tables.verbs)
   where
     go : (f : Option VerbFault) → Goes u o (new_verb_by limits f o).0
     go None = verbs_goes u o (with_verb o.tables.verbs) (λ h. verbs_join u o.tables.verbs.list (no_lines ∷ []) h ((tt, tt), tt))
-    go (Some refused.TooMany) = goes_nowhere u o
-    go (Some refused.Full) = table_keeps limits u setting.Verbs o
-    go (Some refused.NoSpace) = table_keeps limits u setting.GrammarLines o
-    go (Some refused.Memory) = goes_nowhere u o
+    go (Some VerbFault.TooMany) = goes_nowhere u o
+    go (Some VerbFault.Full) = table_keeps limits u Setting.Verbs o
+    go (Some VerbFault.NoSpace) = table_keeps limits u Setting.GrammarLines o
+    go (Some VerbFault.Memory) = goes_nowhere u o
 
 begun_keeps : (limits : Limits) (u : Out) (like : Option ℕ) (tokens : List SourceToken) (o : Out)
     → Goes u o (verb_begun limits like tokens o).0
@@ -130,7 +111,7 @@ words_keep limits u (suc at) tokens how o =
 like_keeps : (limits : Limits) (u : Out) (like : Option ℕ) (tokens : List SourceToken) (number : ℕ)
     → Keeps u (like_used limits like tokens number)
 like_keeps limits u None tokens number o = goes_nowhere u o
-like_keeps limits u (Some at) tokens number o = used_keeps limits u (word_at tokens at) (word_use.Verb number) o
+like_keeps limits u (Some at) tokens number o = used_keeps limits u (word_at tokens at) (WordUse.Verb number) o
 
 given_keeps : (limits : Limits) (u : Out) (number : Option ℕ) (head : VerbHead) (tokens : List SourceToken)
     → Keeps u (words_given limits number head tokens)
@@ -176,8 +157,8 @@ extended_keeps : (limits : Limits) (u : Out) (number : Option ℕ) (place : Line
     → Keeps u (verb_extended limits number place word)
 extended_keeps limits u None place word o = goes_nowhere u o
 extended_keeps limits u (Some number) place word o =
-    let v = word_used limits word (word_use.Verb number) o in
-    goes_then u o v (lines_extended number place v) (used_keeps limits u word (word_use.Verb number) o)
+    let v = word_used limits word (WordUse.Verb number) o in
+    goes_then u o v (lines_extended number place v) (used_keeps limits u word (WordUse.Verb number) o)
     (lines_keep limits u number place v)
 
 extend_with_steps : {limits : Limits} {context : Context} {u : Out} (first : Place) (at : ℕ) (number : Option ℕ) (place : LinePlace)
@@ -231,16 +212,16 @@ lone_keeps limits u None None name o = parsing_keeps limits u name o
 
 name_keeps : (limits : Limits) (u : Out) (n : Named) (tokens : List SourceToken) (at : ℕ) (o : Out)
     → Goes u o (name_token limits n tokens at o).0
-name_keeps limits u named.Sign tokens at o = goes_nowhere u o
-name_keeps limits u named.Filter tokens at o = parsing_keeps limits u (name_at tokens at) o
-name_keeps limits u named.Scope tokens at o = parsing_keeps limits u (name_at tokens at) o
-name_keeps limits u named.Alone tokens at o =
+name_keeps limits u Named.Sign tokens at o = goes_nowhere u o
+name_keeps limits u Named.Filter tokens at o = parsing_keeps limits u (name_at tokens at) o
+name_keeps limits u Named.Scope tokens at o = parsing_keeps limits u (name_at tokens at) o
+name_keeps limits u Named.Alone tokens at o =
     lone_keeps limits u (noun_named (bytes_at tokens at)) (attribute_in (found_in (bytes_at tokens at) o.names)) (name_at tokens at) o
 
 token_keeps : (limits : Limits) (u : Out) (k : Option TokenKind) (tokens : List SourceToken) (at : ℕ) (o : Out)
     → Goes u o (line_token_by limits k tokens at o).0
-token_keeps limits u (Some (kind.Word word)) tokens at o = word_keeps limits u word.text word_use.Preposition word.is_plural o
-token_keeps limits u (Some kind.Name) tokens at o = name_keeps limits u (named_at tokens at) tokens at o
+token_keeps limits u (Some (TokenKind.Word word)) tokens at o = word_keeps limits u word.text WordUse.Preposition word.is_plural o
+token_keeps limits u (Some TokenKind.Name) tokens at o = name_keeps limits u (named_at tokens at) tokens at o
 token_keeps limits u _ tokens at o = ((λ e. e), (λ e h. h))
 
 tokens_keep : (limits : Limits) (u : Out) (at : ℕ) (tokens : List SourceToken) (o : Out) → Goes u o (line_tokens limits at tokens o).0
@@ -264,16 +245,16 @@ lone_stands limits u None None name o = tt
 
 name_stands : (limits : Limits) (u : Out) (n : Named) (tokens : List SourceToken) (at : ℕ) (o : Out)
     → MaybeToken u (name_token limits n tokens at o).1
-name_stands limits u named.Sign tokens at o = tt
-name_stands limits u named.Filter tokens at o = tt
-name_stands limits u named.Scope tokens at o = tt
-name_stands limits u named.Alone tokens at o =
+name_stands limits u Named.Sign tokens at o = tt
+name_stands limits u Named.Filter tokens at o = tt
+name_stands limits u Named.Scope tokens at o = tt
+name_stands limits u Named.Alone tokens at o =
     lone_stands limits u (noun_named (bytes_at tokens at)) (attribute_in (found_in (bytes_at tokens at) o.names)) (name_at tokens at) o
 
 token_stands : (limits : Limits) (u : Out) (k : Option TokenKind) (tokens : List SourceToken) (at : ℕ) (o : Out)
     → Before u (line_token_by limits k tokens at o).0 → MaybeToken u (line_token_by limits k tokens at o).1
-token_stands limits u (Some (kind.Word word)) tokens at o e = word_stands limits u word.text word_use.Preposition word.is_plural o e
-token_stands limits u (Some kind.Name) tokens at o e = name_stands limits u (named_at tokens at) tokens at o
+token_stands limits u (Some (TokenKind.Word word)) tokens at o e = word_stands limits u word.text WordUse.Preposition word.is_plural o e
+token_stands limits u (Some TokenKind.Name) tokens at o e = name_stands limits u (named_at tokens at) tokens at o
 token_stands limits u _ tokens at o e = tt
 
 tokens_join : (u : Out) (tokens : List LineToken) (t : LineToken) → TokensStand u tokens → ValueStands u (token_value t)
@@ -311,7 +292,7 @@ one_by_goes limits u None number place line o = (
       (line_stands u place line (verb_at number o.tables.verbs) s (verb_stands u o.tables.verbs.list number h)) h)).1
       ),
 )
-one_by_goes limits u (Some f) number place line o = let g = table_keeps limits u setting.GrammarLines o in (g.0, (λ s. g.1))
+one_by_goes limits u (Some f) number place line o = let g = table_keeps limits u Setting.GrammarLines o in (g.0, (λ s. g.1))
 
 one_goes : (limits : Limits) (u : Out) (number : ℕ) (place : LinePlace) (line : LineOf) (o : Out)
     → GoesIf (TokensStand u line.tokens) u o (one_line limits number place line o)

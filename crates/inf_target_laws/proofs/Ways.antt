@@ -1,16 +1,12 @@
 -- Steps of a compilation put together.
-use Rattle.std.proofs.Common.{Bool, true, false, Option, Some, None}
-use Rattle.std.specs.Prelude.{if◌then◌else◌}
+use Rattle.std.proofs.Common.{Bool, true, false, Option, Some, None, if◌then◌else◌}
 use Rattle.inf_settings.specs.Bounds.{Limits}
 use Rattle.inf_scanner.specs.declared.tokens.Place.{Place}
 use Rattle.inf_output.specs.Output.{Out}
-use Rattle.inf_unit.specs.Messages.{FileNames, Reported}
-use Rattle.inf_unit.specs.Units.{Unit, long_at, over}
+use Rattle.inf_unit.specs.{Messages.FileNames, Messages.Reported, Units.Unit, Units.long_at, Units.over}
+use Rattle.inf_compilation.specs.{Context.Context, Context.longest, Findings.Findings}
 use Rattle.inf_compilation.specs.Actions.{Compilation, begun_at, nested, passed, sized, stopped, unit_ended}
-use Rattle.inf_compilation.specs.Context.{Context, longest}
-use Rattle.inf_compilation.specs.Findings.{Findings}
-use Rattle.inf_target_laws.specs.Compilations.{Held}
-use Rattle.inf_target_laws.specs.Standing.{Before}
+use Rattle.inf_target_laws.specs.{Compilations.Held, Standing.Before}
 use Rattle.inf_target_laws.proofs.Outputs.{Goes, begin_keeps}
 
 -- A step by the limits and the context at hand, which lemmas find in it

@@ -1,23 +1,18 @@
 -- Targets stand from the start of a reading on.
-use Rattle.std.proofs.Common.{◌≡◌, ℕ, zero, suc, List, length, Bool, true, false, arith}
-use Rattle.std.specs.Prelude.{if◌then◌else◌}
+use Rattle.std.proofs.Common.{◌≡◌, ℕ, zero, suc, List, length, Bool, true, false, arith, if◌then◌else◌}
 use Rattle.inf_settings.specs.Bounds.{Limits, limits_of}
 use Rattle.inf_devices.specs.Files.{Sources}
 use Rattle.inf_output.specs.Output.{Out}
-use Rattle.inf_compilation.specs.Actions.{Compilation, begun_at}
-use Rattle.inf_compilation.specs.Context.{Context}
+use Rattle.inf_compilation.specs.{Actions.Compilation, Actions.begun_at, Context.Context}
 use Rattle.inf_session.specs.Choices.{Choices}
 use Rattle.inf_session.specs.Session.{State, context_of, has_ended, rested, start, stepped, turn}
-use Rattle.inf_ending.specs.Ending.{first_place}
 use Rattle.inf_session.specs.Veneer.{in_text, text_begun, text_front, text_read, text_turns, veneer_text}
+use Rattle.inf_ending.specs.Ending.{first_place}
 use Rattle.inf_limit_laws.specs.Reached.{Here, IsBehind, IsReached, Supplies, Turns}
-use Rattle.inf_target_laws.specs.Laws.{StepsKeepTargets, TargetsStand}
-use Rattle.inf_target_laws.specs.Compilations.{Held, Leads}
-use Rattle.inf_target_laws.specs.Standing.{Before, is_short}
-use Rattle.inf_target_laws.proofs.Actions.{act_steps, cut_at_steps, took_steps}
-use Rattle.inf_target_laws.proofs.Outputs.{begin_keeps}
-use Rattle.inf_target_laws.proofs.Turns.{rested_steps, stepped_steps, turn_steps}
-use Rattle.inf_target_laws.proofs.Ways.{Steps, begun_ends, steps_then}
+use Rattle.inf_target_laws.specs.{Compilations.Held, Compilations.Leads, Laws.StepsKeepTargets, Laws.TargetsStand, Standing.Before}
+use Rattle.inf_target_laws.specs.{Standing.is_short}
+use Rattle.inf_target_laws.proofs.{Actions.act_steps, Actions.cut_at_steps, Actions.took_steps, Outputs.begin_keeps, Turns.rested_steps}
+use Rattle.inf_target_laws.proofs.{Turns.stepped_steps, Turns.turn_steps, Ways.Steps, Ways.begun_ends, Ways.steps_then}
 
 -- all targets of a state stand in each output before which its own comes
 pub record Stands (u : Out) (s : State) : Type 0 where

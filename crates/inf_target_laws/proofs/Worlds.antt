@@ -2,32 +2,23 @@
 use Rattle.std.proofs.Common.{ℕ, zero, suc, List, [], ◌∷◌, ◌++◌, Bool, true, false, Option, Some, None, Result, Ok, Err}
 use Rattle.std.specs.Prelude.{◌==◌, ◌-◌, if◌then◌else◌, nat_le, option_map, option_to_list, replicate, slice_get}
 use Rattle.inf_area.specs.declared.targets.Value.{Value}
-use Rattle.inf_area.specs.declared.targets.Value.TheVariants as value
 use Rattle.inf_arrays.specs.Arrays.{Adding, AllArrays, Characters, Listed, One, Zeros, all_of, characters, opened as opened_array}
 use Rattle.inf_arrays.specs.Arrays.{values_in, more_entries, with_entries}
 use Rattle.inf_arrays.specs.declared.kinds.ArrayKind.{ArrayKind}
+use Rattle.inf_objects.specs.{declared.body.Body.Body, declared.objects.Object.Object}
 use Rattle.inf_objects.specs.Objects.{ended, is_lost, is_passed, with_joined_class}
-use Rattle.inf_objects.specs.declared.body.Body.{Body}
-use Rattle.inf_objects.specs.declared.objects.Object.{Object}
 use Rattle.inf_output.specs.Output.{Out}
-use Rattle.inf_properties.specs.Open.{Open, given_first, with_given}
+use Rattle.inf_properties.specs.{Open.Open, Open.given_first, Open.with_given, Values.with_last_value, declared.values.Property.Property}
 use Rattle.inf_properties.specs.Properties.{found, has, inherited, joined_values, lacked, values_in as property_values, values_of}
 use Rattle.inf_properties.specs.Properties.{with_joined}
-use Rattle.inf_properties.specs.Values.{with_last_value}
-use Rattle.inf_properties.specs.declared.values.Property.{Property}
+use Rattle.inf_tables.specs.{declared.faults.Misfit.Misfit, declared.kinds.DeclaredProperty.DeclaredProperty, declared.kinds.Parent.Parent}
 use Rattle.inf_tables.specs.Objects.{arrows_of, class_at, class_in, declared_at, is_class, parent_of}
 use Rattle.inf_tables.specs.World.{WorldOf, class_by, ended_objects, given_of, kind_of, lost_given, with_class_of, with_end}
 use Rattle.inf_tables.specs.World.{with_further_value, with_given_property, with_hung, with_object_header, with_property}
-use Rattle.inf_tables.specs.declared.faults.Misfit.{Misfit}
-use Rattle.inf_tables.specs.declared.kinds.DeclaredProperty.{DeclaredProperty}
-use Rattle.inf_tables.specs.declared.kinds.Parent.{Parent}
-use Rattle.inf_target_laws.specs.Lists.{ArraysStand, DefaultsStand, ListedStand, ObjectsStand, OpenArrayStands, PropertiesStand}
-use Rattle.inf_target_laws.specs.Lists.{ValuesStand}
-use Rattle.inf_target_laws.specs.Outputs.{WorldStands}
-use Rattle.inf_target_laws.specs.Standing.{ValueStands}
+use Rattle.inf_target_laws.specs.{Lists.ArraysStand, Lists.DefaultsStand, Lists.ListedStand, Lists.ObjectsStand, Lists.OpenArrayStands}
+use Rattle.inf_target_laws.specs.{Lists.PropertiesStand, Lists.ValuesStand, Outputs.WorldStands, Standing.ValueStands}
 use Rattle.inf_named_values.specs.Declarations.{with_world}
-use Rattle.inf_target_laws.proofs.Outputs.{Goes}
-use Rattle.inf_target_laws.proofs.Lists.{listed_join, objects_join, properties_join, values_join}
+use Rattle.inf_target_laws.proofs.{Lists.listed_join, Lists.objects_join, Lists.properties_join, Lists.values_join, Outputs.Goes}
 
 abbrev pub WorldHolds : Out → WorldOf → Type 0
 WorldHolds u w = WorldStands u w.declared w.objects w.body.properties.own w.body.properties.above
@@ -246,7 +237,7 @@ characters_stand : (u : Out) (text : List ℕ) → ValuesStand u (characters tex
 characters_stand u [] = tt
 characters_stand u (c ∷ text) = (tt, characters_stand u text)
 
-zeros_stand : (u : Out) (count : ℕ) → ValuesStand u (replicate count (value.Known 0))
+zeros_stand : (u : Out) (count : ℕ) → ValuesStand u (replicate count (Value.Known 0))
 zeros_stand u zero = tt
 zeros_stand u (suc count) = (tt, zeros_stand u count)
 

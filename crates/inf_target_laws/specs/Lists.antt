@@ -1,23 +1,17 @@
 -- Lists of what stands in an output.
 use Rattle.std.specs.Prelude.{ℕ, ◌<◌, List, [], ◌∷◌, length, Option, Some, None}
-use Rattle.inf_area.specs.declared.cells.Cell.{Cell as CodeCell}
-use Rattle.inf_area.specs.declared.targets.Value.{Value}
+use Rattle.inf_area.specs.{declared.cells.Cell.Cell as CodeCell, declared.targets.Value.Value}
 use Rattle.inf_scanner.specs.declared.tokens.Place.{Place}
 use Rattle.inf_arrays.specs.Arrays.{AllArrays, Listed}
 use Rattle.inf_code.specs.Code.{Opened}
 use Rattle.inf_constructs.specs.declared.constructs.Construct.{Construct}
 use Rattle.inf_names.specs.Symbols.{Named}
 use Rattle.inf_objects.specs.declared.objects.Object.{Object}
-use Rattle.inf_opcode.specs.Cells.{Cell}
-use Rattle.inf_opcode.specs.declared.instructions.Operand.{Operand as Written}
-use Rattle.inf_output.specs.Output.{Out, items_of}
-use Rattle.inf_output.specs.declared.items.Item.{Item}
-use Rattle.inf_output.specs.declared.items.Item.TheVariants.{Instruction, Mark}
+use Rattle.inf_opcode.specs.{Cells.Cell, declared.instructions.Operand.Operand as Written}
+use Rattle.inf_output.specs.{Output.Out, Output.items_of, declared.items.Item.Item}
 use Rattle.inf_properties.specs.declared.values.Property.{Property}
 use Rattle.inf_tables.specs.declared.kinds.DeclaredProperty.{DeclaredProperty}
-use Rattle.inf_verbs.specs.Lines.{LineOf, token_value}
-use Rattle.inf_verbs.specs.Verbs.{VerbOf}
-use Rattle.inf_verbs.specs.declared.lines.LineToken.{LineToken}
+use Rattle.inf_verbs.specs.{Lines.LineOf, Lines.token_value, Verbs.VerbOf, declared.lines.LineToken.LineToken}
 use Rattle.inf_target_laws.specs.Standing.{CellStands, OpenCellStands, StandingStands, ValueStands, WrittenStands}
 
 abbrev pub ValuesStand : Out → List Value → Type 0
@@ -43,8 +37,8 @@ AllWrittenStand u [] = Unit {0}
 AllWrittenStand u (x ∷ operands) = WrittenStands u x × AllWrittenStand u operands
 
 abbrev pub ItemStands : Out → Item → Type 0
-ItemStands u (Instruction parts) = AllWrittenStand u parts.operands
-ItemStands u (Mark label) = Unit {0}
+ItemStands u (Item.Instruction parts) = AllWrittenStand u parts.operands
+ItemStands u (Item.Mark label) = Unit {0}
 
 abbrev pub ItemsStand : Out → List Item → Type 0
 ItemsStand u [] = Unit {0}

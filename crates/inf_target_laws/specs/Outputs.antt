@@ -1,12 +1,10 @@
 -- Outputs of which all targets stand.
 use Rattle.std.specs.Prelude.{ℕ, List, Option}
-use Rattle.inf_area.specs.declared.cells.Cell.{Cell as CodeCell}
-use Rattle.inf_area.specs.declared.targets.Value.{Value}
+use Rattle.inf_area.specs.{declared.cells.Cell.Cell as CodeCell, declared.targets.Value.Value}
 use Rattle.inf_arrays.specs.Arrays.{AllArrays}
 use Rattle.inf_code.specs.Code.{Opened}
 use Rattle.inf_objects.specs.declared.objects.Object.{Object}
-use Rattle.inf_output.specs.Output.{Out, items_of}
-use Rattle.inf_output.specs.declared.items.Item.{Item}
+use Rattle.inf_output.specs.{Output.Out, Output.items_of, declared.items.Item.Item}
 use Rattle.inf_properties.specs.declared.values.Property.{Property}
 use Rattle.inf_tables.specs.declared.kinds.DeclaredProperty.{DeclaredProperty}
 use Rattle.inf_verbs.specs.Verbs.{VerbOf}

@@ -1,25 +1,12 @@
 -- Targets that stand in an output: the names and words to which numbers that are known later refer.
 use Rattle.std.specs.Prelude.{◌≡◌, ◌<◌, ◌≤◌, List, length, Bool, true, false, ◌||◌, is_some, Option, Some, None}
-use Rattle.inf_area.specs.declared.cells.Cell.{Cell as CodeCell}
-use Rattle.inf_area.specs.declared.cells.Cell.TheVariants as code_cell
-use Rattle.inf_area.specs.declared.targets.Target.{Target}
-use Rattle.inf_area.specs.declared.targets.Target.TheVariants as target
-use Rattle.inf_area.specs.declared.targets.Value.{Value}
-use Rattle.inf_area.specs.declared.targets.Value.TheVariants as value
+use Rattle.inf_area.specs.{declared.cells.Cell.Cell as CodeCell, declared.targets.Target.Target, declared.targets.Value.Value}
 use Rattle.inf_scanner.specs.declared.tokens.Place.{Place}
-use Rattle.inf_dictionary.specs.Texts.{Text}
-use Rattle.inf_dictionary.specs.Words.{word_of}
-use Rattle.inf_dictionary.specs.declared.uses.Word.{Word}
-use Rattle.inf_names.specs.Symbols.{IsDeclared, IsUsed, Named, Standing}
-use Rattle.inf_names.specs.declared.meanings.Meaning.{Meaning}
-use Rattle.inf_names.specs.declared.meanings.Meaning.TheVariants as meaning
+use Rattle.inf_dictionary.specs.{Texts.Text, Words.word_of, declared.uses.Word.Word}
+use Rattle.inf_names.specs.{Symbols.IsDeclared, Symbols.IsUsed, Symbols.Named, Symbols.Standing, declared.meanings.Meaning.Meaning}
+use Rattle.inf_opcode.specs.{declared.cells.Special.Special, declared.instructions.Operand.Operand as Written}
 use Rattle.inf_opcode.specs.Cells.{Cell, Of, Plain}
-use Rattle.inf_opcode.specs.declared.cells.Special.{Special}
-use Rattle.inf_opcode.specs.declared.cells.Special.TheVariants.{Refers}
-use Rattle.inf_opcode.specs.declared.instructions.Operand.{Operand as Written}
-use Rattle.inf_opcode.specs.declared.instructions.Operand.TheVariants as written
-use Rattle.inf_output.specs.Output.{Out}
-use Rattle.inf_output.specs.declared.past.Past.{Past}
+use Rattle.inf_output.specs.{Output.Out, declared.past.Past.Past}
 use Rattle.inf_word_laws.specs.Standing.{has_word}
 
 -- whether a limit of names or of tables was passed, behind which a name or a word may be missing
@@ -33,11 +20,11 @@ is_short o = is_short_by o.past
 -- Tells whether a target stands in an output: its name has a number among the names, or its word is one of the dictionary. Places and
 -- constants of the story have numbers in any case. To parts of areas no cell of code and no value refers, only tables as a whole do.
 abbrev pub TargetStands : Out → Target → Type 0
-TargetStands u (target.Name number) = number < length u.names.names
-TargetStands u (target.Word text) = has_word text u ≡ true
-TargetStands u (target.Part area part) = ⊥
-TargetStands u (target.Place area place) = Unit {0}
-TargetStands u (target.System constant) = Unit {0}
+TargetStands u (Target.Name number) = number < length u.names.names
+TargetStands u (Target.Word text) = has_word text u ≡ true
+TargetStands u (Target.Part area part) = ⊥
+TargetStands u (Target.Place area place) = Unit {0}
+TargetStands u (Target.System constant) = Unit {0}
 
 -- An output comes before another one: it passed no limit of names or of tables, and its names and words are among those of the other.
 pub record IsBefore (past : Option Past) (words : List (Text × Word)) (names : List (Named Place)) (u : Out) : Type 0 where
@@ -50,15 +37,15 @@ Before u o = IsBefore o.past o.tables.dictionary.list o.names.names u
 
 -- Numbers that are known later stand: those of values, of operands of instructions, of cells, and of the meanings of names.
 abbrev pub ValueStands : Out → Value → Type 0
-ValueStands u (value.Known number) = Unit {0}
-ValueStands u (value.Later t) = TargetStands u t
+ValueStands u (Value.Known number) = Unit {0}
+ValueStands u (Value.Later t) = TargetStands u t
 
 abbrev pub WrittenStands : Out → Written → Type 0
-WrittenStands u (written.Later t) = TargetStands u t
+WrittenStands u (Written.Later t) = TargetStands u t
 WrittenStands u _ = Unit {0}
 
 abbrev pub SpecialStands : Out → Special → Type 0
-SpecialStands u (Refers t) = TargetStands u t
+SpecialStands u (Special.Refers t) = TargetStands u t
 SpecialStands u _ = Unit {0}
 
 abbrev pub OpenCellStands : Out → Cell → Type 0
@@ -66,11 +53,11 @@ OpenCellStands u (Plain byte) = Unit {0}
 OpenCellStands u (Of what) = SpecialStands u what
 
 abbrev pub CellStands : Out → CodeCell → Type 0
-CellStands u (code_cell.Byte byte) = Unit {0}
-CellStands u (code_cell.Later t) = TargetStands u t
+CellStands u (CodeCell.Byte byte) = Unit {0}
+CellStands u (CodeCell.Later t) = TargetStands u t
 
 abbrev pub MeaningStands : Out → Meaning → Type 0
-MeaningStands u (meaning.Word text) = has_word text u ≡ true
+MeaningStands u (Meaning.Word text) = has_word text u ≡ true
 MeaningStands u _ = Unit {0}
 
 abbrev pub StandingStands : Out → Standing Place → Type 0

@@ -1,47 +1,36 @@
 -- Targets in the areas of a story are found.
 use Rattle.std.specs.Prelude.{◌≡◌, ℕ, List, [], ◌∷◌, true, is_some, slice_get, Some}
 use Rattle.inf_settings.specs.Bounds.{limits_of}
-use Rattle.inf_area.specs.declared.cells.Cell.{Cell}
-use Rattle.inf_area.specs.declared.cells.Cell.TheVariants as cell
-use Rattle.inf_area.specs.declared.targets.Target.{Target}
-use Rattle.inf_area.specs.declared.targets.Target.TheVariants as target
-use Rattle.inf_area.specs.declared.targets.Value.{Value}
-use Rattle.inf_area.specs.declared.targets.Value.TheVariants as value
+use Rattle.inf_area.specs.{declared.cells.Cell.Cell, declared.targets.Target.Target, declared.targets.Value.Value}
 use Rattle.inf_devices.specs.Files.{Sources}
-use Rattle.inf_dictionary.specs.Texts.{Text}
-use Rattle.inf_dictionary.specs.Words.{word_of}
-use Rattle.inf_dictionary.specs.declared.uses.Word.{Word}
-use Rattle.inf_link.specs.declared.areas.Areas.{Areas}
-use Rattle.inf_link.specs.Targets.{Lookup, part_of}
+use Rattle.inf_dictionary.specs.{Texts.Text, Words.word_of, declared.uses.Word.Word}
+use Rattle.inf_link.specs.{Targets.Lookup, Targets.part_of, declared.areas.Areas.Areas}
 use Rattle.inf_output.specs.Output.{Out}
-use Rattle.inf_story.specs.Names.{values_of}
-use Rattle.inf_story.specs.Tables.{areas, looked_up}
+use Rattle.inf_story.specs.{Names.values_of, Tables.areas, Tables.looked_up}
 use Rattle.inf_compilation.specs.Actions.{begun_at}
-use Rattle.inf_session.specs.Choices.{Choices}
-use Rattle.inf_ending.specs.Ending.{finished}
-use Rattle.inf_session.specs.Session.{State}
-use Rattle.inf_ending.specs.Ending.{first_place}
+use Rattle.inf_session.specs.{Choices.Choices, Session.State}
+use Rattle.inf_ending.specs.Ending.{finished, first_place}
 use Rattle.inf_word_laws.specs.Values.{AllDirect}
 use Rattle.inf_limit_laws.specs.Reached.{IsReached}
 
 -- Tells whether a target is found: a name by its number, a part by its own, and a word in the dictionary.
 abbrev pub IsFound : Lookup → List (Text × Word) → Target → Type 0
-IsFound targets words (target.Name number) = is_some (slice_get targets.names number) ≡ true
-IsFound targets words (target.Word text) = is_some (word_of text words) ≡ true
-IsFound targets words (target.Part area part) = is_some (slice_get (part_of targets area) part) ≡ true
+IsFound targets words (Target.Name number) = is_some (slice_get targets.names number) ≡ true
+IsFound targets words (Target.Word text) = is_some (word_of text words) ≡ true
+IsFound targets words (Target.Part area part) = is_some (slice_get (part_of targets area) part) ≡ true
 IsFound targets words _ = Unit {0}
 
 abbrev pub CellIsFound : Lookup → List (Text × Word) → Cell → Type 0
-CellIsFound targets words (cell.Byte byte) = Unit {0}
-CellIsFound targets words (cell.Later t) = IsFound targets words t
+CellIsFound targets words (Cell.Byte byte) = Unit {0}
+CellIsFound targets words (Cell.Later t) = IsFound targets words t
 
 abbrev pub AllFound : Lookup → List (Text × Word) → List Cell → Type 0
 AllFound targets words [] = Unit {0}
 AllFound targets words (c ∷ cells) = CellIsFound targets words c × AllFound targets words cells
 
 abbrev pub ValueIsFound : Lookup → List (Text × Word) → Value → Type 0
-ValueIsFound targets words (value.Known number) = Unit {0}
-ValueIsFound targets words (value.Later t) = IsFound targets words t
+ValueIsFound targets words (Value.Known number) = Unit {0}
+ValueIsFound targets words (Value.Later t) = IsFound targets words t
 
 abbrev pub ValuesFound : Lookup → List (Text × Word) → List Value → Type 0
 ValuesFound targets words [] = Unit {0}

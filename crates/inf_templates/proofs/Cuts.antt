@@ -1,10 +1,8 @@
 -- The front of a list, and calls, of whose arguments seven are given.
+use Rattle.std.proofs.{Math.Seq.take-append_seam, lemmas.List.take_all}
 use Rattle.std.proofs.Common.{◌≡◌, ℕ, zero, suc, ◌≤◌, List, [], ◌∷◌, ◌++◌, Option, None, length, take, ap, sym, ◌∙◌, refl}
-use Rattle.std.proofs.Math.Seq.{take-append_seam}
-use Rattle.std.proofs.lemmas.List.{take_all}
 use Rattle.inf_settings.specs.Bounds.{Limits}
-use Rattle.inf_output.specs.declared.operands.Simple.{Simple}
-use Rattle.inf_output.specs.declared.veneer.Veneer.{Veneer}
+use Rattle.inf_output.specs.{declared.operands.Simple.Simple, declared.veneer.Veneer.Veneer}
 use Rattle.inf_output.specs.Output.{Out, instruction, routine, used}
 use Rattle.inf_templates.specs.Parts.{call_opcode, calling, calling_routine}
 

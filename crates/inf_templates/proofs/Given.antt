@@ -3,11 +3,9 @@ use Rattle.std.proofs.Common.{◌≡◌, ℕ, zero, suc, ◌≤◌, List, [], �
 use Rattle.std.proofs.lemmas.List.{map-append, take_all, drop_all}
 use Rattle.inf_settings.specs.Bounds.{Limits}
 use Rattle.inf_expressions.specs.Trees.{Tree}
-use Rattle.inf_output.specs.declared.operands.Simple.{Simple}
-use Rattle.inf_output.specs.Output.{Out}
-use Rattle.inf_templates.specs.declared.tasks.Argument.{Argument}
+use Rattle.inf_output.specs.{Output.Out, declared.operands.Simple.Simple}
+use Rattle.inf_templates.specs.{Tasks.part_of, Tasks.parts_of, declared.tasks.Argument.Argument}
 use Rattle.inf_templates.specs.Parts.{Part, evaluated, operand_of, operands, worked_out}
-use Rattle.inf_templates.specs.Tasks.{part_of, parts_of}
 
 -- the last part is worked out first
 last_first : (ps : List Part) (p : Part) (o : Out) → evaluated (ps ++ p ∷ []) o ≡ evaluated ps (worked_out p o)

@@ -3,12 +3,9 @@ ghost use Rattle.inf_settings.specs.Bounds.{Limits};
 ghost use Rattle.std.specs.Prelude.{◌≡◌, ◌≤◌, ◌<◌, ◌+◌, [], ◌∷◌, ◌++◌, List, OnOk, Option, length, take};
 ghost use Rattle.inf_expressions.specs.Trees.{Tree};
 ghost use Rattle.inf_output.specs.Output.{Out};
-ghost use Rattle.inf_templates.specs.Parts.{operand_of, operands, worked_out};
-ghost use Rattle.inf_templates.specs.Meaning.{part, parts};
-ghost use Rattle.inf_templates.specs.Weights.{WeighsUnder, weight};
+ghost use Rattle.inf_templates.specs.{Meaning.part, Meaning.parts, Parts.operand_of, Parts.operands, Parts.worked_out, Weights.WeighsUnder};
+ghost use Rattle.inf_templates.specs.{Weights.weight, declared.tasks.Task.Task, declared.tasks.Worked.Worked};
 ghost use Rattle.inf_templates.specs.Tasks.{Leads, at, few_parts, task_code, tasks_code, worked_code};
-ghost use Rattle.inf_templates.specs.declared.tasks.Task.TheVariants as task;
-ghost use Rattle.inf_templates.specs.declared.tasks.Worked.TheVariants as worked;
 
 use crate::placing::{
     MOST_ARGUMENTS, by, calling, calling_routine, compared, jump_zero, leaves_new, load,
@@ -32,9 +29,9 @@ fn evaluate<B: Bounds>(
     tasks: &mut Tasks,
     out: &mut Output<B>,
 ) -> Result<(), AllocError>
-    ensures code { OnOk result (Leads B.most nodes.now (task_code B.most nodes.now (task.Evaluate argument)) tasks.old tasks.new out.old
+    ensures code { OnOk result (Leads B.most nodes.now (task_code B.most nodes.now (Task.Evaluate argument)) tasks.old tasks.new out.old
         out.new) }
-    ensures less { OnOk result (WeighsUnder nodes.now (weight nodes.now (task.Evaluate argument)) tasks.old tasks.new) }
+    ensures less { OnOk result (WeighsUnder nodes.now (weight nodes.now (Task.Evaluate argument)) tasks.old tasks.new) }
 {
     match argument {
         Argument::Is(_) => Ok(()),
@@ -48,8 +45,8 @@ fn evaluate<B: Bounds>(
 /// Puts first the tasks for the members of the list at `place`, which are worked out from the last to the first.
 fn list(nodes: &Nodes, place: usize, tasks: &mut Tasks) -> Result<(), AllocError>
     ensures code { OnOk result ((limits : Limits) → (o : Out) → tasks_code limits nodes.now tasks.new o ≡ tasks_code limits nodes.now
-        (task.List place ∷ tasks.old) o) }
-    ensures less { OnOk result (WeighsUnder nodes.now (weight nodes.now (task.List place)) tasks.old tasks.new) }
+        (Task.List place ∷ tasks.old) o) }
+    ensures less { OnOk result (WeighsUnder nodes.now (weight nodes.now (Task.List place)) tasks.old tasks.new) }
 {
     match split(nodes, place) {
         Some((a, others)) => tasks.first(&[Task::List(others), Task::Evaluate(Argument::Of(a))]),
@@ -116,7 +113,7 @@ fn compute<B: Bounds>(
     d: u8,
     out: &mut Output<B>,
 ) -> Result<(), AllocError>
-    ensures { OnOk result (out.new ≡ worked_code B.most nodes.now (worked.Compute operation a b d) out.old) }
+    ensures { OnOk result (out.new ≡ worked_code B.most nodes.now (Worked.Compute operation a b d) out.old) }
 {
     let operands = [operand_of(nodes, a), operand_of(nodes, b)];
     out.instruct(operation_opcode(operation), &operands, Some(d), None)
@@ -131,7 +128,7 @@ fn find<B: Bounds>(
     label: Label,
     out: &mut Output<B>,
 ) -> Result<(), AllocError>
-    ensures { OnOk result (out.new ≡ worked_code B.most nodes.now (worked.Find relative a d label) out.old) }
+    ensures { OnOk result (out.new ≡ worked_code B.most nodes.now (Worked.Find relative a d label) out.old) }
 {
     let operands = [operand_of(nodes, a)];
     out.instruct(
@@ -152,7 +149,7 @@ fn three<B: Bounds>(
     label: Label,
     out: &mut Output<B>,
 ) -> Result<(), AllocError>
-    ensures { OnOk result (out.new ≡ worked_code B.most nodes.now (worked.Three x b c d label) out.old) }
+    ensures { OnOk result (out.new ≡ worked_code B.most nodes.now (Worked.Three x b c d label) out.old) }
 {
     let operands = [
         x,
@@ -172,7 +169,7 @@ fn store<B: Bounds>(
     c: usize,
     out: &mut Output<B>,
 ) -> Result<(), AllocError>
-    ensures { OnOk result (out.new ≡ worked_code B.most nodes.now (worked.Store memory a b c) out.old) }
+    ensures { OnOk result (out.new ≡ worked_code B.most nodes.now (Worked.Store memory a b c) out.old) }
 {
     let operands = [
         operand_of(nodes, a),
@@ -193,7 +190,7 @@ fn step_in_memory<B: Bounds>(
     store: Option<u8>,
     out: &mut Output<B>,
 ) -> Result<(), AllocError>
-    ensures { OnOk result (out.new ≡ worked_code B.most nodes.now (worked.StepInMemory before step memory a b store) out.old) }
+    ensures { OnOk result (out.new ≡ worked_code B.most nodes.now (Worked.StepInMemory before step memory a b store) out.old) }
 {
     let operands = [
         operand_of(nodes, a),
@@ -214,7 +211,7 @@ fn any<B: Bounds>(
     label: Label,
     out: &mut Output<B>,
 ) -> Result<(), AllocError>
-    ensures { OnOk result (out.new ≡ worked_code B.most nodes.now (worked.Any test a list sense label) out.old) }
+    ensures { OnOk result (out.new ≡ worked_code B.most nodes.now (Worked.Any test a list sense label) out.old) }
 {
     let mut front = ArrayVec::new();
     front.push(argument_of::<B>(nodes, a));
@@ -231,7 +228,7 @@ fn call<B: Bounds>(
     store: Option<u8>,
     out: &mut Output<B>,
 ) -> Result<(), AllocError>
-    ensures { OnOk result (out.new ≡ worked_code B.most nodes.now (worked.Call f list store) out.old) }
+    ensures { OnOk result (out.new ≡ worked_code B.most nodes.now (Worked.Call f list store) out.old) }
 {
     let arguments = with_list(nodes, ArrayVec::new(), list, MOST_ARGUMENTS);
     calling(operand_of(nodes, f), &arguments, store, out)
@@ -247,7 +244,7 @@ fn message<B: Bounds>(
     store: Option<u8>,
     out: &mut Output<B>,
 ) -> Result<(), AllocError>
-    ensures { OnOk result (out.new ≡ worked_code B.most nodes.now (worked.Message a b list store) out.old) }
+    ensures { OnOk result (out.new ≡ worked_code B.most nodes.now (Worked.Message a b list store) out.old) }
 {
     let mut front = ArrayVec::new();
     front.push(operand_of(nodes, a));
@@ -263,7 +260,7 @@ fn indirect<B: Bounds>(
     store: Option<u8>,
     out: &mut Output<B>,
 ) -> Result<(), AllocError>
-    ensures { OnOk result (out.new ≡ worked_code B.most nodes.now (worked.Indirect list store) out.old) }
+    ensures { OnOk result (out.new ≡ worked_code B.most nodes.now (Worked.Indirect list store) out.old) }
 {
     match split(nodes, list) {
         Some((f, others)) => call(nodes, f, others, store, out),

@@ -1,9 +1,8 @@
 //! Properties of trees by which templates are chosen.
 ghost use Rattle.inf_settings.specs.Bounds.{Limits};
 ghost use Rattle.std.specs.Prelude.{◌≡◌, ◌≤◌, ◌+◌, [], ◌∷◌, ◌<◌, IfSome, MatchOption, Some, None, nat_lt, length};
-ghost use Rattle.inf_templates.specs.Parts.{operand_of, simple};
+ghost use Rattle.inf_templates.specs.{Parts.operand_of, Parts.simple, Weights.goal_load, Weights.load_at};
 ghost use Rattle.inf_templates.specs.Meaning.{group, most_compared, part, parts, takes_three};
-ghost use Rattle.inf_templates.specs.Weights.{goal_load, load_at};
 ghost use Rattle.inf_templates.specs.Tasks.{at, part_of, target_of};
 
 use crate::tasks::{Argument, Memory};

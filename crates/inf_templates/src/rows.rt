@@ -1,17 +1,12 @@
 //! The rows of operators: each is laid by tasks for its parts.
 ghost use Rattle.inf_settings.specs.Bounds.{Limits};
 ghost use Rattle.std.specs.Prelude.{◌≡◌, ◌+◌, [], ◌∷◌, List, OnOk, IfOk, Option};
-ghost use Rattle.inf_expressions.specs.Trees.{Tree};
-ghost use Rattle.inf_output.specs.Output.{behind, next_label};
-ghost use Rattle.inf_templates.specs.Parts.{call_routine};
+ghost use Rattle.inf_expressions.specs.{Trees.Tree, declared.operators.Binary.Binary};
+ghost use Rattle.inf_output.specs.{Output.behind, Output.next_label, declared.veneer.Veneer.Veneer};
+ghost use Rattle.inf_templates.specs.{Parts.call_routine, Tasks.Leads, Tasks.Puts, Tasks.at, Tasks.task_code, Weights.WeighsUnder};
+ghost use Rattle.inf_templates.specs.{Weights.load_at, Weights.weight, declared.tasks.Task.Task, declared.tasks.Worked.Worked};
 ghost use Rattle.inf_templates.specs.Meaning.{and_branch, assign_alone, assign_value, both, call_of, leaf_branch, one, or_branch, part};
 ghost use Rattle.inf_templates.specs.Meaning.{parts, reader, related, related_opcode, step_alone, step_value, truth_behind, two};
-ghost use Rattle.inf_templates.specs.Weights.{WeighsUnder, load_at, weight};
-ghost use Rattle.inf_templates.specs.Tasks.{Leads, Puts, at, task_code};
-ghost use Rattle.inf_expressions.specs.declared.operators.Binary.TheVariants as binary;
-ghost use Rattle.inf_output.specs.declared.veneer.Veneer.TheVariants as veneer;
-ghost use Rattle.inf_templates.specs.declared.tasks.Task.TheVariants as task;
-ghost use Rattle.inf_templates.specs.declared.tasks.Worked.TheVariants as worked;
 
 use crate::placing::setter;
 use crate::reading::{Goal, STACK, TEMP, simple, target};
@@ -31,9 +26,9 @@ pub(crate) fn value<B: Bounds>(
     tasks: &mut Tasks,
     out: &mut Output<B>,
 ) -> Result<(), AllocError>
-    ensures code { OnOk result (Leads B.most nodes.now (task_code B.most nodes.now (task.Value place to)) tasks.old tasks.new out.old
+    ensures code { OnOk result (Leads B.most nodes.now (task_code B.most nodes.now (Task.Value place to)) tasks.old tasks.new out.old
         out.new) }
-    ensures less { OnOk result (WeighsUnder nodes.now (weight nodes.now (task.Value place to)) tasks.old tasks.new) }
+    ensures less { OnOk result (WeighsUnder nodes.now (weight nodes.now (Task.Value place to)) tasks.old tasks.new) }
 {
     match nodes.node(place) {
         Node::Leaf(operand) => tasks.first(&[Task::Put(simple(operand), to)]),
@@ -127,7 +122,7 @@ fn operate(
     tasks: &mut Tasks,
 ) -> Result<(), AllocError>
     ensures code { OnOk result ((limits : Limits) → Puts limits nodes.now
-        ((two limits (binary.Operation operation) (at limits nodes.now a) (at limits nodes.now b)).value to) tasks.old tasks.new) }
+        ((two limits (Binary.Operation operation) (at limits nodes.now a) (at limits nodes.now b)).value to) tasks.old tasks.new) }
     ensures less { OnOk result (WeighsUnder nodes.now (18 + load_at nodes.now a + load_at nodes.now b) tasks.old tasks.new) }
 {
     let instruct = Task::Instruct(Worked::Compute(operation, a, b, to));
@@ -148,9 +143,9 @@ pub(crate) fn alone<B: Bounds>(
     tasks: &mut Tasks,
     out: &mut Output<B>,
 ) -> Result<(), AllocError>
-    ensures code { OnOk result (Leads B.most nodes.now (task_code B.most nodes.now (task.Alone place)) tasks.old tasks.new
+    ensures code { OnOk result (Leads B.most nodes.now (task_code B.most nodes.now (Task.Alone place)) tasks.old tasks.new
         out.old out.new) }
-    ensures less { OnOk result (WeighsUnder nodes.now (weight nodes.now (task.Alone place)) tasks.old tasks.new) }
+    ensures less { OnOk result (WeighsUnder nodes.now (weight nodes.now (Task.Alone place)) tasks.old tasks.new) }
 {
     match nodes.node(place) {
         Node::Leaf(_) => Ok(()),
@@ -186,9 +181,9 @@ pub(crate) fn branch<B: Bounds>(
     tasks: &mut Tasks,
     out: &mut Output<B>,
 ) -> Result<(), AllocError>
-    ensures code { let code = task_code B.most nodes.now (task.Branch place sense label) in
+    ensures code { let code = task_code B.most nodes.now (Task.Branch place sense label) in
         OnOk result (Leads B.most nodes.now code tasks.old tasks.new out.old out.new) }
-    ensures less { OnOk result (WeighsUnder nodes.now (weight nodes.now (task.Branch place sense label)) tasks.old tasks.new) }
+    ensures less { OnOk result (WeighsUnder nodes.now (weight nodes.now (Task.Branch place sense label)) tasks.old tasks.new) }
 {
     match nodes.node(place) {
         Node::Leaf(operand) => leaf_branch(simple(operand), sense, label, tasks),
@@ -498,7 +493,7 @@ fn call_of(
 
 /// Lays a call of the first member of a list, with the others as arguments.
 fn indirect(list: usize, store: Option<u8>, tasks: &mut Tasks) -> Result<(), AllocError>
-    ensures { OnOk result (tasks.new ≡ task.List list ∷ task.Instruct (worked.Indirect list store) ∷ tasks.old) }
+    ensures { OnOk result (tasks.new ≡ Task.List list ∷ Task.Instruct (Worked.Indirect list store) ∷ tasks.old) }
 {
     tasks.first(&[
         Task::List(list),
@@ -509,7 +504,7 @@ fn indirect(list: usize, store: Option<u8>, tasks: &mut Tasks) -> Result<(), All
 /// Lays the number of an object's children, which a routine of the veneer counts.
 fn children(a: usize, store: Option<u8>, tasks: &mut Tasks) -> Result<(), AllocError>
     ensures code { OnOk result ((limits : Limits) → (trees : List Tree) →
-        Puts limits trees (call_routine limits veneer.Children (part (at limits trees a) ∷ []) store) tasks.old tasks.new) }
+        Puts limits trees (call_routine limits Veneer.Children (part (at limits trees a) ∷ []) store) tasks.old tasks.new) }
     ensures less { OnOk result ((trees : List Tree) → WeighsUnder trees (4 + load_at trees a) tasks.old tasks.new) }
 {
     tasks.first(&[

@@ -1,9 +1,8 @@
 //! The code of expressions, and of instructions of expressions.
 ghost use Rattle.std.specs.Prelude.{◌≡◌, ◌≤◌, [], ◌∷◌, List, OnOk, Option, is_some, length, take};
 ghost use Rattle.inf_output.specs.Output.{Takes};
+ghost use Rattle.inf_templates.specs.{Tasks.at, Tasks.part_of, Tasks.parts_of, Tasks.tasks_code, declared.tasks.Task.Task};
 ghost use Rattle.inf_templates.specs.Parts.{call, call_routine, evaluated, operands, worked};
-ghost use Rattle.inf_templates.specs.Tasks.{at, part_of, parts_of, tasks_code};
-ghost use Rattle.inf_templates.specs.declared.tasks.Task.TheVariants as task;
 
 use crate::laying::lay_first;
 use crate::placing::{MOST_ARGUMENTS, calling, calling_routine, cut};

@@ -3,10 +3,9 @@ ghost use Rattle.inf_settings.specs.Bounds.{Limits};
 ghost use Rattle.std.specs.Prelude.{◌≡◌, ◌≤◌, ◌<◌, ◌+◌, [], ◌∷◌, List, OnOk, if◌then◌else◌};
 ghost use Rattle.inf_expressions.specs.Trees.{Tree};
 ghost use Rattle.inf_output.specs.Output.{Out};
+ghost use Rattle.inf_templates.specs.{Weights.WeighsUnder, Weights.load_at, Weights.weight, declared.tasks.Task.Task};
 ghost use Rattle.inf_templates.specs.Meaning.{group, parts, takes_three, test_branch, tests};
-ghost use Rattle.inf_templates.specs.Weights.{WeighsUnder, load_at, weight};
 ghost use Rattle.inf_templates.specs.Tasks.{Leads, Puts, at, task_code};
-ghost use Rattle.inf_templates.specs.declared.tasks.Task.TheVariants as task;
 
 use crate::reading::{TEMP, group, has_more, simple_of, split, takes_three};
 use crate::tasks::{Argument, Task, Tasks, Worked};
@@ -89,8 +88,8 @@ pub(crate) fn triple_tests(
     tasks: &mut Tasks,
 ) -> Result<(), AllocError>
     ensures code { OnOk result ((limits : Limits) → Puts limits nodes.now (task_code limits nodes.now
-        (task.Triples x list sense label there)) tasks.old tasks.new) }
-    ensures less { OnOk result (WeighsUnder nodes.now (weight nodes.now (task.Triples x list sense label there)) tasks.old tasks.new) }
+        (Task.Triples x list sense label there)) tasks.old tasks.new) }
+    ensures less { OnOk result (WeighsUnder nodes.now (weight nodes.now (Task.Triples x list sense label there)) tasks.old tasks.new) }
 {
     let last = Worked::Any(Test::Equal, Argument::Is(x), list, sense, label);
     let Some((b, others)) = split(nodes, list) else {
@@ -124,8 +123,8 @@ pub(crate) fn single_tests(
     tasks: &mut Tasks,
 ) -> Result<(), AllocError>
     ensures code { OnOk result ((limits : Limits) → Puts limits nodes.now (task_code limits nodes.now
-        (task.Singles test x list sense label there)) tasks.old tasks.new) }
-    ensures less { let most = weight nodes.now (task.Singles test x list sense label there) in
+        (Task.Singles test x list sense label there)) tasks.old tasks.new) }
+    ensures less { let most = weight nodes.now (Task.Singles test x list sense label there) in
         OnOk result (WeighsUnder nodes.now most tasks.old tasks.new) }
 {
     match split(nodes, list) {

@@ -2,9 +2,8 @@
 use Rattle.std.proofs.Common.{◌≡◌, ◌<◌, ◌≤◌, ◌+◌, ℕ, zero, suc, Bool, true, false, ◌&&◌, ◌||◌, cond, eqb, leb, ltb, Option, None, Some}
 use Rattle.std.proofs.Common.{List, [], ◌∷◌, length, get_or, refl, sym, ap, ◌∙◌, arith}
 use Rattle.std.proofs.lemmas.Bool.Decides.{nat_tests}
-use Rattle.inf_text.specs.Packing.{begins_with, better, longer, longest, longest_from}
-use Rattle.inf_text.specs.Searching.{best_of, common, pick, text_at, tried}
-use Rattle.inf_text.specs.declared.index.Link.{Link}
+use Rattle.inf_text.specs.{Packing.begins_with, Packing.better, Packing.longer, Packing.longest, Packing.longest_from, Searching.best_of}
+use Rattle.inf_text.specs.{Searching.common, Searching.pick, Searching.text_at, Searching.tried, declared.index.Link.Link}
 use Rattle.inf_characters.specs.declared.texts.TextItem.{TextItem}
 use Rattle.inf_text.proofs.Linking.{begins_with_common}
 

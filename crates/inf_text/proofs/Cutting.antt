@@ -1,23 +1,17 @@
 -- The Z-characters of a text are those of its parts.
 use Rattle.std.proofs.Common.{◌≡◌, ◌<◌, ◌≤◌, ◌+◌, ◌-◌, ℕ, zero, suc, Bool, true, false, ◌&&◌, cond, ltb, Option, None, Some, List, [], ◌∷◌}
-use Rattle.std.proofs.Common.{◌++◌, length, drop, length-append, refl, sym, ap, ◌∙◌, arith}
-use Rattle.std.specs.Prelude.{slice_get}
-use Rattle.std.specs.List.{flat_map}
-use Rattle.std.proofs.lemmas.Bool.Decides.{nat_tests}
-use Rattle.std.proofs.Math.Seq.{append_snoc}
-use Rattle.std.proofs.lemmas.List.{append-nil}
-use Rattle.inf_characters.specs.Items.{IsText, same_item}
+use Rattle.std.proofs.Common.{◌++◌, length, drop, length-append, refl, sym, ap, ◌∙◌, arith, slice_get, flat_map}
+use Rattle.std.proofs.{Math.Seq.append_snoc, lemmas.Bool.Decides.nat_tests, lemmas.List.append-nil}
+use Rattle.inf_characters.specs.{Items.IsText, Items.same_item, declared.texts.TextItem.TextItem}
 use Rattle.inf_text.specs.Packing.{begins_with, better, front_behind, front_zs, longer, longest, longest_from, zs_from}
 use Rattle.inf_text.specs.Parts.{AreAbbreviations, AreLongTexts, Cuts, IsCut, NoneBegins, NoneLonger, Part, Plain, Short, part_zs}
-use Rattle.inf_characters.specs.declared.texts.TextItem.{TextItem}
-use Rattle.inf_characters.specs.declared.texts.TextItem.TheVariants.{Character, Variable}
 
 -- a test that holds of two items shows that they are equal
 pub same_item-true : (x y : TextItem) → same_item x y ≡ true → x ≡ y
-same_item-true (Character c) (Character d) h = let e : c ≡ d = grind (arith, nat_tests) in ap Character e
-same_item-true (Character c) (Variable n) h = cc
-same_item-true (Variable n) (Character c) h = cc
-same_item-true (Variable n) (Variable m) h = let e : n ≡ m = grind (arith, nat_tests) in ap Variable e
+same_item-true (TextItem.Character c) (TextItem.Character d) h = let e : c ≡ d = grind (arith, nat_tests) in ap TextItem.Character e
+same_item-true (TextItem.Character c) (TextItem.Variable n) h = cc
+same_item-true (TextItem.Variable n) (TextItem.Character c) h = cc
+same_item-true (TextItem.Variable n) (TextItem.Variable m) h = let e : n ≡ m = grind (arith, nat_tests) in ap TextItem.Variable e
 
 and_both : (a b : Bool) → (a && b) ≡ true → (a ≡ true) × (b ≡ true)
 and_both true b h = (refl, h)

@@ -1,12 +1,10 @@
 -- The first Z-characters of a text.
 use Rattle.std.proofs.Common.{◌≡◌, ◌<◌, ◌≤◌, ◌+◌, ◌-◌, ℕ, zero, suc, List, [], ◌∷◌, ◌++◌, length, take, set, replicate, sym, refl, ap, ◌∙◌}
-use Rattle.std.proofs.Common.{arith, append_assoc}
+use Rattle.std.proofs.Common.{arith, append_assoc, flat_map}
 use Rattle.std.proofs.lemmas.List.{take_more_set, length-take, take-replicate}
 use Rattle.std.proofs.Math.Seq.{set-append_seam, append_snoc, take-append-add}
-use Rattle.std.specs.List.{flat_map}
-use Rattle.inf_characters.specs.Items.{IsText, lowered}
+use Rattle.inf_characters.specs.{Items.IsText, Items.lowered, declared.texts.TextItem.TextItem}
 use Rattle.inf_text.specs.Packing.{AreZs, dictionary_zs, item_zs}
-use Rattle.inf_characters.specs.declared.texts.TextItem.{TextItem}
 
 -- cut to n, continued and cut again
 pub take-take_append : (n : ℕ) (xs ys : List ℕ) → take n (take n xs ++ ys) ≡ take n (xs ++ ys)

@@ -1,16 +1,12 @@
 -- The items that texts have in common, where one follows the other.
 use Rattle.std.proofs.Common.{◌≡◌, ◌≢◌, ◌<◌, ◌≤◌, ◌+◌, ℕ, zero, suc, Bool, true, false, ◌&&◌, ◌||◌, cond, eqb, Option, None, List, [], ◌∷◌}
-use Rattle.std.proofs.Common.{length, take, drop, get_or, min, refl, sym, ap, ◌∙◌, inl, inr, arith}
-use Rattle.std.specs.Prelude.{◌⊎◌}
-use Rattle.std.proofs.lemmas.Bool.{cases_lt}
-use Rattle.std.proofs.lemmas.Bool.Decides.{eqb_tells, nat_tests}
-use Rattle.std.proofs.lemmas.List.{drop_all, get_or_read}
-use Rattle.inf_characters.specs.Items.{same_item}
-use Rattle.inf_text.specs.Packing.{begins_with}
+use Rattle.std.proofs.Common.{length, take, drop, get_or, min, refl, sym, ap, ◌∙◌, inl, inr, arith, ◌⊎◌}
+use Rattle.std.proofs.{lemmas.Bool.Decides.eqb_tells, lemmas.Bool.Decides.nat_tests, lemmas.Bool.cases_lt, lemmas.List.drop_all}
+use Rattle.std.proofs.{lemmas.List.get_or_read}
+use Rattle.inf_characters.specs.{Items.same_item, declared.texts.TextItem.TextItem}
+use Rattle.inf_text.specs.{Packing.begins_with, declared.index.Link.Link}
 use Rattle.inf_text.specs.Searching.{AreBelow, AreLinked, HaveLinks, IsLink, best_of, code_of, common, first_code, linked_from, pick}
 use Rattle.inf_text.specs.Searching.{text_at, tried}
-use Rattle.inf_text.specs.declared.index.Link.{Link}
-use Rattle.inf_characters.specs.declared.texts.TextItem.{TextItem}
 use Rattle.inf_text.proofs.Cutting.{same_item-true}
 
 pub common-fits_left : (xs ys : List TextItem) → common xs ys ≤ length xs

@@ -1,13 +1,9 @@
 -- A packed text is words of which only the last is marked.
-use Rattle.std.proofs.Common.{◌<◌, ◌≤◌, ◌+◌, ◌*◌, ◌/◌, ℕ, leb, ltb, List, [], ◌∷◌, arith}
-use Rattle.std.specs.Prelude.{IsTrue}
+use Rattle.std.proofs.Common.{◌<◌, ◌≤◌, ◌+◌, ◌*◌, ◌/◌, ℕ, leb, ltb, List, [], ◌∷◌, arith, IsTrue}
 use Rattle.std.proofs.lemmas.Bool.Decides.{nat_tests}
 use Rattle.inf_text.proofs.Unpacks.{AreZs-packed}
-use Rattle.inf_characters.specs.Items.{IsText}
-use Rattle.inf_text.specs.Packing.{AreZs, packed, words, zs_from}
-use Rattle.inf_text.specs.Parts.{AreAbbreviations}
-use Rattle.inf_text.specs.Words.{are_words}
-use Rattle.inf_characters.specs.declared.texts.TextItem.{TextItem}
+use Rattle.inf_characters.specs.{Items.IsText, declared.texts.TextItem.TextItem}
+use Rattle.inf_text.specs.{Packing.AreZs, Packing.packed, Packing.words, Packing.zs_from, Parts.AreAbbreviations, Words.are_words}
 
 -- the high byte of the last word is marked
 marked : (a b : ℕ) → IsTrue (leb 128 (128 + 4 * a + b / 8))

@@ -1,25 +1,16 @@
 -- Where the texts stand that begin with a code, and the order of the search.
 use Rattle.std.proofs.Common.{◌≡◌, ◌≢◌, ◌<◌, ◌≤◌, ◌+◌, ◌-◌, ℕ, zero, suc, Bool, true, false, eqb, List, [], ◌∷◌, length, get_or, set}
 use Rattle.std.proofs.Common.{replicate, refl, sym, ap, ◌∙◌, inl, inr, arith, None, take, drop, length-drop, get_or-set_same}
-use Rattle.std.proofs.Common.{get_or-set_other}
-use Rattle.std.specs.Prelude.{◌⊎◌}
-use Rattle.std.specs.List.{insert}
-use Rattle.std.proofs.lemmas.Bool.{cases_lt}
-use Rattle.std.proofs.lemmas.Bool.Decides.{eqb_tells}
+use Rattle.std.proofs.Common.{get_or-set_other, ◌⊎◌, ◌&&◌, insert}
+use Rattle.std.proofs.{Math.ListN.length-replicate, Math.ListN.length-set, lemmas.Bool.Decides.eqb_tells, lemmas.Bool.cases_lt}
 use Rattle.std.proofs.lemmas.List.{get_or-drop, get_or-replicate, get_or-take, get_or_past, length-take}
-use Rattle.std.proofs.Math.ListN.{length-replicate, length-set}
 use Rattle.std.proofs.lemmas.List.Edits.{get_or-insert_above, get_or-insert_at, get_or-insert_below, length-insert}
-use Rattle.std.specs.Prelude.{◌&&◌}
-use Rattle.inf_characters.specs.Items.{same_item}
-use Rattle.inf_text.specs.Packing.{begins_with, longest}
-use Rattle.inf_text.specs.Parts.{AreAbbreviations, AreLongTexts}
+use Rattle.inf_characters.specs.{Items.same_item, declared.texts.TextItem.TextItem}
+use Rattle.inf_text.specs.{Packing.begins_with, Packing.longest, Parts.AreAbbreviations, Parts.AreLongTexts, declared.index.Link.Link}
+use Rattle.inf_text.specs.{declared.index.Ranges.Ranges}
 use Rattle.inf_text.specs.Searching.{AreBelow, AreRanges, IsOrder, best_of, code_of, first_code, linked_from, text_at}
-use Rattle.inf_text.specs.declared.index.Link.{Link}
+use Rattle.inf_text.proofs.{Cutting.same_item-true, Linking.length-linked, Linking.number_at}
 use Rattle.inf_text.proofs.Choosing.{Shows, best_of-among, best_of-shows, longest-among, longest-shows, one_best}
-use Rattle.inf_text.proofs.Cutting.{same_item-true}
-use Rattle.inf_text.proofs.Linking.{length-linked, number_at}
-use Rattle.inf_text.specs.declared.index.Ranges.{Ranges}
-use Rattle.inf_characters.specs.declared.texts.TextItem.{TextItem}
 
 -- the code that the text at a place begins with
 abbrev pub code_at : List (List TextItem) → List ℕ → ℕ → ℕ

@@ -1,10 +1,8 @@
 -- The search for the longest abbreviation.
 use Rattle.std.proofs.Common.{◌≡◌, ◌<◌, ◌≤◌, ◌+◌, ℕ, Bool, true, false, Option, None, Some, List, [], ◌∷◌, length, refl, arith, IfSome}
-use Rattle.std.proofs.Common.{cond, ltb}
-use Rattle.std.specs.Prelude.{◌&&◌}
-use Rattle.inf_characters.specs.Items.{same_item}
+use Rattle.std.proofs.Common.{cond, ltb, ◌&&◌}
+use Rattle.inf_characters.specs.{Items.same_item, declared.texts.TextItem.TextItem}
 use Rattle.inf_text.specs.Packing.{begins_with, better, longer, longest, longest_from}
-use Rattle.inf_characters.specs.declared.texts.TextItem.{TextItem}
 
 and_right : (a b : Bool) → (a && b) ≡ true → b ≡ true
 and_right true b h = h

@@ -1,10 +1,9 @@
 -- One step through a text.
 use Rattle.std.proofs.Common.{◌≡◌, ◌-◌, ℕ, zero, suc, Option, Some, List, [], ◌∷◌, ◌++◌, drop, refl, ap, ◌∙◌, arith}
 use Rattle.std.proofs.lemmas.List.{length-drop}
-use Rattle.inf_characters.specs.Items.{IsText}
+use Rattle.inf_characters.specs.{Items.IsText, declared.texts.TextItem.TextItem}
 use Rattle.inf_text.specs.Packing.{zs_from, abbreviation_zs, front_zs, front_behind, longest, AreZs}
 use Rattle.inf_text.specs.Step.{Steps}
-use Rattle.inf_characters.specs.declared.texts.TextItem.{TextItem}
 
 -- items that are passed over are dropped
 pub zs_from-passed : (declared : List (List TextItem)) (k : ℕ) (items : List TextItem) →

@@ -1,19 +1,15 @@
 -- Unpacking gives back what was packed.
+use Rattle.std.proofs.{lemmas.Bool.Decides.nat_tests, lemmas.Option.get_or_from_slice_get, lemmas.Option.slice_get_within}
 use Rattle.std.proofs.Common.{◌≡◌, ◌<◌, ◌≤◌, ◌+◌, ◌-◌, ◌*◌, ◌/◌, ◌%◌, ℕ, zero, suc, Bool, true, false, ◌&&◌, cond, ltb, leb, eqb, Option}
 use Rattle.std.proofs.Common.{None, Some, List, [], ◌∷◌, ◌++◌, length, map, replicate, get_or, append_assoc, refl, ap, ◌∙◌, arith, lit<}
+use Rattle.std.proofs.lemmas.List.{append-nil, get_or-map, length-map}
 use Rattle.std.specs.Prelude.{IsTrue, slice_get}
 use Rattle.std.specs.List.{flat_map, position_from}
-use Rattle.std.proofs.lemmas.Bool.Decides.{nat_tests}
-use Rattle.std.proofs.lemmas.List.{append-nil, get_or-map, length-map}
-use Rattle.std.proofs.lemmas.Option.{get_or_from_slice_get, slice_get_within}
 use Rattle.inf_text.proofs.Cutting.{AreLongTexts-at, is_cut}
 use Rattle.inf_text.specs.Parts.{AreAbbreviations, AreLongTexts, Cuts, Part, Plain, Short, part_zs}
-use Rattle.inf_characters.specs.Characters.{is_code}
-use Rattle.inf_characters.specs.Items.{IsItem, IsText}
 use Rattle.inf_text.specs.Packing.{AreZs, abbreviation_zs, character_zs, item_zs, other_zs, packed, punctuation, word, words, zs_from}
 use Rattle.inf_text.specs.Unpacking.{Letter, abbreviation_text, letters, printed, string_zs, strings, unpacked, UnpacksTo}
-use Rattle.inf_characters.specs.declared.texts.TextItem.{TextItem}
-use Rattle.inf_characters.specs.declared.texts.TextItem.TheVariants.{Character, Variable}
+use Rattle.inf_characters.specs.{Characters.is_code, Items.IsItem, Items.IsText, declared.texts.TextItem.TextItem}
 
 -- the five bits of each Z-character of a word, whatever its top bit is
 first_bits : (t a b c v : ℕ) → b < 32 → c < 32 → a < 32 → v ≡ 32768 * t + 1024 * a + 32 * b + c → v / 1024 % 32 ≡ a
@@ -88,7 +84,7 @@ capital_letter i lt = get_or-run 65 26 i lt
 -- a Z-character from 6 on prints a letter of its alphabet, but for two of A2
 printed-letter : (texts : List (List TextItem)) (alphabet z : ℕ) (zs : List ℕ) → 6 ≤ z → (eqb alphabet 2 && eqb z 6) ≡ false →
     (eqb alphabet 2 && eqb z 7) ≡ false →
-    printed texts (Letter alphabet) (z ∷ zs) ≡ Character (get_or (letters alphabet) (z - 6) 0) ∷ printed texts (Letter 0) zs
+    printed texts (Letter alphabet) (z ∷ zs) ≡ TextItem.Character (get_or (letters alphabet) (z - 6) 0) ∷ printed texts (Letter 0) zs
 printed-letter texts alphabet z zs le not_six not_seven =
     let not_space : eqb z 0 ≡ false = grind (arith, nat_tests) in
     let not_entry : ltb z 4 ≡ false = grind (arith, nat_tests) in
@@ -125,15 +121,16 @@ punctuation_letter c place h =
 -- the Z-characters of what is no letter print it
 printed-other : (texts : List (List TextItem)) (c : ℕ) (found : Option ℕ) (zs : List ℕ) →
     position_from (λ x. eqb x c) 0 punctuation ≡ found →
-    printed texts (Letter 0) (other_zs c found ++ zs) ≡ Character c ∷ printed texts (Letter 0) zs
+    printed texts (Letter 0) (other_zs c found ++ zs) ≡ TextItem.Character c ∷ printed texts (Letter 0) zs
 printed-other texts c None zs e =
     let whole : 32 * (c / 32) + c % 32 ≡ c = omega arith in
-    ap (λ (n : ℕ). Character n ∷ printed texts (Letter 0) zs) whole
+    ap (λ (n : ℕ). TextItem.Character n ∷ printed texts (Letter 0) zs) whole
 printed-other texts c (Some place) zs e =
     let not_six : eqb (8 + place) 6 ≡ false = grind (arith, nat_tests) in
     let not_seven : eqb (8 + place) 7 ≡ false = grind (arith, nat_tests) in
     let at : get_or (letters 2) (8 + place - 6) 0 ≡ c = punctuation_letter c place (position_from-at c 0 punctuation place e).1 in
-    printed-letter texts 2 (8 + place) zs (omega arith) not_six not_seven ∙ ap (λ (n : ℕ). Character n ∷ printed texts (Letter 0) zs) at
+    printed-letter texts 2 (8 + place) zs (omega arith) not_six not_seven
+    ∙ ap (λ (n : ℕ). TextItem.Character n ∷ printed texts (Letter 0) zs) at
 
 and_both : (a b : Bool) → (a && b) ≡ true → (a ≡ true) × (b ≡ true)
 and_both true b h = (refl, h)
@@ -141,7 +138,7 @@ and_both false b h = cc
 
 -- The Z-characters of a code print it.
 Prints : List (List TextItem) → List ℕ → ℕ → List ℕ → Type 0
-Prints texts zs c more = printed texts (Letter 0) (zs ++ more) ≡ Character c ∷ printed texts (Letter 0) more
+Prints texts zs c more = printed texts (Letter 0) (zs ++ more) ≡ TextItem.Character c ∷ printed texts (Letter 0) more
 
 prints_small : (texts : List (List TextItem)) (c : ℕ) (more : List ℕ) → (leb 97 c && leb c 122) ≡ true → Prints texts ((c - 91) ∷ []) c more
 unfolding Prints
@@ -151,7 +148,7 @@ prints_small texts c more h =
     let high : c ≤ 122 = grind (arith, nat_tests, both.1) in
     let behind : c - 91 - 6 ≡ c - 97 = omega arith in
     let at : get_or (letters 0) (c - 91 - 6) 0 ≡ c = rw behind (small_letter (c - 97) (omega arith) ∙ omega arith) in
-    printed-letter texts 0 (c - 91) more (omega arith) refl refl ∙ ap (λ (n : ℕ). Character n ∷ printed texts (Letter 0) more) at
+    printed-letter texts 0 (c - 91) more (omega arith) refl refl ∙ ap (λ (n : ℕ). TextItem.Character n ∷ printed texts (Letter 0) more) at
 
 prints_capital : (texts : List (List TextItem)) (c : ℕ) (more : List ℕ) → (leb 65 c && leb c 90) ≡ true →
     Prints texts (4 ∷ (c - 59) ∷ []) c more
@@ -162,7 +159,7 @@ prints_capital texts c more h =
     let high : c ≤ 90 = grind (arith, nat_tests, both.1) in
     let behind : c - 59 - 6 ≡ c - 65 = omega arith in
     let at : get_or (letters 1) (c - 59 - 6) 0 ≡ c = rw behind (capital_letter (c - 65) (omega arith) ∙ omega arith) in
-    printed-letter texts 1 (c - 59) more (omega arith) refl refl ∙ ap (λ (n : ℕ). Character n ∷ printed texts (Letter 0) more) at
+    printed-letter texts 1 (c - 59) more (omega arith) refl refl ∙ ap (λ (n : ℕ). TextItem.Character n ∷ printed texts (Letter 0) more) at
 
 prints_space : (texts : List (List TextItem)) (c : ℕ) (more : List ℕ) → eqb c 32 ≡ true → Prints texts (0 ∷ []) c more
 unfolding Prints
@@ -196,11 +193,11 @@ printed-character texts c zs =
 printed-item : (texts : List (List TextItem)) (x : TextItem) (zs : List ℕ) → IsItem x →
     printed texts (Letter 0) (item_zs x ++ zs) ≡ x ∷ printed texts (Letter 0) zs
 unfolding Prints
-printed-item texts (Variable n) zs h =
+printed-item texts (TextItem.Variable n) zs h =
     let low : ltb (0 + n) 32 ≡ true = grind (arith, nat_tests) in
     let same : 0 + n ≡ n = omega arith in
-    rw low (ap (λ (m : ℕ). Variable m ∷ printed texts (Letter 0) zs) same)
-printed-item texts (Character c) zs h = printed-character texts c zs
+    rw low (ap (λ (m : ℕ). TextItem.Variable m ∷ printed texts (Letter 0) zs) same)
+printed-item texts (TextItem.Character c) zs h = printed-character texts c zs
 
 -- the Z-characters of an abbreviation print its text
 printed-abbreviation : (texts : List (List TextItem)) (n : ℕ) (zs : List ℕ) → n < 64 →
@@ -263,8 +260,8 @@ code_small : (c : ℕ) → IsTrue (is_code c) → c < 256
 code_small c h = grind (arith, nat_tests)
 
 AreZs-item : (x : TextItem) → IsItem x → AreZs (item_zs x)
-AreZs-item (Character c) h = AreZs-character c (code_small c h)
-AreZs-item (Variable n) h = (lit< tt, (h, tt))
+AreZs-item (TextItem.Character c) h = AreZs-character c (code_small c h)
+AreZs-item (TextItem.Variable n) h = (lit< tt, (h, tt))
 
 AreZs-abbreviation : (n : ℕ) → n < 64 → AreZs (abbreviation_zs n)
 AreZs-abbreviation n lt =

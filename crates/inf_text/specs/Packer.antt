@@ -1,15 +1,13 @@
 -- Where the packing of Z-characters stands. Only the crate's private clauses cite it.
 use Rattle.std.specs.Prelude.{◌≡◌, ℕ, List, [], ◌∷◌, ◌++◌}
-use Rattle.inf_text.specs.Packing.{words}
-use Rattle.inf_text.specs.declared.packer.Waiting.{Waiting}
-use Rattle.inf_text.specs.declared.packer.Waiting.TheVariants.{Nothing, One, Two, Three}
+use Rattle.inf_text.specs.{Packing.words, declared.packer.Waiting.Waiting}
 
 -- the Z-characters that wait for their word to be written
 abbrev pub waiting_zs : Waiting → List ℕ
-waiting_zs Nothing = []
-waiting_zs (One a) = a ∷ []
-waiting_zs (Two a b) = a ∷ b ∷ []
-waiting_zs (Three a b c) = a ∷ b ∷ c ∷ []
+waiting_zs Waiting.Nothing = []
+waiting_zs (Waiting.One a) = a ∷ []
+waiting_zs (Waiting.Two a b) = a ∷ b ∷ []
+waiting_zs (Waiting.Three a b c) = a ∷ b ∷ c ∷ []
 
 -- the bytes that come of the words written, the Z-characters that wait and those that follow
 abbrev pub completed : List ℕ × List ℕ → List ℕ → List ℕ

@@ -2,11 +2,8 @@
 use Rattle.std.specs.Prelude.{ℕ, ◌<◌, zero, suc, ◌+◌, ◌-◌, ◌*◌, ◌/◌, ◌%◌, ◌==◌, nat_lt, nat_le, Bool, true, false, ◌&&◌, Option, Some, None}
 use Rattle.std.specs.Prelude.{List, [], ◌∷◌, ◌++◌, length, take, replicate, codes, if◌then◌else◌}
 use Rattle.std.specs.List.{flat_map, position_from}
-use Rattle.inf_characters.specs.Items.{lowered, same_item}
-use Rattle.inf_characters.specs.declared.texts.TextItem.{TextItem}
+use Rattle.inf_characters.specs.{Items.lowered, Items.same_item, declared.texts.TextItem.TextItem}
 use Rattle.inf_text.specs.declared.zchars.ZChars.{ZChars}
-use Rattle.inf_text.specs.declared.zchars.ZChars.TheVariants.{One, Two, Four}
-use Rattle.inf_characters.specs.declared.texts.TextItem.TheVariants.{Character, Variable}
 
 -- the characters of alphabet A2 on Z-characters 8 to 31 (section 3.5.3)
 unfoldable pub punctuation : List ℕ
@@ -28,8 +25,8 @@ character_zs c =
 
 -- the Z-characters of an item; a string variable is an entry of the first bank of abbreviations (section 3.3)
 abbrev pub item_zs : TextItem → List ℕ
-item_zs (Character c) = character_zs c
-item_zs (Variable n) = 1 ∷ n ∷ []
+item_zs (TextItem.Character c) = character_zs c
+item_zs (TextItem.Variable n) = 1 ∷ n ∷ []
 
 -- the Z-characters of a declared abbreviation, which has entry 32 + n of the table: its bank and its place there (section 3.3)
 abbrev pub abbreviation_zs : ℕ → List ℕ
@@ -80,9 +77,9 @@ zs_from declared zero (x ∷ items) =
 
 -- the one to four Z-characters of an item or of an abbreviation
 abbrev pub zs_list : ZChars → List ℕ
-zs_list (One a) = a ∷ []
-zs_list (Two a b) = a ∷ b ∷ []
-zs_list (Four a b c d) = a ∷ b ∷ c ∷ d ∷ []
+zs_list (ZChars.One a) = a ∷ []
+zs_list (ZChars.Two a b) = a ∷ b ∷ []
+zs_list (ZChars.Four a b c d) = a ∷ b ∷ c ∷ d ∷ []
 
 -- Z-characters are numbers of five bits
 abbrev pub AreZs : List ℕ → Type 0

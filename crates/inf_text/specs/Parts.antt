@@ -1,9 +1,7 @@
 -- How a text is cut where abbreviations are taken (Z-Machine Standard 1.1, section 3.3).
-use Rattle.std.specs.Prelude.{◌≡◌, ℕ, ◌≤◌, true, false, Some, List, [], ◌∷◌, ◌++◌, length, slice_get}
-use Rattle.std.specs.List.{flat_map}
-use Rattle.inf_characters.specs.Items.{IsText}
+use Rattle.std.specs.Prelude.{◌≡◌, ℕ, ◌≤◌, true, false, Some, List, [], ◌∷◌, ◌++◌, length, slice_get, flat_map}
+use Rattle.inf_characters.specs.{Items.IsText, declared.texts.TextItem.TextItem}
 use Rattle.inf_text.specs.Packing.{abbreviation_zs, begins_with, item_zs, zs_from}
-use Rattle.inf_characters.specs.declared.texts.TextItem.{TextItem}
 
 -- a part of a text: an item that stands for itself, or the abbreviation of a number
 pub data Part : Type 0 where

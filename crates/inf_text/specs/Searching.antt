@@ -1,18 +1,13 @@
 -- The search for the longest abbreviation. Only the crate's private clauses cite it.
 use Rattle.std.specs.Prelude.{◌≡◌, ℕ, ◌<◌, ◌≤◌, ◌+◌, ◌==◌, nat_lt, nat_le, ◌&&◌, ◌||◌, Option, Some, None, List, [], ◌∷◌, length, drop}
 use Rattle.std.specs.Prelude.{slice_index, slice_index_or, if◌then◌else◌}
-use Rattle.inf_characters.specs.Items.{same_item}
-use Rattle.inf_text.specs.Parts.{AreAbbreviations}
-use Rattle.inf_text.specs.declared.index.Index.{Index}
-use Rattle.inf_text.specs.declared.index.Link.{Link}
-use Rattle.inf_text.specs.declared.index.Ranges.{Ranges}
-use Rattle.inf_characters.specs.declared.texts.TextItem.{TextItem}
-use Rattle.inf_characters.specs.declared.texts.TextItem.TheVariants.{Character, Variable}
+use Rattle.inf_characters.specs.{Items.same_item, declared.texts.TextItem.TextItem}
+use Rattle.inf_text.specs.{Parts.AreAbbreviations, declared.index.Index.Index, declared.index.Link.Link, declared.index.Ranges.Ranges}
 
 -- the code of a character, or the number of a string variable
 abbrev pub code_of : TextItem → ℕ
-code_of (Character c) = c
-code_of (Variable n) = n
+code_of (TextItem.Character c) = c
+code_of (TextItem.Variable n) = n
 
 -- the code of the first item, or 0 where there is none
 abbrev pub first_code : List TextItem → ℕ

@@ -3,7 +3,6 @@ use Rattle.std.specs.Prelude.{◌≡◌, ℕ, ◌+◌, ◌-◌, ◌*◌, ◌/◌
 use Rattle.std.specs.Prelude.{codes, if◌then◌else◌}
 use Rattle.inf_text.specs.Packing.{packed}
 use Rattle.inf_characters.specs.declared.texts.TextItem.{TextItem}
-use Rattle.inf_characters.specs.declared.texts.TextItem.TheVariants.{Character, Variable}
 
 -- the Z-characters of the words, three in each, up to the word that has its top bit set (section 3.2)
 abbrev pub string_zs : List ℕ → List ℕ
@@ -30,21 +29,21 @@ pub data Expects : Type 0 where
 -- the text that an entry of the table of abbreviations prints: the first 32 are string variables, then come the declared abbreviations
 -- (section 3.3)
 abbrev pub entry_text : List (List TextItem) → ℕ → List TextItem
-entry_text texts n = if nat_lt n 32 then Variable n ∷ [] else slice_index_or texts (n - 32) []
+entry_text texts n = if nat_lt n 32 then TextItem.Variable n ∷ [] else slice_index_or texts (n - 32) []
 
 -- the text that Z-characters print (sections 3.2.1 to 3.5)
 abbrev pub printed : List (List TextItem) → Expects → List ℕ → List TextItem
 printed texts expects [] = []
 printed texts (Letter alphabet) (z ∷ zs) =
-    if z == 0 then Character 32 ∷ printed texts (Letter 0) zs
+    if z == 0 then TextItem.Character 32 ∷ printed texts (Letter 0) zs
     else if nat_lt z 4 then printed texts (Entry z) zs
     else if nat_lt z 6 then printed texts (Letter (z - 3)) zs
     else if (alphabet == 2) && (z == 6) then printed texts HighBits zs
-    else if (alphabet == 2) && (z == 7) then Character 13 ∷ printed texts (Letter 0) zs
-    else Character (slice_index (letters alphabet) (z - 6)) ∷ printed texts (Letter 0) zs
+    else if (alphabet == 2) && (z == 7) then TextItem.Character 13 ∷ printed texts (Letter 0) zs
+    else TextItem.Character (slice_index (letters alphabet) (z - 6)) ∷ printed texts (Letter 0) zs
 printed texts (Entry bank) (z ∷ zs) = entry_text texts (32 * (bank - 1) + z) ++ printed texts (Letter 0) zs
 printed texts HighBits (z ∷ zs) = printed texts (LowBits z) zs
-printed texts (LowBits high) (z ∷ zs) = Character (32 * high + z) ∷ printed texts (Letter 0) zs
+printed texts (LowBits high) (z ∷ zs) = TextItem.Character (32 * high + z) ∷ printed texts (Letter 0) zs
 
 -- the text of a string that is an abbreviation: it uses none itself (section 3.3.1)
 unfoldable pub abbreviation_text : List ℕ → List TextItem

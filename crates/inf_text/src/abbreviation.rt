@@ -1,9 +1,7 @@
 //! The abbreviations that a source declares.
 ghost use Rattle.std.specs.Prelude.{◌≡◌, ◌<◌, ◌≤◌, ◌↔◌, IfSome, IsTrue, [], length};
 ghost use Rattle.std.specs.List.{list_any};
-ghost use Rattle.inf_text.specs.Declaring.{Declares, same_text};
-ghost use Rattle.inf_text.specs.Packing.{longest};
-ghost use Rattle.inf_text.specs.Parts.{AreAbbreviations};
+ghost use Rattle.inf_text.specs.{Declaring.Declares, Declaring.same_text, Packing.longest, Parts.AreAbbreviations};
 
 use crate::index::{Index, MOST, begins_with};
 use inf_characters::{Text, TextItem};

@@ -1,7 +1,6 @@
 //! Z-characters written as words.
 ghost use Rattle.std.specs.Prelude.{◌≡◌, ◌<◌, OnOk, IfOk, [], ◌∷◌};
-ghost use Rattle.inf_text.specs.Packing.{AreZs, zs_list};
-ghost use Rattle.inf_text.specs.Packer.{Takes, completed};
+ghost use Rattle.inf_text.specs.{Packer.Takes, Packer.completed, Packing.AreZs, Packing.zs_list};
 
 use crate::zchars::{ZChars, word};
 use std::alloc::{AllocError, Global};
@@ -29,8 +28,7 @@ impl Model for Packer {
 
     ghost Value = { List ℕ × List ℕ };
 
-    ghost use Rattle.inf_text.specs.Packing.{AreZs};
-    ghost use Rattle.inf_text.specs.Packer.{waiting_zs};
+    ghost use Rattle.inf_text.specs.{Packer.waiting_zs, Packing.AreZs};
 
     ghost view = { λ p. (p.bytes.items, waiting_zs p.waiting) };
 

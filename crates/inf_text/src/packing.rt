@@ -1,12 +1,8 @@
 //! Texts packed as a story has them.
-ghost use Rattle.std.specs.Prelude.{◌≡◌, ◌<◌, ◌≤◌, IfOk, IfSome, IsTrue, MatchOption, length, []};
-ghost use Rattle.std.specs.Option.{option_copied};
+ghost use Rattle.std.specs.Prelude.{◌≡◌, ◌<◌, ◌≤◌, IfOk, IfSome, IsTrue, MatchOption, length, [], option_copied};
 ghost use Rattle.inf_characters.specs.Items.{IsText};
+ghost use Rattle.inf_text.specs.{Parts.AreAbbreviations, Step.Steps, Unpacking.UnpacksTo, Words.are_words};
 ghost use Rattle.inf_text.specs.Packing.{in_use, longest, packed, zs_list};
-ghost use Rattle.inf_text.specs.Parts.{AreAbbreviations};
-ghost use Rattle.inf_text.specs.Step.{Steps};
-ghost use Rattle.inf_text.specs.Unpacking.{UnpacksTo};
-ghost use Rattle.inf_text.specs.Words.{are_words};
 
 use crate::abbreviation::Abbreviations;
 use crate::packer::Packer;

@@ -1,18 +1,13 @@
 -- The definitions at worked examples.
-use Rattle.std.proofs.Common.{◌≡◌, ℕ, Ok, Err, List, [], ◌∷◌, map, refl}
-use Rattle.std.specs.Prelude.{codes}
-use Rattle.inf_characters.specs.Characters.{accented, zscii_of, zscii_of_unicode}
+use Rattle.std.proofs.Common.{◌≡◌, ℕ, Ok, Err, List, [], ◌∷◌, map, refl, codes}
+use Rattle.inf_characters.specs.{Characters.accented, Characters.zscii_of, Characters.zscii_of_unicode, declared.characters.CharSet.CharSet}
+use Rattle.inf_characters.specs.{declared.reading.Mode.Mode, declared.reading.TextFault.TextFault, declared.texts.TextItem.TextItem}
 use Rattle.inf_characters.specs.Reading.{escape_piece, piece_at, spelled, spellings, text_of}
 use Rattle.inf_text.specs.Packing.{character_zs, dictionary_bytes, longest, packed, punctuation}
-use Rattle.inf_characters.specs.declared.characters.CharSet.TheVariants.{Ascii, Latin1}
-use Rattle.inf_characters.specs.declared.reading.Mode.TheVariants as mode
-use Rattle.inf_characters.specs.declared.reading.TextFault.TheVariants.{UnknownEscape, NoZscii, BadCode}
-use Rattle.inf_characters.specs.declared.texts.TextItem.{TextItem}
-use Rattle.inf_characters.specs.declared.texts.TextItem.TheVariants.{Character, Variable}
 
 -- the characters of some codes
 characters : List ℕ → List TextItem
-characters = map Character
+characters = map TextItem.Character
 
 -- quoted words in the dictionary
 take_bytes : dictionary_bytes (characters (codes "take")) ≡ 0x64 ∷ 0xD0 ∷ 0x28 ∷ 0xA5 ∷ 0x94 ∷ 0xA5 ∷ []
@@ -23,7 +18,7 @@ t_bytes : dictionary_bytes (characters (codes "t")) ≡ 0x64 ∷ 0xA5 ∷ 0x14 �
 unfolding characters dictionary_bytes character_zs punctuation
 t_bytes = refl
 
-sharp_s : text_of Ascii mode.Quote (codes "abcdefg@ss") ≡ Ok (characters (97 ∷ 98 ∷ 99 ∷ 100 ∷ 101 ∷ 102 ∷ 103 ∷ 161 ∷ []))
+sharp_s : text_of CharSet.Ascii Mode.Quote (codes "abcdefg@ss") ≡ Ok (characters (97 ∷ 98 ∷ 99 ∷ 100 ∷ 101 ∷ 102 ∷ 103 ∷ 161 ∷ []))
 unfolding characters text_of piece_at escape_piece spelled spellings zscii_of zscii_of_unicode accented
 sharp_s = refl
 
@@ -51,27 +46,29 @@ lamps_short = refl
 
 -- white space: "a", space, tab, space, "b", form feed, space, "c", a run with a line end, "d^", one more, "e\", one more, "f ", "@@13", one
 -- more, "g"
-white_space : text_of Latin1 mode.Text (97 ∷ 32 ∷ 9 ∷ 32 ∷ 98 ∷ 12 ∷ 32 ∷ 99 ∷ 32 ∷ 32 ∷ 10 ∷ 32 ∷ 100 ∷ 94 ∷ 10 ∷ 32 ∷ 101 ∷ 92 ∷ 10 ∷ 32 ∷
+white_space : text_of CharSet.Latin1 Mode.Text (97 ∷ 32 ∷ 9 ∷ 32 ∷ 98 ∷ 12 ∷ 32 ∷ 99 ∷ 32 ∷ 32 ∷ 10 ∷ 32 ∷ 100 ∷ 94 ∷ 10 ∷ 32 ∷ 101 ∷
+    92 ∷ 10 ∷ 32 ∷
     102 ∷ 32 ∷ 64 ∷ 64 ∷ 49 ∷ 51 ∷ 10 ∷ 32 ∷ 103 ∷ [])
     ≡ Ok (characters (97 ∷ 32 ∷ 32 ∷ 32 ∷ 98 ∷ 32 ∷ 32 ∷ 99 ∷ 32 ∷ 100 ∷ 13 ∷ 101 ∷ 102 ∷ 32 ∷ 13 ∷ 32 ∷ 103 ∷ []))
 unfolding characters text_of piece_at escape_piece spelled spellings zscii_of zscii_of_unicode accented
 white_space = refl
 
 -- codes by number
-codes_given : text_of Ascii mode.Text (codes "@@65@@13@@155@@223@{e4}@{E4}@{41}@01@31") ≡ Ok
-    (Character 65 ∷ Character 13 ∷ Character 155 ∷ Character 223 ∷ Character 155 ∷ Character 155 ∷ Character 65 ∷ Variable 1 ∷ Variable 31 ∷
+codes_given : text_of CharSet.Ascii Mode.Text (codes "@@65@@13@@155@@223@{e4}@{E4}@{41}@01@31") ≡ Ok
+    (TextItem.Character 65 ∷ TextItem.Character 13 ∷ TextItem.Character 155 ∷ TextItem.Character 223 ∷ TextItem.Character 155 ∷
+    TextItem.Character 155 ∷ TextItem.Character 65 ∷ TextItem.Variable 1 ∷ TextItem.Variable 31 ∷
     [])
 unfolding text_of piece_at escape_piece spelled spellings zscii_of zscii_of_unicode accented
 codes_given = refl
 
-code_unfit : text_of Ascii mode.Text (codes "a@@154@q") ≡ Err BadCode
+code_unfit : text_of CharSet.Ascii Mode.Text (codes "a@@154@q") ≡ Err TextFault.BadCode
 unfolding text_of piece_at escape_piece spelled spellings zscii_of zscii_of_unicode accented
 code_unfit = refl
 
-brace_missing : text_of Ascii mode.Text (codes "@{20ac") ≡ Err UnknownEscape
+brace_missing : text_of CharSet.Ascii Mode.Text (codes "@{20ac") ≡ Err TextFault.UnknownEscape
 unfolding text_of piece_at escape_piece spelled spellings zscii_of zscii_of_unicode accented
 brace_missing = refl
 
-euro : text_of Latin1 mode.Text (codes "@{20ac}") ≡ Err NoZscii
+euro : text_of CharSet.Latin1 Mode.Text (codes "@{20ac}") ≡ Err TextFault.NoZscii
 unfolding text_of piece_at escape_piece spelled spellings zscii_of zscii_of_unicode accented
 euro = refl

@@ -1,15 +1,11 @@
 -- Texts that are joined where no piece is cut.
 use Rattle.std.proofs.Common.{◌≡◌, ◌≤◌, ℕ, zero, suc, Bool, true, false, not, ◌&&◌, Result, Ok, Err, List, [], ◌∷◌, ◌++◌, length, replicate}
 use Rattle.std.proofs.Common.{refl, sym, ap, ◌∙◌, arith}
-use Rattle.inf_characters.specs.Characters.{is_white}
-use Rattle.inf_text_laws.specs.Joining.{ReadsJoined, begins_white, ends_whole, joined}
+use Rattle.inf_characters.specs.{Characters.is_white, declared.characters.CharSet.CharSet, declared.reading.Mode.Mode}
+use Rattle.inf_characters.specs.{declared.reading.TextFault.TextFault, declared.texts.TextItem.TextItem}
 use Rattle.inf_characters.specs.Reading.{and_then, piece_at, text_from, text_of, with_front}
-use Rattle.inf_characters.proofs.Cuts.{piece_at-cut}
-use Rattle.inf_characters.proofs.Pieces.{Found, with_front-append, with_front-none}
-use Rattle.inf_characters.specs.declared.characters.CharSet.{CharSet}
-use Rattle.inf_characters.specs.declared.reading.Mode.{Mode}
-use Rattle.inf_characters.specs.declared.reading.TextFault.{TextFault}
-use Rattle.inf_characters.specs.declared.texts.TextItem.{TextItem}
+use Rattle.inf_text_laws.specs.Joining.{ReadsJoined, begins_white, ends_whole, joined}
+use Rattle.inf_characters.proofs.{Cuts.piece_at-cut, Pieces.Found, Pieces.with_front-append, Pieces.with_front-none}
 
 -- where the place behind a piece was looked at
 abbrev goes_on : CharSet → Mode → List ℕ → List ℕ → Result Found TextFault → Bool

@@ -1,22 +1,14 @@
 -- Plain bytes are read byte by byte.
 use Rattle.std.proofs.Common.{◌≡◌, ◌≤◌, ◌+◌, ℕ, zero, suc, Bool, true, false, not, ◌&&◌, ◌||◌, cond, eqb, leb, Option, None, Some, Result}
-use Rattle.std.proofs.Common.{Ok, Err, List, [], ◌∷◌, length, take, drop, replicate, refl, sym, ap, ◌∙◌, inl, inr, arith}
-use Rattle.std.specs.Prelude.{◌⊎◌}
+use Rattle.std.proofs.Common.{Ok, Err, List, [], ◌∷◌, length, take, drop, replicate, refl, sym, ap, ◌∙◌, inl, inr, arith, option_map, ◌⊎◌}
+use Rattle.std.proofs.{lemmas.Bool.Decides.nat_tests, lemmas.List.Folds.length-prefix_len}
 use Rattle.std.specs.List.{list_any, position_from}
-use Rattle.std.specs.Option.{option_map}
-use Rattle.std.proofs.lemmas.Bool.Decides.{nat_tests}
-use Rattle.std.proofs.lemmas.List.Folds.{length-prefix_len}
+use Rattle.inf_characters.specs.{declared.characters.CharSet.CharSet, declared.reading.Mode.Mode, declared.reading.TextFault.TextFault}
+use Rattle.inf_characters.specs.{declared.texts.TextItem.TextItem}
 use Rattle.inf_characters.specs.Characters.{accented, has_byte, is_line_end, is_white, zscii_of, zscii_of_unicode}
-use Rattle.inf_text_laws.specs.Plain.{ArePlain, ReadsPlainly, byte_by_byte, is_plain}
 use Rattle.inf_characters.specs.Reading.{and_then, is_new_line_mark, meaning, piece_at, spaces, text_from, text_of, white_len, with_front}
+use Rattle.inf_text_laws.specs.Plain.{ArePlain, ReadsPlainly, byte_by_byte, is_plain}
 use Rattle.inf_characters.proofs.Pieces.{Found, with_front-append, with_front-none}
-use Rattle.inf_characters.specs.declared.characters.CharSet.{CharSet}
-use Rattle.inf_characters.specs.declared.reading.Mode.{Mode}
-use Rattle.inf_characters.specs.declared.reading.Mode.TheVariants as mode
-use Rattle.inf_characters.specs.declared.reading.TextFault.{TextFault}
-use Rattle.inf_characters.specs.declared.reading.TextFault.TheVariants.{NoZscii}
-use Rattle.inf_characters.specs.declared.texts.TextItem.{TextItem}
-use Rattle.inf_characters.specs.declared.texts.TextItem.TheVariants.{Character}
 
 -- a plain byte is none of the marks
 record IsPlain (b : ℕ) : Type 0 where
@@ -58,39 +50,40 @@ no_line_end (suc n) (b ∷ bytes) h = rw ((plain b h.0).no_end) (no_line_end n b
 
 -- a byte that is a character, and one that is none
 byte_by_byte-some : (set : CharSet) (b c : ℕ) (bytes : List ℕ) → zscii_of set b ≡ Some c →
-    byte_by_byte set (b ∷ bytes) ≡ with_front (Character c ∷ []) (byte_by_byte set bytes)
+    byte_by_byte set (b ∷ bytes) ≡ with_front (TextItem.Character c ∷ []) (byte_by_byte set bytes)
 byte_by_byte-some set b c bytes e =
     ap (λ (o : Option ℕ). elim o as (λ _. Result (List TextItem) TextFault)
-    [ None ↦ Err NoZscii | Some c ↦ with_front (Character c ∷ []) (byte_by_byte set bytes) ]) e
+    [ None ↦ Err TextFault.NoZscii | Some c ↦ with_front (TextItem.Character c ∷ []) (byte_by_byte set bytes) ]) e
 
-byte_by_byte-none : (set : CharSet) (b : ℕ) (bytes : List ℕ) → zscii_of set b ≡ None → byte_by_byte set (b ∷ bytes) ≡ Err NoZscii
+byte_by_byte-none : (set : CharSet) (b : ℕ) (bytes : List ℕ) → zscii_of set b ≡ None → byte_by_byte set (b ∷ bytes) ≡ Err TextFault.NoZscii
 byte_by_byte-none set b bytes e =
     ap (λ (o : Option ℕ). elim o as (λ _. Result (List TextItem) TextFault)
-    [ None ↦ Err NoZscii | Some c ↦ with_front (Character c ∷ []) (byte_by_byte set bytes) ]) e
+    [ None ↦ Err TextFault.NoZscii | Some c ↦ with_front (TextItem.Character c ∷ []) (byte_by_byte set bytes) ]) e
 
 -- the white space at the front is as many spaces, byte by byte
-byte_by_byte-white : (set : CharSet) (bytes : List ℕ) → byte_by_byte set bytes ≡ with_front (replicate (white_len set bytes) (Character 32))
+byte_by_byte-white : (set : CharSet) (bytes : List ℕ) →
+    byte_by_byte set bytes ≡ with_front (replicate (white_len set bytes) (TextItem.Character 32))
     (byte_by_byte set (drop (white_len set bytes) bytes))
 byte_by_byte-white set [] = refl
 byte_by_byte-white set (b ∷ bytes) = go (is_white set b) refl (byte_by_byte-white set bytes)
   where
-    go : (t : Bool) → is_white set b ≡ t → byte_by_byte set bytes ≡ with_front (replicate (white_len set bytes) (Character 32))
+    go : (t : Bool) → is_white set b ≡ t → byte_by_byte set bytes ≡ with_front (replicate (white_len set bytes) (TextItem.Character 32))
         (byte_by_byte set (drop (white_len set bytes) bytes)) → byte_by_byte set (b ∷ bytes) ≡ with_front
-        (replicate (cond t (1 + white_len set bytes) 0) (Character 32))
+        (replicate (cond t (1 + white_len set bytes) 0) (TextItem.Character 32))
         (byte_by_byte set (drop (cond t (1 + white_len set bytes) 0) (b ∷ bytes)))
     go true e later =
         let n = white_len set bytes in
         let one : 1 + n ≡ suc n = omega arith in
         let space : zscii_of set b ≡ Some 32 = white_is_space set b e in
-        rw one (byte_by_byte-some set b 32 bytes space ∙ ap (with_front (Character 32 ∷ [])) later ∙ sym
-        (with_front-append (Character 32 ∷ []) (replicate n (Character 32)) (byte_by_byte set (drop n bytes))))
+        rw one (byte_by_byte-some set b 32 bytes space ∙ ap (with_front (TextItem.Character 32 ∷ [])) later ∙ sym
+        (with_front-append (TextItem.Character 32 ∷ []) (replicate n (TextItem.Character 32)) (byte_by_byte set (drop n bytes))))
     go false e later = sym (with_front-none (byte_by_byte set (b ∷ bytes)))
 
 -- a character that is no mark means itself
 meaning-plain : (mode : Mode) (c : ℕ) → eqb c 94 ≡ false → eqb c 126 ≡ false → meaning mode c ≡ c
-meaning-plain mode.Text c p q = rw (p, q) refl
-meaning-plain mode.Quote c p q = rw p refl
-meaning-plain mode.Abbreviation c p q = rw (p, q) refl
+meaning-plain Mode.Text c p q = rw (p, q) refl
+meaning-plain Mode.Quote c p q = rw p refl
+meaning-plain Mode.Abbreviation c p q = rw (p, q) refl
 
 -- a byte that is a character is its own code or that of an accented letter
 code_is : (b c : ℕ) → zscii_of_unicode b ≡ Some c → (c ≡ b) ⊎ (155 ≤ c)
@@ -118,7 +111,7 @@ keeps_meaning mode b c h (inr le) = meaning-plain mode c (grind (arith, nat_test
 -- a plain byte that is white space, and those behind it
 piece-white : (set : CharSet) (mode : Mode) (after_mark : Bool) (b : ℕ) (bytes : List ℕ) → IsPlain b → ArePlain bytes → is_white set b ≡
     true → piece_at set mode after_mark b bytes ≡ Ok
-    (record { item = Character 32; count = suc (white_len set bytes); behind = white_len set bytes; is_mark = false })
+    (record { item = TextItem.Character 32; count = suc (white_len set bytes); behind = white_len set bytes; is_mark = false })
 unfolding piece_at
 piece-white set mode after_mark b bytes h more white =
     rw (h.no_escape, h.no_stroke, white, h.no_end, no_line_end (white_len set bytes) bytes more, length-prefix_len (is_white set) bytes)
@@ -127,13 +120,19 @@ piece-white set mode after_mark b bytes h more white =
 -- a plain byte that is no white space
 piece-black : (set : CharSet) (mode : Mode) (after_mark : Bool) (b : ℕ) (bytes : List ℕ) (c : ℕ) → IsPlain b → is_white set b ≡ false →
     zscii_of set b ≡ Some c →
-    piece_at set mode after_mark b bytes ≡ Ok (record { item = Character c; count = 1; behind = 0; is_mark = is_new_line_mark mode b })
+    piece_at set mode after_mark b bytes ≡ Ok (record {
+      item = TextItem.Character c;
+      count = 1;
+      behind = 0;
+      is_mark =
+          is_new_line_mark mode b;
+    })
 unfolding piece_at
 piece-black set mode after_mark b bytes c h black code =
     rw (h.no_escape, h.no_stroke, black, code, keeps_meaning mode b c h (code_of_byte set b c black code)) refl
 
 piece-none : (set : CharSet) (mode : Mode) (after_mark : Bool) (b : ℕ) (bytes : List ℕ) → IsPlain b → is_white set b ≡ false →
-    zscii_of set b ≡ None → piece_at set mode after_mark b bytes ≡ Err NoZscii
+    zscii_of set b ≡ None → piece_at set mode after_mark b bytes ≡ Err TextFault.NoZscii
 unfolding piece_at
 piece-none set mode after_mark b bytes h black code = rw (h.no_escape, h.no_stroke, black, code) refl
 
@@ -161,12 +160,12 @@ plainly set mode (b ∷ bytes) h after_mark zero le =
         let whole = rw (e, one) at (byte_by_byte-white set (b ∷ bytes)) in
         ap (λ (r : Result Found TextFault). and_then r (λ f. text_from set mode f.is_mark f.behind bytes))
         (piece-white set mode after_mark b bytes p h.1 e)
-        ∙ ap (with_front (replicate (suc n) (Character 32))) (next false n (omega arith))
+        ∙ ap (with_front (replicate (suc n) (TextItem.Character 32))) (next false n (omega arith))
         ∙ sym whole
     front next p false e (Some c) code =
         ap (λ (r : Result Found TextFault). and_then r (λ f. text_from set mode f.is_mark f.behind bytes))
         (piece-black set mode after_mark b bytes c p e code)
-        ∙ ap (with_front (Character c ∷ [])) (next (is_new_line_mark mode b) 0 (omega arith))
+        ∙ ap (with_front (TextItem.Character c ∷ [])) (next (is_new_line_mark mode b) 0 (omega arith))
         ∙ sym (byte_by_byte-some set b c bytes code)
     front next p false e None code =
         ap (λ (r : Result Found TextFault). and_then r (λ f. text_from set mode f.is_mark f.behind bytes))

@@ -2,14 +2,12 @@
 use Rattle.std.proofs.Common.{◌≡◌, ◌<◌, ◌+◌, ◌-◌, ◌*◌, ◌/◌, ◌%◌, ℕ, Bool, true, false, cond, leb, ltb, Some, Ok, List, [], ◌∷◌, refl, ap}
 use Rattle.std.proofs.Common.{◌∙◌, arith}
 use Rattle.std.proofs.lemmas.Bool.Decides.{nat_tests}
-use Rattle.inf_characters.specs.Characters.{is_code}
-use Rattle.inf_text_laws.specs.Spelled.{AccentsRead, ComesBack, accents}
+use Rattle.inf_characters.specs.{Characters.is_code, declared.characters.CharSet.CharSet, declared.reading.Mode.Mode}
+use Rattle.inf_characters.specs.{declared.texts.TextItem.TextItem}
 use Rattle.inf_characters.specs.Reading.{and_then, code_piece, digit_of, escape_piece, number_from, piece_at, spelled, spellings, text_from}
 use Rattle.inf_characters.specs.Reading.{text_of}
+use Rattle.inf_text_laws.specs.Spelled.{AccentsRead, ComesBack, accents}
 use Rattle.inf_characters.proofs.Capped.{number_from-more}
-use Rattle.inf_characters.specs.declared.characters.CharSet.{CharSet}
-use Rattle.inf_characters.specs.declared.reading.Mode.{Mode}
-use Rattle.inf_characters.specs.declared.texts.TextItem.TheVariants.{Character}
 
 digit : (d : ℕ) → d < 10 → digit_of 10 (48 + d) ≡ Some d
 digit d lt =
@@ -57,23 +55,24 @@ unfolding text_of piece_at escape_piece
 read set m digits = refl
 
 codes-one : (set : CharSet) (m : Mode) (n a : ℕ) → is_code n ≡ true → Writes 1 n (a ∷ []) →
-    text_of set m (64 ∷ 64 ∷ a ∷ []) ≡ Ok (Character n ∷ [])
+    text_of set m (64 ∷ 64 ∷ a ∷ []) ≡ Ok (TextItem.Character n ∷ [])
 unfolding Writes
 codes-one set m n a code written = read set m (a ∷ []) ∙ rw (written, code) refl
 
 codes-two : (set : CharSet) (m : Mode) (n a b : ℕ) → is_code n ≡ true → Writes 2 n (a ∷ b ∷ []) →
-    text_of set m (64 ∷ 64 ∷ a ∷ b ∷ []) ≡ Ok (Character n ∷ [])
+    text_of set m (64 ∷ 64 ∷ a ∷ b ∷ []) ≡ Ok (TextItem.Character n ∷ [])
 unfolding Writes
 codes-two set m n a b code written = read set m (a ∷ b ∷ []) ∙ rw (written, code) refl
 
 codes-three : (set : CharSet) (m : Mode) (n a b c : ℕ) → is_code n ≡ true → Writes 3 n (a ∷ b ∷ c ∷ []) →
-    text_of set m (64 ∷ 64 ∷ a ∷ b ∷ c ∷ []) ≡ Ok (Character n ∷ [])
+    text_of set m (64 ∷ 64 ∷ a ∷ b ∷ c ∷ []) ≡ Ok (TextItem.Character n ∷ [])
 unfolding Writes
 codes-three set m n a b c code written = read set m (a ∷ b ∷ c ∷ []) ∙ rw (written, code) refl
 
 chosen : (set : CharSet) (m : Mode) (n : ℕ) (t : Bool) (xs ys : List ℕ) →
-    (t ≡ true → text_of set m (64 ∷ 64 ∷ xs) ≡ Ok (Character n ∷ [])) → text_of set m (64 ∷ 64 ∷ ys) ≡ Ok (Character n ∷ []) →
-    text_of set m (64 ∷ 64 ∷ cond t xs ys) ≡ Ok (Character n ∷ [])
+    (t ≡ true → text_of set m (64 ∷ 64 ∷ xs) ≡ Ok (TextItem.Character n ∷ [])) → text_of set m (64 ∷ 64 ∷ ys) ≡ Ok
+    (TextItem.Character n ∷ []) →
+    text_of set m (64 ∷ 64 ∷ cond t xs ys) ≡ Ok (TextItem.Character n ∷ [])
 chosen set m n true xs ys f g = f refl
 chosen set m n false xs ys f g = g
 

@@ -1,11 +1,8 @@
 -- Two texts that are joined.
 use Rattle.std.specs.Prelude.{◌≡◌, ℕ, zero, suc, Bool, true, false, not, ◌&&◌, Result, Ok, Err, List, [], ◌∷◌, ◌++◌}
-use Rattle.inf_characters.specs.Characters.{is_white}
+use Rattle.inf_characters.specs.{Characters.is_white, declared.characters.CharSet.CharSet, declared.reading.Mode.Mode}
+use Rattle.inf_characters.specs.{declared.reading.TextFault.TextFault, declared.texts.TextItem.TextItem}
 use Rattle.inf_characters.specs.Reading.{piece_at, text_of, with_front}
-use Rattle.inf_characters.specs.declared.characters.CharSet.{CharSet}
-use Rattle.inf_characters.specs.declared.reading.Mode.{Mode}
-use Rattle.inf_characters.specs.declared.reading.TextFault.{TextFault}
-use Rattle.inf_characters.specs.declared.texts.TextItem.{TextItem}
 
 -- whether some bytes begin with white space
 abbrev pub begins_white : CharSet → List ℕ → Bool

@@ -1,10 +1,7 @@
 -- The escapes of a text and their characters, given by a table and not by reading.
 use Rattle.std.specs.Prelude.{◌≡◌, ℕ, ◌+◌, ◌/◌, ◌%◌, nat_lt, IsTrue, Ok, List, [], ◌∷◌, map, codes, if◌then◌else◌}
-use Rattle.inf_characters.specs.Characters.{is_code}
-use Rattle.inf_characters.specs.Reading.{text_of}
-use Rattle.inf_characters.specs.declared.characters.CharSet.{CharSet}
-use Rattle.inf_characters.specs.declared.reading.Mode.{Mode}
-use Rattle.inf_characters.specs.declared.texts.TextItem.TheVariants.{Character}
+use Rattle.inf_characters.specs.{Characters.is_code, Reading.text_of, declared.characters.CharSet.CharSet, declared.reading.Mode.Mode}
+use Rattle.inf_characters.specs.{declared.texts.TextItem.TextItem}
 
 -- a number below a thousand in decimal digits, without zeros at its front
 abbrev pub decimal : ℕ → List ℕ
@@ -16,7 +13,7 @@ decimal n =
 -- each of the 165 codes comes back from @@ and its number
 abbrev pub ComesBack : CharSet → Mode → ℕ → Type 0
 ComesBack set mode n =
-    IsTrue (is_code n) → text_of set mode (64 ∷ 64 ∷ decimal n) ≡ Ok (Character n ∷ [])
+    IsTrue (is_code n) → text_of set mode (64 ∷ 64 ∷ decimal n) ≡ Ok (TextItem.Character n ∷ [])
 
 -- the accented letters with their two characters behind @ (Inform Designer's Manual, table 2); a slash may be used for a
 -- backslash
@@ -44,4 +41,4 @@ accents =
 -- @ and each spelling of an accented letter are read as its code
 abbrev pub AccentsRead : CharSet → Mode → Type 0
 AccentsRead set mode =
-    map (λ accent. text_of set mode (64 ∷ accent.1)) accents ≡ map (λ accent. Ok (Character accent.0 ∷ [])) accents
+    map (λ accent. text_of set mode (64 ∷ accent.1)) accents ≡ map (λ accent. Ok (TextItem.Character accent.0 ∷ [])) accents

@@ -1,15 +1,9 @@
 //! Laws of the definitions together.
 ghost use Rattle.std.specs.Prelude.{List, ℕ};
-ghost use Rattle.inf_text_laws.specs.Spelled.{AccentsRead, ComesBack};
-ghost use Rattle.inf_characters.specs.Items.{IsText};
-ghost use Rattle.inf_text_laws.specs.Joining.{ReadsJoined};
-ghost use Rattle.inf_text.specs.Packing.{packed};
-ghost use Rattle.inf_text.specs.Parts.{AreAbbreviations, AreLongTexts, IsCut};
-ghost use Rattle.inf_text_laws.specs.Plain.{ReadsPlainly};
-ghost use Rattle.inf_text.specs.Unpacking.{UnpacksTo};
-ghost use Rattle.inf_characters.specs.declared.characters.CharSet.{CharSet};
-ghost use Rattle.inf_characters.specs.declared.reading.Mode.{Mode};
-ghost use Rattle.inf_characters.specs.declared.texts.TextItem.{TextItem};
+ghost use Rattle.inf_text_laws.specs.{Joining.ReadsJoined, Plain.ReadsPlainly, Spelled.AccentsRead, Spelled.ComesBack};
+ghost use Rattle.inf_characters.specs.{Items.IsText, declared.characters.CharSet.CharSet, declared.reading.Mode.Mode};
+ghost use Rattle.inf_characters.specs.{declared.texts.TextItem.TextItem};
+ghost use Rattle.inf_text.specs.{Packing.packed, Parts.AreAbbreviations, Parts.AreLongTexts, Parts.IsCut, Unpacking.UnpacksTo};
 
 /// States that no abbreviation is missed, and none overlaps another: the Z-characters of a text are
 /// those of parts that follow one another and are the whole text. An item is laid as itself only where

@@ -1,12 +1,8 @@
 -- The state of a lexer of a text in memory.
 use Rattle.std.specs.Prelude.{ℕ, List, false}
 use Rattle.inf_characters.specs.declared.characters.CharSet.{CharSet}
-use Rattle.inf_scanner.specs.Kept.{Kept, nothing_kept}
-use Rattle.inf_scanner.specs.Scanning.{Sight}
-use Rattle.inf_scanner.specs.Tokens.{Read, next_token}
-use Rattle.inf_scanner.specs.declared.lines.Lines.{Lines}
-use Rattle.inf_scanner.specs.declared.tokens.Token.{Token}
-use Rattle.inf_scanner.specs.declared.tokens.TokenKind.{TokenKind}
+use Rattle.inf_scanner.specs.{Kept.Kept, Kept.nothing_kept, Scanning.Sight, Tokens.Read, Tokens.next_token, declared.lines.Lines.Lines}
+use Rattle.inf_scanner.specs.{declared.tokens.Token.Token, declared.tokens.TokenKind.TokenKind}
 
 -- The character set, the number of bytes that a quoted token may have, the number by which places name the text, the bytes that are
 -- still to come of it, the bytes of the token that was read last, and the line behind it.

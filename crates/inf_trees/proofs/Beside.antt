@@ -1,23 +1,14 @@
 -- The changes that tokens, and steps of an expression, make in a compilation.
-use Rattle.std.proofs.Common.{◌≡◌, ℕ, Bool, true, false, Option, Some, None, refl, ◌∙◌, ap}
-use Rattle.std.specs.Prelude.{◌&&◌, is_some}
+use Rattle.std.proofs.Common.{◌≡◌, ℕ, Bool, true, false, Option, Some, None, refl, ◌∙◌, ap, ◌&&◌, is_some}
 use Rattle.inf_settings.specs.Bounds.{Limits}
 use Rattle.inf_scanner.specs.declared.tokens.Place.{Place}
 use Rattle.inf_syntax.specs.declared.actions.Action.{Action}
 use Rattle.inf_constructs.specs.Constructs.{depth as open_depth}
-use Rattle.inf_unit.specs.Roles.{role_of}
-use Rattle.inf_unit.specs.Steps.{step_in}
-use Rattle.inf_unit.specs.Tokens.{SourceToken}
+use Rattle.inf_unit.specs.{Roles.role_of, Steps.step_in, Tokens.SourceToken, declared.roles.Role.Role, declared.steps.GatherStep.GatherStep}
 use Rattle.inf_unit.specs.Units.{Unit, acted, played as unit_played, stepped}
-use Rattle.inf_unit.specs.declared.roles.Role.{Role}
-use Rattle.inf_unit.specs.declared.roles.Role.TheVariants as role
-use Rattle.inf_unit.specs.declared.steps.GatherStep.{GatherStep}
-use Rattle.inf_unit.specs.declared.steps.GatherStep.TheVariants as step
-use Rattle.inf_compilation.specs.Context.{Context}
-use Rattle.inf_compilation.specs.Actions.{Compilation, nested, opens}
+use Rattle.inf_compilation.specs.{Actions.Compilation, Actions.nested, Actions.opens, Context.Context}
 use Rattle.inf_reader.specs.Acting.{act, played}
-use Rattle.inf_language.specs.Constants.{is_too_deep, length_told, token_told}
-use Rattle.inf_language.specs.Units.{is_step}
+use Rattle.inf_language.specs.{Constants.is_too_deep, Constants.length_told, Constants.token_told, Units.is_step}
 
 -- The report of a token leaves what waits for a report.
 
@@ -38,14 +29,14 @@ told_opening context t brackets (Some place) count w =
 -- A step changes nothing but what is gathered.
 
 stepped_gathers : (s : GatherStep) (u : Unit) → stepped s u ≡ record u { gathering = (stepped s u).gathering }
-stepped_gathers step.Leaf u = refl
-stepped_gathers step.Action u = refl
-stepped_gathers step.System u = refl
+stepped_gathers GatherStep.Leaf u = refl
+stepped_gathers GatherStep.Action u = refl
+stepped_gathers GatherStep.System u = refl
 stepped_gathers _ u = refl
 
 played_gathers : (r : Role) (u : Unit) → is_some (step_in r) ≡ true
     → unit_played r u ≡ record u { gathering = (unit_played r u).gathering }
-played_gathers (role.Gather s) u is = stepped_gathers s u
+played_gathers (Role.Gather s) u is = stepped_gathers s u
 played_gathers _ u is = cc
 
 pub acted_gathers : (a : Action) (u : Unit) → is_step a ≡ true → acted a u ≡ record u { gathering = (acted a u).gathering }
@@ -53,7 +44,7 @@ acted_gathers a u is = played_gathers (role_of a) u is
 
 played_alone : (limits : Limits) (context : Context) (place : Place) (r : Role) (w : Compilation) → is_some (step_in r) ≡ true
     → played limits context place r w ≡ record w { unit = unit_played r w.unit }
-played_alone limits context place (role.Gather s) w is = refl
+played_alone limits context place (Role.Gather s) w is = refl
 played_alone limits context place _ w is = cc
 
 pub step_acts : (limits : Limits) (context : Context) (place : Place) (a : Action) (w : Compilation) (u : Unit) → is_step a ≡ true

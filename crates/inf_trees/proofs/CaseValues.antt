@@ -1,23 +1,18 @@
 -- Values of cases: the rows of their rules, texts of one row, and that the values of a list of names are values.
 use Rattle.std.proofs.Common.{ℕ, zero, suc, ◌+◌, ◌≤◌, List, [], ◌∷◌, length, refl, arith}
 use Rattle.inf_machine.specs.declared.symbols.Symbol.{Symbol}
-use Rattle.inf_machine.specs.Grammar.{Event, IsText, first, later}
-use Rattle.inf_machine.specs.Grammar.{row as a_row}
-use Rattle.inf_syntax.specs.Parts.{ !comma, !name, !negate, !to, 'comma', 'minus', 'to', OPERAND, address_tail}
-use Rattle.inf_syntax.specs.Parts.{after_prim, after_unary, assign, case_end, case_value, case_value_1, end, entry, expression_tail}
-use Rattle.inf_syntax.specs.Parts.{inner_operator, minus_following, neg, operator, other_assign, other_prim, outer_following, outer_following_1}
-use Rattle.inf_syntax.specs.Parts.{outer_operator, post_tail, prefixed, prim, range, statement_end, step_prefix, step_tail, switch_following}
-use Rattle.inf_syntax.specs.Parts.{switch_next, switch_next_1, switch_next_2, top_following, top_following_1, top_next, top_values}
-use Rattle.inf_syntax.specs.Parts.{top_values_1, top_values_2, values, values_1}
-use Rattle.inf_syntax.specs.Rows.{row}
-use Rattle.inf_syntax.specs.declared.actions.Action.{Action}
+use Rattle.inf_machine.specs.Grammar.{Event, IsText, first, later, row as a_row}
+use Rattle.inf_syntax.specs.{Rows.row, declared.actions.Action.Action}
+use Rattle.inf_syntax.specs.Parts.{ !comma, !name, !negate, !to, 'comma', 'minus', 'to', OPERAND, address_tail, after_prim, after_unary}
+use Rattle.inf_syntax.specs.Parts.{assign, case_end, case_value, case_value_1, end, entry, expression_tail, inner_operator}
+use Rattle.inf_syntax.specs.Parts.{minus_following, neg, operator, other_assign, other_prim, outer_following, outer_following_1}
+use Rattle.inf_syntax.specs.Parts.{outer_operator, post_tail, prefixed, prim, range, statement_end, step_prefix, step_tail}
+use Rattle.inf_syntax.specs.Parts.{switch_following, switch_next, switch_next_1, switch_next_2, top_following, top_following_1, top_next}
+use Rattle.inf_syntax.specs.Parts.{top_values, top_values_1, top_values_2, values, values_1}
 use Rattle.inf_grammar.specs.Language.{grammar}
 use Rattle.inf_expression_laws.proofs.OperatorRows.{free}
 use Rattle.inf_statement_laws.proofs.Rules.{number}
-use Rattle.inf_trees.proofs.Expanded.{with_rows}
-use Rattle.inf_trees.proofs.RuleRows.{of_rows}
-use Rattle.inf_trees.proofs.StatementTexts.{Rows}
-use Rattle.inf_trees.proofs.Operators.{neg_operand}
+use Rattle.inf_trees.proofs.{Expanded.with_rows, Operators.neg_operand, RuleRows.of_rows, StatementTexts.Rows}
 use Rattle.inf_trees.proofs.Rests.{behind_token, cut, swapped}
 
 -- Rows, by evaluation

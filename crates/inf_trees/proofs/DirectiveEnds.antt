@@ -1,40 +1,28 @@
 -- Behind the end of each directive that is one unit the unit is over, but for its semicolon.
-use Rattle.std.proofs.Common.{◌≡◌, ℕ, List, [], ◌∷◌, map, Bool, true, Option, Some, None, refl, ◌∙◌, ap}
-use Rattle.std.specs.Prelude.{nat_lt}
+use Rattle.std.proofs.Common.{◌≡◌, ℕ, List, [], ◌∷◌, map, Bool, true, Option, Some, None, refl, ◌∙◌, ap, nat_lt}
 use Rattle.inf_settings.specs.Bounds.{Limits}
 use Rattle.inf_scanner.specs.declared.tokens.Place.{Place}
-use Rattle.inf_expressions.specs.declared.findings.Finding.{Finding}
-use Rattle.inf_expressions.specs.declared.units.Wanted.TheVariants as wanted
-use Rattle.inf_letters.specs.Letters.{ignores}
-use Rattle.inf_letters.specs.declared.letters.Letters.{Letters}
-use Rattle.inf_names.specs.Spellings.{Name}
-use Rattle.inf_names.specs.Symbols.{declare_fault}
-use Rattle.inf_names.specs.declared.meanings.Meaning.{Meaning}
-use Rattle.inf_names.specs.declared.symbols.DeclareFault.{DeclareFault}
+use Rattle.inf_expressions.specs.{Findings.out_of_range, declared.findings.Finding.Finding, declared.units.Wanted.Wanted}
+use Rattle.inf_letters.specs.{Letters.ignores, declared.letters.Letters.Letters}
+use Rattle.inf_names.specs.{Spellings.Name, Symbols.declare_fault, declared.meanings.Meaning.Meaning}
+use Rattle.inf_names.specs.{declared.symbols.DeclareFault.DeclareFault}
 use Rattle.inf_output.specs.Output.{declared}
-use Rattle.inf_unit.specs.Directives.{directive_of}
+use Rattle.inf_unit.specs.{Directives.directive_of, declared.directives.Directive.Directive}
 use Rattle.inf_unit.specs.Units.{directive_word, first_place, name_order, names_in, over, quoted_in}
-use Rattle.inf_unit.specs.declared.directives.Directive.{Directive}
-use Rattle.inf_unit.specs.declared.directives.Directive.TheVariants as directive
 use Rattle.inf_unit.proofs.Cases.{of_both}
 use Rattle.inf_constructs.specs.Roots.{tree_in}
-use Rattle.inf_report.specs.declared.messages.FixedLimit.TheVariants as countable
-use Rattle.inf_compilation.specs.Context.{Context}
+use Rattle.inf_report.specs.declared.messages.FixedLimit.{FixedLimit}
+use Rattle.inf_compilation.specs.{Context.Context, Findings.again_by, Findings.found_alone, Findings.nothing_found}
 use Rattle.inf_compilation.specs.Actions.{Compilation, constant, constant_added, constant_declared, constant_ended, constant_finding}
-use Rattle.inf_compilation.specs.Actions.{constant_findings, constant_meaning, constant_of, finding_at, is_first_declared}
-use Rattle.inf_compilation.specs.Actions.{new_stub, operands_of, replace, routine_declared, stub, stub_code, stub_locals, stubbed, trees_at}
+use Rattle.inf_compilation.specs.Actions.{constant_findings, constant_meaning, constant_of, finding_at, is_first_declared, new_stub}
+use Rattle.inf_compilation.specs.Actions.{operands_of, replace, routine_declared, stub, stub_code, stub_locals, stubbed, trees_at}
 use Rattle.inf_compilation.specs.Actions.{unit_ended}
-use Rattle.inf_compilation.specs.Findings.{again_by, found_alone, nothing_found}
-use Rattle.inf_declarations.specs.Abbreviations.{low_string}
-use Rattle.inf_named_values.specs.Declarations.{alias_told, is_additive, is_alias}
-use Rattle.inf_declarations.specs.Globals.{global_variable}
-use Rattle.inf_declarations.specs.Properties.{property}
+use Rattle.inf_declarations.specs.{Abbreviations.low_string, Defaults.default, Globals.global_variable}
+use Rattle.inf_declarations.specs.Properties.{property, property_named, property_names, property_order, property_with}
 use Rattle.inf_declarations.specs.Attributes.{attribute, attribute_with}
-use Rattle.inf_declarations.specs.Properties.{property_named, property_names, property_order, property_with}
-use Rattle.inf_declarations.specs.Defaults.{default}
 use Rattle.inf_declarations.specs.Headers.{known_number, release, release_finding, release_told, serial_by, serial_in}
 use Rattle.inf_declarations.specs.Switches.{has_code, letters_behind, switches, switches_by}
-use Rattle.inf_expressions.specs.Findings.{out_of_range}
+use Rattle.inf_named_values.specs.Declarations.{alias_told, is_additive, is_alias}
 use Rattle.inf_reader.specs.Directives.{carried_out, code_begun_by, directive_end, directive_of_names}
 use Rattle.inf_verb_lines.specs.Verbs.{fake_action}
 
@@ -64,8 +52,8 @@ module _ (limits : Limits) (context : Context) (first : Place) where
   constant_over : (names : List Name) (w : Compilation) → IsOver w (constant limits context first names w)
   constant_over [] w = refl
   constant_over (name ∷ names) w =
-      let m = constant_of (map tree_in (trees_at 0 wanted.Constant (operands_of w) w)) w in
-      constant_declares name m (constant_finding m (finding_at 0 wanted.Constant w)) w
+      let m = constant_of (map tree_in (trees_at 0 Wanted.Constant (operands_of w) w)) w in
+      constant_declares name m (constant_finding m (finding_at 0 Wanted.Constant w)) w
 
   default_over : (names : List Name) (w : Compilation) → IsOver w (default limits context first names w)
   default_over names w =
@@ -100,7 +88,7 @@ module _ (limits : Limits) (context : Context) (first : Place) where
   attribute_over [] w = refl
   attribute_over (name ∷ names) w =
       of_both (IsOver w) (is_alias names w.unit.gathering.leaves)
-      (alias_told limits context first name (name_order w.unit.tokens) countable.Attributes w) (attribute_with limits context first name w)
+      (alias_told limits context first name (name_order w.unit.tokens) FixedLimit.Attributes w) (attribute_with limits context first name w)
       (λ e. refl) (λ e. refl)
 
   property_named_over : (additive : Bool) (names : List Name) (w : Compilation)
@@ -108,7 +96,7 @@ module _ (limits : Limits) (context : Context) (first : Place) where
   property_named_over additive [] w = refl
   property_named_over additive (name ∷ names) w =
       of_both (IsOver w) (is_alias names w.unit.gathering.leaves)
-      (alias_told limits context first name (property_order w.unit.tokens additive) countable.Properties w)
+      (alias_told limits context first name (property_order w.unit.tokens additive) FixedLimit.Properties w)
       (property_with limits context first additive name w) (λ e. refl) (λ e. refl)
 
   property_over : (names : List Name) (w : Compilation) → IsOver w (property limits context first names w)
@@ -145,8 +133,8 @@ module _ (limits : Limits) (context : Context) (first : Place) where
 
   release_over : (w : Compilation) → IsOver w (release limits context first w)
   release_over w =
-      let number = known_number (map tree_in (trees_at 0 wanted.Constant (operands_of w) w)) in
-      ap (over true) (release_unit number (release_finding number (finding_at 0 wanted.Constant w)) w)
+      let number = known_number (map tree_in (trees_at 0 Wanted.Constant (operands_of w) w)) in
+      ap (over true) (release_unit number (release_finding number (finding_at 0 Wanted.Constant w)) w)
 
   serial_by_over : (digits : Option (List ℕ)) (w : Compilation) → IsOver w (serial_by limits context first digits w)
   serial_by_over None w = refl
@@ -155,25 +143,25 @@ module _ (limits : Limits) (context : Context) (first : Place) where
   -- any directive
 
   carried_over : (d : Directive) (names : List Name) (w : Compilation) → IsOver w (carried_out limits d context first names w)
-  carried_over directive.Include names w = refl
-  carried_over directive.Message names w = refl
-  carried_over directive.End names w = refl
-  carried_over directive.Constant names w = constant_over names w
-  carried_over directive.Replace names w = replace_over names w
-  carried_over directive.Stub names w = stub_over names w
-  carried_over directive.Default names w = default_over names w
-  carried_over directive.Attribute names w = attribute_over names w
-  carried_over directive.Property names w = property_over names w
-  carried_over directive.Global names w = global_over names w
-  carried_over directive.FakeAction names w = fake_over names w
-  carried_over directive.Switches names w = switches_over names w
-  carried_over directive.Lowstring names w = low_over names w
-  carried_over directive.Release names w = release_over w
-  carried_over directive.Serial names w = serial_by_over (serial_in (quoted_in w.unit.tokens)) w
-  carried_over directive.SystemFile names w = refl
+  carried_over Directive.Include names w = refl
+  carried_over Directive.Message names w = refl
+  carried_over Directive.End names w = refl
+  carried_over Directive.Constant names w = constant_over names w
+  carried_over Directive.Replace names w = replace_over names w
+  carried_over Directive.Stub names w = stub_over names w
+  carried_over Directive.Default names w = default_over names w
+  carried_over Directive.Attribute names w = attribute_over names w
+  carried_over Directive.Property names w = property_over names w
+  carried_over Directive.Global names w = global_over names w
+  carried_over Directive.FakeAction names w = fake_over names w
+  carried_over Directive.Switches names w = switches_over names w
+  carried_over Directive.Lowstring names w = low_over names w
+  carried_over Directive.Release names w = release_over w
+  carried_over Directive.Serial names w = serial_by_over (serial_in (quoted_in w.unit.tokens)) w
+  carried_over Directive.SystemFile names w = refl
 
 begun_unit : (limits : Limits) (d : Directive) (w : Compilation) → (code_begun_by limits d w).unit ≡ w.unit
-begun_unit limits directive.Switches w = refl
+begun_unit limits Directive.Switches w = refl
 begun_unit limits _ w = refl
 
 names_over : (limits : Limits) (context : Context) (first : Place) (names : List Name) (w : Compilation)

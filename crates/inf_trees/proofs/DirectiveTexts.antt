@@ -1,28 +1,21 @@
 -- A text of a piece that begins as a directive that is one unit: the unit, its end and the semicolon.
 use Rattle.std.proofs.Common.{◌≡◌, ℕ, List, [], ◌∷◌, ◌++◌, true, false, ◌&&◌, ◌==◌, refl, sym, ◌∙◌, ap, inl, inr, bit_and}
 use Rattle.std.proofs.lemmas.Bool.{and_from, and_parts, eqb-true, or_cases}
-use Rattle.inf_scanner.specs.declared.tokens.Mark.TheVariants as mark
-use Rattle.inf_machine.specs.declared.symbols.Symbol.{Symbol}
-use Rattle.inf_machine.specs.declared.symbols.Symbol.TheVariants.{Token}
+use Rattle.inf_scanner.specs.declared.tokens.Mark.{Mark}
+use Rattle.inf_machine.specs.{Machine.fits, declared.symbols.Symbol.Symbol}
 use Rattle.inf_machine.specs.Grammar.{Event, IsText, Row, action, has, token}
-use Rattle.inf_machine.specs.Machine.{fits}
-use Rattle.inf_machine.proofs.Sets.{has_and, has_zero}
-use Rattle.inf_machine.proofs.Taking.{leads_only}
-use Rattle.inf_syntax.specs.Atoms.{mark_atom}
-use Rattle.inf_syntax.specs.Parts.{ !end_body, !end_directive, !end_header, !end_locals, !end_routine, !end_text, !routine}
-use Rattle.inf_syntax.specs.Parts.{'abbreviate', 'array', 'class', 'close_bracket', 'extend', 'hash', 'nearby', 'object', 'open_bracket'}
-use Rattle.inf_syntax.specs.Parts.{'semicolon', 'verb', BODYNAME, NAME, OFCLASS, TEXT, WORD, body, directive, directive_1, directive_10}
-use Rattle.inf_syntax.specs.Parts.{directive_11, directive_12, directive_2, directive_3, directive_4, directive_5, directive_6, directive_7}
-use Rattle.inf_syntax.specs.Parts.{directive_8, directive_9, object, piece, whole_directive}
-use Rattle.inf_syntax.specs.Rows.{row as row_of}
-use Rattle.inf_syntax.specs.declared.actions.Action.{Action}
-use Rattle.inf_grammar.specs.Evaluated.{language_is_decided}
-use Rattle.inf_grammar.specs.Language.{grammar, known}
+use Rattle.inf_machine.proofs.{Sets.has_and, Sets.has_zero, Taking.leads_only}
+use Rattle.inf_syntax.specs.{Atoms.mark_atom, Rows.row as row_of, declared.actions.Action.Action}
+use Rattle.inf_syntax.specs.Parts.{ !end_body, !end_directive, !end_header, !end_locals, !end_routine, !end_text, !routine, 'abbreviate'}
+use Rattle.inf_syntax.specs.Parts.{'array', 'class', 'close_bracket', 'extend', 'hash', 'nearby', 'object', 'open_bracket', 'semicolon'}
+use Rattle.inf_syntax.specs.Parts.{'verb', BODYNAME, NAME, OFCLASS, TEXT, WORD, body, directive, directive_1, directive_10, directive_11}
+use Rattle.inf_syntax.specs.Parts.{directive_12, directive_2, directive_3, directive_4, directive_5, directive_6, directive_7, directive_8}
+use Rattle.inf_syntax.specs.Parts.{directive_9, object, piece, whole_directive}
+use Rattle.inf_grammar.specs.{Evaluated.language_is_decided, Language.grammar, Language.known}
 use Rattle.inf_statement_laws.proofs.Rules.{number}
 use Rattle.inf_grammar.proofs.Spaced.{rule_is_spaced}
 use Rattle.inf_trees.specs.Directives.{begins_directive, is_word, words}
-use Rattle.inf_trees.proofs.RuleRows.{of_rows}
-use Rattle.inf_trees.proofs.UnitTexts.{NoNotes, is_flat, is_unit}
+use Rattle.inf_trees.proofs.{RuleRows.of_rows, UnitTexts.NoNotes, UnitTexts.is_flat, UnitTexts.is_unit}
 
 -- Atoms that are in no two sets
 
@@ -123,7 +116,7 @@ pieces_have = refl
 -- A directive that begins with one of the words is the last of the rows.
 
 pub by_word : (class atom : ℕ) (symbols : List (Symbol Action)) (atoms : List ℕ) (events : List (Event Action)) → OutsideWords class
-    → is_word atom ≡ true → IsText grammar (Token class ∷ symbols) (atom ∷ atoms) events → ⊥
+    → is_word atom ≡ true → IsText grammar (Symbol.Token class ∷ symbols) (atom ∷ atoms) events → ⊥
 by_word class atom symbols atoms events none is (token h leads) = no_word class atom none h is
 
 pub routine_no_word : (atom : ℕ) (symbols : List (Symbol Action)) (atoms : List ℕ) (events : List (Event Action)) → is_word atom ≡ true
@@ -163,11 +156,11 @@ directive_text atom atoms events is text =
     text
 
 -- No directive begins with the sign.
-sign_unfit : fits grammar known (mark_atom mark.Hash) (directive ∷ []) ≡ false
+sign_unfit : fits grammar known (mark_atom Mark.Hash) (directive ∷ []) ≡ false
 unfolding grammar known
 sign_unfit = refl
 
-pub no_sign : (atom : ℕ) (atoms : List ℕ) (events : List (Event Action)) → atom ≡ mark_atom mark.Hash
+pub no_sign : (atom : ℕ) (atoms : List ℕ) (events : List (Event Action)) → atom ≡ mark_atom Mark.Hash
     → IsText grammar (directive ∷ []) (atom ∷ atoms) events → ⊥
 no_sign atom atoms events is text =
     let one = leads_only grammar known language_is_decided text (rule_is_spaced 2) in
@@ -213,16 +206,16 @@ piece_text (first ∷ second ∷ atoms) events begins text =
     of_rows (UnitText all events) (number piece) piece_rows all events pieces_have (
       (λ t. absurd (semicolon_none first second atoms events t)),
       (
-        (λ t. elim (or_cases (is_word first) ((first == mark_atom mark.Hash) && is_word second) begins) [
+        (λ t. elim (or_cases (is_word first) ((first == mark_atom Mark.Hash) && is_word second) begins) [
           | inl is ↦ absurd (by_word 1 first _ (second ∷ atoms) events outside_1 is t)
-          | inr both ↦ with_sign first second atoms events (and_parts (first == mark_atom mark.Hash) (is_word second) both).1 t
+          | inr both ↦ with_sign first second atoms events (and_parts (first == mark_atom Mark.Hash) (is_word second) both).1 t
         ]),
         (
-          (λ t. elim (or_cases (is_word first) ((first == mark_atom mark.Hash) && is_word second) begins) [
+          (λ t. elim (or_cases (is_word first) ((first == mark_atom Mark.Hash) && is_word second) begins) [
             | inl is ↦ without_sign first second atoms events is t
             | inr both ↦
-                let parts = and_parts (first == mark_atom mark.Hash) (is_word second) both in
-                absurd (no_sign first (second ∷ atoms) events (eqb-true first (mark_atom mark.Hash) parts.0) t)
+                let parts = and_parts (first == mark_atom Mark.Hash) (is_word second) both in
+                absurd (no_sign first (second ∷ atoms) events (eqb-true first (mark_atom Mark.Hash) parts.0) t)
           ]),
           tt,
         ),

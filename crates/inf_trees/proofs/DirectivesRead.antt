@@ -1,35 +1,26 @@
 -- Tokens that begin as a directive that is one unit are that directive, and have its effect.
-use Rattle.std.proofs.Common.{◌≡◌, ℕ, ◌+◌, ◌<◌, List, [], ◌∷◌, ◌++◌, length, true, false, refl, sym, ◌∙◌, ap, subst}
-use Rattle.std.proofs.Common.{arith}
+use Rattle.std.proofs.Common.{◌≡◌, ℕ, ◌+◌, ◌<◌, List, [], ◌∷◌, ◌++◌, length, true, false, refl, sym, ◌∙◌, ap, subst, arith}
 use Rattle.std.proofs.lemmas.List.{length-append}
 use Rattle.inf_settings.specs.Bounds.{Limits}
 use Rattle.inf_machine.specs.Grammar.{Did, Event, Leads, Took, action, has, here, token}
-use Rattle.inf_syntax.specs.Parts.{ !end_directive, 'semicolon'}
-use Rattle.inf_syntax.specs.declared.actions.Action.{Action}
-use Rattle.inf_syntax.specs.declared.actions.Action.TheVariants as action_of
+use Rattle.inf_syntax.specs.{Parts.!end_directive, Parts.'semicolon', declared.actions.Action.Action}
 use Rattle.inf_grammar.specs.Language.{grammar}
 use Rattle.inf_unit.specs.Units.{Unit as UnitAtHand, no_unit, over}
-use Rattle.inf_compilation.specs.Context.{Context}
-use Rattle.inf_compilation.specs.Actions.{Compilation, opens, piece_begun, took}
+use Rattle.inf_compilation.specs.{Actions.Compilation, Actions.opens, Actions.piece_begun, Actions.took, Context.Context}
 use Rattle.inf_reader.specs.Directives.{directive_end}
 use Rattle.inf_expression_laws.specs.Gathered.{AreSeen}
-use Rattle.inf_statement_laws.specs.Happenings.{Acts, Happening, Takes}
-use Rattle.inf_statement_laws.specs.Laid.{next_comes, passed, run}
-use Rattle.inf_statement_laws.specs.Readings.{Seen, plainly_at}
+use Rattle.inf_statement_laws.specs.{Happenings.Acts, Happenings.Happening, Happenings.Takes, Laid.next_comes, Laid.passed, Laid.run}
+use Rattle.inf_statement_laws.specs.{Readings.Seen, Readings.plainly_at}
 use Rattle.inf_statement_laws.proofs.Laying.{run_then}
-use Rattle.inf_language.specs.Constants.{piece_done}
+use Rattle.inf_language.specs.{Constants.piece_done, Units.TakeAll}
 use Rattle.inf_language.specs.Texts.{atoms_of, happenings_before, happenings_of, tokens_of}
-use Rattle.inf_language.specs.Units.{TakeAll}
+use Rattle.inf_language.proofs.{TextsActed.texts_do_their_actions, TextsSplit.split}
 use Rattle.inf_language.proofs.Derivations.{happenings-append, last_apart, seen_front, texts_take_all}
-use Rattle.inf_language.proofs.TextsActed.{texts_do_their_actions}
-use Rattle.inf_language.proofs.TextsSplit.{split}
 use Rattle.inf_trees.specs.Directives.{Directive, DirectivesAreTrees, directive_done}
 use Rattle.inf_trees.specs.Trees.{parts_told, with_parts}
-use Rattle.inf_trees.proofs.DirectiveEnds.{directives_over}
-use Rattle.inf_trees.proofs.DirectiveTexts.{UnitText, piece_text}
+use Rattle.inf_trees.proofs.{DirectiveEnds.directives_over, DirectiveTexts.UnitText, DirectiveTexts.piece_text, UnitTexts.NoNotes}
+use Rattle.inf_trees.proofs.{UnitTexts.parsed, UnitsRead.Read, UnitsRead.units_read}
 use Rattle.inf_trees.proofs.Semicolons.{last_atom, last_seen, opens_nothing, over_taken}
-use Rattle.inf_trees.proofs.UnitTexts.{NoNotes, parsed}
-use Rattle.inf_trees.proofs.UnitsRead.{Read, units_read}
 
 -- The semicolon
 
@@ -43,7 +34,7 @@ semicolon_taken context s u w plain is = ap (λ x. piece_done (next_comes (passe
 record EndsUnit (atoms : List ℕ) (events : List (Event Action)) : Type 0 where
   atom : ℕ
   one : atoms ≡ atom ∷ []
-  are : events ≡ Did action_of.EndDirective ∷ Took atom ∷ []
+  are : events ≡ Did Action.EndDirective ∷ Took atom ∷ []
   is_semicolon : has (grammar.atoms_of 0) atom ≡ true
 
 ends_unit : (atoms : List ℕ) (events : List (Event Action)) → Leads grammar (!end_directive ∷ 'semicolon' ∷ []) atoms events []
@@ -56,13 +47,13 @@ directive_runs : (limits : Limits) (context : Context) (tokens : List Seen) (sem
     (w : Compilation) → (r : Read limits no_unit tokens early) → opens semicolon.token.kind ≡ false
     → let d : Directive = record { unit = r.parts; semicolon = semicolon } in
     piece_done (run limits context (happenings_before semicolon.token.place early tokens
-    ++ Acts (plainly_at semicolon.token.place) action_of.EndDirective ∷ Takes semicolon.token semicolon.behind ∷ []) (piece_begun w))
+    ++ Acts (plainly_at semicolon.token.place) Action.EndDirective ∷ Takes semicolon.token semicolon.behind ∷ []) (piece_begun w))
     ≡ piece_done (directive_done limits context d (piece_begun w))
 directive_runs limits context tokens semicolon early atom w r plain =
     let place = semicolon.token.place in
     let begun = piece_begun w in
     let front = happenings_before place early tokens in
-    let end : List Happening = Acts (plainly_at place) action_of.EndDirective ∷ Takes semicolon.token semicolon.behind ∷ [] in
+    let end : List Happening = Acts (plainly_at place) Action.EndDirective ∷ Takes semicolon.token semicolon.behind ∷ [] in
     let ready = record (parts_told context no_unit r.parts begun) { unit = with_parts r.parts no_unit } in
     ap piece_done (run_then limits context front end begun)
     ∙ (ap (λ x. piece_done (run limits context end x)) (r.does context place begun refl)
@@ -77,7 +68,7 @@ record Parted (seen : List Seen) (events : List (Event Action)) (limits : Limits
   early : List (Event Action)
   atom : ℕ
   same : tokens ++ semicolon ∷ [] ≡ seen
-  are : events ≡ early ++ Did action_of.EndDirective ∷ Took atom ∷ []
+  are : events ≡ early ++ Did Action.EndDirective ∷ Took atom ∷ []
   read : Read limits no_unit tokens early
   all : TakeAll early tokens
   plain : opens semicolon.token.kind ≡ false
@@ -108,7 +99,7 @@ parted limits seen events unit are_seen few =
 pub directives_are_trees : (limits : Limits) → DirectivesAreTrees limits
 directives_are_trees limits seen events text begins are_seen few none =
     let p = parted limits seen events (piece_text (atoms_of seen) events begins text) are_seen few in
-    let late : List (Event Action) = Did action_of.EndDirective ∷ Took p.atom ∷ [] in
+    let late : List (Event Action) = Did Action.EndDirective ∷ Took p.atom ∷ [] in
     record {
       tree = record { unit = p.read.parts; semicolon = p.semicolon };
       same = ap (λ l. l ++ p.semicolon ∷ []) p.read.same ∙ p.same;

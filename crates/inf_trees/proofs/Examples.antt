@@ -1,29 +1,18 @@
 -- `Attribute light;` and `return 5;` meet the premises of the laws, as evaluation shows.
-use Rattle.std.proofs.Common.{◌≡◌, ℕ, List, [], ◌∷◌, ◌++◌, false, true, Some, None, refl, lit≤}
-use Rattle.std.specs.Prelude.{codes}
+use Rattle.std.proofs.Common.{◌≡◌, ℕ, List, [], ◌∷◌, ◌++◌, false, true, Some, None, refl, lit≤, codes}
 use Rattle.inf_settings.specs.Bounds.{Limits}
-use Rattle.inf_scanner.specs.declared.tokens.Mark.{Mark}
-use Rattle.inf_scanner.specs.declared.tokens.Mark.TheVariants as mark
-use Rattle.inf_scanner.specs.declared.tokens.TokenKind.{TokenKind}
-use Rattle.inf_scanner.specs.declared.tokens.TokenKind.TheVariants as kind
-use Rattle.inf_machine.specs.Grammar.{Did, Event, IsText, Took, here}
-use Rattle.inf_machine.specs.Machine.{read}
+use Rattle.inf_scanner.specs.{declared.tokens.Mark.Mark, declared.tokens.TokenKind.TokenKind}
+use Rattle.inf_machine.specs.{Grammar.Did, Grammar.Event, Grammar.IsText, Grammar.Took, Grammar.here, Machine.read}
 use Rattle.inf_machine.proofs.TokenLaws.{texts_are_taken}
-use Rattle.inf_syntax.specs.Atoms.{mark_atom}
-use Rattle.inf_syntax.specs.Parts.{piece, statement}
-use Rattle.inf_syntax.specs.declared.actions.Action.{Action}
-use Rattle.inf_syntax.specs.declared.actions.Action.TheVariants as action_of
-use Rattle.inf_grammar.specs.Evaluated.{language_is_decided}
-use Rattle.inf_grammar.specs.Language.{grammar, known}
+use Rattle.inf_syntax.specs.{Atoms.mark_atom, Parts.piece, Parts.statement, declared.actions.Action.Action}
+use Rattle.inf_grammar.specs.{Evaluated.language_is_decided, Language.grammar, Language.known}
 use Rattle.inf_statement_laws.proofs.Rules.{number}
-use Rattle.inf_unit.specs.Tokens.{SourceToken, atom_of}
-use Rattle.inf_unit.specs.Units.{Unit as UnitAtHand}
+use Rattle.inf_unit.specs.{Tokens.SourceToken, Tokens.atom_of, Units.Unit as UnitAtHand}
 use Rattle.inf_statement_laws.specs.Readings.{Seen, nothing_between}
 use Rattle.inf_language.specs.Texts.{atoms_of}
 use Rattle.inf_trees.specs.Directives.{IsDirective, begins_directive, is_word}
 use Rattle.inf_trees.specs.Statements.{IsOneUnit, other_statements}
-use Rattle.inf_trees.proofs.DirectivesRead.{directives_are_trees}
-use Rattle.inf_trees.proofs.StatementsRead.{statements_are_trees}
+use Rattle.inf_trees.proofs.{DirectivesRead.directives_are_trees, StatementsRead.statements_are_trees}
 
 -- a token on the first line, with no conditional directive behind it
 abbrev seen_as : TokenKind → List ℕ → Seen
@@ -32,38 +21,38 @@ seen_as k bytes =
     record { token = t; atom = atom_of t; behind = nothing_between; directive = None }
 
 abbrev word : Seen
-word = seen_as kind.Name (codes "Attribute")
+word = seen_as TokenKind.Name (codes "Attribute")
 
 abbrev name : Seen
-name = seen_as kind.Name (codes "light")
+name = seen_as TokenKind.Name (codes "light")
 
 abbrev returns : Seen
-returns = seen_as kind.Name (codes "return")
+returns = seen_as TokenKind.Name (codes "return")
 
 abbrev five : Seen
-five = seen_as (kind.Number 5) (codes "5")
+five = seen_as (TokenKind.Number 5) (codes "5")
 
 abbrev semicolon : Seen
-semicolon = seen_as (kind.Mark mark.Semicolon) (codes ";")
+semicolon = seen_as (TokenKind.Mark Mark.Semicolon) (codes ";")
 
-word_is_seen : (m : Mark) → word.atom ≡ mark_atom m → word.token.kind ≡ kind.Mark m
-word_is_seen mark.Arrow same = cc
+word_is_seen : (m : Mark) → word.atom ≡ mark_atom m → word.token.kind ≡ TokenKind.Mark m
+word_is_seen Mark.Arrow same = cc
 word_is_seen _ same = cc
 
-name_is_seen : (m : Mark) → name.atom ≡ mark_atom m → name.token.kind ≡ kind.Mark m
-name_is_seen mark.Arrow same = cc
+name_is_seen : (m : Mark) → name.atom ≡ mark_atom m → name.token.kind ≡ TokenKind.Mark m
+name_is_seen Mark.Arrow same = cc
 name_is_seen _ same = cc
 
-returns_is_seen : (m : Mark) → returns.atom ≡ mark_atom m → returns.token.kind ≡ kind.Mark m
-returns_is_seen mark.Arrow same = cc
+returns_is_seen : (m : Mark) → returns.atom ≡ mark_atom m → returns.token.kind ≡ TokenKind.Mark m
+returns_is_seen Mark.Arrow same = cc
 returns_is_seen _ same = cc
 
-five_is_seen : (m : Mark) → five.atom ≡ mark_atom m → five.token.kind ≡ kind.Mark m
-five_is_seen mark.Arrow same = cc
+five_is_seen : (m : Mark) → five.atom ≡ mark_atom m → five.token.kind ≡ TokenKind.Mark m
+five_is_seen Mark.Arrow same = cc
 five_is_seen _ same = cc
 
-semicolon_is_seen : (m : Mark) → semicolon.atom ≡ mark_atom m → semicolon.token.kind ≡ kind.Mark m
-semicolon_is_seen mark.Semicolon same = refl
+semicolon_is_seen : (m : Mark) → semicolon.atom ≡ mark_atom m → semicolon.token.kind ≡ TokenKind.Mark m
+semicolon_is_seen Mark.Semicolon same = refl
 semicolon_is_seen _ same = cc
 
 -- The directive
@@ -72,7 +61,7 @@ abbrev directive_seen : List Seen
 directive_seen = word ∷ name ∷ semicolon ∷ []
 
 abbrev directive_events : List (Event Action)
-directive_events = Took word.atom ∷ Took name.atom ∷ Did action_of.EndDirective ∷ Took semicolon.atom ∷ []
+directive_events = Took word.atom ∷ Took name.atom ∷ Did Action.EndDirective ∷ Took semicolon.atom ∷ []
 
 directive_read : read grammar known (piece ∷ []) (atoms_of directive_seen) ≡ Some (record { events = directive_events; left = [] })
 unfolding grammar known
@@ -99,7 +88,7 @@ statement_seen = returns ∷ five ∷ semicolon ∷ []
 
 abbrev statement_events : List (Event Action)
 statement_events =
-    Did action_of.Begin ∷ Took returns.atom ∷ Did action_of.Outer ∷ Took five.atom ∷ Did action_of.Number ∷ Did action_of.EndStatement
+    Did Action.Begin ∷ Took returns.atom ∷ Did Action.Outer ∷ Took five.atom ∷ Did Action.Number ∷ Did Action.EndStatement
     ∷ Took semicolon.atom ∷ []
 
 statement_read : read grammar known (statement ∷ []) (atoms_of statement_seen) ≡ Some (record { events = statement_events; left = [] })

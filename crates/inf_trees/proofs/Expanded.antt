@@ -1,7 +1,6 @@
 -- A rule among the symbols of a text, with one of its rows in its place.
 use Rattle.std.proofs.Common.{◌≡◌, ℕ, List, [], ◌∷◌, ◌++◌, refl, sym, ◌∙◌, ap, subst, append_assoc}
 use Rattle.inf_machine.specs.declared.symbols.Symbol.{Symbol}
-use Rattle.inf_machine.specs.declared.symbols.Symbol.TheVariants.{Rule}
 use Rattle.inf_machine.specs.Grammar.{Did, Event, IsOneOf, IsText, Leads, Row, Took, action, here, row, token}
 use Rattle.inf_syntax.specs.declared.actions.Action.{Action}
 use Rattle.inf_grammar.specs.Language.{grammar}
@@ -14,7 +13,7 @@ same_tail : {x y : Symbol Action} {xs ys : List (Symbol Action)} → x ∷ xs �
 same_tail same = cc
 
 abbrev rule_of : ℕ → Symbol Action
-rule_of n = Rule n
+rule_of n = Symbol.Rule n
 
 same_rule : {m n : ℕ} → rule_of m ≡ rule_of n → m ≡ n
 same_rule same = cc
@@ -27,7 +26,7 @@ record Opened (xs : List (Symbol Action)) (rule : ℕ) (ys : List (Symbol Action
 
 opened : {symbols left : List (Symbol Action)} {atoms : List ℕ} {events : List (Event Action)}
     → Leads grammar symbols atoms events left → left ≡ [] → (xs : List (Symbol Action)) (rule : ℕ) (ys : List (Symbol Action))
-    → symbols ≡ xs ++ Rule rule ∷ ys → Opened xs rule ys atoms events
+    → symbols ≡ xs ++ Symbol.Rule rule ∷ ys → Opened xs rule ys atoms events
 opened here none [] rule ys are = cc
 opened here none (x ∷ xs) rule ys are = cc
 opened (token h leads) none [] rule ys are = cc
@@ -57,7 +56,8 @@ opened {left = left} {atoms} {events} (row {rule = other} {r} {symbols} is_row f
 }
 opened {atoms = atoms} {events = events} (row {rule = other} {r} {symbols} is_row free leads) none (x ∷ xs) rule ys are =
     let on =
-    opened leads none (r.parts ++ xs) rule ys (ap (λ l. r.parts ++ l) (same_tail are) ∙ sym (append_assoc r.parts xs (Rule rule ∷ ys))) in
+    opened leads none (r.parts ++ xs) rule ys (ap (λ l. r.parts ++ l) (same_tail are) ∙ sym
+    (append_assoc r.parts xs (Symbol.Rule rule ∷ ys))) in
     record {
       way = on.way;
       is_row = on.is_row;
@@ -70,7 +70,7 @@ opened {atoms = atoms} {events = events} (row {rule = other} {r} {symbols} is_ro
 pub with_rows : (P : Type 0) (xs : List (Symbol Action)) (rule : ℕ) (ys : List (Symbol Action)) (rows : List (Row Action))
     (atoms : List ℕ) (events : List (Event Action)) → grammar.rows_of rule ≡ rows
     → Each (λ parts. IsText grammar (xs ++ (parts ++ ys)) atoms events → P) rows
-    → IsText grammar (xs ++ Rule rule ∷ ys) atoms events → P
+    → IsText grammar (xs ++ Symbol.Rule rule ∷ ys) atoms events → P
 with_rows P xs rule ys rows atoms events are each text =
     let on = opened text refl xs rule ys refl in
     one_of (λ parts. IsText grammar (xs ++ (parts ++ ys)) atoms events → P) rows on.way each (subst (λ l. IsOneOf on.way l) are on.is_row)

@@ -1,45 +1,39 @@
 -- Operators behind an operand are among the tails of an expression; and an operand that no operator follows is an expression.
 use Rattle.std.proofs.Common.{◌≡◌, ℕ, List, [], ◌∷◌, ◌++◌, Bool, true, false, ◌==◌, refl, bit_and}
 use Rattle.std.proofs.lemmas.Bool.{eqb-true}
-use Rattle.inf_machine.specs.declared.symbols.Symbol.{Symbol}
-use Rattle.inf_machine.specs.declared.symbols.Symbol.TheVariants.{Act, Rule, Token}
-use Rattle.inf_machine.specs.Grammar.{Event, IsText, action, first, later, token}
-use Rattle.inf_machine.specs.Grammar.{row as a_row}
-use Rattle.inf_machine.specs.Pieces.{all_rows}
+use Rattle.inf_machine.specs.{Pieces.all_rows, declared.symbols.Symbol.Symbol}
+use Rattle.inf_machine.specs.Grammar.{Event, IsText, action, first, later, token, row as a_row}
+use Rattle.inf_syntax.specs.{Rows.row, declared.actions.Action.Action}
 use Rattle.inf_syntax.specs.Parts.{ !assign, !member, 'assign', 'dot', address_operator, address_tail, after_prim, after_unary}
-use Rattle.inf_syntax.specs.Parts.{array_operator, array_tail, assign, assign_tail, call, inner_operator, logic_operator}
-use Rattle.inf_syntax.specs.Parts.{logic_tail, member_operator, neg, operator, other_operator, outer_operator, post_tail, prim}
-use Rattle.inf_syntax.specs.Parts.{step_operator, step_tail, sum_operator, sum_tail, term_operator, term_tail, test, test_tail}
-use Rattle.inf_syntax.specs.Rows.{row}
-use Rattle.inf_syntax.specs.declared.actions.Action.{Action}
+use Rattle.inf_syntax.specs.Parts.{array_operator, array_tail, assign, assign_tail, call, inner_operator, logic_operator, logic_tail}
+use Rattle.inf_syntax.specs.Parts.{member_operator, neg, operator, other_operator, outer_operator, post_tail, prim, step_operator}
+use Rattle.inf_syntax.specs.Parts.{step_tail, sum_operator, sum_tail, term_operator, term_tail, test, test_tail}
 use Rattle.inf_grammar.specs.Language.{grammar}
 use Rattle.inf_expression_laws.specs.Precedence.{opening_sign}
 use Rattle.inf_expression_laws.proofs.OperatorRows.{NotCalled, apart, free, no_address_tail, no_array_tail, no_assign_tail, no_logic_tail}
 use Rattle.inf_expression_laws.proofs.OperatorRows.{no_post_tail, no_step_tail, no_sum_tail, no_term_tail, no_test_tail}
 use Rattle.inf_statement_laws.proofs.Rules.{number}
-use Rattle.inf_trees.proofs.Expanded.{with_rows}
-use Rattle.inf_trees.proofs.RuleRows.{row_passes}
-use Rattle.inf_trees.proofs.StatementTexts.{Rows}
+use Rattle.inf_trees.proofs.{Expanded.with_rows, RuleRows.row_passes, StatementTexts.Rows}
 use Rattle.inf_trees.proofs.TopTexts.{member_operator_rows, operator_rows, other_operator_rows, outer_operator_rows}
 
 -- Symbols that begin with no opening bracket, behind actions
 
 abbrev pub starts_apart : List (Symbol Action) → Bool
 starts_apart [] = false
-starts_apart (Token class ∷ symbols) = bit_and (grammar.atoms_of class) opening_sign == 0
-starts_apart (Act a ∷ symbols) = starts_apart symbols
-starts_apart (Rule rule ∷ symbols) = false
+starts_apart (Symbol.Token class ∷ symbols) = bit_and (grammar.atoms_of class) opening_sign == 0
+starts_apart (Symbol.Act a ∷ symbols) = starts_apart symbols
+starts_apart (Symbol.Rule rule ∷ symbols) = false
 
 pub apart_first : (symbols K : List (Symbol Action)) {atoms : List ℕ} {events : List (Event Action)}
     → starts_apart symbols ≡ true → IsText grammar (symbols ++ K) atoms events → NotCalled atoms
 apart_first [] K is text = cc
-apart_first (Token class ∷ symbols) K is (token {atom = atom} h leads) =
+apart_first (Symbol.Token class ∷ symbols) K is (token {atom = atom} h leads) =
     apart (grammar.atoms_of class) (eqb-true (bit_and (grammar.atoms_of class) opening_sign) 0 is) atom h
-apart_first (Act a ∷ symbols) K is (action leads) = apart_first symbols K is leads
-apart_first (Rule rule ∷ symbols) K is text = cc
+apart_first (Symbol.Act a ∷ symbols) K is (action leads) = apart_first symbols K is leads
+apart_first (Symbol.Rule rule ∷ symbols) K is text = cc
 
 rule_apart : (rule : ℕ) {K : List (Symbol Action)} {atoms : List ℕ} {events : List (Event Action)}
-    → all_rows starts_apart (grammar.rows_of rule) ≡ true → IsText grammar (Rule rule ∷ K) atoms events → NotCalled atoms
+    → all_rows starts_apart (grammar.rows_of rule) ≡ true → IsText grammar (Symbol.Rule rule ∷ K) atoms events → NotCalled atoms
 rule_apart rule {K} all (a_row {r} is_row is_free leads) =
     apart_first r.parts K (row_passes starts_apart (grammar.rows_of rule) r is_row all) leads
 

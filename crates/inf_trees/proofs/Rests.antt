@@ -1,7 +1,6 @@
 -- The rest of a text behind some symbols: it may be read as a text of others.
 use Rattle.std.proofs.Common.{◌≡◌, ℕ, suc, ◌≤◌, List, [], ◌∷◌, ◌++◌, length, refl, sym, ◌∙◌, ap, subst, append_assoc, arith}
 use Rattle.inf_machine.specs.declared.symbols.Symbol.{Symbol}
-use Rattle.inf_machine.specs.declared.symbols.Symbol.TheVariants.{Token}
 use Rattle.inf_machine.specs.Grammar.{Did, Event, IsText, Leads, Took, action, here, row, token}
 use Rattle.inf_syntax.specs.declared.actions.Action.{Action}
 use Rattle.inf_grammar.specs.Language.{grammar}
@@ -80,10 +79,10 @@ pub record Behind (class : ℕ) (ys : List (Symbol Action)) (atoms : List ℕ) (
   pub late : List (Event Action)
   pub of_rest : IsText grammar ys rest late
   pub count : suc (length rest) ≡ length atoms
-  pub in_place : (zs : List (Symbol Action)) → IsText grammar zs rest late → IsText grammar (Token class ∷ zs) atoms events
+  pub in_place : (zs : List (Symbol Action)) → IsText grammar zs rest late → IsText grammar (Symbol.Token class ∷ zs) atoms events
 
 pub behind_token : (class : ℕ) (ys : List (Symbol Action)) {atoms : List ℕ} {events : List (Event Action)}
-    → IsText grammar (Token class ∷ ys) atoms events → Behind class ys atoms events
+    → IsText grammar (Symbol.Token class ∷ ys) atoms events → Behind class ys atoms events
 behind_token class ys (token {atoms = more} {events = late} h leads) = record {
   rest = more;
   late = late;

@@ -1,21 +1,17 @@
 -- The rows of a rule, each with what holds of it; and rules all of whose rows pass a test, as evaluation over the table shows.
-use Rattle.std.proofs.Common.{◌≡◌, ℕ, List, [], ◌∷◌, Bool, true, false, not, ◌||◌, ◌==◌, refl, ap, subst, inl, inr}
-use Rattle.std.proofs.Common.{append-nil}
+use Rattle.std.proofs.Common.{◌≡◌, ℕ, List, [], ◌∷◌, Bool, true, false, not, ◌||◌, ◌==◌, refl, ap, subst, inl, inr, append-nil}
 use Rattle.std.proofs.lemmas.Bool.{agree_below, agree_below_at, and_parts, cases_lt}
-use Rattle.inf_machine.specs.declared.symbols.Symbol.{Symbol}
-use Rattle.inf_machine.specs.declared.symbols.Symbol.TheVariants.{Act, Rule, Token}
+use Rattle.inf_machine.specs.{Pieces.all_rows, declared.symbols.Symbol.Symbol}
 use Rattle.inf_machine.specs.Grammar.{Event, IsOneOf, IsText, Row, first, later, row}
-use Rattle.inf_machine.specs.Pieces.{all_rows}
 use Rattle.inf_syntax.specs.declared.actions.Action.{Action}
-use Rattle.inf_grammar.specs.Evaluated.{rows_past}
-use Rattle.inf_grammar.specs.Language.{grammar}
+use Rattle.inf_grammar.specs.{Evaluated.rows_past, Language.grammar}
 
 -- the rules among some symbols
 abbrev pub is_among : ℕ → List (Symbol Action) → Bool
 is_among rule [] = false
-is_among rule (Token class ∷ symbols) = is_among rule symbols
-is_among rule (Act a ∷ symbols) = is_among rule symbols
-is_among rule (Rule other ∷ symbols) = (rule == other) || is_among rule symbols
+is_among rule (Symbol.Token class ∷ symbols) = is_among rule symbols
+is_among rule (Symbol.Act a ∷ symbols) = is_among rule symbols
+is_among rule (Symbol.Rule other ∷ symbols) = (rule == other) || is_among rule symbols
 
 -- what holds of each of some rows
 abbrev pub Each : (List (Symbol Action) → Type 0) → List (Row Action) → Type 0
@@ -30,7 +26,7 @@ one_of P (x ∷ rows) r each (later m) = one_of P rows r each.1 m
 -- A text of a rule is one of one of its rows.
 pub of_rows : (P : Type 0) (rule : ℕ) (rows : List (Row Action)) (atoms : List ℕ) (events : List (Event Action))
     → grammar.rows_of rule ≡ rows → Each (λ parts. IsText grammar parts atoms events → P) rows
-    → IsText grammar (Rule rule ∷ []) atoms events → P
+    → IsText grammar (Symbol.Rule rule ∷ []) atoms events → P
 of_rows P rule rows atoms events are each (row {r} is_row free leads) =
     one_of (λ parts. IsText grammar parts atoms events → P) rows r each (subst (λ l. IsOneOf r l) are is_row)
     (subst (λ l. IsText grammar l atoms events) (append-nil r.parts) leads)

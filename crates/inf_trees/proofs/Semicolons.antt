@@ -1,14 +1,12 @@
 -- The semicolon behind a unit: it opens no bracket, and has no report.
+use Rattle.std.proofs.{lemmas.Bool.eqb-false, lemmas.Bool.eqb-true, lemmas.Nat.Bits.bit_at-pow_other}
 use Rattle.std.proofs.Common.{◌≡◌, ℕ, ◌^◌, List, [], ◌∷◌, ◌++◌, Bool, true, false, ◌==◌, refl, sym, ◌∙◌, ap}
-use Rattle.std.proofs.lemmas.Bool.{eqb-false, eqb-true}
-use Rattle.std.proofs.lemmas.Nat.Bits.{bit_at-pow_other}
-use Rattle.inf_scanner.specs.declared.tokens.Mark.TheVariants as mark
+use Rattle.inf_scanner.specs.declared.tokens.Mark.{Mark}
 use Rattle.inf_machine.specs.Grammar.{has}
 use Rattle.inf_syntax.specs.Atoms.{mark_atom}
 use Rattle.inf_grammar.specs.Language.{grammar}
 use Rattle.inf_unit.specs.Units.{Unit as UnitAtHand, over, taken}
-use Rattle.inf_compilation.specs.Context.{Context}
-use Rattle.inf_compilation.specs.Actions.{Compilation, opens, took}
+use Rattle.inf_compilation.specs.{Actions.Compilation, Actions.opens, Actions.took, Context.Context}
 use Rattle.inf_expression_laws.specs.Gathered.{AreSeen, IsSeen}
 use Rattle.inf_statement_laws.specs.Readings.{Seen}
 use Rattle.inf_language.specs.Texts.{atoms_of, tokens_of}
@@ -25,15 +23,15 @@ one_bit at atom h = by_same (atom == at) refl
     by_same true is = eqb-true atom at is
     by_same false is = absurd (contrary (sym (ap (λ b. b == 1) (bit_at-pow_other at atom (eqb-false atom at is))) ∙ h))
 
-semicolon_class : grammar.atoms_of 0 ≡ 2 ^ mark_atom mark.Semicolon
+semicolon_class : grammar.atoms_of 0 ≡ 2 ^ mark_atom Mark.Semicolon
 unfolding grammar
 semicolon_class = refl
 
 pub opens_nothing : (s : Seen) → has (grammar.atoms_of 0) s.atom ≡ true → IsSeen s.atom s.token → opens s.token.kind ≡ false
 opens_nothing s h is =
-    let atom : s.atom ≡ mark_atom mark.Semicolon =
-    one_bit (mark_atom mark.Semicolon) s.atom (sym (ap (λ set. has set s.atom) semicolon_class) ∙ h) in
-    ap opens (is mark.Semicolon atom)
+    let atom : s.atom ≡ mark_atom Mark.Semicolon =
+    one_bit (mark_atom Mark.Semicolon) s.atom (sym (ap (λ set. has set s.atom) semicolon_class) ∙ h) in
+    ap opens (is Mark.Semicolon atom)
 
 -- Behind a unit that is over it ends that, and changes nothing else.
 pub over_taken : (context : Context) (s : Seen) (u : UnitAtHand) (w : Compilation) → opens s.token.kind ≡ false → w.unit ≡ over true u

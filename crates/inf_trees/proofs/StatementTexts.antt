@@ -1,29 +1,24 @@
 -- The text of a statement: a unit with its end and a semicolon, or another statement.
 use Rattle.std.proofs.Common.{◌≡◌, ℕ, List, [], ◌∷◌, ◌++◌, true, false, refl, sym, ◌∙◌, ap, subst, append_assoc, append-nil}
 use Rattle.inf_machine.specs.declared.symbols.Symbol.{Symbol}
-use Rattle.inf_machine.specs.declared.symbols.Symbol.TheVariants.{Rule}
 use Rattle.inf_machine.specs.Grammar.{Event, IsOneOf, IsText, Row, first, later}
-use Rattle.inf_syntax.specs.Parts.{ !begin, !deeper, !end_statement, !name, !negate, !outer, !outer_end, 'at'}
-use Rattle.inf_syntax.specs.Parts.{'close_brace', 'dot', 'double_greater', 'double_less', 'give', 'greater', 'jump', 'less', 'minus', 'move'}
-use Rattle.inf_syntax.specs.Parts.{'open_brace', 'return', 'semicolon', 'string', 'style', 'to', BEGINNAME, NAME, act, after_prim, after_unary}
-use Rattle.inf_syntax.specs.Parts.{assembly, bracketed, end, expression, expression_tail, give_rest, jump_rest, mark_statement}
-use Rattle.inf_syntax.specs.Parts.{mark_statement_1, move_rest, neg, of_expression, plain_prim, plain_word, post, prefixed, print_rest}
-use Rattle.inf_syntax.specs.Parts.{return_rest, return_rest_1, statement, statement_1, statement_2, statement_3, statement_4, statement_5}
-use Rattle.inf_syntax.specs.Parts.{ !outer_maybe, !outer_sure, !print_text, !text, TEXT, statement_end, string_rest, style_rest, text_more}
+use Rattle.inf_syntax.specs.{Rows.row, declared.actions.Action.Action}
+use Rattle.inf_syntax.specs.Parts.{ !begin, !deeper, !end_statement, !name, !negate, !outer, !outer_end, 'at', 'close_brace', 'dot'}
+use Rattle.inf_syntax.specs.Parts.{'double_greater', 'double_less', 'give', 'greater', 'jump', 'less', 'minus', 'move', 'open_brace'}
+use Rattle.inf_syntax.specs.Parts.{'return', 'semicolon', 'string', 'style', 'to', BEGINNAME, NAME, act, after_prim, after_unary, assembly}
+use Rattle.inf_syntax.specs.Parts.{bracketed, end, expression, expression_tail, give_rest, jump_rest, mark_statement, mark_statement_1}
+use Rattle.inf_syntax.specs.Parts.{move_rest, neg, of_expression, plain_prim, plain_word, post, prefixed, print_rest, return_rest}
+use Rattle.inf_syntax.specs.Parts.{return_rest_1, statement, statement_1, statement_2, statement_3, statement_4, statement_5, !outer_maybe}
+use Rattle.inf_syntax.specs.Parts.{ !outer_sure, !print_text, !text, TEXT, statement_end, string_rest, style_rest, text_more}
 use Rattle.inf_syntax.specs.Parts.{text_statement, text_statement_1}
-use Rattle.inf_syntax.specs.Rows.{row}
-use Rattle.inf_syntax.specs.declared.actions.Action.{Action}
 use Rattle.inf_grammar.specs.Language.{grammar}
-use Rattle.inf_expression_laws.specs.Laws.{forms}
-use Rattle.inf_expression_laws.specs.Precedence.{commas}
+use Rattle.inf_expression_laws.specs.{Laws.forms, Precedence.commas}
 use Rattle.inf_statement_laws.proofs.Rules.{number}
 use Rattle.inf_language.specs.Units.{AllSteps}
 use Rattle.inf_language.proofs.TextsSplit.{is_rule, only_steps}
 use Rattle.inf_trees.specs.Statements.{marked, more_statements, other_statements}
-use Rattle.inf_trees.proofs.Expanded.{with_rows}
-use Rattle.inf_trees.proofs.RuleRows.{Each, of_rows}
+use Rattle.inf_trees.proofs.{Expanded.with_rows, RuleRows.Each, RuleRows.of_rows, ValueForms.form_of, ValueForms.is_value}
 use Rattle.inf_trees.proofs.UnitTexts.{OperandEnds, is_flat, is_unit}
-use Rattle.inf_trees.proofs.ValueForms.{form_of, is_value}
 
 abbrev pub unit_end : List (Symbol Action)
 unit_end = !end_statement ∷ 'semicolon' ∷ []
@@ -171,7 +166,7 @@ module _ (others : List (List (Symbol Action))) (atoms : List ℕ) (events : Lis
       text
 
   pub by_rest : (words parts : List (Symbol Action)) (rest : ℕ) → grammar.rows_of rest ≡ row (parts ++ end ∷ []) ∷ []
-      → is_flat OperandEnds false (words ++ parts) ≡ true → IsText grammar (!begin ∷ (words ++ Rule rest ∷ [])) atoms events
+      → is_flat OperandEnds false (words ++ parts) ≡ true → IsText grammar (!begin ∷ (words ++ Symbol.Rule rest ∷ [])) atoms events
       → StatementText others atoms events
   by_rest words parts rest rows flat text =
       with_rows (StatementText others atoms events) (!begin ∷ words) rest [] (row (parts ++ end ∷ []) ∷ []) atoms events rows (
@@ -227,7 +222,8 @@ minus_front = 'minus' ∷ neg ∷ !negate ∷ after_unary ∷ []
 
 module _ (others : List (List (Symbol Action))) (atoms : List ℕ) (events : List (Event Action)) where
   pub by_operand : (rule : ℕ) → grammar.rows_of rule ≡ row (plain_prim ∷ []) ∷ row (bracketed ∷ []) ∷ []
-      → IsText grammar (!begin ∷ !outer ∷ Rule rule ∷ after_prim ∷ statement_end ∷ []) atoms events → StatementText others atoms events
+      → IsText grammar (!begin ∷ !outer ∷ Symbol.Rule rule ∷ after_prim ∷ statement_end ∷ []) atoms events → StatementText others
+      atoms events
   by_operand rule rows text =
       with_rows (StatementText others atoms events) (!begin ∷ !outer ∷ []) rule (after_prim ∷ statement_end ∷ [])
       (row (plain_prim ∷ []) ∷ row (bracketed ∷ []) ∷ []) atoms events rows (
@@ -242,7 +238,7 @@ module _ (others : List (List (Symbol Action))) (atoms : List ℕ) (events : Lis
       text
 
   pub by_prefix : (rule : ℕ) → grammar.rows_of rule ≡ row (prefixed ∷ []) ∷ row minus_front ∷ []
-      → IsText grammar (!begin ∷ !outer ∷ Rule rule ∷ statement_end ∷ []) atoms events → StatementText others atoms events
+      → IsText grammar (!begin ∷ !outer ∷ Symbol.Rule rule ∷ statement_end ∷ []) atoms events → StatementText others atoms events
   by_prefix rule rows text =
       with_rows (StatementText others atoms events) (!begin ∷ !outer ∷ []) rule (statement_end ∷ [])
       (row (prefixed ∷ []) ∷ row minus_front ∷ []) atoms events rows (

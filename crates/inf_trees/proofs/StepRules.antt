@@ -3,7 +3,6 @@
 use Rattle.std.proofs.Common.{◌≡◌, ℕ, List, [], ◌∷◌, ◌++◌, Bool, true, ◌&&◌, refl}
 use Rattle.std.proofs.lemmas.Bool.{agree_below, and_from, and_parts}
 use Rattle.inf_machine.specs.declared.symbols.Symbol.{Symbol}
-use Rattle.inf_machine.specs.declared.symbols.Symbol.TheVariants.{Act, Rule, Token}
 use Rattle.inf_machine.specs.Grammar.{Event, Leads, action, here, row, token}
 use Rattle.inf_syntax.specs.Parts.{address_operator, address_tail, after_prim, after_unary, array_operator, array_tail, assign, assign_tail}
 use Rattle.inf_syntax.specs.Parts.{assign_tail_1, bit, bracketed, call, call_1, call_2, expression, expression_tail, inc, logic_operator}
@@ -29,9 +28,9 @@ is_step_rule rule = is_among rule step_rules
 -- whether symbols are tokens, these rules and actions that gather a step
 abbrev pub have_steps : List (Symbol Action) → Bool
 have_steps [] = true
-have_steps (Token class ∷ symbols) = have_steps symbols
-have_steps (Act a ∷ symbols) = is_step a && have_steps symbols
-have_steps (Rule rule ∷ symbols) = is_step_rule rule && have_steps symbols
+have_steps (Symbol.Token class ∷ symbols) = have_steps symbols
+have_steps (Symbol.Act a ∷ symbols) = is_step a && have_steps symbols
+have_steps (Symbol.Rule rule ∷ symbols) = is_step_rule rule && have_steps symbols
 
 rows_have : agree_below (keeps is_step_rule have_steps) (λ rule. true) 251 ≡ true
 unfolding grammar is_step_rule
@@ -39,10 +38,10 @@ rows_have = refl
 
 have-append : (xs ys : List (Symbol Action)) → have_steps xs ≡ true → have_steps ys ≡ true → have_steps (xs ++ ys) ≡ true
 have-append [] ys x y = y
-have-append (Token class ∷ xs) ys x y = have-append xs ys x y
-have-append (Act a ∷ xs) ys x y =
+have-append (Symbol.Token class ∷ xs) ys x y = have-append xs ys x y
+have-append (Symbol.Act a ∷ xs) ys x y =
     let both = and_parts (is_step a) (have_steps xs) x in and_from (is_step a) (have_steps (xs ++ ys)) both.0 (have-append xs ys both.1 y)
-have-append (Rule rule ∷ xs) ys x y =
+have-append (Symbol.Rule rule ∷ xs) ys x y =
     let both = and_parts (is_step_rule rule) (have_steps xs) x in
     and_from (is_step_rule rule) (have_steps (xs ++ ys)) both.0 (have-append xs ys both.1 y)
 

@@ -1,33 +1,29 @@
 -- The text of an item at the top of a routine: a statement that is one unit, or another item.
 use Rattle.std.proofs.Common.{◌≡◌, ℕ, List, [], ◌∷◌, true, false, refl}
-use Rattle.inf_machine.specs.declared.symbols.Symbol.{Symbol}
-use Rattle.inf_machine.specs.Grammar.{Event, IsText, Row, first, later}
+use Rattle.inf_machine.specs.{Grammar.Event, Grammar.IsText, Grammar.Row, Grammar.first, Grammar.later, declared.symbols.Symbol.Symbol}
+use Rattle.inf_syntax.specs.{Rows.row, declared.actions.Action.Action}
 use Rattle.inf_syntax.specs.Parts.{ !assign, !member, 'assign', 'dot', address_operator, address_tail, array_operator, assign, assign_tail}
 use Rattle.inf_syntax.specs.Parts.{call, logic_operator, logic_tail, member_operator, other_operator, outer_operator, post_tail, prim}
-use Rattle.inf_syntax.specs.Parts.{step_operator, step_tail, sum_operator, sum_tail, term_operator, term_tail, test, test_tail}
-use Rattle.inf_syntax.specs.Parts.{ !begin, !name, !negate, !outer, !outer_end, !outer_word, 'comma', 'default', 'do', 'else', 'for', 'give'}
-use Rattle.inf_syntax.specs.Parts.{'if', 'jump', 'minus', 'move', 'objectloop', 'return', 'string', 'style', 'switch', 'to', 'while', CASENAME}
+use Rattle.inf_syntax.specs.Parts.{step_operator, step_tail, sum_operator, sum_tail, term_operator, term_tail, test, test_tail, !begin}
+use Rattle.inf_syntax.specs.Parts.{ !name, !negate, !outer, !outer_end, !outer_word, 'comma', 'default', 'do', 'else', 'for', 'give', 'if'}
+use Rattle.inf_syntax.specs.Parts.{'jump', 'minus', 'move', 'objectloop', 'return', 'string', 'style', 'switch', 'to', 'while', CASENAME}
 use Rattle.inf_syntax.specs.Parts.{NAME, NOTTO, after_prim, after_unary, bracketed, case_end, end, expression, expression_tail, give_rest}
 use Rattle.inf_syntax.specs.Parts.{jump_rest, mark_statement, move_rest, neg, of_expression, operator, plain_prim, plain_word, post}
 use Rattle.inf_syntax.specs.Parts.{prefixed, return_rest, return_rest_1, statement_end, text_statement, top_item, top_item_1, top_item_10}
 use Rattle.inf_syntax.specs.Parts.{top_item_11, top_item_12, top_item_13, top_item_14, top_item_15, top_item_16, top_item_17, top_item_18}
 use Rattle.inf_syntax.specs.Parts.{top_item_19, top_item_2, top_item_20, top_item_21, top_item_3, top_item_4, top_item_5, top_item_6}
 use Rattle.inf_syntax.specs.Parts.{top_item_7, top_item_8, top_item_9, top_more, top_next, top_range, top_values, top_word}
-use Rattle.inf_syntax.specs.Rows.{row}
-use Rattle.inf_syntax.specs.declared.actions.Action.{Action}
 use Rattle.inf_grammar.specs.Language.{grammar}
 use Rattle.inf_expression_laws.specs.Precedence.{primaries}
 use Rattle.inf_statement_laws.proofs.Rules.{number}
 use Rattle.inf_language.specs.Units.{AllSteps}
 use Rattle.inf_language.proofs.TextsSplit.{is_rule, only_steps}
 use Rattle.inf_trees.specs.Statements.{more_items, other_items}
-use Rattle.inf_trees.proofs.Expanded.{with_rows}
-use Rattle.inf_trees.proofs.RuleRows.{Each, of_rows}
+use Rattle.inf_trees.proofs.{Expanded.with_rows, RuleRows.Each, RuleRows.of_rows, ValueForms.is_value}
 use Rattle.inf_trees.proofs.StatementTexts.{Flat, Formed, OnlySteps, Others, Rows, StatementText, by_form, by_mark, by_operand, by_prefix}
-use Rattle.inf_trees.proofs.StatementTexts.{by_rest, by_text, jump_flat, jump_rows, move_flat, move_rows}
-use Rattle.inf_trees.proofs.StatementTexts.{of_expression_rows, return_flat, return_rows, with_end, word_flat}
+use Rattle.inf_trees.proofs.StatementTexts.{by_rest, by_text, jump_flat, jump_rows, move_flat, move_rows, of_expression_rows, return_flat}
+use Rattle.inf_trees.proofs.StatementTexts.{return_rows, with_end, word_flat}
 use Rattle.inf_trees.proofs.UnitTexts.{OperandEnds, is_flat, is_unit}
-use Rattle.inf_trees.proofs.ValueForms.{is_value}
 
 -- Rows, by evaluation
 

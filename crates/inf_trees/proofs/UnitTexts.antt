@@ -1,16 +1,13 @@
 -- The text of a unit, token by token: tokens by themselves, and expressions, each behind the action that begins it.
-use Rattle.std.proofs.Common.{◌≡◌, ℕ, List, [], ◌∷◌, ◌++◌, Bool, true, false, ◌&&◌, ◌||◌, refl, sym, ◌∙◌, ap, subst, append_assoc, inl}
-use Rattle.std.proofs.Common.{inr}
+use Rattle.std.proofs.Common.{◌≡◌, ℕ, List, [], ◌∷◌, ◌++◌, Bool, true, false, ◌&&◌, ◌||◌, refl, sym, ◌∙◌, ap, subst, append_assoc, inl, inr}
 use Rattle.std.proofs.lemmas.Bool.{agree_below, and_from, and_parts, or_cases, or_left, or_right}
 use Rattle.inf_machine.specs.declared.symbols.Symbol.{Symbol}
-use Rattle.inf_machine.specs.declared.symbols.Symbol.TheVariants.{Act, Rule, Token}
 use Rattle.inf_machine.specs.Grammar.{Did, Event, IsNext_not, IsOneOf, IsText, Leads, Row, Took, action, has, here, row, token}
 use Rattle.inf_syntax.specs.Parts.{act, act_1, act_2, act_3, assembly_2, branch, branch_1, give_rest_1, initial, operands, operands_1}
 use Rattle.inf_syntax.specs.Parts.{operands_2, plain_word, return_rest_1, statement_5, store_or_branch, store_or_branch_1, top_item_18}
 use Rattle.inf_syntax.specs.Parts.{whole_directive, whole_directive_1, whole_directive_2, whole_directive_3, whole_directive_4}
 use Rattle.inf_syntax.specs.Parts.{whole_directive_5, whole_directive_6}
 use Rattle.inf_syntax.specs.declared.actions.Action.{Action}
-use Rattle.inf_syntax.specs.declared.actions.Action.TheVariants as action_of
 use Rattle.inf_grammar.specs.Language.{grammar}
 use Rattle.inf_statement_laws.specs.Readings.{Seen}
 use Rattle.inf_language.specs.Texts.{atoms_of}
@@ -20,11 +17,11 @@ use Rattle.inf_trees.proofs.ValueForms.{HasForm, is_value, values_have_forms}
 -- The symbols of units
 
 abbrev pub is_outer : Action → Bool
-is_outer action_of.Outer = true
+is_outer Action.Outer = true
 is_outer _ = false
 
-outer_is : (a : Action) → is_outer a ≡ true → a ≡ action_of.Outer
-outer_is action_of.Outer is = refl
+outer_is : (a : Action) → is_outer a ≡ true → a ≡ Action.Outer
+outer_is Action.Outer is = refl
 outer_is _ is = cc
 
 -- The actions that stand in units beside those that begin expressions: in directives there are none, in some statements the ends of
@@ -35,18 +32,18 @@ pub data Kinds : Type 0 where
   AnyNotes : Kinds
 
 abbrev pub is_end : Action → Bool
-is_end action_of.OuterEnd = true
+is_end Action.OuterEnd = true
 is_end _ = false
 
 abbrev pub is_any : Action → Bool
-is_any action_of.OuterEnd = true
-is_any action_of.PrintText = true
-is_any action_of.Set = true
-is_any action_of.Clear = true
-is_any action_of.Action = true
-is_any action_of.Store = true
-is_any action_of.Branch = true
-is_any action_of.BranchNot = true
+is_any Action.OuterEnd = true
+is_any Action.PrintText = true
+is_any Action.Set = true
+is_any Action.Clear = true
+is_any Action.Action = true
+is_any Action.Store = true
+is_any Action.Branch = true
+is_any Action.BranchNot = true
 is_any _ = false
 
 abbrev pub is_noted : Kinds → Action → Bool
@@ -81,13 +78,13 @@ is_unit notes rule = is_among rule (rules_of notes)
 abbrev pub is_flat : (notes : Kinds) (comes : Bool) → List (Symbol Action) → Bool
 is_flat notes false [] = true
 is_flat notes true [] = false
-is_flat notes false (Token class ∷ symbols) = is_flat notes false symbols
-is_flat notes true (Token class ∷ symbols) = false
-is_flat notes false (Act a ∷ symbols) =
+is_flat notes false (Symbol.Token class ∷ symbols) = is_flat notes false symbols
+is_flat notes true (Symbol.Token class ∷ symbols) = false
+is_flat notes false (Symbol.Act a ∷ symbols) =
     (is_outer a && is_flat notes true symbols) || (is_noted notes a && is_flat notes false symbols)
-is_flat notes true (Act a ∷ symbols) = false
-is_flat notes false (Rule rule ∷ symbols) = is_unit notes rule && is_flat notes false symbols
-is_flat notes true (Rule rule ∷ symbols) = is_value rule && is_flat notes false symbols
+is_flat notes true (Symbol.Act a ∷ symbols) = false
+is_flat notes false (Symbol.Rule rule ∷ symbols) = is_unit notes rule && is_flat notes false symbols
+is_flat notes true (Symbol.Rule rule ∷ symbols) = is_value rule && is_flat notes false symbols
 
 directives_keep : agree_below (keeps (is_unit NoNotes) (is_flat NoNotes false)) (λ rule. true) 251 ≡ true
 unfolding grammar is_unit is_value
@@ -119,16 +116,16 @@ flat-append : (notes : Kinds) (comes : Bool) (xs ys : List (Symbol Action)) → 
     → is_flat notes comes (xs ++ ys) ≡ true
 flat-append notes false [] ys x y = y
 flat-append notes true [] ys x y = cc
-flat-append notes false (Token class ∷ xs) ys x y = flat-append notes false xs ys x y
-flat-append notes true (Token class ∷ xs) ys x y = cc
-flat-append notes false (Act a ∷ xs) ys x y =
+flat-append notes false (Symbol.Token class ∷ xs) ys x y = flat-append notes false xs ys x y
+flat-append notes true (Symbol.Token class ∷ xs) ys x y = cc
+flat-append notes false (Symbol.Act a ∷ xs) ys x y =
     either (is_outer a) (is_flat notes true xs) (is_noted notes a) (is_flat notes false xs) (is_flat notes true (xs ++ ys))
     (is_flat notes false (xs ++ ys)) x (λ on. flat-append notes true xs ys on y) (λ on. flat-append notes false xs ys on y)
-flat-append notes true (Act a ∷ xs) ys x y = cc
-flat-append notes false (Rule rule ∷ xs) ys x y =
+flat-append notes true (Symbol.Act a ∷ xs) ys x y = cc
+flat-append notes false (Symbol.Rule rule ∷ xs) ys x y =
     let both = and_parts (is_unit notes rule) (is_flat notes false xs) x in
     and_from (is_unit notes rule) (is_flat notes false (xs ++ ys)) both.0 (flat-append notes false xs ys both.1 y)
-flat-append notes true (Rule rule ∷ xs) ys x y =
+flat-append notes true (Symbol.Rule rule ∷ xs) ys x y =
     let both = and_parts (is_value rule) (is_flat notes false xs) x in
     and_from (is_value rule) (is_flat notes false (xs ++ ys)) both.0 (flat-append notes false xs ys both.1 y)
 
@@ -140,7 +137,7 @@ pub data Reads : (notes : Kinds) → List Seen → List (Event Action) → Type 
   Notes : {notes : Kinds} (a : Action) {seen : List Seen} {events : List (Event Action)} → is_noted notes a ≡ true → Reads notes seen events
       → Reads notes seen (Did a ∷ events)
   Expressed : {notes : Kinds} (a : Action) (tokens rest : List Seen) (steps late : List (Event Action)) {seen : List Seen}
-      {events : List (Event Action)} → a ≡ action_of.Outer → tokens ++ rest ≡ seen → events ≡ steps ++ late
+      {events : List (Event Action)} → a ≡ Action.Outer → tokens ++ rest ≡ seen → events ≡ steps ++ late
       → HasForm (atoms_of tokens) steps → Reads notes rest late → Reads notes seen (Did a ∷ events)
 
 -- Such tokens with others before them, which are a text of some symbols
@@ -190,19 +187,19 @@ abbrev Goes : Kinds → List (Symbol Action) → List Seen → List (Event Actio
 Goes notes symbols seen events =
     (xs ys : List (Symbol Action)) → symbols ≡ xs ++ ys → is_flat notes false ys ≡ true → Parsed notes xs seen events
 
-begins_value : (notes : Kinds) (a : Action) → a ≡ action_of.Outer → (symbols : List (Symbol Action)) (seen : List Seen)
+begins_value : (notes : Kinds) (a : Action) → a ≡ Action.Outer → (symbols : List (Symbol Action)) (seen : List Seen)
     (events : List (Event Action)) → is_flat notes true symbols ≡ true → Goes notes symbols seen events → Reads notes seen (Did a ∷ events)
 begins_value notes a is [] seen events flat on = cc
-begins_value notes a is (Token class ∷ symbols) seen events flat on = cc
-begins_value notes a is (Act b ∷ symbols) seen events flat on = cc
-begins_value notes a is (Rule rule ∷ symbols) seen events flat on =
+begins_value notes a is (Symbol.Token class ∷ symbols) seen events flat on = cc
+begins_value notes a is (Symbol.Act b ∷ symbols) seen events flat on = cc
+begins_value notes a is (Symbol.Rule rule ∷ symbols) seen events flat on =
     let both = and_parts (is_value rule) (is_flat notes false symbols) flat in
-    let one = on (Rule rule ∷ []) symbols refl both.1 in
+    let one = on (Symbol.Rule rule ∷ []) symbols refl both.1 in
     Expressed a one.front one.rest one.early one.late is one.same one.are
     (values_have_forms (atoms_of one.front) one.early rule both.0 one.text) one.reads
 
 action_read : (notes : Kinds) (a : Action) (symbols : List (Symbol Action)) (seen : List Seen) (events : List (Event Action))
-    → is_flat notes false (Act a ∷ symbols) ≡ true → Goes notes symbols seen events → Reads notes seen (Did a ∷ events)
+    → is_flat notes false (Symbol.Act a ∷ symbols) ≡ true → Goes notes symbols seen events → Reads notes seen (Did a ∷ events)
 action_read notes a symbols seen events flat on =
     elim (or_cases (is_outer a && is_flat notes true symbols) (is_noted notes a && is_flat notes false symbols) flat) [
       | inl i ↦
@@ -214,7 +211,8 @@ action_read notes a symbols seen events flat on =
     ]
 
 token_fronted : (notes : Kinds) (class atom : ℕ) (s : Seen) (seen : List Seen) (events : List (Event Action)) (x : Symbol Action)
-    (xs : List (Symbol Action)) → has (grammar.atoms_of class) atom ≡ true → s.atom ≡ atom → Token class ≡ x → Fronted notes xs seen events
+    (xs : List (Symbol Action)) → has (grammar.atoms_of class) atom ≡ true → s.atom ≡ atom → Symbol.Token class ≡ x → Fronted notes
+    xs seen events
     → Fronted notes (x ∷ xs) (s ∷ seen) (Took atom ∷ events)
 token_fronted notes class atom s seen events x xs h is same on = record {
   front = s ∷ on.front;
@@ -225,7 +223,7 @@ token_fronted notes class atom s seen events x xs h is same on = record {
   are = ap (λ l. Took atom ∷ l) on.are;
   text =
       subst (λ y. IsText grammar (y ∷ xs) (s.atom ∷ atoms_of on.front) (Took atom ∷ on.early)) same
-      (subst (λ n. IsText grammar (Token class ∷ xs) (n ∷ atoms_of on.front) (Took atom ∷ on.early)) (sym is) (token h on.text));
+      (subst (λ n. IsText grammar (Symbol.Token class ∷ xs) (n ∷ atoms_of on.front) (Took atom ∷ on.early)) (sym is) (token h on.text));
   reads = on.reads;
 }
 

@@ -1,42 +1,30 @@
 -- The tokens of a unit are read: the unit is that of its parts, and beside it their reports are told.
-use Rattle.std.proofs.Common.{◌≡◌, ℕ, zero, suc, ◌+◌, ◌≤◌, ◌<◌, List, [], ◌∷◌, ◌++◌, length, Bool, true, false, Some, None, refl}
-use Rattle.std.proofs.Common.{sym, ◌∙◌, ap, subst}
-use Rattle.std.proofs.Common.{append_assoc, arith}
-use Rattle.std.specs.Prelude.{◌&&◌, nat_lt}
-use Rattle.std.proofs.lemmas.Bool.{cond-false}
-use Rattle.std.proofs.lemmas.List.{length-append, map-append}
+use Rattle.std.proofs.Common.{◌≡◌, ℕ, zero, suc, ◌+◌, ◌≤◌, ◌<◌, List, [], ◌∷◌, ◌++◌, length, Bool, true, false, Some, None, refl, sym, ◌∙◌}
+use Rattle.std.proofs.Common.{ap, subst, append_assoc, arith, ◌&&◌, nat_lt}
+use Rattle.std.proofs.{lemmas.Bool.cond-false, lemmas.List.length-append, lemmas.List.map-append}
 use Rattle.inf_settings.specs.Bounds.{Limits}
-use Rattle.inf_scanner.specs.declared.tokens.Place.{Place}
+use Rattle.inf_scanner.specs.{declared.tokens.Mark.Mark, declared.tokens.Place.Place}
 use Rattle.inf_machine.specs.Grammar.{Did, Event, Took}
 use Rattle.inf_syntax.specs.declared.actions.Action.{Action}
-use Rattle.inf_syntax.specs.declared.actions.Action.TheVariants as action_of
 use Rattle.inf_expressions.specs.Sources.{Source}
 use Rattle.inf_gathering.specs.Gatherings.{Gathering}
-use Rattle.inf_unit.specs.Tokens.{SourceToken}
+use Rattle.inf_unit.specs.{Tokens.SourceToken, declared.roles.Note.Note}
 use Rattle.inf_unit.specs.Units.{Unit as UnitAtHand, acted, depth_behind, is_assembly, is_full, is_some_mark, kind_at, long_at, noted}
 use Rattle.inf_unit.specs.Units.{outer_tokens, taken}
-use Rattle.inf_unit.specs.declared.roles.Note.{Note}
-use Rattle.inf_unit.specs.declared.roles.Note.TheVariants as note
 use Rattle.inf_reader.specs.Acting.{act, operands_named}
-use Rattle.inf_scanner.specs.declared.tokens.Mark.TheVariants as mark
-use Rattle.inf_compilation.specs.Context.{Context, longest}
-use Rattle.inf_compilation.specs.Actions.{Compilation, took}
-use Rattle.inf_expression_laws.specs.Gathered.{AreSeen, read_by, with_source}
-use Rattle.inf_expression_laws.specs.Precedence.{Written}
+use Rattle.inf_compilation.specs.{Actions.Compilation, Actions.took, Context.Context, Context.longest}
+use Rattle.inf_expression_laws.specs.{Gathered.AreSeen, Gathered.read_by, Gathered.with_source, Precedence.Written}
 use Rattle.inf_expression_laws.proofs.ExpressionsRead.{expressions_are_read}
-use Rattle.inf_statement_laws.specs.Happenings.{Acts, Takes}
+use Rattle.inf_statement_laws.specs.{Happenings.Acts, Happenings.Takes, Readings.Seen, Readings.plainly_at}
 use Rattle.inf_statement_laws.specs.Laid.{next_comes, passed, run}
-use Rattle.inf_statement_laws.specs.Readings.{Seen, plainly_at}
 use Rattle.inf_statement_laws.proofs.Laying.{run_then}
-use Rattle.inf_language.specs.Texts.{atoms_of, happenings_before, tokens_of}
-use Rattle.inf_language.specs.Units.{AllSteps, TakeAll}
+use Rattle.inf_language.specs.{Texts.atoms_of, Texts.happenings_before, Texts.tokens_of, Units.AllSteps, Units.TakeAll}
 use Rattle.inf_language.proofs.Derivations.{texts_take_all}
 use Rattle.inf_language.proofs.ExpressionsTold.{fields_stay, none_waits, took_is_told}
-use Rattle.inf_trees.proofs.Beside.{acted_gathers, step_acts, told_opening}
+use Rattle.inf_trees.proofs.{Beside.acted_gathers, Beside.step_acts, Beside.told_opening, ValueForms.HasForm}
+use Rattle.inf_trees.proofs.UnitTexts.{Alone, AnyNotes, Expressed, Finished, Kinds, NoNotes, Notes, OperandEnds, Reads, is_end, is_noted}
 use Rattle.inf_trees.specs.Trees.{AreWritten, Noted, Part, Single, Value, all_seen, parts_told, tokens_told, told_at, with_outer, with_parts}
 use Rattle.inf_trees.specs.Trees.{with_value}
-use Rattle.inf_trees.proofs.UnitTexts.{Alone, AnyNotes, Expressed, Finished, Kinds, NoNotes, Notes, OperandEnds, Reads, is_end, is_noted}
-use Rattle.inf_trees.proofs.ValueForms.{HasForm}
 
 -- The happenings of two parts of a text, before another token
 
@@ -61,7 +49,7 @@ before-append next (Took atom ∷ early) late (x ∷ tokens) rest all =
 
 -- an expression begins at the next token
 outer_acts : (limits : Limits) (context : Context) (next : Place) (events : List (Event Action)) (seen : List Seen) (w : Compilation)
-    → run limits context (happenings_before next (Did action_of.Outer ∷ events) seen) w
+    → run limits context (happenings_before next (Did Action.Outer ∷ events) seen) w
     ≡ run limits context (happenings_before next events seen) (record w { unit = with_outer w.unit })
 outer_acts limits context next events [] w = refl
 outer_acts limits context next events (s ∷ seen) w = refl
@@ -134,14 +122,14 @@ and_false false y is = refl
 
 -- The end of an operand is kept in any unit but an assembly line.
 end_acts : (limits : Limits) (context : Context) (place : Place) (u : UnitAtHand) (w : Compilation) → is_assembly u ≡ false
-    → act limits context place action_of.OuterEnd (record w { unit = u }) ≡ record w { unit = noted note.OuterEnd u }
+    → act limits context place Action.OuterEnd (record w { unit = u }) ≡ record w { unit = noted Note.OuterEnd u }
 end_acts limits context place u w plain =
-    cond-false (is_full u) (operands_named (record w { unit = u })) (record w { unit = noted note.OuterEnd u })
+    cond-false (is_full u) (operands_named (record w { unit = u })) (record w { unit = noted Note.OuterEnd u })
     (and_false (nat_lt 8 (length u.gathering.firsts)) (is_assembly u) plain)
 
 -- whether no mark of an assembly line stands at a place
 abbrev pub NoLine : List SourceToken → ℕ → Type 0
-NoLine tokens place = is_some_mark mark.At (kind_at tokens place) ≡ false
+NoLine tokens place = is_some_mark Mark.At (kind_at tokens place) ≡ false
 
 line_in_front : (xs ys : List SourceToken) (place : ℕ) → NoLine (xs ++ ys) place → NoLine xs place
 line_in_front [] ys place none = refl
@@ -226,7 +214,7 @@ pub expressed_does : (limits : Limits) (context : Context) (next : Place) (u : U
     (steps late : List (Event Action)) (value : Source) (w : Compilation)
     → read_by steps (tokens_of tokens) (with_outer (ready u)) ≡ with_value (tokens_of tokens) value (ready u)
     → AllSteps steps → TakeAll steps tokens → w.opening ≡ None
-    → run limits context (happenings_before next (Did action_of.Outer ∷ (steps ++ late)) (tokens ++ rest)) (record w { unit = ready u })
+    → run limits context (happenings_before next (Did Action.Outer ∷ (steps ++ late)) (tokens ++ rest)) (record w { unit = ready u })
     ≡ run limits context (happenings_before next late rest)
     (record (tokens_told context (with_outer (ready u)) tokens w) { unit = with_value (tokens_of tokens) value (ready u) })
 expressed_does limits context next u tokens rest steps late value w reads only all none =
@@ -241,7 +229,7 @@ expressed_does limits context next u tokens rest steps late value w reads only a
     ∙ ap (λ y. record (tokens_told context x tokens w) { unit = y }) reads)))
 
 expressed_reads : (limits : Limits) (a : Action) (u : UnitAtHand) (tokens rest : List Seen) (steps late : List (Event Action))
-    (seen : List Seen) (events : List (Event Action)) → a ≡ action_of.Outer → tokens ++ rest ≡ seen → events ≡ steps ++ late
+    (seen : List Seen) (events : List (Event Action)) → a ≡ Action.Outer → tokens ++ rest ≡ seen → events ≡ steps ++ late
     → TakeAll steps tokens → (g : Gathers u tokens steps) → Read limits (with_value (tokens_of tokens) g.value u) rest late
     → Read limits u seen (Did a ∷ events)
 expressed_reads limits a u tokens rest steps late seen events is same are all g on = record {
@@ -280,22 +268,22 @@ only_ends NoNotes = true
 only_ends OperandEnds = true
 only_ends AnyNotes = false
 
-end_is : (a : Action) → is_end a ≡ true → a ≡ action_of.OuterEnd
-end_is action_of.OuterEnd is = refl
+end_is : (a : Action) → is_end a ≡ true → a ≡ Action.OuterEnd
+end_is Action.OuterEnd is = refl
 end_is _ is = cc
 
 an_end : (notes : Kinds) (a : Action) → only_ends notes ≡ true → is_noted notes a ≡ true
-    → (a ≡ action_of.OuterEnd) × (notes ≡ OperandEnds)
+    → (a ≡ Action.OuterEnd) × (notes ≡ OperandEnds)
 an_end NoNotes a only is = cc
 an_end OperandEnds a only is = (end_is a is, refl)
 an_end AnyNotes a only is = cc
 
 -- Behind the end of an operand no expression is open.
-end_read : (limits : Limits) (a : Action) → a ≡ action_of.OuterEnd → (u : UnitAtHand) (seen : List Seen) (events : List (Event Action))
+end_read : (limits : Limits) (a : Action) → a ≡ Action.OuterEnd → (u : UnitAtHand) (seen : List Seen) (events : List (Event Action))
     → is_assembly u ≡ false → Read limits (record u { outer = None }) seen events → Read limits u seen (Did a ∷ events)
 end_read limits a is u seen events plain on =
     subst (λ b. Read limits u seen (Did b ∷ events)) (sym is)
-    (noted_reads limits action_of.OuterEnd note.OuterEnd u (noted note.OuterEnd u) seen events refl
+    (noted_reads limits Action.OuterEnd Note.OuterEnd u (noted Note.OuterEnd u) seen events refl
     (λ context place w. end_acts limits context place (ready u) w plain) on)
 
 -- Some tokens behind a unit are parts of it. Where there are ends of operands it is no assembly line.

@@ -2,13 +2,11 @@
 use Rattle.std.proofs.Common.{◌≡◌, ℕ, List, [], ◌∷◌, Bool, true, ◌||◌, ◌==◌, refl, subst, sym, append-nil, inl, inr}
 use Rattle.std.proofs.lemmas.Bool.{eqb-true, or_cases}
 use Rattle.inf_machine.specs.declared.symbols.Symbol.{Symbol}
-use Rattle.inf_machine.specs.declared.symbols.Symbol.TheVariants.{Rule}
 use Rattle.inf_machine.specs.Grammar.{Event, IsOneOf, IsText, Row, first, later, row as a_row}
-use Rattle.inf_syntax.specs.Rows.{row}
+use Rattle.inf_syntax.specs.{Rows.row, declared.actions.Action.Action}
 use Rattle.inf_syntax.specs.Parts.{ !name, !negate, !text, 'minus', NOTALIAS, OPERAND, TEXT, after_prim, after_unary, assembly_3, assign}
-use Rattle.inf_syntax.specs.Parts.{bracketed, entry, expression, initial_1, item_2, logic, plain_prim}
-use Rattle.inf_syntax.specs.Parts.{logic_tail, neg, negated, other_assign, other_prim, post, prefixed, prim}
-use Rattle.inf_syntax.specs.declared.actions.Action.{Action}
+use Rattle.inf_syntax.specs.Parts.{bracketed, entry, expression, initial_1, item_2, logic, plain_prim, logic_tail, neg, negated}
+use Rattle.inf_syntax.specs.Parts.{other_assign, other_prim, post, prefixed, prim}
 use Rattle.inf_grammar.specs.Language.{grammar}
 use Rattle.inf_expression_laws.specs.Laws.{Form, forms}
 use Rattle.inf_expression_laws.specs.Precedence.{assignments, commas, connections, members, negations, primaries}
@@ -154,8 +152,8 @@ expression_form atoms events text =
     record { symbols = expression ∷ []; level = commas; is_form = first; text = text; steps = expression_steps text }
 
 of_rule : (atoms : List ℕ) (events : List (Event Action)) (rule : ℕ) (x : ℕ) → (rule == x) ≡ true
-    → IsText grammar (Rule rule ∷ []) atoms events → IsText grammar (Rule x ∷ []) atoms events
-of_rule atoms events rule x is text = subst (λ n. IsText grammar (Rule n ∷ []) atoms events) (eqb-true rule x is) text
+    → IsText grammar (Symbol.Rule rule ∷ []) atoms events → IsText grammar (Symbol.Rule x ∷ []) atoms events
+of_rule atoms events rule x is text = subst (λ n. IsText grammar (Symbol.Rule n ∷ []) atoms events) (eqb-true rule x is) text
 
 -- The first operand of an assembly line, and a value that is printed
 
@@ -189,7 +187,8 @@ printed_rows = refl
 
 -- One of the rows of a rule is a text of it.
 pub by_row : (rule : ℕ) (parts : List (Symbol Action)) (rows : List (Row Action)) (atoms : List ℕ) (events : List (Event Action))
-    → grammar.rows_of rule ≡ rows → IsOneOf (row parts) rows → IsText grammar parts atoms events → IsText grammar (Rule rule ∷ []) atoms events
+    → grammar.rows_of rule ≡ rows → IsOneOf (row parts) rows → IsText grammar parts atoms events → IsText grammar (Symbol.Rule rule ∷ [])
+    atoms events
 by_row rule parts rows atoms events are is text =
     a_row (subst (λ l. IsOneOf (row parts) l) (sym are) is) (free atoms)
     (subst (λ l. IsText grammar l atoms events) (sym (append-nil parts)) text)
@@ -281,7 +280,7 @@ printed_form atoms events text =
     text
 
 other_form : (atoms : List ℕ) (events : List (Event Action)) (rule : ℕ) → is_other_value rule ≡ true
-    → IsText grammar (Rule rule ∷ []) atoms events → HasForm atoms events
+    → IsText grammar (Symbol.Rule rule ∷ []) atoms events → HasForm atoms events
 other_form atoms events rule is text =
     elim (or_cases (rule == number entry) ((rule == number assembly_3) || (rule == number item_2)) is) [
       | inl e ↦ entry_form atoms events (of_rule atoms events rule (number entry) e text)
@@ -294,7 +293,7 @@ other_form atoms events rule is text =
 
 late_form : (atoms : List ℕ) (events : List (Event Action)) (rule : ℕ)
     → ((rule == number initial_1) || ((rule == number post) || ((rule == number prim) || is_other_value rule))) ≡ true
-    → IsText grammar (Rule rule ∷ []) atoms events → HasForm atoms events
+    → IsText grammar (Symbol.Rule rule ∷ []) atoms events → HasForm atoms events
 late_form atoms events rule is text =
     elim (or_cases (rule == number initial_1) ((rule == number post) || ((rule == number prim) || is_other_value rule)) is) [
       | inl i ↦ initial_form atoms events (of_rule atoms events rule (number initial_1) i text)
@@ -312,7 +311,7 @@ late_form atoms events rule is text =
     ]
 
 value_form : (atoms : List ℕ) (events : List (Event Action)) (rule : ℕ) → is_value_rule rule ≡ true
-    → IsText grammar (Rule rule ∷ []) atoms events → HasForm atoms events
+    → IsText grammar (Symbol.Rule rule ∷ []) atoms events → HasForm atoms events
 value_form atoms events rule is text =
     let late = (rule == number initial_1) || ((rule == number post) || ((rule == number prim) || is_other_value rule)) in
     elim (or_cases (rule == number assign) ((rule == number expression) || ((rule == number logic) || late)) is) [
@@ -332,6 +331,6 @@ value_form atoms events rule is text =
     ]
 
 pub values_have_forms : (atoms : List ℕ) (events : List (Event Action)) (rule : ℕ) → is_value rule ≡ true
-    → IsText grammar (Rule rule ∷ []) atoms events → HasForm atoms events
+    → IsText grammar (Symbol.Rule rule ∷ []) atoms events → HasForm atoms events
 unfolding is_value
 values_have_forms atoms events rule is text = value_form atoms events rule is text

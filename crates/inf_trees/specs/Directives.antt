@@ -1,21 +1,16 @@
 -- The directives that are one unit, as trees, and their effects as a whole.
 use Rattle.std.specs.Prelude.{◌≡◌, ℕ, ◌+◌, ◌<◌, List, [], ◌∷◌, ◌++◌, length, codes, Bool, true, false, ◌&&◌, ◌||◌, ◌==◌}
 use Rattle.inf_settings.specs.Bounds.{Limits}
-use Rattle.inf_scanner.specs.declared.tokens.Mark.TheVariants as mark
+use Rattle.inf_scanner.specs.declared.tokens.Mark.{Mark}
 use Rattle.inf_machine.specs.Grammar.{Event, IsText, has}
-use Rattle.inf_syntax.specs.Atoms.{joined, mark_atom, of_word}
-use Rattle.inf_syntax.specs.Parts.{piece}
-use Rattle.inf_syntax.specs.declared.actions.Action.{Action}
+use Rattle.inf_syntax.specs.{Atoms.joined, Atoms.mark_atom, Atoms.of_word, Parts.piece, declared.actions.Action.Action}
 use Rattle.inf_grammar.specs.Language.{grammar}
 use Rattle.inf_unit.specs.Units.{no_unit}
-use Rattle.inf_compilation.specs.Context.{Context}
-use Rattle.inf_compilation.specs.Actions.{Compilation, piece_begun}
+use Rattle.inf_compilation.specs.{Actions.Compilation, Actions.piece_begun, Context.Context}
 use Rattle.inf_reader.specs.Directives.{directive_end}
 use Rattle.inf_expression_laws.specs.Gathered.{AreSeen}
-use Rattle.inf_statement_laws.specs.Laid.{passed}
-use Rattle.inf_statement_laws.specs.Readings.{Seen, all_taken}
-use Rattle.inf_language.specs.Constants.{piece_done}
-use Rattle.inf_language.specs.Texts.{NoneClosesAhead, atoms_of, tokens_of}
+use Rattle.inf_statement_laws.specs.{Laid.passed, Readings.Seen, Readings.all_taken}
+use Rattle.inf_language.specs.{Constants.piece_done, Texts.NoneClosesAhead, Texts.atoms_of, Texts.tokens_of}
 use Rattle.inf_trees.specs.Trees.{AreWritten, Part, all_seen, parts_told, with_parts}
 
 -- a directive that is one unit, and its semicolon
@@ -60,7 +55,7 @@ is_word atom = has words atom
 
 -- whether tokens begin as such a directive does: with one of the words, behind a sign `#` or not
 abbrev pub begins_directive : List ℕ → Bool
-begins_directive (first ∷ second ∷ atoms) = is_word first || ((first == mark_atom mark.Hash) && is_word second)
+begins_directive (first ∷ second ∷ atoms) = is_word first || ((first == mark_atom Mark.Hash) && is_word second)
 begins_directive _ = false
 
 -- Tells whether tokens are a directive that is one unit, whose expressions are those of their tokens by the levels of operators, and

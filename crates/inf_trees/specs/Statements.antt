@@ -2,32 +2,23 @@
 -- that hold others.
 use Rattle.std.specs.Prelude.{◌≡◌, ◌+◌, ◌<◌, List, [], ◌∷◌, ◌++◌, length, Bool, false, None}
 use Rattle.inf_settings.specs.Bounds.{Limits}
-use Rattle.inf_scanner.specs.declared.tokens.Mark.TheVariants as mark
-use Rattle.inf_scanner.specs.declared.tokens.Place.{Place}
-use Rattle.inf_machine.specs.declared.symbols.Symbol.{Symbol}
-use Rattle.inf_machine.specs.Grammar.{Event, IsOneOf, IsText}
+use Rattle.inf_scanner.specs.{declared.tokens.Mark.Mark, declared.tokens.Place.Place}
+use Rattle.inf_machine.specs.{Grammar.Event, Grammar.IsOneOf, Grammar.IsText, declared.symbols.Symbol.Symbol}
 use Rattle.inf_syntax.specs.Parts.{ !begin, !deeper, !name, !outer, !outer_maybe, !outer_sure, !outer_word, !text, 'at', 'close_brace'}
 use Rattle.inf_syntax.specs.Parts.{'comma', 'default', 'do', 'double_greater', 'double_less', 'else', 'for', 'give', 'greater', 'if'}
-use Rattle.inf_syntax.specs.Parts.{'jump'}
-use Rattle.inf_syntax.specs.Parts.{'less', 'move', 'objectloop', 'open_brace', 'return', 'string', 'style', 'switch', 'while', CASENAME}
-use Rattle.inf_syntax.specs.Parts.{NAME}
-use Rattle.inf_syntax.specs.Parts.{TEXT, act, assembly, case_end, end, expression, mark_statement_1, plain_word, print_rest, statement}
-use Rattle.inf_syntax.specs.Parts.{statement_3, statement_4, string_rest, text_more, top_item, top_item_10, top_item_11, top_item_12}
-use Rattle.inf_syntax.specs.Parts.{top_item_18, top_item_2, top_item_20, top_item_5, top_item_6, top_item_7, top_item_8, top_item_9}
-use Rattle.inf_syntax.specs.Parts.{top_next}
-use Rattle.inf_syntax.specs.Parts.{top_range, top_values, top_word}
-use Rattle.inf_syntax.specs.Parts.{give_rest}
+use Rattle.inf_syntax.specs.Parts.{'jump', 'less', 'move', 'objectloop', 'open_brace', 'return', 'string', 'style', 'switch', 'while'}
+use Rattle.inf_syntax.specs.Parts.{CASENAME, NAME, TEXT, act, assembly, case_end, end, expression, mark_statement_1, plain_word}
+use Rattle.inf_syntax.specs.Parts.{print_rest, statement, statement_3, statement_4, string_rest, text_more, top_item, top_item_10}
+use Rattle.inf_syntax.specs.Parts.{top_item_11, top_item_12, top_item_18, top_item_2, top_item_20, top_item_5, top_item_6, top_item_7}
+use Rattle.inf_syntax.specs.Parts.{top_item_8, top_item_9, top_next, top_range, top_values, top_word, give_rest}
 use Rattle.inf_syntax.specs.declared.actions.Action.{Action}
 use Rattle.inf_grammar.specs.Language.{grammar}
-use Rattle.inf_unit.specs.Tokens.{is_mark}
-use Rattle.inf_unit.specs.Units.{Unit as UnitAtHand, begun, over}
-use Rattle.inf_compilation.specs.Context.{Context}
-use Rattle.inf_compilation.specs.Actions.{Compilation}
+use Rattle.inf_unit.specs.{Tokens.is_mark, Units.Unit as UnitAtHand, Units.begun, Units.over}
+use Rattle.inf_compilation.specs.{Actions.Compilation, Context.Context}
 use Rattle.inf_parts.specs.Parts.{part_ended, statement_at}
 use Rattle.inf_parts.specs.declared.parts.Part.TheVariants as part
 use Rattle.inf_expression_laws.specs.Gathered.{AreSeen}
-use Rattle.inf_statement_laws.specs.Laid.{next_comes, passed, run}
-use Rattle.inf_statement_laws.specs.Readings.{Seen}
+use Rattle.inf_statement_laws.specs.{Laid.next_comes, Laid.passed, Laid.run, Readings.Seen}
 use Rattle.inf_language.specs.Texts.{atoms_of, happenings_before, tokens_of}
 use Rattle.inf_trees.specs.Trees.{AreWritten, Part, all_seen, parts_told, with_parts}
 
@@ -104,7 +95,7 @@ other_items = marked more_items
 -- whether tokens begin with the mark of an assembly line
 abbrev pub begins_line : List Seen → Bool
 begins_line [] = false
-begins_line (s ∷ seen) = is_mark mark.At s.token.kind
+begins_line (s ∷ seen) = is_mark Mark.At s.token.kind
 
 -- Tells whether tokens behind a unit `u` are a statement that is one unit, whose expressions are those of their tokens by the levels
 -- of operators, and whether taking the tokens by some events has the effect of the statement.

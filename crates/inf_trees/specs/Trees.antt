@@ -2,20 +2,12 @@
 -- tokens tell what is wrong with them as far as that is seen before the unit is whole.
 use Rattle.std.specs.Prelude.{ℕ, List, [], ◌∷◌, ◌++◌, length, false, true, None, Some}
 use Rattle.inf_expressions.specs.Sources.{Source}
-use Rattle.inf_unit.specs.Tokens.{SourceToken}
+use Rattle.inf_unit.specs.{Tokens.SourceToken, declared.roles.Note.Note, declared.steps.GatherStep.GatherStep}
 use Rattle.inf_unit.specs.Units.{Unit as UnitAtHand, action_gathered, leaf_gathered, long_at, noted, outer_tokens, ruled, stepped, taken}
-use Rattle.inf_unit.specs.declared.roles.Note.{Note}
-use Rattle.inf_unit.specs.declared.roles.Note.TheVariants as note
-use Rattle.inf_unit.specs.declared.steps.GatherStep.{GatherStep}
-use Rattle.inf_unit.specs.declared.steps.GatherStep.TheVariants as step
-use Rattle.inf_compilation.specs.Actions.{Compilation}
-use Rattle.inf_compilation.specs.Context.{Context, longest}
-use Rattle.inf_expression_laws.specs.Gathered.{with_source}
-use Rattle.inf_expression_laws.specs.Precedence.{Written}
-use Rattle.inf_statement_laws.specs.Laid.{passed}
-use Rattle.inf_statement_laws.specs.Readings.{Seen}
-use Rattle.inf_language.specs.Constants.{brackets_behind, length_told, token_told}
-use Rattle.inf_language.specs.Texts.{atoms_of, tokens_of}
+use Rattle.inf_compilation.specs.{Actions.Compilation, Context.Context, Context.longest}
+use Rattle.inf_expression_laws.specs.{Gathered.with_source, Precedence.Written}
+use Rattle.inf_statement_laws.specs.{Laid.passed, Readings.Seen}
+use Rattle.inf_language.specs.{Constants.brackets_behind, Constants.length_told, Constants.token_told, Texts.atoms_of, Texts.tokens_of}
 
 -- A part of a unit: a token by itself; the tokens of an expression, with the expression that they are, and the level at which its
 -- operators bind at least; such tokens whose first ones could as well be something else, a text or a name in brackets, and then the
@@ -71,11 +63,11 @@ without_outer u = record u { outer = None; is_sure = false }
 
 abbrev pub with_rule : SourceToken → SourceToken → SourceToken → UnitAtHand → UnitAtHand
 with_rule bracket name closing u =
-    ruled (taken closing (leaf_gathered (taken name (stepped step.Bracket (taken bracket (without_outer u))))))
+    ruled (taken closing (leaf_gathered (taken name (stepped GatherStep.Bracket (taken bracket (without_outer u))))))
 
 -- a unit in which the word of a statement is a value, and one with an expression more behind others
 abbrev pub with_word : UnitAtHand → UnitAtHand
-with_word u = leaf_gathered (noted note.OuterWord u)
+with_word u = leaf_gathered (noted Note.OuterWord u)
 
 abbrev pub with_further : List SourceToken → Source → UnitAtHand → UnitAtHand
 with_further tokens value u = record u {
@@ -150,7 +142,7 @@ part_told context u (Doubtful level front tokens value) w =
 part_told context u (Ruled bracket name closing) w = tokens_told context (without_outer u) (bracket ∷ name ∷ closing ∷ []) w
 part_told context u Named w = w
 part_told context u (Noted n) w = w
-part_told context u Worded w = front_told context (noted note.OuterWord u) w
+part_told context u Worded w = front_told context (noted Note.OuterWord u) w
 part_told context u (Further level tokens value) w = tokens_told context u tokens w
 part_told context u (Joined joint) w = w
 

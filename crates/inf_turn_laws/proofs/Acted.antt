@@ -3,42 +3,30 @@ use Rattle.std.proofs.Common.{◌≡◌, ℕ, suc, Some, None, arith, List, [], 
 use Rattle.std.proofs.lemmas.Bool.{and_parts}
 use Rattle.inf_settings.specs.Bounds.{Limits}
 use Rattle.inf_devices.specs.Files.{Sources}
-use Rattle.inf_machine.specs.Grammar.{Event, IsText, Leads}
-use Rattle.inf_machine.specs.Laws.{IsSpaced}
-use Rattle.inf_machine.specs.Machine.{fits, taken, work}
-use Rattle.inf_machine.specs.declared.symbols.Symbol.{Symbol}
-use Rattle.inf_machine.specs.declared.symbols.Symbol.TheVariants.{Rule}
+use Rattle.inf_machine.specs.{Grammar.Event, Grammar.IsText, Grammar.Leads, Laws.IsSpaced, Machine.fits, Machine.taken, Machine.work}
+use Rattle.inf_machine.specs.{declared.symbols.Symbol.Symbol}
 use Rattle.inf_machine.proofs.Taking.{spaced_left}
 use Rattle.inf_syntax.specs.declared.actions.Action.{Action}
-use Rattle.inf_grammar.specs.Evaluated.{language_is_decided}
-use Rattle.inf_grammar.specs.Language.{grammar, known}
-use Rattle.inf_grammar.specs.Routines.{closings}
+use Rattle.inf_grammar.specs.{Evaluated.language_is_decided, Language.grammar, Language.known, Routines.closings}
 use Rattle.inf_unit.specs.Tokens.{SourceToken, atom_of, is_end}
-use Rattle.inf_compilation.specs.Actions.{Compilation, piece_begun as work_begun, took as took_work}
-use Rattle.inf_compilation.specs.Context.{Context}
-use Rattle.inf_reader.specs.Acting.{acted}
-use Rattle.inf_reader.specs.Handing.{is_empty}
+use Rattle.inf_compilation.specs.{Actions.Compilation, Actions.piece_begun as work_begun, Actions.took as took_work, Context.Context}
+use Rattle.inf_reader.specs.{Acting.acted, Handing.is_empty, declared.recovery.Recovery.Recovery}
 use Rattle.inf_reader.specs.Reading.{ReaderState, between, piece_rule, took}
-use Rattle.inf_reader.specs.declared.recovery.Recovery.TheVariants as mode
-use Rattle.inf_session.specs.Choices.{Choices}
-use Rattle.inf_session.specs.Session.{State, context_of, stepped}
+use Rattle.inf_session.specs.{Choices.Choices, Session.State, Session.context_of, Session.stepped}
 use Rattle.inf_laws.specs.KeptTokens.{Kept, Unfit}
-use Rattle.inf_statement_laws.specs.Happenings.{Between}
-use Rattle.inf_statement_laws.specs.Laid.{next_comes, passed, run}
+use Rattle.inf_statement_laws.specs.{Happenings.Between, Laid.next_comes, Laid.passed, Laid.run}
 use Rattle.inf_statement_laws.specs.Readings.{Seen, all_fit, all_taken, behind_ends, behind_token, directed, token_happenings}
 use Rattle.inf_statement_laws.proofs.Laying.{run_then}
 use Rattle.inf_language.specs.Texts.{atoms_of}
 use Rattle.inf_language.proofs.TextsActed.{texts_do_their_actions}
 use Rattle.inf_grammar.proofs.Spaced.{rule_is_spaced}
-use Rattle.inf_program.specs.definition.Steps.{AllKept}
-use Rattle.inf_turn_laws.specs.Acted.{PiecesDoTheirActions, seen_in, text_happenings}
-use Rattle.inf_program.specs.definition.Steps.{Ends, Passes, Reads, Step}
+use Rattle.inf_program.specs.definition.Steps.{AllKept, Ends, Passes, Reads, Step}
 use Rattle.inf_program.specs.Turns.{AllFit, AreQuiet, IsFit, all_steps, grouped, piece_first, step_by}
 use Rattle.inf_program.specs.Writing.{silent_turned}
+use Rattle.inf_turn_laws.specs.Acted.{PiecesDoTheirActions, seen_in, text_happenings}
 use Rattle.inf_turn_laws.proofs.Ahead.{Further, actions_happen, onward, starts}
-use Rattle.inf_program.proofs.Chosen.{EndWithToken, none_left, pieces_end}
 use Rattle.inf_turn_laws.proofs.Derived.{First, first_by, no_tokens, plain_happenings}
-use Rattle.inf_program.proofs.Grouping.{step_fit, whole_piece}
+use Rattle.inf_program.proofs.{Chosen.EndWithToken, Chosen.none_left, Chosen.pieces_end, Grouping.step_fit, Grouping.whole_piece}
 
 -- Nothing fits where no piece is at hand.
 fits_inside : (atom : ℕ) (stack : List (Symbol Action)) → fits grammar known atom stack ≡ true → is_empty stack ≡ false
@@ -46,7 +34,8 @@ fits_inside atom [] fit = absurd (true≢false (sym fit))
 fits_inside atom (symbol ∷ symbols) fit = refl
 
 -- Kept tokens that fit one behind the other by the machine fit as steps.
-pub all_fit_by : (limits : Limits) (context : Context) (steps : List Step) (s : ReaderState) → s.reading.mode ≡ mode.Reads → AllKept steps
+pub all_fit_by : (limits : Limits) (context : Context) (steps : List Step) (s : ReaderState) → s.reading.mode ≡ Recovery.Reads →
+    AllKept steps
     → all_fit (grouped steps).seen s.reading.stack ≡ true → AllFit limits context steps s
 all_fit_by limits context [] s reads kept fit = tt
 all_fit_by limits context (Passes m ∷ steps) s reads kept fit =
@@ -96,16 +85,17 @@ text_runs limits context (s ∷ seen) symbols events leads spaced ends d w waits
     ∙ (sym st.runs ∙ ap (λ hs. run limits context (behind_ends d (closings symbols) hs) (next_comes w)) (sym (on.are s seen))))))
 
 texts_act : (limits : Limits) (seen : List Seen) (events : List (Event Action))
-    (text : IsText grammar (Rule piece_rule ∷ []) (atoms_of seen) events) (context : Context) (w : Compilation)
-    → next_comes (all_taken limits context seen (Rule piece_rule ∷ []) w) ≡ run limits context (text_happenings text seen) (next_comes w)
+    (text : IsText grammar (Symbol.Rule piece_rule ∷ []) (atoms_of seen) events) (context : Context) (w : Compilation)
+    → next_comes (all_taken limits context seen (Symbol.Rule piece_rule ∷ []) w) ≡ run limits context (text_happenings text seen)
+    (next_comes w)
 texts_act limits seen events text context w =
-    text_runs limits context seen (Rule piece_rule ∷ []) events text (rule_is_spaced piece_rule) pieces_end None w tt
+    text_runs limits context seen (Symbol.Rule piece_rule ∷ []) events text (rule_is_spaced piece_rule) pieces_end None w tt
 
 -- Whole pieces
 
 turns_act : (limits : Limits) (sources : Sources) (o : Choices) (n : ℕ) (s : State) (m : Between) (t : SourceToken) (steps : List Step)
-    (events : List (Event Action)) (text : IsText grammar (Rule piece_rule ∷ []) (atoms_of (seen_in t steps)) events)
-    → s.reading ≡ between mode.Reads → is_end t.kind ≡ false → AreQuiet limits sources o n s
+    (events : List (Event Action)) (text : IsText grammar (Symbol.Rule piece_rule ∷ []) (atoms_of (seen_in t steps)) events)
+    → s.reading ≡ between Recovery.Reads → is_end t.kind ≡ false → AreQuiet limits sources o n s
     → all_steps limits sources o n s ≡ Passes m ∷ Reads (Kept t) ∷ steps → AllKept steps
     → next_comes (stepped limits o (silent_turned limits sources o n s)).work
     ≡ run limits (context_of o s) (text_happenings text (seen_in t steps)) (next_comes (work_begun (passed m s.work)))

@@ -1,25 +1,18 @@
 -- Statements that a conditional directive closes ahead: all is as if it ended behind their ends, whatever is closed ahead before it.
-use Rattle.std.proofs.Common.{◌≡◌, ℕ, zero, suc, ◌+◌, ◌-◌, max, Option, None, Some, List, [], ◌∷◌, ◌++◌, refl, sym, ◌∙◌, ap}
-use Rattle.std.proofs.Common.{arith, true}
+use Rattle.std.proofs.Common.{◌≡◌, ℕ, zero, suc, ◌+◌, ◌-◌, max, Option, None, Some, List, [], ◌∷◌, ◌++◌, refl, sym, ◌∙◌, ap, arith, true}
 use Rattle.std.proofs.lemmas.Bool.{lt-ltb}
 use Rattle.std.specs.Prelude.{if◌then◌else◌, nat_lt}
 use Rattle.inf_settings.specs.Bounds.{Limits}
 use Rattle.inf_scanner.specs.declared.tokens.Place.{Place}
-use Rattle.inf_machine.specs.declared.symbols.Symbol.{Symbol}
-use Rattle.inf_machine.specs.declared.symbols.Symbol.TheVariants.{Act, Rule, Token}
-use Rattle.inf_machine.specs.Machine.{taken}
+use Rattle.inf_machine.specs.{Machine.taken, declared.symbols.Symbol.Symbol}
 use Rattle.inf_syntax.specs.declared.actions.Action.{Action}
-use Rattle.inf_syntax.specs.declared.actions.Action.TheVariants as action
-use Rattle.inf_grammar.specs.Language.{grammar, known}
-use Rattle.inf_grammar.specs.Routines.{closings}
+use Rattle.inf_grammar.specs.{Language.grammar, Language.known, Routines.closings}
 use Rattle.inf_unit.specs.Tokens.{SourceToken}
 use Rattle.inf_constructs.specs.Constructs.{all_ended}
-use Rattle.inf_compilation.specs.Context.{Context}
-use Rattle.inf_compilation.specs.Actions.{Compilation, took}
+use Rattle.inf_compilation.specs.{Actions.Compilation, Actions.took, Context.Context}
 use Rattle.inf_compilation.specs.Nesting.{closed_ahead, construct_closed, construct_ended, constructs_laid}
 use Rattle.inf_reader.specs.Acting.{act, acted, all_acted}
-use Rattle.inf_statement_laws.specs.Happenings.{Between, Happening}
-use Rattle.inf_statement_laws.specs.Laid.{next_comes, passed, run}
+use Rattle.inf_statement_laws.specs.{Happenings.Between, Happenings.Happening, Laid.next_comes, Laid.passed, Laid.run}
 use Rattle.inf_statement_laws.specs.Readings.{Seen, all_taken, behind_ends, behind_some, behind_token, directed, token_happenings}
 use Rattle.inf_statement_laws.proofs.Laying.{ahead_is, closing_open, next_ahead, next_passed}
 use Rattle.inf_program.proofs.Grouping.{closed_once}
@@ -75,7 +68,7 @@ next_closed limits m count w = by_closed w.closed refl
 -- the actions of `count` ends
 abbrev ends : ℕ → List Action
 ends zero = []
-ends (suc count) = action.Close ∷ ends count
+ends (suc count) = Action.Close ∷ ends count
 
 acted_then : (limits : Limits) (context : Context) (place : Place) (xs ys : List Action) (w : Compilation)
     → acted limits context place (xs ++ ys) w ≡ acted limits context place ys (acted limits context place xs w)
@@ -86,13 +79,13 @@ acted_then limits context place (x ∷ xs) ys w = acted_then limits context plac
 closings_first : (atom : ℕ) (symbols : List (Symbol Action))
     → (rest : List Action) × ((taken grammar known atom symbols).actions ≡ ends (closings symbols) ++ rest)
 closings_first atom [] = ((taken grammar known atom []).actions, refl)
-closings_first atom (Token class ∷ symbols) = ((taken grammar known atom (Token class ∷ symbols)).actions, refl)
-closings_first atom (Rule rule ∷ symbols) = ((taken grammar known atom (Rule rule ∷ symbols)).actions, refl)
-closings_first atom (Act action.Close ∷ symbols) =
+closings_first atom (Symbol.Token class ∷ symbols) = ((taken grammar known atom (Symbol.Token class ∷ symbols)).actions, refl)
+closings_first atom (Symbol.Rule rule ∷ symbols) = ((taken grammar known atom (Symbol.Rule rule ∷ symbols)).actions, refl)
+closings_first atom (Symbol.Act Action.Close ∷ symbols) =
     let on = closings_first atom symbols in
     let more : suc (closings symbols) ≡ 1 + closings symbols = omega arith in
-    (on.0, ap (λ l. action.Close ∷ l) on.1 ∙ ap (λ n. ends n ++ on.0) more)
-closings_first atom (Act a ∷ symbols) = ((taken grammar known atom (Act a ∷ symbols)).actions, refl)
+    (on.0, ap (λ l. Action.Close ∷ l) on.1 ∙ ap (λ n. ends n ++ on.0) more)
+closings_first atom (Symbol.Act a ∷ symbols) = ((taken grammar known atom (Symbol.Act a ∷ symbols)).actions, refl)
 
 ahead_ends : (limits : Limits) (context : Context) (place : Place) (m : Between) (count : ℕ) (w : Compilation)
     → acted limits context place (ends count) (passed m (closed_ahead limits count w))
@@ -110,7 +103,7 @@ behind_ends_run : (limits : Limits) (context : Context) (t : SourceToken) (b m :
     ≡ run limits context (token_happenings t b rest ++ others) (passed m (acted limits context t.place (ends (suc count)) w))
 behind_ends_run limits context t b m zero rest others w = refl
 behind_ends_run limits context t b m (suc count) rest others w =
-    behind_ends_run limits context t b m count rest others (act limits context t.place action.Close w)
+    behind_ends_run limits context t b m count rest others (act limits context t.place Action.Close w)
 
 -- Tokens
 

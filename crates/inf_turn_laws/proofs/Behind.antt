@@ -5,11 +5,8 @@ use Rattle.std.specs.Prelude.{if◌then◌else◌}
 use Rattle.inf_scanner.specs.declared.tokens.Place.{Place}
 use Rattle.inf_machine.specs.Grammar.{Did, Event, Leads, action, here, row, token}
 use Rattle.inf_machine.specs.declared.symbols.Symbol.{Symbol}
-use Rattle.inf_machine.specs.declared.symbols.Symbol.TheVariants.{Act}
 use Rattle.inf_syntax.specs.declared.actions.Action.{Action}
-use Rattle.inf_syntax.specs.declared.actions.Action.TheVariants as action_of
-use Rattle.inf_grammar.specs.Language.{grammar}
-use Rattle.inf_grammar.specs.Routines.{closings}
+use Rattle.inf_grammar.specs.{Language.grammar, Routines.closings}
 use Rattle.inf_expression_laws.specs.Gathered.{AreSeen}
 use Rattle.inf_statement_laws.specs.Happenings.{Acts, Between, Happening, Moment, Takes}
 use Rattle.inf_statement_laws.specs.Readings.{Seen, behind_ends, behind_some, behind_token, plainly_at}
@@ -17,24 +14,23 @@ use Rattle.inf_language.specs.Texts.{atoms_of, happenings_of, tokens_of}
 use Rattle.inf_routine_trees.specs.Bodies.{is_close, later_effects, next_effect}
 use Rattle.inf_routine_trees.proofs.Effects.{Effects, ends_at, given}
 use Rattle.inf_program.specs.definition.Fronts.{ends_in, later_ends}
-use Rattle.inf_turn_laws.specs.Acted.{text_happenings}
-use Rattle.inf_turn_laws.specs.RoutinePieces.{effect_now, effects_by, merged_by}
+use Rattle.inf_turn_laws.specs.{Acted.text_happenings, RoutinePieces.effect_now, RoutinePieces.effects_by, RoutinePieces.merged_by}
 
 same_rest : {x y : ℕ} {xs ys : List ℕ} → x ∷ xs ≡ y ∷ ys → xs ≡ ys
 same_rest same = cc
 
 -- Whether an action ends a statement decides how many are over.
 
-close_is : (a : Action) → is_close a ≡ true → a ≡ action_of.Close
-close_is action_of.Close is = refl
+close_is : (a : Action) → is_close a ≡ true → a ≡ Action.Close
+close_is Action.Close is = refl
 close_is _ is = cc
 
-none_over : (a : Action) (symbols : List (Symbol Action)) → is_close a ≡ false → closings (Act a ∷ symbols) ≡ 0
-none_over action_of.Close symbols is = cc
+none_over : (a : Action) (symbols : List (Symbol Action)) → is_close a ≡ false → closings (Symbol.Act a ∷ symbols) ≡ 0
+none_over Action.Close symbols is = cc
 none_over _ symbols is = refl
 
-one_over : (a : Action) (symbols : List (Symbol Action)) → is_close a ≡ true → closings (Act a ∷ symbols) ≡ 1 + closings symbols
-one_over a symbols is = ap (λ b. closings (Act b ∷ symbols)) (close_is a is)
+one_over : (a : Action) (symbols : List (Symbol Action)) → is_close a ≡ true → closings (Symbol.Act a ∷ symbols) ≡ 1 + closings symbols
+one_over a symbols is = ap (λ b. closings (Symbol.Act b ∷ symbols)) (close_is a is)
 
 -- Ends of statements among happenings
 
@@ -85,7 +81,8 @@ given_open effects at a others is =
 
 -- an action before a token
 act_by : (b : Bool) (a : Action) (symbols : List (Symbol Action)) (events : List (Event Action)) (counts : List ℕ) (s : Seen)
-    (seen : List Seen) (effect : Option Between) (count : ℕ) (hs : List Happening) → is_close a ≡ b → count ≤ closings (Act a ∷ symbols)
+    (seen : List Seen) (effect : Option Between) (count : ℕ) (hs : List Happening) → is_close a ≡ b → count ≤ closings
+    (Symbol.Act a ∷ symbols)
     → ((less : ℕ) → less ≤ closings symbols → behind_ends effect less hs
     ≡ given (effects_by effect less events counts (s ∷ seen)) (happenings_of events (merged_by counts (s ∷ seen))))
     → behind_ends effect count (Acts (plainly_at s.token.place) a ∷ hs)

@@ -1,15 +1,10 @@
 -- Derivations of a text token by token: the machine takes each token as the derivation does, with the same happenings.
 use Rattle.std.proofs.Common.{◌≡◌, ℕ, List, [], ◌∷◌, ◌++◌, true, Option, None, refl, sym, ◌∙◌, ap, subst}
-use Rattle.inf_machine.specs.declared.symbols.Symbol.{Symbol}
-use Rattle.inf_machine.specs.declared.symbols.Symbol.TheVariants.{Act, Rule, Token}
+use Rattle.inf_machine.specs.{Laws.IsSpaced, Machine.Taken, Machine.fits, Machine.taken, declared.symbols.Symbol.Symbol}
 use Rattle.inf_machine.specs.Grammar.{Event, IsNext_not, IsOneOf, Leads, Row, action, here, row, token}
-use Rattle.inf_machine.specs.Laws.{IsSpaced}
-use Rattle.inf_machine.specs.Machine.{Taken, fits, taken}
 use Rattle.inf_machine.proofs.Taking.{spaced_choice, taken_row}
 use Rattle.inf_syntax.specs.declared.actions.Action.{Action}
-use Rattle.inf_grammar.specs.Evaluated.{language_is_decided}
-use Rattle.inf_grammar.specs.Language.{grammar, known}
-use Rattle.inf_grammar.specs.Routines.{closings}
+use Rattle.inf_grammar.specs.{Evaluated.language_is_decided, Language.grammar, Language.known, Routines.closings}
 use Rattle.inf_unit.specs.Tokens.{SourceToken}
 use Rattle.inf_statement_laws.specs.Happenings.{Acts, Between, Happening, Takes}
 use Rattle.inf_statement_laws.specs.Readings.{Seen, behind_ends, behind_token, plainly_at, token_happenings}
@@ -37,7 +32,7 @@ First symbols (atom ∷ atoms) left all =
 
 first_behind : (a : Action) (symbols : List (Symbol Action)) (atoms : List ℕ) (left : List (Symbol Action))
     (all : Seen → List Seen → List Happening) → First symbols atoms left all
-    → First (Act a ∷ symbols) atoms left (λ s seen. Acts (plainly_at s.token.place) a ∷ all s seen)
+    → First (Symbol.Act a ∷ symbols) atoms left (λ s seen. Acts (plainly_at s.token.place) a ∷ all s seen)
 first_behind a symbols [] left all f = tt
 first_behind a symbols (atom ∷ atoms) left all f = (
   f.0,
@@ -51,12 +46,12 @@ first_behind a symbols (atom ∷ atoms) left all f = (
 
 first_in : (rule : ℕ) (r : Row Action) (symbols : List (Symbol Action)) (atoms : List ℕ) (left : List (Symbol Action))
     (all : Seen → List Seen → List Happening)
-    → IsOneOf r (grammar.rows_of rule) → IsNext_not r.unless atoms → IsSpaced grammar known (Rule rule ∷ symbols)
-    → First (r.parts ++ symbols) atoms left all → First (Rule rule ∷ symbols) atoms left all
+    → IsOneOf r (grammar.rows_of rule) → IsNext_not r.unless atoms → IsSpaced grammar known (Symbol.Rule rule ∷ symbols)
+    → First (r.parts ++ symbols) atoms left all → First (Symbol.Rule rule ∷ symbols) atoms left all
 first_in rule r symbols [] left all m free spaced f = tt
 first_in rule r symbols (atom ∷ atoms) left all m free spaced f =
     let one = only atom rule r symbols m free spaced f.0 in
-    let same : taken grammar known atom (r.parts ++ symbols) ≡ taken grammar known atom (Rule rule ∷ symbols) =
+    let same : taken grammar known atom (r.parts ++ symbols) ≡ taken grammar known atom (Symbol.Rule rule ∷ symbols) =
     sym (taken_row grammar known language_is_decided atom rule symbols one.fits_here
     ∙ ap (λ parts. taken grammar known atom (parts ++ symbols)) one.is) in
     (one.fits_here, subst (λ (n : Taken Action). Follow n atoms left all) same f.1)
@@ -66,10 +61,10 @@ pub first_by : {symbols : List (Symbol Action)} {atoms : List ℕ} {events : Lis
     → First symbols atoms left (λ s seen. text_happenings leads (s ∷ seen))
 first_by here spaced ends = tt
 first_by (token {class} {symbols} {events} is_in leads) spaced ends =
-    (is_in, record { rest = events; leads = leads; ends = ends_behind (Token class) symbols ends; are = λ s seen. refl })
+    (is_in, record { rest = events; leads = leads; ends = ends_behind (Symbol.Token class) symbols ends; are = λ s seen. refl })
 first_by (action {a} {symbols} {left} {atoms} leads) spaced ends =
     first_behind a symbols atoms left (λ s seen. text_happenings leads (s ∷ seen))
-    (first_by leads spaced (ends_behind (Act a) symbols ends))
+    (first_by leads spaced (ends_behind (Symbol.Act a) symbols ends))
 first_by (row {rule} {r} {symbols} {left} {atoms} m free leads) spaced ends =
     first_in rule r symbols atoms left (λ s seen. text_happenings leads (s ∷ seen)) m free spaced
     (first_by leads (spaced_choice grammar known language_is_decided rule r symbols m spaced) (row_ends rule r symbols m ends))

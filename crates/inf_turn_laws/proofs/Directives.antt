@@ -1,24 +1,16 @@
 -- The kept tokens of a whole front are a text, and the state behind the front has the effect of taking them.
 use Rattle.std.proofs.Common.{◌≡◌, ℕ, zero, suc, List, [], ◌∷◌, ◌++◌, false, refl, sym, ◌∙◌, ap, subst, append-nil}
 use Rattle.inf_settings.specs.Bounds.{Limits}
-use Rattle.inf_machine.specs.Grammar.{IsText, Leads}
-use Rattle.inf_machine.specs.declared.symbols.Symbol.{Symbol}
-use Rattle.inf_machine.specs.declared.symbols.Symbol.TheVariants.{Rule}
+use Rattle.inf_machine.specs.{Grammar.IsText, Grammar.Leads, declared.symbols.Symbol.Symbol}
 use Rattle.inf_syntax.specs.declared.actions.Action.{Action}
 use Rattle.inf_grammar.specs.Language.{grammar}
 use Rattle.inf_unit.specs.Tokens.{SourceToken, atom_of, is_end}
-use Rattle.inf_compilation.specs.Actions.{Compilation, piece_begun as work_begun}
-use Rattle.inf_compilation.specs.Context.{Context}
-use Rattle.inf_compilation.specs.Nesting.{closed_ahead}
-use Rattle.inf_reader.specs.Reading.{ReaderState, between, piece_rule}
-use Rattle.inf_reader.specs.declared.recovery.Recovery.TheVariants as mode
+use Rattle.inf_compilation.specs.{Actions.Compilation, Actions.piece_begun as work_begun, Context.Context, Nesting.closed_ahead}
+use Rattle.inf_reader.specs.{Reading.ReaderState, Reading.between, Reading.piece_rule, declared.recovery.Recovery.Recovery}
 use Rattle.inf_session.specs.Choices.{Choices}
 use Rattle.inf_laws.specs.KeptTokens.{Kept, Unfit}
-use Rattle.inf_statement_laws.specs.Happenings.{Between}
-use Rattle.inf_statement_laws.specs.Laid.{passed}
-use Rattle.inf_statement_laws.specs.Readings.{all_taken}
-use Rattle.inf_language.specs.Constants.{piece_done}
-use Rattle.inf_language.specs.Texts.{atoms_of}
+use Rattle.inf_statement_laws.specs.{Happenings.Between, Laid.passed, Readings.all_taken}
+use Rattle.inf_language.specs.{Constants.piece_done, Texts.atoms_of}
 use Rattle.inf_language.proofs.TextsActed.{texts_do_their_actions}
 use Rattle.inf_grammar.proofs.Spaced.{rule_is_spaced}
 use Rattle.inf_trees.specs.Directives.{IsDirective, begins_directive}
@@ -29,18 +21,12 @@ use Rattle.inf_program.specs.definition.Fronts.{fresh_progress, kept_atoms, move
 use Rattle.inf_program.specs.definition.NextToken.{at_front, steps_at, within}
 use Rattle.inf_program.specs.definition.States.{State, context_of}
 use Rattle.inf_program.specs.definition.Steps.{AllKept, Ends, Passes, Reads, Step}
-use Rattle.inf_program.proofs.Events.{Agrees}
-use Rattle.inf_program.proofs.Forward.{atoms_joined}
-use Rattle.inf_program.proofs.Grouping.{steps_are_taken}
-use Rattle.inf_program.proofs.Stepping.{stand}
+use Rattle.inf_program.proofs.{Events.Agrees, Forward.atoms_joined, Grouping.steps_are_taken, Stepping.stand}
 use Rattle.inf_program.proofs.Walking.{first_step, front_agrees}
 use Rattle.inf_turn_laws.specs.Acted.{seen_in}
-use Rattle.inf_turn_laws.specs.Directives.{PiecesDoTheirDirectives, all_merged, front_seen, steps_from}
-use Rattle.inf_turn_laws.specs.Directives.{taken_seen}
-use Rattle.inf_turn_laws.proofs.Acted.{all_fit_by}
-use Rattle.inf_turn_laws.proofs.Marks.{steps_seen}
+use Rattle.inf_turn_laws.specs.Directives.{PiecesDoTheirDirectives, all_merged, front_seen, steps_from, taken_seen}
+use Rattle.inf_turn_laws.proofs.{Acted.all_fit_by, Marks.steps_seen, Unclosed.directives_close_none}
 use Rattle.inf_turn_laws.proofs.Merged.{ClosesNone, merged_atoms, merged_seen, none_merged, taken_merged}
-use Rattle.inf_turn_laws.proofs.Unclosed.{directives_close_none}
 
 -- The steps of a front
 
@@ -99,7 +85,7 @@ later_steps {limits} {o} {s} f = f.begins.rest ++ steps_from limits o f.more (be
 -- all steps of a front
 pub record Whole (limits : Limits) (o : Choices) (s : State) (f : Front limits o s) : Type 0 where
   pub kept : AllKept (later_steps f)
-  pub derives : Derives (Rule piece_rule ∷ []) (kept_atoms (Reads (Kept f.begins.token) ∷ later_steps f) ++ []) f.course []
+  pub derives : Derives (Symbol.Rule piece_rule ∷ []) (kept_atoms (Reads (Kept f.begins.token) ∷ later_steps f) ++ []) f.course []
   pub does : progress_of (reached f)
       ≡ done_by limits (context_of o s) (Passes f.begins.effect ∷ Reads (Kept f.begins.token) ∷ later_steps f)
       (fresh_progress f.course s.work)
@@ -118,9 +104,9 @@ whole_of limits o s f none empty =
     ∙ (ap (λ (xs : List ℕ). kept_atoms first ++ (kept_atoms rest ++ xs)) none ∙ sym (atoms_joined first rest [])) in
     record {
       kept = subst (λ (xs : List Step). AllKept xs) same (kept_joined first rest f.are_kept (walked_kept limits o f.left f.more m f.go_on));
-      derives = subst (λ (xs : List Step). Derives (Rule piece_rule ∷ []) (kept_atoms xs ++ []) f.course []) same
-          (subst (λ (xs : List ℕ). Derives (Rule piece_rule ∷ []) xs f.course []) atoms
-          (subst (λ (left : List (Symbol Action)). Derives (Rule piece_rule ∷ [])
+      derives = subst (λ (xs : List Step). Derives (Symbol.Rule piece_rule ∷ []) (kept_atoms xs ++ []) f.course []) same
+          (subst (λ (xs : List ℕ). Derives (Symbol.Rule piece_rule ∷ []) xs f.course []) atoms
+          (subst (λ (left : List (Symbol Action)). Derives (Symbol.Rule piece_rule ∷ [])
           (kept_atoms first ++ atoms_from limits o f.more m f.further) f.course left) empty f.derives));
       does = walked_done limits o f.more m
           ∙ (sym (done_joined limits c first rest start) ∙ ap (λ (xs : List Step). done_by limits c xs start) same);
@@ -128,28 +114,28 @@ whole_of limits o s f none empty =
 
 -- the text of the tokens, each with the effect behind it
 pub seen_derives : (t : SourceToken) (steps : List Step) (course : Course) → AllKept steps
-    → Derives (Rule piece_rule ∷ []) (kept_atoms (Reads (Kept t) ∷ steps) ++ []) course []
-    → Derives (Rule piece_rule ∷ []) (atoms_of (seen_in t steps)) course []
+    → Derives (Symbol.Rule piece_rule ∷ []) (kept_atoms (Reads (Kept t) ∷ steps) ++ []) course []
+    → Derives (Symbol.Rule piece_rule ∷ []) (atoms_of (seen_in t steps)) course []
 seen_derives t steps course kept d =
     let atoms : kept_atoms (Reads (Kept t) ∷ steps) ++ [] ≡ atoms_of (seen_in t steps) =
     append-nil (kept_atoms (Reads (Kept t) ∷ steps)) ∙ sym (grouped_atoms (Reads (Kept t) ∷ steps) kept) in
-    subst (λ (xs : List ℕ). Derives (Rule piece_rule ∷ []) xs course []) atoms d
+    subst (λ (xs : List ℕ). Derives (Symbol.Rule piece_rule ∷ []) xs course []) atoms d
 
 text_of : (t : SourceToken) (steps : List Step) (course : Course) → AllKept steps
-    → Derives (Rule piece_rule ∷ []) (kept_atoms (Reads (Kept t) ∷ steps) ++ []) course []
-    → IsText grammar (Rule piece_rule ∷ []) (atoms_of (all_merged (seen_in t steps))) course.events
+    → Derives (Symbol.Rule piece_rule ∷ []) (kept_atoms (Reads (Kept t) ∷ steps) ++ []) course []
+    → IsText grammar (Symbol.Rule piece_rule ∷ []) (atoms_of (all_merged (seen_in t steps))) course.events
 text_of t steps course kept d =
-    subst (λ (xs : List ℕ). Leads grammar (Rule piece_rule ∷ []) xs course.events []) (sym (merged_atoms (seen_in t steps)))
+    subst (λ (xs : List ℕ). Leads grammar (Symbol.Rule piece_rule ∷ []) xs course.events []) (sym (merged_atoms (seen_in t steps)))
     (seen_derives t steps course kept d).leads
 
 -- taking the tokens has the effect of the front
 pub front_taken : (limits : Limits) (context : Context) (m : Between) (t : SourceToken) (steps : List Step) (course : Course) (w : Compilation)
-    → is_end t.kind ≡ false → AllKept steps → Derives (Rule piece_rule ∷ []) (kept_atoms (Reads (Kept t) ∷ steps) ++ []) course []
+    → is_end t.kind ≡ false → AllKept steps → Derives (Symbol.Rule piece_rule ∷ []) (kept_atoms (Reads (Kept t) ∷ steps) ++ []) course []
     → (done_by limits context (Passes m ∷ Reads (Kept t) ∷ steps) (fresh_progress course w)).work
-    ≡ all_taken limits context (seen_in t steps) (Rule piece_rule ∷ []) (work_begun (passed m w))
+    ≡ all_taken limits context (seen_in t steps) (Symbol.Rule piece_rule ∷ []) (work_begun (passed m w))
 front_taken limits context m t steps course w no_end kept d =
     let a : Agrees [] [] (done_by limits context (Passes m ∷ Reads (Kept t) ∷ steps) (fresh_progress course w))
-    (steps_by limits context (Passes m ∷ Reads (Kept t) ∷ steps) (stand (between mode.Reads) w)) =
+    (steps_by limits context (Passes m ∷ Reads (Kept t) ∷ steps) (stand (between Recovery.Reads) w)) =
     front_agrees limits context m t steps [] [] course w no_end kept d in
     let fit : AllFit limits context (Reads (Kept t) ∷ steps) (piece_first m w) =
     all_fit_by limits context (Reads (Kept t) ∷ steps) (piece_first m w) refl kept
@@ -160,13 +146,13 @@ front_taken limits context m t steps course w no_end kept d =
 
 -- with all effects behind the tokens, where no statement is over
 front_takes : (limits : Limits) (context : Context) (m : Between) (t : SourceToken) (steps : List Step) (course : Course) (w : Compilation)
-    → is_end t.kind ≡ false → AllKept steps → Derives (Rule piece_rule ∷ []) (kept_atoms (Reads (Kept t) ∷ steps) ++ []) course []
+    → is_end t.kind ≡ false → AllKept steps → Derives (Symbol.Rule piece_rule ∷ []) (kept_atoms (Reads (Kept t) ∷ steps) ++ []) course []
     → ClosesNone course.ends (seen_in t steps)
     → (done_by limits context (Passes m ∷ Reads (Kept t) ∷ steps) (fresh_progress course w)).work
-    ≡ all_taken limits context (all_merged (seen_in t steps)) (Rule piece_rule ∷ []) (work_begun (passed m w))
+    ≡ all_taken limits context (all_merged (seen_in t steps)) (Symbol.Rule piece_rule ∷ []) (work_begun (passed m w))
 front_takes limits context m t steps course w no_end kept d closes =
     front_taken limits context m t steps course w no_end kept d
-    ∙ taken_merged limits context (seen_in t steps) (Rule piece_rule ∷ []) [] course (seen_derives t steps course kept d)
+    ∙ taken_merged limits context (seen_in t steps) (Symbol.Rule piece_rule ∷ []) [] course (seen_derives t steps course kept d)
     (rule_is_spaced piece_rule) closes (work_begun (passed m w))
 
 pub pieces_do_their_directives : (limits : Limits) → PiecesDoTheirDirectives limits
@@ -178,7 +164,7 @@ pieces_do_their_directives limits o s f none empty begins few =
     let is : IsDirective limits (front_seen f) =
     directives_are_trees limits (front_seen f) f.course.events (text_of t later f.course p.kept p.derives) begins
     (merged_seen (taken_seen f) (steps_seen (Reads (Kept t) ∷ later))) few (none_merged (taken_seen f)) in
-    let d : Derives (Rule piece_rule ∷ []) (atoms_of (taken_seen f)) f.course [] = seen_derives t later f.course p.kept p.derives in
+    let d : Derives (Symbol.Rule piece_rule ∷ []) (atoms_of (taken_seen f)) f.course [] = seen_derives t later f.course p.kept p.derives in
     let closes : ClosesNone f.course.ends (taken_seen f) =
     directives_close_none (atoms_of (taken_seen f)) f.course.events f.course.ends (taken_seen f)
     (ap begins_directive (sym (merged_atoms (taken_seen f))) ∙ begins) d.leads d.are_ends in

@@ -3,50 +3,32 @@ use Rattle.std.proofs.Common.{◌≡◌, List, [], ◌∷◌, map, Bool, true, f
 use Rattle.std.specs.Prelude.{◌-◌, ◌&&◌, nat_lt, if◌then◌else◌, drop}
 use Rattle.inf_settings.specs.Bounds.{Limits}
 use Rattle.inf_scanner.specs.declared.tokens.Place.{Place}
-use Rattle.inf_syntax.specs.declared.actions.Action.TheVariants as action
-use Rattle.inf_expressions.specs.declared.findings.Finding.{Finding}
-use Rattle.inf_expressions.specs.Rooted.{Rooted}
-use Rattle.inf_names.specs.Locals.{Headed, Local, no_locals, with_all_named, with_locals}
-use Rattle.inf_names.specs.Spellings.{Name}
+use Rattle.inf_syntax.specs.declared.actions.Action.{Action}
+use Rattle.inf_expressions.specs.{Rooted.Rooted, declared.findings.Finding.Finding}
+use Rattle.inf_names.specs.{Locals.Headed, Locals.Local, Locals.no_locals, Locals.with_all_named, Locals.with_locals, Spellings.Name}
 use Rattle.inf_code.specs.Code.{fault_closed}
 use Rattle.inf_output.specs.Output.{full}
 use Rattle.inf_constructs.specs.Constructs.{are_own, cases_begun}
-use Rattle.inf_unit.specs.Crowds.{Crowd}
-use Rattle.inf_unit.specs.Messages.{with_full}
-use Rattle.inf_unit.specs.Roles.{ends_token, role_of}
-use Rattle.inf_unit.specs.Tokens.{SourceToken}
+use Rattle.inf_unit.specs.{Crowds.Crowd, Messages.with_full, Roles.ends_token, Roles.role_of, Tokens.SourceToken}
+use Rattle.inf_unit.specs.{declared.roles.Ending.Ending, declared.roles.Note.Note, declared.roles.Role.Role}
 use Rattle.inf_unit.specs.Units.{Unit as UnitAtHand, first_place, is_full, last_passed, last_place, long_at, names_in as names_of_tokens}
 use Rattle.inf_unit.specs.Units.{noted as unit_noted, taken, text_passed}
-use Rattle.inf_unit.specs.declared.roles.Ending.{Ending}
-use Rattle.inf_unit.specs.declared.roles.Ending.TheVariants as ending
-use Rattle.inf_unit.specs.declared.roles.Note.{Note}
-use Rattle.inf_unit.specs.declared.roles.Note.TheVariants as note
-use Rattle.inf_unit.specs.declared.roles.Role.{Role}
-use Rattle.inf_unit.specs.declared.roles.Role.TheVariants as role
 use Rattle.inf_unit.proofs.Cases.{of_both}
-use Rattle.inf_compilation.specs.Context.{Context, longest}
+use Rattle.inf_compilation.specs.{Context.Context, Context.longest, Nesting.construct_ended, Nesting.constructs_laid}
 use Rattle.inf_compilation.specs.Actions.{Compilation, cases_ended, close_open, header_of, header_with, is_deep, is_to_be_replaced}
-use Rattle.inf_compilation.specs.Actions.{kind_ended}
-use Rattle.inf_compilation.specs.Actions.{named, nested, opens, passed, settled_of, sized, stopped, took, trees_at, with_all_unused}
-use Rattle.inf_compilation.specs.Actions.{with_routine_fault}
+use Rattle.inf_compilation.specs.Actions.{kind_ended, named, nested, opens, passed, settled_of, sized, stopped, took, trees_at}
+use Rattle.inf_compilation.specs.Actions.{with_all_unused, with_routine_fault}
 use Rattle.inf_compilation.specs.Crowds.{crowd_opened, crowd_told, value_named, value_named_by}
-use Rattle.inf_parts.specs.Parts.{actions_named, case_prepared, found_in, has_last, order_of}
-use Rattle.inf_compilation.specs.Nesting.{construct_ended, constructs_laid}
-use Rattle.inf_parts.specs.Parts.{part_begun, part_carried, part_effect, part_ended, part_finished, part_prepared, place_of, statement_at}
-use Rattle.inf_parts.specs.Parts.{wanted_of}
+use Rattle.inf_parts.specs.Parts.{actions_named, case_prepared, found_in, has_last, order_of, part_begun, part_carried, part_effect}
+use Rattle.inf_parts.specs.Parts.{part_ended, part_finished, part_prepared, place_of, statement_at, wanted_of}
 use Rattle.inf_parts.specs.declared.parts.Part.{Part}
-use Rattle.inf_parts.specs.declared.parts.Part.TheVariants as part
 use Rattle.inf_verb_lines.specs.Verbs.{word_sifted}
 use Rattle.inf_reader.specs.Acting.{act, ended, is_crowded, is_tall, is_wordy, noted, noted_of, operands_named, played, value_noted}
+use Rattle.inf_statement_laws.specs.{Laid.happens, Laid.run, Readings.Seen, Readings.plainly_at}
 use Rattle.inf_statement_laws.specs.Happenings.{Acts, Happening, Takes}
-use Rattle.inf_statement_laws.specs.Laid.{happens, run}
-use Rattle.inf_statement_laws.specs.Readings.{Seen, plainly_at}
-use Rattle.inf_language.specs.HeaderNames.{local_events}
-use Rattle.inf_language.specs.Headers.{as_name}
-use Rattle.inf_language.specs.NamedLocals.{UnitsNameTheirLocals, leaves_names}
-use Rattle.inf_language.specs.Texts.{happenings_before, tokens_of}
-use Rattle.inf_language.proofs.HeadersRead.{headers_note_their_names}
-use Rattle.inf_language.proofs.UnitsNamed.{units_name_their_locals}
+use Rattle.inf_language.specs.{HeaderNames.local_events, Headers.as_name, NamedLocals.UnitsNameTheirLocals, NamedLocals.leaves_names}
+use Rattle.inf_language.specs.{Texts.happenings_before, Texts.tokens_of}
+use Rattle.inf_language.proofs.{HeadersRead.headers_note_their_names, UnitsNamed.units_name_their_locals}
 use Rattle.inf_turn_laws.specs.UnusedLocals.{AreInner, AreNew, HeadersMakeNew, UnusedAreWarned, ends_part, is_inner, names_in, names_of}
 use Rattle.inf_turn_laws.specs.UnusedLocals.{noted_names, part_names, part_of, played_names, unused, value_names, value_names_by}
 use Rattle.inf_turn_laws.specs.UnusedLocals.{with_warnings}
@@ -74,8 +56,8 @@ took_locals context t w =
 -- A note
 
 noted_of_locals : (context : Context) (n : Note) (w : Compilation) → (noted_of context n w).locals ≡ w.locals
-noted_of_locals context note.OuterSure w = sized_locals context (record w { unit = unit_noted note.OuterSure w.unit })
-noted_of_locals context note.OuterWord w = sized_locals context (record w { unit = unit_noted note.OuterWord w.unit })
+noted_of_locals context Note.OuterSure w = sized_locals context (record w { unit = unit_noted Note.OuterSure w.unit })
+noted_of_locals context Note.OuterWord w = sized_locals context (record w { unit = unit_noted Note.OuterWord w.unit })
 noted_of_locals context _ w = refl
 
 never : false ≡ true → ⊥
@@ -100,28 +82,28 @@ crowded_locals context n w false same = same
 
 noted_locals : (limits : Limits) (context : Context) (n : Note) (w : Compilation) → not (ends_token n) ≡ true
     → (noted limits context n w).locals ≡ with_all_named (noted_names limits context n w) w.locals
-noted_locals limits context note.PrintText w inner =
+noted_locals limits context Note.PrintText w inner =
     of_both (λ (v : Compilation). v.locals ≡ w.locals) (is_crowded limits w) (record w { unit = text_passed w.unit })
-    (noted_of context note.PrintText w) (λ _. refl) (λ _. refl)
-noted_locals limits context note.Arrow w inner =
+    (noted_of context Note.PrintText w) (λ _. refl) (λ _. refl)
+noted_locals limits context Note.Arrow w inner =
     of_both (λ (v : Compilation). v.locals ≡ w.locals) (is_tall context w) (record w { unit = last_passed w.unit })
-    (noted_of context note.Arrow w) (λ _. refl) (λ _. refl)
-noted_locals limits context note.OuterEnd w inner = go (is_full w.unit)
+    (noted_of context Note.Arrow w) (λ _. refl) (λ _. refl)
+noted_locals limits context Note.OuterEnd w inner = go (is_full w.unit)
   where
-    go : (b : Bool) → (if b then operands_named w else noted_of context note.OuterEnd w).locals
+    go : (b : Bool) → (if b then operands_named w else noted_of context Note.OuterEnd w).locals
         ≡ with_all_named (if b then leaves_names w.unit.tokens w.unit.gathering.leaves else []) w.locals
     go true = let law : UnitsNameTheirLocals = units_name_their_locals in law.leaves w.unit.tokens w.unit.gathering.leaves w.locals
     go false = refl
-noted_locals limits context note.LineToken w inner = absurd (never inner)
-noted_locals limits context note.PrintValue w inner = crowded_locals context note.PrintValue w (is_crowded limits w) refl
-noted_locals limits context note.PrintRuled w inner = crowded_locals context note.PrintRuled w (is_crowded limits w) refl
-noted_locals limits context note.Set w inner = crowded_locals context note.Set w (is_crowded limits w) refl
-noted_locals limits context note.Clear w inner = crowded_locals context note.Clear w (is_crowded limits w) refl
-noted_locals limits context note.VerbWord w inner =
-    of_both (λ (v : Compilation). v.locals ≡ w.locals) (is_wordy context w) (word_sifted w) (noted_of context note.VerbWord w) (λ _. refl)
+noted_locals limits context Note.LineToken w inner = absurd (never inner)
+noted_locals limits context Note.PrintValue w inner = crowded_locals context Note.PrintValue w (is_crowded limits w) refl
+noted_locals limits context Note.PrintRuled w inner = crowded_locals context Note.PrintRuled w (is_crowded limits w) refl
+noted_locals limits context Note.Set w inner = crowded_locals context Note.Set w (is_crowded limits w) refl
+noted_locals limits context Note.Clear w inner = crowded_locals context Note.Clear w (is_crowded limits w) refl
+noted_locals limits context Note.VerbWord w inner =
+    of_both (λ (v : Compilation). v.locals ≡ w.locals) (is_wordy context w) (word_sifted w) (noted_of context Note.VerbWord w) (λ _. refl)
     (λ _. refl)
-noted_locals limits context note.OuterSure w inner = noted_of_locals context note.OuterSure w
-noted_locals limits context note.OuterWord w inner = noted_of_locals context note.OuterWord w
+noted_locals limits context Note.OuterSure w inner = noted_of_locals context Note.OuterSure w
+noted_locals limits context Note.OuterWord w inner = noted_of_locals context Note.OuterWord w
 noted_locals limits context _ w inner = refl
 
 -- The end of a unit
@@ -129,13 +111,13 @@ noted_locals limits context _ w inner = refl
 effect_locals : (limits : Limits) (context : Context) (p : Part) (trees : List Rooted) (w : Compilation)
     → (part_effect limits context p trees w).locals ≡ w.locals
 unfolding part_effect
-effect_locals limits context (part.Statement s) trees w = refl
-effect_locals limits context part.Condition trees w = refl
-effect_locals limits context part.Start trees w = refl
-effect_locals limits context part.Step trees w = refl
-effect_locals limits context part.Loop trees w = refl
-effect_locals limits context part.Switched trees w = refl
-effect_locals limits context part.Case trees w = refl
+effect_locals limits context (Part.Statement s) trees w = refl
+effect_locals limits context Part.Condition trees w = refl
+effect_locals limits context Part.Start trees w = refl
+effect_locals limits context Part.Step trees w = refl
+effect_locals limits context Part.Loop trees w = refl
+effect_locals limits context Part.Switched trees w = refl
+effect_locals limits context Part.Case trees w = refl
 
 carried_locals : (limits : Limits) (context : Context) (first : Place) (p : Part) (f : Option Finding) (w : Compilation)
     → (part_carried limits context first p f w).locals ≡ w.locals
@@ -150,7 +132,7 @@ unit_locals w = let law : UnitsNameTheirLocals = units_name_their_locals in ap (
 
 begun_locals : (limits : Limits) (p : Part) (w : Compilation)
     → (named (part_begun limits p w)).locals ≡ with_all_named (names_of w.unit) w.locals
-begun_locals limits part.Case w = unit_locals (part_begun limits part.Case w)
+begun_locals limits Part.Case w = unit_locals (part_begun limits Part.Case w)
 begun_locals limits _ w = unit_locals w
 
 actions_locals : (b : Bool) (w : Compilation) → (actions_named b w).locals ≡ w.locals
@@ -161,7 +143,7 @@ abbrev ready_of : Limits → Part → Compilation → Compilation
 ready_of limits p w = case_prepared limits p (part_prepared w)
 
 ready_locals : (limits : Limits) (p : Part) (w : Compilation) → (ready_of limits p w).locals ≡ w.locals
-ready_locals limits part.Case w =
+ready_locals limits Part.Case w =
     let begun = constructs_laid (cases_begun limits w.constructs) (part_prepared w) in actions_locals (are_own begun.constructs) begun
 ready_locals limits _ w = refl
 
@@ -181,30 +163,30 @@ part_locals limits context place p w = go w.is_replaced
 
 ended_locals : (limits : Limits) (context : Context) (place : Place) (e : Ending) (w : Compilation) → ends_part e ≡ true
     → (ended limits context place e w).locals ≡ with_all_named (part_names limits w (part_of e w)) w.locals
-ended_locals limits context place ending.Statement w inner = part_locals limits context place (part.Statement (statement_at w)) w
-ended_locals limits context place ending.Condition w inner = part_locals limits context place part.Condition w
-ended_locals limits context place ending.Start w inner = part_locals limits context place part.Start w
-ended_locals limits context place ending.Step w inner = part_locals limits context place part.Step w
-ended_locals limits context place ending.Loop w inner = part_locals limits context place part.Loop w
-ended_locals limits context place ending.Switched w inner = part_locals limits context place part.Switched w
-ended_locals limits context place ending.Case w inner = part_locals limits context place part.Case w
+ended_locals limits context place Ending.Statement w inner = part_locals limits context place (Part.Statement (statement_at w)) w
+ended_locals limits context place Ending.Condition w inner = part_locals limits context place Part.Condition w
+ended_locals limits context place Ending.Start w inner = part_locals limits context place Part.Start w
+ended_locals limits context place Ending.Step w inner = part_locals limits context place Part.Step w
+ended_locals limits context place Ending.Loop w inner = part_locals limits context place Part.Loop w
+ended_locals limits context place Ending.Switched w inner = part_locals limits context place Part.Switched w
+ended_locals limits context place Ending.Case w inner = part_locals limits context place Part.Case w
 ended_locals limits context place _ w inner = absurd (never inner)
 
 -- An action acts.
 
 played_locals : (limits : Limits) (context : Context) (place : Place) (r : Role) (w : Compilation) → is_inner r ≡ true
     → (played limits context place r w).locals ≡ with_all_named (played_names limits context r w) w.locals
-played_locals limits context place (role.Gather s) w inner = refl
-played_locals limits context place (role.Note n) w inner = noted_locals limits context n w inner
-played_locals limits context place (role.End e) w inner = ended_locals limits context place e w inner
-played_locals limits context place (role.Open o) w inner = nested_locals context (last_place w.unit.tokens place) (is_deep w 1) w
-played_locals limits context place role.Join w inner = refl
-played_locals limits context place role.Close w inner =
+played_locals limits context place (Role.Gather s) w inner = refl
+played_locals limits context place (Role.Note n) w inner = noted_locals limits context n w inner
+played_locals limits context place (Role.End e) w inner = ended_locals limits context place e w inner
+played_locals limits context place (Role.Open o) w inner = nested_locals context (last_place w.unit.tokens place) (is_deep w 1) w
+played_locals limits context place Role.Join w inner = refl
+played_locals limits context place Role.Close w inner =
     of_both (λ (v : Compilation). v.locals ≡ w.locals) (nat_lt 0 w.closed) (record w { closed = w.closed - 1 }) (construct_ended limits w)
     (λ _. refl) (λ _. refl)
-played_locals limits context place role.Deeper w inner = nested_locals context place (is_deep w 1) w
-played_locals limits context place role.MaybeDeeper w inner = refl
-played_locals limits context place role.Nothing w inner = refl
+played_locals limits context place Role.Deeper w inner = nested_locals context place (is_deep w 1) w
+played_locals limits context place Role.MaybeDeeper w inner = refl
+played_locals limits context place Role.Nothing w inner = refl
 
 -- Happenings, one by one
 
@@ -228,7 +210,7 @@ unused_are_warned limits context place happenings w new inner kept =
     let c = cases_ended limits v in
     let told = with_routine_fault context place c.labels (fault_closed limits (kind_ended c.is_embedded) c.output.code) c.report in
     let after = close_open limits context place v in
-    let same : act limits context place action.EndRoutine v ≡ after = ap (λ b. if b then passed true v else after) kept in
+    let same : act limits context place Action.EndRoutine v ≡ after = ap (λ b. if b then passed true v else after) kept in
     ap (λ (x : Compilation). x.report) same
     ∙ ap (λ ls. with_full context.names place (full limits after.output) (with_all_unused context place ls told))
     (run_locals limits context happenings w inner)
@@ -244,7 +226,7 @@ locals_stay limits context place [] w = refl
 locals_stay limits context place (s ∷ []) w = took_locals context s.token w
 locals_stay limits context place (s ∷ n ∷ names) w =
     locals_stay limits context place (n ∷ names)
-    (happens limits context (Acts (plainly_at n.token.place) action.Local) (happens limits context (Takes s.token s.behind) w))
+    (happens limits context (Acts (plainly_at n.token.place) Action.Local) (happens limits context (Takes s.token s.behind) w))
     ∙ took_locals context s.token w
 
 header_new : (limits : Limits) (context : Context) (first : Place) (names : List Name) (w : Compilation) → AreNew w.locals

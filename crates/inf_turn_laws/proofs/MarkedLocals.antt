@@ -1,20 +1,16 @@
 -- Locals that units name, by a test of their names, and the locals of a header.
 use Rattle.std.proofs.Common.{◌≡◌, ℕ, List, [], ◌∷◌, ◌++◌, length, map, filter, cond, not, ◌||◌, ◌&&◌, ltb, Bool, true, false, Option, None}
 use Rattle.std.proofs.Common.{Some, refl, sym, ap, ◌∙◌}
-use Rattle.std.specs.List.{list_any, list_all}
-use Rattle.std.specs.Str.{bytes_eq, str_eq_ignore_ascii_case}
 use Rattle.std.proofs.lemmas.Bool.{and_from, and_parts, cond_both, not-true, or_from, or_parts}
+use Rattle.std.specs.{List.list_all, List.list_any, Str.bytes_eq, Str.str_eq_ignore_ascii_case}
 use Rattle.inf_scanner.specs.declared.tokens.Place.{Place}
-use Rattle.inf_names.specs.Symbols.{folded}
-use Rattle.inf_report.specs.Messages.{UnusedLocal}
-use Rattle.inf_names.specs.Spellings.{Name}
+use Rattle.inf_names.specs.{Spellings.Name, Symbols.folded}
 use Rattle.inf_names.specs.Locals.{Local, Headed, local_of, most_locals, no_locals, with_all_named, with_local_by, with_locals, with_named}
+use Rattle.inf_report.specs.Messages.{UnusedLocal}
 use Rattle.inf_unit.specs.Messages.{Reported, location, with_warning}
-use Rattle.inf_compilation.specs.Context.{Context}
-use Rattle.inf_compilation.specs.Actions.{with_all_unused}
+use Rattle.inf_compilation.specs.{Actions.with_all_unused, Context.Context}
 use Rattle.inf_turn_laws.specs.UnusedLocals.{AreDifferent, AreNew, AreUnnamed, is_local, is_named_by, is_named_in, unused, with_warnings}
-use Rattle.inf_laws.proofs.Choices.{or-swap}
-use Rattle.inf_laws.proofs.SameNames.{bytes_eq-sym, same_names}
+use Rattle.inf_laws.proofs.{Choices.or-swap, SameNames.bytes_eq-sym, SameNames.same_names}
 
 -- the locals after some units, each of which has some names
 abbrev pub with_units : List (List Name) → List Local → List Local

@@ -1,20 +1,14 @@
 -- Where no statement is over, the effect of a conditional directive that ends is behind the token like the others.
 use Rattle.std.proofs.Common.{◌≡◌, ◌⊎◌, inl, inr, ℕ, List, [], ◌∷◌, Option, Some, None, refl, ◌∙◌, ap, subst}
 use Rattle.inf_settings.specs.Bounds.{Limits}
-use Rattle.inf_machine.specs.Laws.{IsSpaced}
-use Rattle.inf_machine.specs.Machine.{Taken, taken, work}
-use Rattle.inf_machine.specs.declared.symbols.Symbol.{Symbol}
+use Rattle.inf_machine.specs.{Laws.IsSpaced, Machine.Taken, Machine.taken, Machine.work, declared.symbols.Symbol.Symbol}
 use Rattle.inf_machine.proofs.Taking.{spaced_left}
 use Rattle.inf_syntax.specs.declared.actions.Action.{Action}
-use Rattle.inf_grammar.specs.Evaluated.{language_is_decided}
-use Rattle.inf_grammar.specs.Language.{grammar, known}
-use Rattle.inf_grammar.specs.Routines.{closings}
-use Rattle.inf_compilation.specs.Actions.{Compilation, took}
-use Rattle.inf_compilation.specs.Context.{Context}
+use Rattle.inf_grammar.specs.{Evaluated.language_is_decided, Language.grammar, Language.known, Routines.closings}
+use Rattle.inf_compilation.specs.{Actions.Compilation, Actions.took, Context.Context}
 use Rattle.inf_reader.specs.Acting.{all_acted}
 use Rattle.inf_expression_laws.specs.Gathered.{AreSeen}
-use Rattle.inf_statement_laws.specs.Happenings.{Between}
-use Rattle.inf_statement_laws.specs.Laid.{passed}
+use Rattle.inf_statement_laws.specs.{Happenings.Between, Laid.passed}
 use Rattle.inf_statement_laws.specs.Readings.{Seen, all_taken, behind_token, directed}
 use Rattle.inf_language.specs.Texts.{NoneClosesAhead, atoms_of, tokens_of}
 use Rattle.inf_program.specs.definition.Fronts.{Course, Derives}

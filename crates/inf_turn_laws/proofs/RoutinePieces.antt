@@ -1,67 +1,55 @@
 -- A whole front that begins with a bracket is a routine, and has its effect.
 use Rattle.std.proofs.Common.{◌≡◌, ℕ, List, [], ◌∷◌, ◌++◌, true, None, refl, sym, ◌∙◌, ap, subst, arith}
 use Rattle.inf_settings.specs.Bounds.{Limits}
-use Rattle.inf_scanner.specs.declared.tokens.Mark.TheVariants as mark
+use Rattle.inf_scanner.specs.declared.tokens.Mark.{Mark}
+use Rattle.inf_machine.specs.{Machine.Taken, Machine.events_of, Machine.taken, declared.symbols.Symbol.Symbol}
 use Rattle.inf_machine.specs.Grammar.{Did, Event, IsText, Leads, Took, action, has, token}
-use Rattle.inf_machine.specs.Machine.{Taken, events_of, taken}
-use Rattle.inf_machine.specs.declared.symbols.Symbol.{Symbol}
-use Rattle.inf_machine.specs.declared.symbols.Symbol.TheVariants.{Rule}
 use Rattle.inf_machine.proofs.Taking.{leads_only}
-use Rattle.inf_syntax.specs.Atoms.{mark_atom}
+use Rattle.inf_syntax.specs.{Atoms.mark_atom, declared.actions.Action.Action}
 use Rattle.inf_syntax.specs.Parts.{ !end_locals, !end_routine, 'close_bracket', 'semicolon', NAME, directive_1, directive_2}
-use Rattle.inf_syntax.specs.declared.actions.Action.{Action}
-use Rattle.inf_syntax.specs.declared.actions.Action.TheVariants as action_of
-use Rattle.inf_grammar.specs.Evaluated.{language_is_decided}
-use Rattle.inf_grammar.specs.Language.{grammar, known}
+use Rattle.inf_grammar.specs.{Evaluated.language_is_decided, Language.grammar, Language.known}
 use Rattle.inf_unit.specs.Tokens.{SourceToken, atom_of}
-use Rattle.inf_compilation.specs.Actions.{Compilation, piece_begun as work_begun}
-use Rattle.inf_compilation.specs.Context.{Context}
+use Rattle.inf_compilation.specs.{Actions.Compilation, Actions.piece_begun as work_begun, Context.Context}
 use Rattle.inf_reader.specs.Reading.{piece_rule}
 use Rattle.inf_laws.specs.KeptTokens.{Kept}
-use Rattle.inf_statement_laws.specs.Laid.{next_comes, passed, run}
-use Rattle.inf_statement_laws.specs.Readings.{Seen}
+use Rattle.inf_statement_laws.specs.{Laid.next_comes, Laid.passed, Laid.run, Readings.Seen}
 use Rattle.inf_language.specs.Texts.{atoms_of, happenings_of}
 use Rattle.inf_grammar.proofs.Spaced.{rule_is_spaced}
 use Rattle.inf_routine_trees.specs.Routines.{routine_symbols}
-use Rattle.inf_routine_trees.proofs.Effects.{given}
-use Rattle.inf_routine_trees.proofs.RoutineTrees.{Runs, routine_runs}
-use Rattle.inf_program.specs.Turns.{grouped}
-use Rattle.inf_program.specs.definition.Fronts.{Derives, Progress}
-use Rattle.inf_program.specs.definition.States.{context_of}
-use Rattle.inf_program.specs.definition.Steps.{Reads, Step}
-use Rattle.inf_turn_laws.specs.Acted.{text_happenings}
-use Rattle.inf_turn_laws.specs.Directives.{taken_seen}
+use Rattle.inf_routine_trees.proofs.{Effects.given, RoutineTrees.Runs, RoutineTrees.routine_runs}
+use Rattle.inf_program.specs.{Turns.grouped, definition.Fronts.Derives, definition.Fronts.Progress, definition.States.context_of}
+use Rattle.inf_program.specs.{definition.Steps.Reads, definition.Steps.Step}
+use Rattle.inf_turn_laws.specs.{Acted.text_happenings, Directives.taken_seen}
 use Rattle.inf_turn_laws.specs.RoutinePieces.{PiecesDoTheirRoutines, effects_by, merged_by, routine_effects, routine_front}
-use Rattle.inf_turn_laws.proofs.Acted.{pieces_do_their_actions}
+use Rattle.inf_turn_laws.proofs.{Acted.pieces_do_their_actions, Marks.steps_seen}
 use Rattle.inf_turn_laws.proofs.Behind.{merged_by_atoms, merged_by_seen, text_given}
 use Rattle.inf_turn_laws.proofs.Directives.{Whole, front_taken, later_steps, seen_derives, whole_of}
-use Rattle.inf_turn_laws.proofs.Marks.{steps_seen}
 
 -- the symbols behind the bracket of a routine
 abbrev behind_bracket : List (Symbol Action)
 behind_bracket =
     NAME ∷ directive_1 ∷ !end_locals ∷ 'semicolon' ∷ directive_2 ∷ !end_routine ∷ 'close_bracket' ∷ 'semicolon' ∷ []
 
-bracket_taken : taken grammar known (mark_atom mark.OpenBracket) (Rule piece_rule ∷ [])
-    ≡ record { actions = action_of.Routine ∷ []; left = behind_bracket }
+bracket_taken : taken grammar known (mark_atom Mark.OpenBracket) (Symbol.Rule piece_rule ∷ [])
+    ≡ record { actions = Action.Routine ∷ []; left = behind_bracket }
 unfolding grammar known
 bracket_taken = refl
 
-is_bracket : has (grammar.atoms_of 2) (mark_atom mark.OpenBracket) ≡ true
+is_bracket : has (grammar.atoms_of 2) (mark_atom Mark.OpenBracket) ≡ true
 unfolding grammar
 is_bracket = refl
 
-routine_text : (atom : ℕ) (atoms : List ℕ) (events : List (Event Action)) → atom ≡ mark_atom mark.OpenBracket
-    → IsText grammar (Rule piece_rule ∷ []) (atom ∷ atoms) events → IsText grammar routine_symbols (atom ∷ atoms) events
+routine_text : (atom : ℕ) (atoms : List ℕ) (events : List (Event Action)) → atom ≡ mark_atom Mark.OpenBracket
+    → IsText grammar (Symbol.Rule piece_rule ∷ []) (atom ∷ atoms) events → IsText grammar routine_symbols (atom ∷ atoms) events
 routine_text atom atoms events is text =
     let one = leads_only grammar known language_is_decided text (rule_is_spaced piece_rule) in
-    let left : (taken grammar known atom (Rule piece_rule ∷ [])).left ≡ behind_bracket =
-    ap (λ (a : ℕ). (taken grammar known a (Rule piece_rule ∷ [])).left) is ∙ ap (λ (n : Taken Action). n.left) bracket_taken in
+    let left : (taken grammar known atom (Symbol.Rule piece_rule ∷ [])).left ≡ behind_bracket =
+    ap (λ (a : ℕ). (taken grammar known a (Symbol.Rule piece_rule ∷ [])).left) is ∙ ap (λ (n : Taken Action). n.left) bracket_taken in
     let leads : Leads grammar behind_bracket atoms one.rest [] =
     subst (λ (symbols : List (Symbol Action)). Leads grammar symbols atoms one.rest []) left one.leads in
-    let acts : (taken grammar known atom (Rule piece_rule ∷ [])).actions ≡ action_of.Routine ∷ [] =
-    ap (λ (a : ℕ). (taken grammar known a (Rule piece_rule ∷ [])).actions) is ∙ ap (λ (n : Taken Action). n.actions) bracket_taken in
-    let are : events ≡ Did action_of.Routine ∷ Took atom ∷ one.rest =
+    let acts : (taken grammar known atom (Symbol.Rule piece_rule ∷ [])).actions ≡ Action.Routine ∷ [] =
+    ap (λ (a : ℕ). (taken grammar known a (Symbol.Rule piece_rule ∷ [])).actions) is ∙ ap (λ (n : Taken Action). n.actions) bracket_taken in
+    let are : events ≡ Did Action.Routine ∷ Took atom ∷ one.rest =
     one.are ∙ ap (λ (actions : List Action). events_of actions atom ++ one.rest) acts in
     subst (λ (es : List (Event Action)). IsText grammar routine_symbols (atom ∷ atoms) es) (sym are)
     (action (token (ap (λ (a : ℕ). has (grammar.atoms_of 2) a) is ∙ is_bracket) leads))
@@ -75,7 +63,7 @@ pieces_do_their_routines limits o s f none empty is few =
     let w : Compilation = work_begun (passed f.begins.effect s.work) in
     let seen : List Seen = taken_seen f in
     let merged : List Seen = routine_front f in
-    let d : Derives (Rule piece_rule ∷ []) (atoms_of seen) f.course [] = seen_derives t later f.course p.kept p.derives in
+    let d : Derives (Symbol.Rule piece_rule ∷ []) (atoms_of seen) f.course [] = seen_derives t later f.course p.kept p.derives in
     let atoms : atoms_of merged ≡ atoms_of seen = merged_by_atoms f.course.ends seen in
     let text : IsText grammar routine_symbols (atoms_of merged) f.course.events =
     subst (λ (xs : List ℕ). IsText grammar routine_symbols xs f.course.events) (sym atoms)

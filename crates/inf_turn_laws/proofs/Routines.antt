@@ -2,24 +2,15 @@
 use Rattle.std.proofs.Common.{◌≡◌, List, [], ◌∷◌, true, refl, sym, ◌∙◌, ap, subst}
 use Rattle.std.proofs.lemmas.Bool.{and_from, and_parts}
 use Rattle.inf_settings.specs.Bounds.{Limits}
-use Rattle.inf_scanner.specs.declared.tokens.Mark.TheVariants as mark
-use Rattle.inf_machine.specs.Grammar.{Event, Leads}
-use Rattle.inf_machine.specs.Laws.{IsSpaced}
+use Rattle.inf_scanner.specs.declared.tokens.Mark.{Mark}
+use Rattle.inf_machine.specs.{Grammar.Event, Grammar.Leads, Laws.IsSpaced, declared.symbols.Symbol.Symbol}
 use Rattle.inf_machine.specs.Machine.{Taken, fits, taken, work}
-use Rattle.inf_machine.specs.declared.symbols.Symbol.{Symbol}
-use Rattle.inf_machine.specs.declared.symbols.Symbol.TheVariants.{Rule}
 use Rattle.inf_machine.proofs.Taking.{spaced_left}
-use Rattle.inf_syntax.specs.Atoms.{mark_atom}
-use Rattle.inf_syntax.specs.Parts.{directive}
-use Rattle.inf_syntax.specs.declared.actions.Action.{Action}
-use Rattle.inf_grammar.specs.Evaluated.{language_is_decided}
-use Rattle.inf_grammar.specs.Language.{grammar, known}
-use Rattle.inf_grammar.specs.Routines.{closings}
+use Rattle.inf_syntax.specs.{Atoms.mark_atom, Parts.directive, declared.actions.Action.Action}
+use Rattle.inf_grammar.specs.{Evaluated.language_is_decided, Language.grammar, Language.known, Routines.closings}
 use Rattle.inf_unit.specs.Tokens.{atom_of}
-use Rattle.inf_compilation.specs.Actions.{Compilation, piece_begun as work_begun, took}
-use Rattle.inf_compilation.specs.Context.{Context}
-use Rattle.inf_reader.specs.Acting.{all_acted}
-use Rattle.inf_reader.specs.Reading.{piece_rule}
+use Rattle.inf_compilation.specs.{Actions.Compilation, Actions.piece_begun as work_begun, Actions.took, Context.Context}
+use Rattle.inf_reader.specs.{Acting.all_acted, Reading.piece_rule}
 use Rattle.inf_session.specs.Session.{context_of}
 use Rattle.inf_laws.specs.KeptTokens.{Kept}
 use Rattle.inf_statement_laws.specs.Laid.{next_comes, passed}
@@ -28,14 +19,10 @@ use Rattle.inf_statement_laws.proofs.Reading.{routines_are_read_whole}
 use Rattle.inf_language.specs.Texts.{atoms_of}
 use Rattle.inf_language.proofs.TextsActed.{texts_do_their_actions}
 use Rattle.inf_grammar.proofs.Spaced.{rule_is_spaced}
-use Rattle.inf_turn_laws.specs.Acted.{seen_in, text_happenings}
-use Rattle.inf_program.specs.definition.Steps.{Reads}
-use Rattle.inf_program.specs.Turns.{AllFit, grouped, piece_first}
-use Rattle.inf_turn_laws.specs.Routines.{LaysRoutine, TurnsReadRoutinesWhole}
-use Rattle.inf_turn_laws.proofs.Acted.{all_fit_by}
-use Rattle.inf_program.proofs.Chosen.{EndWithToken, none_left, pieces_end}
-use Rattle.inf_turn_laws.proofs.Derived.{First, first_by}
-use Rattle.inf_program.proofs.Grouping.{whole_piece}
+use Rattle.inf_turn_laws.specs.{Acted.seen_in, Acted.text_happenings, Routines.LaysRoutine, Routines.TurnsReadRoutinesWhole}
+use Rattle.inf_program.specs.{Turns.AllFit, Turns.grouped, Turns.piece_first, definition.Steps.Reads}
+use Rattle.inf_turn_laws.proofs.{Acted.all_fit_by, Derived.First, Derived.first_by}
+use Rattle.inf_program.proofs.{Chosen.EndWithToken, Chosen.none_left, Chosen.pieces_end, Grouping.whole_piece}
 
 -- No symbol is left behind a text that ends with a token.
 nothing_left : (seen : List Seen) (symbols : List (Symbol Action)) (events : List (Event Action))
@@ -47,7 +34,7 @@ nothing_left (s ∷ seen) symbols events leads spaced ends =
     nothing_left seen (taken grammar known s.atom symbols).left on.rest on.leads
     (spaced_left grammar known language_is_decided s.atom (work known s.atom symbols) symbols f.0 spaced) on.ends
 
-bracket_fits : fits grammar known (mark_atom mark.OpenBracket) (directive ∷ []) ≡ true
+bracket_fits : fits grammar known (mark_atom Mark.OpenBracket) (directive ∷ []) ≡ true
 unfolding grammar known
 bracket_fits = refl
 
@@ -59,13 +46,13 @@ taken_by limits context s seen n w =
     (passed s.behind (took context s.token (all_acted limits context s.token.place n.actions w))))
 
 routine_read : (limits : Limits) (context : Context) (bracket : Seen) (seen : List Seen) (events : List (Event Action)) (w : Compilation)
-    → bracket.atom ≡ mark_atom mark.OpenBracket → w.closed ≡ 0
-    → Leads grammar (Rule piece_rule ∷ []) (atoms_of (bracket ∷ seen)) events []
-    → LaysRoutine limits context (bracket ∷ seen) w (all_taken limits context (bracket ∷ seen) (Rule piece_rule ∷ []) w)
+    → bracket.atom ≡ mark_atom Mark.OpenBracket → w.closed ≡ 0
+    → Leads grammar (Symbol.Rule piece_rule ∷ []) (atoms_of (bracket ∷ seen)) events []
+    → LaysRoutine limits context (bracket ∷ seen) w (all_taken limits context (bracket ∷ seen) (Symbol.Rule piece_rule ∷ []) w)
 routine_read limits context bracket seen events w is none text =
     let law = texts_do_their_actions limits in
     let routines = routines_are_read_whole limits in
-    let piece : List (Symbol Action) = Rule piece_rule ∷ [] in
+    let piece : List (Symbol Action) = Symbol.Rule piece_rule ∷ [] in
     let whole : List (Symbol Action) = directive ∷ [] in
     let same : taken grammar known bracket.atom piece ≡ taken grammar known bracket.atom whole =
     subst (λ atom. taken grammar known atom piece ≡ taken grammar known atom whole) (sym is) routines.begin in

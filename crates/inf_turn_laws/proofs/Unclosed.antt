@@ -1,22 +1,18 @@
 -- In a directive that is one unit no statement is over: the symbols behind each of its tokens begin with no end of one.
 use Rattle.std.proofs.Common.{◌≡◌, inl, inr, ℕ, List, [], ◌∷◌, ◌++◌, Bool, true, false, not, ◌&&◌, ◌==◌, refl, subst}
 use Rattle.std.proofs.lemmas.Bool.{agree_below, and_from, and_parts, eqb-true, or_cases}
-use Rattle.inf_scanner.specs.declared.tokens.Mark.TheVariants as mark
+use Rattle.inf_scanner.specs.declared.tokens.Mark.{Mark}
 use Rattle.inf_machine.specs.Grammar.{Event, IsOneOf, IsText, Leads, Row, action, first, here, later, row, token}
 use Rattle.inf_machine.specs.declared.symbols.Symbol.{Symbol}
-use Rattle.inf_machine.specs.declared.symbols.Symbol.TheVariants.{Act, Rule, Token}
-use Rattle.inf_syntax.specs.Atoms.{mark_atom}
+use Rattle.inf_syntax.specs.{Atoms.mark_atom, declared.actions.Action.Action}
 use Rattle.inf_syntax.specs.Parts.{address_operator, address_tail, after_prim, after_unary, array_operator, array_tail, assign, assign_tail}
-use Rattle.inf_syntax.specs.Parts.{assign_tail_1, bit, bracketed, call, call_1, call_2, directive, expression, expression_tail, inc, initial}
-use Rattle.inf_syntax.specs.Parts.{initial_1, logic, logic_operator, logic_tail, neg, negated, other_assign, other_prim, piece, plain_prim}
-use Rattle.inf_syntax.specs.Parts.{post, post_tail, prefixed, prim, step_operator, step_prefix, step_tail, sum, sum_operator, sum_tail, term}
-use Rattle.inf_syntax.specs.Parts.{term_operator, term_tail, test, test_tail, test_tail_1, tested, tested_1, whole_directive}
-use Rattle.inf_syntax.specs.Parts.{whole_directive_1, whole_directive_2, whole_directive_3, whole_directive_4, whole_directive_5}
-use Rattle.inf_syntax.specs.Parts.{whole_directive_6}
-use Rattle.inf_syntax.specs.declared.actions.Action.{Action}
-use Rattle.inf_syntax.specs.declared.actions.Action.TheVariants as action_of
-use Rattle.inf_grammar.specs.Language.{grammar}
-use Rattle.inf_grammar.specs.Routines.{closings}
+use Rattle.inf_syntax.specs.Parts.{assign_tail_1, bit, bracketed, call, call_1, call_2, directive, expression, expression_tail, inc}
+use Rattle.inf_syntax.specs.Parts.{initial, initial_1, logic, logic_operator, logic_tail, neg, negated, other_assign, other_prim, piece}
+use Rattle.inf_syntax.specs.Parts.{plain_prim, post, post_tail, prefixed, prim, step_operator, step_prefix, step_tail, sum, sum_operator}
+use Rattle.inf_syntax.specs.Parts.{sum_tail, term, term_operator, term_tail, test, test_tail, test_tail_1, tested, tested_1}
+use Rattle.inf_syntax.specs.Parts.{whole_directive, whole_directive_1, whole_directive_2, whole_directive_3, whole_directive_4}
+use Rattle.inf_syntax.specs.Parts.{whole_directive_5, whole_directive_6}
+use Rattle.inf_grammar.specs.{Language.grammar, Routines.closings}
 use Rattle.inf_statement_laws.specs.Readings.{Seen}
 use Rattle.inf_trees.specs.Directives.{begins_directive, is_word}
 use Rattle.inf_trees.proofs.DirectiveTexts.{by_word, directive_rows, directives_have, no_sign, outside_1, outside_10, outside_11, outside_12}
@@ -29,7 +25,7 @@ use Rattle.inf_turn_laws.proofs.Merged.{ClosesNone}
 -- Rules whose texts end no statement
 
 abbrev pub is_close : Action → Bool
-is_close action_of.Close = true
+is_close Action.Close = true
 is_close _ = false
 
 abbrev open_rules : List (Symbol Action)
@@ -46,9 +42,9 @@ is_open_rule rule = is_among rule open_rules
 -- whether symbols are tokens, these rules, and actions that end no statement
 abbrev pub are_open : List (Symbol Action) → Bool
 are_open [] = true
-are_open (Token class ∷ symbols) = are_open symbols
-are_open (Act a ∷ symbols) = not (is_close a) && are_open symbols
-are_open (Rule rule ∷ symbols) = is_open_rule rule && are_open symbols
+are_open (Symbol.Token class ∷ symbols) = are_open symbols
+are_open (Symbol.Act a ∷ symbols) = not (is_close a) && are_open symbols
+are_open (Symbol.Rule rule ∷ symbols) = is_open_rule rule && are_open symbols
 
 rows_open : agree_below (keeps is_open_rule are_open) (λ rule. true) 251 ≡ true
 unfolding grammar is_open_rule
@@ -56,11 +52,11 @@ rows_open = refl
 
 open-append : (xs ys : List (Symbol Action)) → are_open xs ≡ true → are_open ys ≡ true → are_open (xs ++ ys) ≡ true
 open-append [] ys x y = y
-open-append (Token class ∷ xs) ys x y = open-append xs ys x y
-open-append (Act a ∷ xs) ys x y =
+open-append (Symbol.Token class ∷ xs) ys x y = open-append xs ys x y
+open-append (Symbol.Act a ∷ xs) ys x y =
     let both = and_parts (not (is_close a)) (are_open xs) x in
     and_from (not (is_close a)) (are_open (xs ++ ys)) both.0 (open-append xs ys both.1 y)
-open-append (Rule rule ∷ xs) ys x y =
+open-append (Symbol.Rule rule ∷ xs) ys x y =
     let both = and_parts (is_open_rule rule) (are_open xs) x in
     and_from (is_open_rule rule) (are_open (xs ++ ys)) both.0 (open-append xs ys both.1 y)
 
@@ -69,15 +65,15 @@ abbrev AllZero : List ℕ → Type 0
 AllZero [] = Unit {0}
 AllZero (count ∷ counts) = (count ≡ 0) × AllZero counts
 
-act_closes : (a : Action) (symbols : List (Symbol Action)) → not (is_close a) ≡ true → closings (Act a ∷ symbols) ≡ 0
-act_closes action_of.Close symbols is = cc
+act_closes : (a : Action) (symbols : List (Symbol Action)) → not (is_close a) ≡ true → closings (Symbol.Act a ∷ symbols) ≡ 0
+act_closes Action.Close symbols is = cc
 act_closes _ symbols is = refl
 
 none_over : (symbols : List (Symbol Action)) → are_open symbols ≡ true → closings symbols ≡ 0
 none_over [] is = refl
-none_over (Token class ∷ symbols) is = refl
-none_over (Rule rule ∷ symbols) is = refl
-none_over (Act a ∷ symbols) is = act_closes a symbols (and_parts (not (is_close a)) (are_open symbols) is).0
+none_over (Symbol.Token class ∷ symbols) is = refl
+none_over (Symbol.Rule rule ∷ symbols) is = refl
+none_over (Symbol.Act a ∷ symbols) is = act_closes a symbols (and_parts (not (is_close a)) (are_open symbols) is).0
 
 open_ends : {symbols left : List (Symbol Action)} {atoms : List ℕ} {events : List (Event Action)}
     → (leads : Leads grammar symbols atoms events left) → are_open symbols ≡ true → AllZero (ends_in leads)
@@ -126,16 +122,16 @@ piece_row_ends : (r : Row Action) → IsOneOf r piece_rows → (one two : ℕ) (
     → AllZero (ends_in leads)
 piece_row_ends r first one two atoms events begins (token h leads) = elim leads [ ]
 piece_row_ends r (later first) one two atoms events begins (token {events = rest} h leads) =
-    elim (or_cases (is_word one) ((one == mark_atom mark.Hash) && is_word two) begins) [
+    elim (or_cases (is_word one) ((one == mark_atom Mark.Hash) && is_word two) begins) [
       | inl is ↦ absurd (by_word 1 one _ (two ∷ atoms) events outside_1 is (token h leads))
-      | inr both ↦ (refl, directive_ends two atoms rest (and_parts (one == mark_atom mark.Hash) (is_word two) both).1 leads)
+      | inr both ↦ (refl, directive_ends two atoms rest (and_parts (one == mark_atom Mark.Hash) (is_word two) both).1 leads)
     ]
 piece_row_ends r (later (later first)) one two atoms events begins leads =
-    elim (or_cases (is_word one) ((one == mark_atom mark.Hash) && is_word two) begins) [
+    elim (or_cases (is_word one) ((one == mark_atom Mark.Hash) && is_word two) begins) [
       | inl is ↦ directive_ends one (two ∷ atoms) events is leads
       | inr both ↦
-          let parts = and_parts (one == mark_atom mark.Hash) (is_word two) both in
-          absurd (no_sign one (two ∷ atoms) events (eqb-true one (mark_atom mark.Hash) parts.0) leads)
+          let parts = and_parts (one == mark_atom Mark.Hash) (is_word two) both in
+          absurd (no_sign one (two ∷ atoms) events (eqb-true one (mark_atom Mark.Hash) parts.0) leads)
     ]
 piece_row_ends r (later (later (later missing))) one two atoms events begins leads = elim missing [ ]
 

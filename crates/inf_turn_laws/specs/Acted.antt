@@ -5,25 +5,19 @@ use Rattle.inf_settings.specs.Bounds.{Limits}
 use Rattle.inf_devices.specs.Files.{Sources}
 use Rattle.inf_machine.specs.Grammar.{Event, IsText, Leads, action, here, row, token}
 use Rattle.inf_machine.specs.declared.symbols.Symbol.{Symbol}
-use Rattle.inf_machine.specs.declared.symbols.Symbol.TheVariants.{Rule}
 use Rattle.inf_syntax.specs.declared.actions.Action.{Action}
-use Rattle.inf_grammar.specs.Language.{grammar}
-use Rattle.inf_grammar.specs.Routines.{closings}
+use Rattle.inf_grammar.specs.{Language.grammar, Routines.closings}
 use Rattle.inf_unit.specs.Tokens.{SourceToken, is_end}
-use Rattle.inf_compilation.specs.Actions.{Compilation, piece_begun as work_begun}
-use Rattle.inf_compilation.specs.Context.{Context}
-use Rattle.inf_reader.specs.Reading.{between, piece_rule}
-use Rattle.inf_reader.specs.declared.recovery.Recovery.TheVariants as mode
-use Rattle.inf_session.specs.Choices.{Choices}
-use Rattle.inf_session.specs.Session.{State, context_of, stepped}
+use Rattle.inf_compilation.specs.{Actions.Compilation, Actions.piece_begun as work_begun, Context.Context}
+use Rattle.inf_reader.specs.{Reading.between, Reading.piece_rule, declared.recovery.Recovery.Recovery}
+use Rattle.inf_session.specs.{Choices.Choices, Session.State, Session.context_of, Session.stepped}
 use Rattle.inf_laws.specs.KeptTokens.{Kept}
 use Rattle.inf_statement_laws.specs.Happenings.{Acts, Between, Happening, Takes}
 use Rattle.inf_statement_laws.specs.Laid.{next_comes, passed, run}
 use Rattle.inf_statement_laws.specs.Readings.{Seen, all_taken, behind_ends, behind_token, plainly_at}
 use Rattle.inf_language.specs.Texts.{NoneClosesAhead, atoms_of, happenings_of}
+use Rattle.inf_program.specs.{Turns.AreQuiet, Turns.all_steps, Turns.grouped, Writing.silent_turned}
 use Rattle.inf_program.specs.definition.Steps.{AllKept, Passes, Reads, Step}
-use Rattle.inf_program.specs.Turns.{AreQuiet, all_steps, grouped}
-use Rattle.inf_program.specs.Writing.{silent_turned}
 
 -- the tokens of a piece that begins with a token, each with the effect behind it
 abbrev pub seen_in : SourceToken → List Step → List Seen
@@ -48,14 +42,15 @@ text_happenings (row is_row free leads) seen = text_happenings leads seen
 -- (`texts`); where none ends, these are the happenings of the text's events (`plain`). Turns from where a piece begins, behind which
 -- nothing else happens up to the last, and whose kept tokens are the text of a piece, have the effect of the text's happenings (`turns`).
 pub record PiecesDoTheirActions (limits : Limits) : Type 0 where
-  pub texts : (seen : List Seen) (events : List (Event Action)) (text : IsText grammar (Rule piece_rule ∷ []) (atoms_of seen) events)
+  pub texts : (seen : List Seen) (events : List (Event Action)) (text : IsText grammar (Symbol.Rule piece_rule ∷ []) (atoms_of seen) events)
       (context : Context) (w : Compilation)
-      → next_comes (all_taken limits context seen (Rule piece_rule ∷ []) w) ≡ run limits context (text_happenings text seen) (next_comes w)
-  pub plain : (seen : List Seen) (events : List (Event Action)) (text : IsText grammar (Rule piece_rule ∷ []) (atoms_of seen) events)
+      → next_comes (all_taken limits context seen (Symbol.Rule piece_rule ∷ []) w) ≡ run limits context (text_happenings text seen)
+      (next_comes w)
+  pub plain : (seen : List Seen) (events : List (Event Action)) (text : IsText grammar (Symbol.Rule piece_rule ∷ []) (atoms_of seen) events)
       → NoneClosesAhead seen → text_happenings text seen ≡ happenings_of events seen
   pub turns : (sources : Sources) (o : Choices) (n : ℕ) (s : State) (m : Between) (t : SourceToken) (steps : List Step)
-      (events : List (Event Action)) (text : IsText grammar (Rule piece_rule ∷ []) (atoms_of (seen_in t steps)) events)
-      → s.reading ≡ between mode.Reads → is_end t.kind ≡ false → AreQuiet limits sources o n s
+      (events : List (Event Action)) (text : IsText grammar (Symbol.Rule piece_rule ∷ []) (atoms_of (seen_in t steps)) events)
+      → s.reading ≡ between Recovery.Reads → is_end t.kind ≡ false → AreQuiet limits sources o n s
       → all_steps limits sources o n s ≡ Passes m ∷ Reads (Kept t) ∷ steps → AllKept steps
       → next_comes (stepped limits o (silent_turned limits sources o n s)).work
       ≡ run limits (context_of o s) (text_happenings text (seen_in t steps)) (next_comes (work_begun (passed m s.work)))

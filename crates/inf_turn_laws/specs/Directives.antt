@@ -4,16 +4,12 @@ use Rattle.inf_settings.specs.Bounds.{Limits}
 use Rattle.inf_unit.specs.Units.{no_unit}
 use Rattle.inf_compilation.specs.Actions.{piece_begun}
 use Rattle.inf_session.specs.Choices.{Choices}
-use Rattle.inf_statement_laws.specs.Laid.{passed}
-use Rattle.inf_statement_laws.specs.Readings.{Seen, behind_token}
-use Rattle.inf_language.specs.Constants.{piece_done}
-use Rattle.inf_language.specs.Texts.{atoms_of}
-use Rattle.inf_trees.specs.Directives.{Directive, begins_directive, directive_done}
-use Rattle.inf_trees.specs.Trees.{AreWritten, all_seen}
+use Rattle.inf_statement_laws.specs.{Laid.passed, Readings.Seen, Readings.behind_token}
+use Rattle.inf_language.specs.{Constants.piece_done, Texts.atoms_of}
+use Rattle.inf_trees.specs.{Directives.Directive, Directives.begins_directive, Directives.directive_done, Trees.AreWritten, Trees.all_seen}
+use Rattle.inf_program.specs.{definition.NextToken.steps_at, definition.NextToken.within, definition.States.State}
+use Rattle.inf_program.specs.{definition.States.context_of, definition.Steps.Step}
 use Rattle.inf_program.specs.definition.Fronts.{Front, PieceState, begun_piece, moved, reached}
-use Rattle.inf_program.specs.definition.NextToken.{steps_at, within}
-use Rattle.inf_program.specs.definition.States.{State, context_of}
-use Rattle.inf_program.specs.definition.Steps.{Step}
 use Rattle.inf_turn_laws.specs.Acted.{seen_in}
 
 -- the steps of `n` tokens of the file within a piece

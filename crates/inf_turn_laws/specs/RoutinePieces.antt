@@ -2,16 +2,13 @@
 -- behind a token behind which statements are over, its effect comes behind the end of the outermost of these.
 use Rattle.std.specs.Prelude.{◌≡◌, ℕ, zero, suc, ◌+◌, ◌-◌, ◌<◌, List, [], ◌∷◌, length, if◌then◌else◌, Option, None}
 use Rattle.inf_settings.specs.Bounds.{Limits}
-use Rattle.inf_scanner.specs.declared.tokens.Mark.TheVariants as mark
+use Rattle.inf_scanner.specs.declared.tokens.Mark.{Mark}
 use Rattle.inf_machine.specs.Grammar.{Did, Event, Took}
-use Rattle.inf_syntax.specs.Atoms.{mark_atom}
-use Rattle.inf_syntax.specs.declared.actions.Action.{Action}
+use Rattle.inf_syntax.specs.{Atoms.mark_atom, declared.actions.Action.Action}
 use Rattle.inf_unit.specs.Tokens.{atom_of}
 use Rattle.inf_compilation.specs.Actions.{piece_begun}
 use Rattle.inf_session.specs.Choices.{Choices}
-use Rattle.inf_statement_laws.specs.Happenings.{Between}
-use Rattle.inf_statement_laws.specs.Laid.{next_comes, passed}
-use Rattle.inf_statement_laws.specs.Readings.{Seen, behind_token}
+use Rattle.inf_statement_laws.specs.{Happenings.Between, Laid.next_comes, Laid.passed, Readings.Seen, Readings.behind_token}
 use Rattle.inf_routine_trees.specs.Bodies.{TreeWritten, is_close}
 use Rattle.inf_routine_trees.specs.Routines.{Routine, routine_done, routine_seen, routine_with}
 use Rattle.inf_program.specs.definition.Fronts.{Front, first_ends, later_ends, reached}
@@ -64,5 +61,5 @@ pub record DoesRoutine (limits : Limits) (o : Choices) (s : State) (f : Front li
 -- Each front of a whole piece that begins with a bracket is a routine. There are few enough of its tokens for their orders to differ.
 abbrev pub PiecesDoTheirRoutines : Limits → Type 0
 PiecesDoTheirRoutines limits =
-    (o : Choices) (s : State) (f : Front limits o s) → f.further ≡ [] → f.left ≡ [] → atom_of f.begins.token ≡ mark_atom mark.OpenBracket
+    (o : Choices) (s : State) (f : Front limits o s) → f.further ≡ [] → f.left ≡ [] → atom_of f.begins.token ≡ mark_atom Mark.OpenBracket
     → length (routine_front f) + 1 < 4294967295 → DoesRoutine limits o s f

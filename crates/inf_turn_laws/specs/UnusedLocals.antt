@@ -1,38 +1,23 @@
 -- The warnings about the locals of a routine, by the names in its statements. Designer's Manual, fourth edition, section 1.4.
+use Rattle.std.specs.{List.list_all, List.list_any, Str.str_eq_ignore_ascii_case}
 use Rattle.std.specs.Prelude.{◌≡◌, ℕ, List, [], ◌∷◌, filter, Bool, true, false, not, ◌&&◌, if◌then◌else◌, drop, Option, Some, None}
-use Rattle.std.specs.List.{list_any, list_all}
-use Rattle.std.specs.Str.{str_eq_ignore_ascii_case}
 use Rattle.inf_settings.specs.Bounds.{Limits}
 use Rattle.inf_scanner.specs.declared.tokens.Place.{Place}
 use Rattle.inf_report.specs.Messages.{UnusedLocal}
-use Rattle.inf_names.specs.Spellings.{Name}
-use Rattle.inf_names.specs.Locals.{Local, no_locals}
+use Rattle.inf_names.specs.{Locals.Local, Locals.no_locals, Spellings.Name}
 use Rattle.inf_code.specs.Code.{fault_closed}
 use Rattle.inf_output.specs.Output.{full}
-use Rattle.inf_syntax.specs.declared.actions.Action.TheVariants as action
-use Rattle.inf_unit.specs.Messages.{Reported, location, with_full, with_warning}
-use Rattle.inf_unit.specs.Crowds.{Crowd}
-use Rattle.inf_unit.specs.Roles.{ends_outer, ends_token, ends_value, role_of}
-use Rattle.inf_unit.specs.Units.{Unit as UnitAtHand, is_full}
-use Rattle.inf_unit.specs.declared.roles.Ending.{Ending}
-use Rattle.inf_unit.specs.declared.roles.Ending.TheVariants as ending
-use Rattle.inf_unit.specs.declared.roles.Note.{Note}
-use Rattle.inf_unit.specs.declared.roles.Role.{Role}
-use Rattle.inf_unit.specs.declared.roles.Role.TheVariants as role
-use Rattle.inf_compilation.specs.Context.{Context}
+use Rattle.inf_syntax.specs.declared.actions.Action.{Action}
+use Rattle.inf_unit.specs.{Crowds.Crowd, Messages.Reported, Messages.location, Messages.with_full, Messages.with_warning, Roles.ends_outer}
+use Rattle.inf_unit.specs.{Roles.ends_token, Roles.ends_value, Roles.role_of, Units.Unit as UnitAtHand, Units.is_full}
+use Rattle.inf_unit.specs.{declared.roles.Ending.Ending, declared.roles.Note.Note, declared.roles.Role.Role}
+use Rattle.inf_compilation.specs.{Context.Context, Crowds.crowd_opened, Crowds.crowd_told}
 use Rattle.inf_compilation.specs.Actions.{Compilation, cases_ended, kind_ended, with_routine_fault}
-use Rattle.inf_compilation.specs.Crowds.{crowd_opened, crowd_told}
-use Rattle.inf_parts.specs.Parts.{case_prepared, part_prepared, statement_at}
-use Rattle.inf_parts.specs.declared.parts.Part.{Part}
-use Rattle.inf_parts.specs.declared.parts.Part.TheVariants as part
+use Rattle.inf_parts.specs.{Parts.case_prepared, Parts.part_prepared, Parts.statement_at, declared.parts.Part.Part}
 use Rattle.inf_reader.specs.Acting.{act, is_crowded, noted_of}
-use Rattle.inf_statement_laws.specs.Happenings.{Acts, Happening, Takes}
-use Rattle.inf_statement_laws.specs.Laid.{happens, run}
-use Rattle.inf_statement_laws.specs.Readings.{Seen}
-use Rattle.inf_language.specs.HeaderNames.{local_events}
-use Rattle.inf_language.specs.Headers.{AreNames}
-use Rattle.inf_language.specs.NamedLocals.{leaves_names, unit_names}
-use Rattle.inf_language.specs.Texts.{happenings_before, tokens_of}
+use Rattle.inf_statement_laws.specs.{Happenings.Acts, Happenings.Happening, Happenings.Takes, Laid.happens, Laid.run, Readings.Seen}
+use Rattle.inf_language.specs.{HeaderNames.local_events, Headers.AreNames, NamedLocals.leaves_names, NamedLocals.unit_names}
+use Rattle.inf_language.specs.{Texts.happenings_before, Texts.tokens_of}
 
 -- The names of units
 
@@ -42,13 +27,13 @@ names_of u = unit_names u.tokens u.gathering.leaves u.items
 
 -- the unit of a routine that ends, if one does
 abbrev pub part_of : Ending → Compilation → Option Part
-part_of ending.Statement w = Some (part.Statement (statement_at w))
-part_of ending.Condition w = Some part.Condition
-part_of ending.Start w = Some part.Start
-part_of ending.Step w = Some part.Step
-part_of ending.Loop w = Some part.Loop
-part_of ending.Switched w = Some part.Switched
-part_of ending.Case w = Some part.Case
+part_of Ending.Statement w = Some (Part.Statement (statement_at w))
+part_of Ending.Condition w = Some Part.Condition
+part_of Ending.Start w = Some Part.Start
+part_of Ending.Step w = Some Part.Step
+part_of Ending.Loop w = Some Part.Loop
+part_of Ending.Switched w = Some Part.Switched
+part_of Ending.Case w = Some Part.Case
 part_of _ w = None
 
 -- The names of a unit that ends. In a routine that is passed over no unit names anything.
@@ -73,8 +58,8 @@ noted_names limits context n w =
     else []
 
 abbrev pub played_names : Limits → Context → Role → Compilation → List Name
-played_names limits context (role.Note n) w = noted_names limits context n w
-played_names limits context (role.End e) w = part_names limits w (part_of e w)
+played_names limits context (Role.Note n) w = noted_names limits context n w
+played_names limits context (Role.End e) w = part_names limits w (part_of e w)
 played_names limits context _ w = []
 
 -- the names of a happening: those of the unit that ends with it, if one does
@@ -91,18 +76,18 @@ names_in limits context (h ∷ happenings) w =
 -- Tells whether an action acts within a routine: it gathers, notes something of a unit, ends a unit of a routine, or is one of a statement
 -- that holds others.
 abbrev pub ends_part : Ending → Bool
-ends_part ending.Statement = true
-ends_part ending.Condition = true
-ends_part ending.Start = true
-ends_part ending.Step = true
-ends_part ending.Loop = true
-ends_part ending.Switched = true
-ends_part ending.Case = true
+ends_part Ending.Statement = true
+ends_part Ending.Condition = true
+ends_part Ending.Start = true
+ends_part Ending.Step = true
+ends_part Ending.Loop = true
+ends_part Ending.Switched = true
+ends_part Ending.Case = true
 ends_part _ = false
 
 abbrev pub is_inner : Role → Bool
-is_inner (role.Note n) = not (ends_token n)
-is_inner (role.End e) = ends_part e
+is_inner (Role.Note n) = not (ends_token n)
+is_inner (Role.End e) = ends_part e
 is_inner _ = true
 
 abbrev pub AreInner : List Happening → Type 0
@@ -154,7 +139,7 @@ abbrev pub routine_told : Limits → Context → Place → List Local → Compil
 routine_told limits context place locals w =
     let ended = cases_ended limits w in
     let fault = fault_closed limits (kind_ended ended.is_embedded) ended.output.code in
-    with_full context.names place (full limits (act limits context place action.EndRoutine w).output)
+    with_full context.names place (full limits (act limits context place Action.EndRoutine w).output)
     (with_warnings context place locals (with_routine_fault context place ended.labels fault ended.report))
 
 -- Where the locals of a routine are new, and units of it are read up to its end, the warnings are those about the locals that no name of
@@ -162,11 +147,11 @@ routine_told limits context place locals w =
 abbrev pub UnusedAreWarned : Limits → Type 0
 UnusedAreWarned limits = (context : Context) (place : Place) (happenings : List Happening) (w : Compilation) → AreNew w.locals
     → AreInner happenings → (run limits context happenings w).is_replaced ≡ false
-    → (act limits context place action.EndRoutine (run limits context happenings w)).report
+    → (act limits context place Action.EndRoutine (run limits context happenings w)).report
     ≡ routine_told limits context place (unused (names_in limits context happenings w) w.locals) (run limits context happenings w)
 
 -- The locals of every header of a routine are new behind it, where those before it were, as between two pieces, where there are none.
 abbrev pub HeadersMakeNew : Limits → Type 0
 HeadersMakeNew limits = (context : Context) (place : Place) (names : List Seen) (w : Compilation) → AreNames (tokens_of names)
     → w.unit.is_over ≡ false → w.unit.headed ≡ no_locals → AreNew w.locals
-    → AreNew (act limits context place action.EndLocals (run limits context (happenings_before place (local_events names) names) w)).locals
+    → AreNew (act limits context place Action.EndLocals (run limits context (happenings_before place (local_events names) names) w)).locals

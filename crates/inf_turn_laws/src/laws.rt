@@ -1,10 +1,7 @@
 //! Laws of the turns through a piece.
 ghost use Rattle.inf_settings.specs.Bounds.{Limits};
-ghost use Rattle.inf_turn_laws.specs.Acted.{PiecesDoTheirActions};
-ghost use Rattle.inf_turn_laws.specs.Directives.{PiecesDoTheirDirectives};
-ghost use Rattle.inf_turn_laws.specs.RoutinePieces.{PiecesDoTheirRoutines};
-ghost use Rattle.inf_turn_laws.specs.Routines.{TurnsReadRoutinesWhole};
-ghost use Rattle.inf_turn_laws.specs.UnusedLocals.{HeadersMakeNew, UnusedAreWarned};
+ghost use Rattle.inf_turn_laws.specs.{Acted.PiecesDoTheirActions, Directives.PiecesDoTheirDirectives, RoutinePieces.PiecesDoTheirRoutines};
+ghost use Rattle.inf_turn_laws.specs.{Routines.TurnsReadRoutinesWhole, UnusedLocals.HeadersMakeNew, UnusedLocals.UnusedAreWarned};
 
 /// Shows that turns through a piece, whose kept tokens are a text of the grammar, have the effect of the text's actions, each at the
 /// place of the token that comes next, and of the tokens, which are taken in their order; and that conditional directives between them

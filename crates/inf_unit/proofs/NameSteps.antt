@@ -1,6 +1,5 @@
 -- The names of a source one by one.
-use Rattle.std.proofs.Common.{◌≡◌, ◌<◌, ◌+◌, ℕ, suc, zero, List, [], ◌∷◌, drop, length, refl, sym, ap, ◌∙◌, arith}
-use Rattle.std.specs.Prelude.{Option, Some, None}
+use Rattle.std.proofs.Common.{◌≡◌, ◌<◌, ◌+◌, ℕ, suc, zero, List, [], ◌∷◌, drop, length, refl, sym, ap, ◌∙◌, arith, Option, Some, None}
 use Rattle.inf_scanner.specs.declared.tokens.Place.{Place}
 use Rattle.inf_names.specs.Symbols.{Named, Standing, IsDeclared, IsUsed, standing_at, use_in}
 use Rattle.inf_report.specs.Messages.{Undeclared}

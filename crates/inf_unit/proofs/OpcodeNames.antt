@@ -1,15 +1,10 @@
 -- The name of an opcode, in any case, has no byte over 127.
-use Rattle.std.proofs.Common.{◌≡◌, ℕ, zero, suc, ◌+◌, ◌<◌, List, [], ◌∷◌, map, nat_lt, Bool, true, false, ◌&&◌, cond, None}
-use Rattle.std.proofs.Common.{refl, sym, ap, ◌∙◌, arith}
-use Rattle.std.specs.Char.{to_ascii_lowercase}
-use Rattle.std.specs.List.{list_all}
-use Rattle.std.specs.Prelude.{find}
-use Rattle.std.specs.Str.{IsAscii}
+use Rattle.std.proofs.Common.{◌≡◌, ℕ, zero, suc, ◌+◌, ◌<◌, List, [], ◌∷◌, map, nat_lt, Bool, true, false, ◌&&◌, cond, None, refl, sym, ap}
+use Rattle.std.proofs.Common.{◌∙◌, arith, IsAscii, find}
+use Rattle.std.proofs.{lemmas.Bool.Decides.nat_tests, lemmas.Slice.Eq.bytes_eq-Decides}
 use Rattle.std.proofs.lemmas.Bool.{and_parts, false_from_ne_true}
-use Rattle.std.proofs.lemmas.Bool.Decides.{nat_tests}
-use Rattle.std.proofs.lemmas.Slice.Eq.{bytes_eq-Decides}
-use Rattle.inf_opcode.specs.Names.{has_name, name_of, opcode_named, opcodes}
-use Rattle.inf_opcode.specs.declared.opcodes.Opcode.{Opcode}
+use Rattle.std.specs.{Char.to_ascii_lowercase, List.list_all}
+use Rattle.inf_opcode.specs.{Names.has_name, Names.name_of, Names.opcode_named, Names.opcodes, declared.opcodes.Opcode.Opcode}
 
 abbrev are_ascii : List ℕ → Bool
 are_ascii name = list_all (λ b. nat_lt b 128) name

@@ -1,9 +1,7 @@
 -- Meaning of the unit at hand of the code.
 use Rattle.std.specs.Prelude.{option_map}
 use Rattle.inf_names.specs.LocalList.{headed}
-use Rattle.inf_unit.specs.Crowds.{crowd}
-use Rattle.inf_unit.specs.Units.{Unit}
-use Rattle.inf_unit.specs.declared.unit.Unit.{Unit as CodeUnit}
+use Rattle.inf_unit.specs.{Crowds.crowd, Units.Unit, declared.unit.Unit.Unit as CodeUnit}
 
 abbrev pub unit : CodeUnit → Unit
 unit u = record {

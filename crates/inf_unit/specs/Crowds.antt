@@ -3,14 +3,12 @@
 -- is told before all else that is wrong, and whether it passes a setting that is told before that one: by a name or a word that did not
 -- come before, or by what it lays beside bytes. The number of an action depends on the actions before it.
 use Rattle.std.specs.Prelude.{ℕ, List, [], length, take, Bool, true, false, ◌&&◌, ◌||◌, Option, Some, None, is_none}
+use Rattle.inf_expressions.specs.{declared.findings.Finding.Finding, declared.operators.Operand.Operand}
 use Rattle.inf_expressions.specs.Findings.{is_before, least_of_both}
-use Rattle.inf_expressions.specs.declared.findings.Finding.{Finding}
-use Rattle.inf_expressions.specs.declared.operators.Operand.{Operand}
 use Rattle.inf_gathering.specs.declared.gathering.Extent.{Extent}
 use Rattle.inf_names.specs.Symbols.{Table, no_names}
 use Rattle.inf_scanner.specs.declared.tokens.Place.{Place}
-use Rattle.inf_unit.specs.LongLines.{LongLine, no_tokens}
-use Rattle.inf_unit.specs.declared.crowds.Crowd.{Crowd as CodeCrowd}
+use Rattle.inf_unit.specs.{LongLines.LongLine, LongLines.no_tokens, declared.crowds.Crowd.Crowd as CodeCrowd}
 
 -- The values that are kept: the number of their tokens, with the names and the words that came; the number of their items, and the least
 -- number of bytes of their code; the extent of what was gathered of them; the operands of their leaves; their new actions; and the least finding about them. Of the value at hand:

@@ -1,11 +1,8 @@
 -- A line of grammar that has more tokens than the grammar may have bytes. Such a line passes that setting, if nothing is wrong with
 -- it. For a further token it matters only whether something is wrong with it, and whether it passes a setting that is told before
 -- that one: there are more names, or more words, than there may be.
+use Rattle.std.specs.{BTreeMap.insert_entry, BTreeMap.is_at, Cmp.Lexicographic.slice_cmp, Map.lookup, Ordering.nat_cmp}
 use Rattle.std.specs.Prelude.{ℕ, ◌||◌, List, [], length, nat_lt, Bool, true, false, if◌then◌else◌, is_some}
-use Rattle.std.specs.Ordering.{nat_cmp}
-use Rattle.std.specs.Cmp.Lexicographic.{slice_cmp}
-use Rattle.std.specs.Map.{lookup}
-use Rattle.std.specs.BTreeMap.{is_at, insert_entry}
 use Rattle.inf_scanner.specs.declared.tokens.Place.{Place}
 use Rattle.inf_names.specs.Symbols.{Table, no_names, with_used}
 

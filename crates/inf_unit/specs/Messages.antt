@@ -2,22 +2,16 @@
 use Rattle.std.specs.Prelude.{ℕ, List, [], ◌++◌, ◌==◌, Bool, true, if◌then◌else◌, Option, Some, None, slice_get, unwrap_or}
 use Rattle.inf_scanner.specs.declared.tokens.Place.{Place}
 use Rattle.inf_assembler.specs.declared.routines.Limit.{Limit as CodeLimit}
-use Rattle.inf_assembler.specs.declared.routines.Limit.TheVariants as code_setting
 use Rattle.inf_settings.specs.declared.setting.Setting.{Setting}
-use Rattle.inf_settings.specs.declared.setting.Setting.TheVariants as setting
 use Rattle.inf_expressions.specs.declared.findings.UnitError.{UnitError}
-use Rattle.inf_expressions.specs.declared.findings.UnitError.TheVariants as unit_error
-use Rattle.inf_report.specs.Messages.{Location, Message, ErrorText, WarningText, Exceeded, FatalText, Told, veneer_line}
-use Rattle.inf_report.specs.Messages.{ConstantOutOfRange, LabelTwice, MisplacedDefault, MisplacedSwitches, NotConstant, NothingToLeave}
-use Rattle.inf_report.specs.Messages.{NoZscii, NumberOutOfRange, SystemName, TooMany, TooManyArguments, UnknownEscape, UsedBefore}
-use Rattle.inf_report.specs.Messages.{WrongAbbreviation, WrongKind, WrongOpcode, WrongVerb}
-use Rattle.inf_report.specs.OwnWords.{Words}
-use Rattle.inf_report.specs.declared.messages.FixedLimit.TheVariants as countable
-use Rattle.inf_report.specs.declared.messages.Kind.{Kind}
-use Rattle.inf_report.specs.declared.messages.Kind.TheVariants as weight
+use Rattle.inf_report.specs.{OwnWords.Words, declared.messages.FixedLimit.FixedLimit, declared.messages.Kind.Kind}
+use Rattle.inf_report.specs.Messages.{Location, Message, ErrorText, WarningText, Exceeded, FatalText, Told, veneer_line, ConstantOutOfRange}
+use Rattle.inf_report.specs.Messages.{LabelTwice, MisplacedDefault, MisplacedSwitches, NotConstant, NothingToLeave, NoZscii}
+use Rattle.inf_report.specs.Messages.{NumberOutOfRange, SystemName, TooMany, TooManyArguments, UnknownEscape, UsedBefore, WrongAbbreviation}
+use Rattle.inf_report.specs.Messages.{WrongKind, WrongOpcode, WrongVerb}
 use Rattle.inf_report.specs.Reports.{Counts, no_counts, error_lines, warning_lines, fatal_lines, plain_lines, statistic_lines}
-use Rattle.inf_report.specs.Reports.{closing_lines}
-use Rattle.inf_report.specs.Reports.{with_error as error_counted, with_warning as warning_counted, with_fatal as fatal_counted}
+use Rattle.inf_report.specs.Reports.{closing_lines, with_error as error_counted, with_warning as warning_counted}
+use Rattle.inf_report.specs.Reports.{with_fatal as fatal_counted}
 
 -- Names of the files, as they were opened, by their numbers.
 abbrev pub FileNames : Type 0
@@ -41,23 +35,23 @@ pub record Diagnostic : Type 0 where
 -- declared first, nor of what there are too many: these two errors are told where it is known. Here the name is one of the language, and
 -- there are too many values.
 unfoldable pub message_of : UnitError → Told → List ℕ → Message
-message_of unit_error.NumberOutOfRange t bytes = NumberOutOfRange
-message_of unit_error.UnknownEscape t bytes = UnknownEscape
-message_of unit_error.NoZscii t bytes = NoZscii
-message_of unit_error.Declared t bytes = SystemName bytes
-message_of unit_error.WrongKind t bytes = WrongKind t
-message_of unit_error.UsedBefore t bytes = UsedBefore bytes
-message_of unit_error.NotConstant t bytes = NotConstant
-message_of unit_error.ConstantOutOfRange t bytes = ConstantOutOfRange
-message_of unit_error.TooManyArguments t bytes = TooManyArguments
-message_of unit_error.WrongOpcode t bytes = WrongOpcode bytes
-message_of unit_error.LabelTwice t bytes = LabelTwice bytes
-message_of unit_error.NothingToLeave t bytes = NothingToLeave
-message_of unit_error.TooMany t bytes = TooMany countable.Values
-message_of unit_error.MisplacedSwitches t bytes = MisplacedSwitches
-message_of unit_error.WrongAbbreviation t bytes = WrongAbbreviation
-message_of unit_error.WrongVerb t bytes = WrongVerb t
-message_of unit_error.MisplacedDefault t bytes = MisplacedDefault
+message_of UnitError.NumberOutOfRange t bytes = NumberOutOfRange
+message_of UnitError.UnknownEscape t bytes = UnknownEscape
+message_of UnitError.NoZscii t bytes = NoZscii
+message_of UnitError.Declared t bytes = SystemName bytes
+message_of UnitError.WrongKind t bytes = WrongKind t
+message_of UnitError.UsedBefore t bytes = UsedBefore bytes
+message_of UnitError.NotConstant t bytes = NotConstant
+message_of UnitError.ConstantOutOfRange t bytes = ConstantOutOfRange
+message_of UnitError.TooManyArguments t bytes = TooManyArguments
+message_of UnitError.WrongOpcode t bytes = WrongOpcode bytes
+message_of UnitError.LabelTwice t bytes = LabelTwice bytes
+message_of UnitError.NothingToLeave t bytes = NothingToLeave
+message_of UnitError.TooMany t bytes = TooMany FixedLimit.Values
+message_of UnitError.MisplacedSwitches t bytes = MisplacedSwitches
+message_of UnitError.WrongAbbreviation t bytes = WrongAbbreviation
+message_of UnitError.WrongVerb t bytes = WrongVerb t
+message_of UnitError.MisplacedDefault t bytes = MisplacedDefault
 
 -- Lines so far, and the counts of the messages in them.
 pub record Reported : Type 0 where
@@ -92,9 +86,9 @@ with_plain words r = record r { lines = r.lines ++ plain_lines words r.counts }
 -- A message in the own words of the source, of a weight or none, of a unit that begins at a line.
 abbrev pub with_words : Location → Option Kind → Words → Reported → Reported
 with_words at None words r = with_plain words r
-with_words at (Some weight.Error) words r = with_error at at (ErrorText words) r
-with_words at (Some weight.Warning) words r = with_warning at (WarningText words) r
-with_words at (Some weight.Fatal) words r = with_fatal at (FatalText words) r
+with_words at (Some Kind.Error) words r = with_error at at (ErrorText words) r
+with_words at (Some Kind.Warning) words r = with_warning at (WarningText words) r
+with_words at (Some Kind.Fatal) words r = with_fatal at (FatalText words) r
 
 -- The lines were written.
 abbrev pub flushed : Reported → Reported
@@ -115,9 +109,9 @@ with_fault files unit (Some b) r = with_error (location files b.place) (location
 
 -- Setting of a limit of code.
 abbrev pub setting_of : CodeLimit → Setting
-setting_of code_setting.Labels = setting.Labels
-setting_of code_setting.Code = setting.Code
-setting_of code_setting.Refs = setting.References
+setting_of CodeLimit.Labels = Setting.Labels
+setting_of CodeLimit.Code = Setting.Code
+setting_of CodeLimit.Refs = Setting.References
 
 -- A setting that a unit would pass ends the compilation. It is told where the unit begins, behind the messages of the unit.
 abbrev pub with_full : FileNames → Place → Option Setting → Reported → Reported

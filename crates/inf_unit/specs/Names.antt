@@ -1,11 +1,8 @@
 -- The names of a source, and the routine with which its story begins.
 use Rattle.std.specs.Prelude.{ℕ, List, [], ◌∷◌, codes, false, Option, Some, None}
 use Rattle.inf_scanner.specs.declared.tokens.Place.{Place}
+use Rattle.inf_names.specs.{declared.meanings.Meaning.Meaning, declared.symbols.Found.Found}
 use Rattle.inf_names.specs.Symbols.{Table, Named, Standing, IsDeclared, IsUsed, no_names, found_in}
-use Rattle.inf_names.specs.declared.meanings.Meaning.{Meaning}
-use Rattle.inf_names.specs.declared.meanings.Meaning.TheVariants as meaning
-use Rattle.inf_names.specs.declared.symbols.Found.{Found}
-use Rattle.inf_names.specs.declared.symbols.Found.TheVariants as found
 use Rattle.inf_report.specs.Messages.{Undeclared}
 use Rattle.inf_unit.specs.Messages.{FileNames, Reported, location, with_error}
 
@@ -18,11 +15,11 @@ abbrev pub main_name : List ℕ
 main_name = codes "main"
 
 abbrev pub routine_of : Meaning → Option ℕ
-routine_of (meaning.Routine place) = Some place
+routine_of (Meaning.Routine place) = Some place
 routine_of _ = None
 
 abbrev pub routine_in : Found Place → Option ℕ
-routine_in (found.Declared m place) = routine_of m
+routine_in (Found.Declared m place) = routine_of m
 routine_in _ = None
 
 -- Place of the routine with which a story begins.

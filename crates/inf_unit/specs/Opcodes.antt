@@ -1,9 +1,7 @@
 -- The opcodes of assembly lines.
 use Rattle.std.specs.Prelude.{ℕ, List, Bool, false, nat_lt, if◌then◌else◌, Option, Some, None}
 use Rattle.std.specs.List.{list_all}
-use Rattle.inf_opcode.specs.Names.{opcode_named}
-use Rattle.inf_opcode.specs.Opcodes.{row_of}
-use Rattle.inf_opcode.specs.declared.opcodes.Opcode.{Opcode}
+use Rattle.inf_opcode.specs.{Names.opcode_named, Opcodes.row_of, declared.opcodes.Opcode.Opcode}
 
 -- Opcode of a name, in any case. Names of a source have no byte over 127, and no opcode has one.
 unfoldable pub opcode_of : List ℕ → Option Opcode

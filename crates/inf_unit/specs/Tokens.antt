@@ -1,11 +1,7 @@
 -- A token as a source spells it, and tests of one.
 use Rattle.std.specs.Prelude.{ℕ, List, ◌==◌, Bool, true, false, Option, Some, None}
-use Rattle.inf_syntax.specs.Atoms.{mark_atom}
-use Rattle.inf_syntax.specs.declared.words.Keyword.{Keyword}
-use Rattle.inf_scanner.specs.declared.tokens.Mark.{Mark}
-use Rattle.inf_scanner.specs.declared.tokens.TokenKind.{TokenKind}
-use Rattle.inf_scanner.specs.declared.tokens.TokenKind.TheVariants as kind
-use Rattle.inf_scanner.specs.declared.tokens.Place.{Place}
+use Rattle.inf_syntax.specs.{Atoms.mark_atom, declared.words.Keyword.Keyword}
+use Rattle.inf_scanner.specs.{declared.tokens.Mark.Mark, declared.tokens.Place.Place, declared.tokens.TokenKind.TokenKind}
 use Rattle.inf_report.specs.Messages.{Told, Bytes, Quote, Text, End}
 use Rattle.inf_names.specs.Spellings.{Name}
 use Rattle.inf_unit.specs.Atoms.{atom_of_kind, keyword_of_kind}
@@ -28,24 +24,24 @@ keyword t = keyword_of_kind t.kind t.bytes
 
 -- Tells whether a token is a mark.
 abbrev pub is_mark : Mark → TokenKind → Bool
-is_mark m (kind.Mark n) = mark_atom n == mark_atom m
+is_mark m (TokenKind.Mark n) = mark_atom n == mark_atom m
 is_mark m _ = false
 
 abbrev pub is_end : TokenKind → Bool
-is_end kind.End = true
+is_end TokenKind.End = true
 is_end _ = false
 
 -- Number that a token is, if it is one.
 abbrev pub number_of : TokenKind → Option ℕ
-number_of (kind.Number number) = Some number
+number_of (TokenKind.Number number) = Some number
 number_of _ = None
 
 -- Form in which messages name a token.
 abbrev pub told_kind : TokenKind → List ℕ → Told
-told_kind kind.Text bytes = Text
-told_kind (kind.Char c) bytes = Quote bytes
-told_kind (kind.Word w) bytes = Quote bytes
-told_kind kind.End bytes = End
+told_kind TokenKind.Text bytes = Text
+told_kind (TokenKind.Char c) bytes = Quote bytes
+told_kind (TokenKind.Word w) bytes = Quote bytes
+told_kind TokenKind.End bytes = End
 told_kind _ bytes = Bytes bytes
 
 abbrev pub told : SourceToken → Told
@@ -53,7 +49,7 @@ told t = told_kind t.kind t.bytes
 
 -- Name that a token is, if it is one.
 abbrev pub name_of_kind : TokenKind → List ℕ → Place → Option Name
-name_of_kind kind.Name bytes place = Some (record { bytes = bytes; place = place })
+name_of_kind TokenKind.Name bytes place = Some (record { bytes = bytes; place = place })
 name_of_kind _ bytes place = None
 
 abbrev pub name_of : SourceToken → Option Name

@@ -1,39 +1,20 @@
 -- The unit at hand: its tokens, and the parts that the actions of the grammar gather of them.
 use Rattle.std.specs.Prelude.{ℕ, ◌+◌, ◌-◌, ◌==◌, List, [], ◌∷◌, ◌++◌, length, drop, min, slice_get, take, nat_lt, Bool, true, false, ◌&&◌}
 use Rattle.std.specs.Prelude.{◌||◌, if◌then◌else◌, not, Option, Some, None, option_map, unwrap_or}
-use Rattle.inf_scanner.specs.declared.tokens.Mark.{Mark}
-use Rattle.inf_scanner.specs.declared.tokens.Mark.TheVariants as mark
-use Rattle.inf_scanner.specs.declared.tokens.Place.{Place}
-use Rattle.inf_scanner.specs.declared.tokens.TokenKind.{TokenKind}
-use Rattle.inf_scanner.specs.declared.tokens.TokenKind.TheVariants as kind
+use Rattle.inf_scanner.specs.{declared.tokens.Mark.Mark, declared.tokens.Place.Place, declared.tokens.TokenKind.TokenKind}
 use Rattle.inf_gathering.specs.declared.gathering.Leaf.{Leaf}
-use Rattle.inf_gathering.specs.declared.gathering.Leaf.TheVariants as leaf
 use Rattle.inf_gathering.specs.Gatherings.{Gathering, cut, extent, nothing_gathered, numbers, with_bracket, with_call, with_closed_bracket}
 use Rattle.inf_gathering.specs.Gatherings.{with_comma}
 use Rattle.inf_gathering.specs.Gatherings.{with_leaf, with_list, with_part, with_prefix, with_rule, with_suffix, with_test, with_two}
-use Rattle.inf_expressions.specs.Findings.{least_of_both}
-use Rattle.inf_expressions.specs.declared.findings.Finding.{Finding}
-use Rattle.inf_names.specs.Locals.{Headed, no_locals, with_local}
-use Rattle.inf_names.specs.Spellings.{Name}
-use Rattle.inf_opcode.specs.declared.opcodes.Opcode.{Opcode}
-use Rattle.inf_opcode.specs.Opcodes.{row_of}
-use Rattle.inf_syntax.specs.declared.actions.Action.{Action}
-use Rattle.inf_syntax.specs.declared.words.Keyword.{Keyword}
+use Rattle.inf_expressions.specs.{Findings.least_of_both, declared.findings.Finding.Finding}
+use Rattle.inf_names.specs.{Locals.Headed, Locals.no_locals, Locals.with_local, Spellings.Name}
+use Rattle.inf_opcode.specs.{Opcodes.row_of, declared.opcodes.Opcode.Opcode}
+use Rattle.inf_syntax.specs.{declared.actions.Action.Action, declared.words.Keyword.Keyword}
+use Rattle.inf_unit.specs.{Items.code_behind, Items.is_own, Items.rule_of, LongLines.LongLine, LongLines.no_tokens, Opcodes.opcode_of}
+use Rattle.inf_unit.specs.{Opcodes.takes_text, Roles.role_of, declared.items.Item.Item, declared.items.PrintRule.PrintRule}
+use Rattle.inf_unit.specs.{declared.roles.Note.Note, declared.roles.Role.Role, declared.steps.GatherStep.GatherStep}
 use Rattle.inf_unit.specs.Tokens.{SourceToken, is_mark, keyword, name_of}
-use Rattle.inf_unit.specs.Roles.{role_of}
-use Rattle.inf_unit.specs.declared.roles.Note.{Note}
-use Rattle.inf_unit.specs.declared.roles.Note.TheVariants as note
-use Rattle.inf_unit.specs.declared.roles.Role.{Role}
-use Rattle.inf_unit.specs.declared.roles.Role.TheVariants as role
-use Rattle.inf_unit.specs.declared.steps.GatherStep.{GatherStep}
-use Rattle.inf_unit.specs.declared.steps.GatherStep.TheVariants as step
-use Rattle.inf_unit.specs.declared.items.Item.{Item}
-use Rattle.inf_unit.specs.declared.items.Item.TheVariants as item
-use Rattle.inf_unit.specs.LongLines.{LongLine, no_tokens}
 use Rattle.inf_unit.specs.Crowds.{Crowd, crowd_or, is_telling, with_value, without_value}
-use Rattle.inf_unit.specs.declared.items.PrintRule.{PrintRule}
-use Rattle.inf_unit.specs.Items.{code_behind, is_own, rule_of}
-use Rattle.inf_unit.specs.Opcodes.{opcode_of, takes_text}
 
 -- The unit at hand: its tokens so far, before which the first of those between the unit before and its beginning stands, where
 -- there are such; the place among them where it begins; the expressions gathered so far; the locals that it names, where it is the
@@ -97,14 +78,14 @@ over has_last u = record no_unit { tokens = behind_held u.held u.tokens; is_over
 -- Tokens
 
 abbrev pub opened_more : Mark → ℕ → ℕ
-opened_more mark.OpenParenthesis depth = min (depth + 1) 4294967295
-opened_more mark.OpenBrace depth = min (depth + 1) 4294967295
-opened_more mark.CloseParenthesis depth = depth - 1
-opened_more mark.CloseBrace depth = depth - 1
+opened_more Mark.OpenParenthesis depth = min (depth + 1) 4294967295
+opened_more Mark.OpenBrace depth = min (depth + 1) 4294967295
+opened_more Mark.CloseParenthesis depth = depth - 1
+opened_more Mark.CloseBrace depth = depth - 1
 opened_more _ depth = depth
 
 abbrev pub depth_behind : TokenKind → ℕ → ℕ
-depth_behind (kind.Mark m) depth = opened_more m depth
+depth_behind (TokenKind.Mark m) depth = opened_more m depth
 depth_behind _ depth = depth
 
 -- A token is taken.
@@ -150,7 +131,7 @@ last_place tokens other = unwrap_or (place_at tokens (length tokens - 1)) other
 
 -- Bytes of the first text among the tokens.
 abbrev pub quoted_by : TokenKind → List ℕ → List ℕ → List ℕ
-quoted_by kind.Text bytes others = bytes
+quoted_by TokenKind.Text bytes others = bytes
 quoted_by _ bytes others = others
 
 abbrev pub quoted_in : List SourceToken → List ℕ
@@ -164,7 +145,7 @@ is_some_mark m (Some k) = is_mark m k
 
 -- Order of the name that a directive declares: behind its word, before which a `#` may stand.
 abbrev pub name_order : List SourceToken → ℕ
-name_order tokens = if is_some_mark mark.Hash (kind_at tokens 0) then 2 else 1
+name_order tokens = if is_some_mark Mark.Hash (kind_at tokens 0) then 2 else 1
 
 -- Word of the grammar at a place of the unit, if the token there is one.
 abbrev pub keyword_by : Option SourceToken → Option Keyword
@@ -225,15 +206,15 @@ next_place at = min (at + 1) 18446744073709551615
 
 -- Leaf that a token at a place of its unit is.
 abbrev pub leaf_of : ℕ → TokenKind → Leaf
-leaf_of at (kind.Number n) = leaf.Number n
-leaf_of at (kind.Char c) = leaf.Char c
-leaf_of at (kind.Word w) = leaf.Word w
-leaf_of at kind.Text = leaf.Text at
-leaf_of at _ = leaf.Name at
+leaf_of at (TokenKind.Number n) = Leaf.Number n
+leaf_of at (TokenKind.Char c) = Leaf.Char c
+leaf_of at (TokenKind.Word w) = Leaf.Word w
+leaf_of at TokenKind.Text = Leaf.Text at
+leaf_of at _ = Leaf.Name at
 
 -- Tells whether the unit is an assembly line.
 abbrev pub is_assembly : Unit → Bool
-is_assembly u = is_some_mark mark.At (kind_at u.tokens u.begun)
+is_assembly u = is_some_mark Mark.At (kind_at u.tokens u.begun)
 
 -- Tells whether the token at a place is an operand of an assembly line by itself, if it is a name: the operand begins with it, and
 -- nothing stands behind a name.
@@ -245,7 +226,7 @@ abbrev pub is_alone : ℕ → Unit → Bool
 is_alone at u = is_first at u.outer && is_assembly u
 
 abbrev pub told_leaf : Bool → Leaf → Leaf
-told_leaf true (leaf.Name at) = leaf.Alone at
+told_leaf true (Leaf.Name at) = Leaf.Alone at
 told_leaf _ l = l
 
 abbrev pub with_last : ℕ → Bool → Option TokenKind → Gathering → Gathering
@@ -257,8 +238,8 @@ leaf_gathered u = let at = last_leaf u in record u { gathering = with_last at (i
 
 -- An action, and a system constant, is named by its token. It begins at the sign before that, if one is there.
 abbrev pub is_sign : Option TokenKind → Bool
-is_sign (Some (kind.Mark mark.DoubleHash)) = true
-is_sign (Some (kind.Mark mark.Hash)) = true
+is_sign (Some (TokenKind.Mark Mark.DoubleHash)) = true
+is_sign (Some (TokenKind.Mark Mark.Hash)) = true
 is_sign _ = false
 
 abbrev pub marked_from : List SourceToken → ℕ → ℕ
@@ -267,33 +248,33 @@ marked_from tokens at = if is_sign (kind_at tokens (at - 1)) then at - 1 else at
 abbrev pub action_gathered : Unit → Unit
 action_gathered u =
     let at = last_leaf u in
-    record u { gathering = with_leaf (order (marked_from u.tokens at)) (order at) (leaf.Action at) u.gathering }
+    record u { gathering = with_leaf (order (marked_from u.tokens at)) (order at) (Leaf.Action at) u.gathering }
 
 abbrev pub system_gathered : Unit → Unit
 system_gathered u =
     let at = last_leaf u in
-    record u { gathering = with_leaf (order (marked_from u.tokens at)) (order at) (leaf.System at) u.gathering }
+    record u { gathering = with_leaf (order (marked_from u.tokens at)) (order at) (Leaf.System at) u.gathering }
 
 -- Gathering of a step that has to do with an operator, a list or a bracket, behind some tokens.
 abbrev pub gathered : GatherStep → List SourceToken → Gathering → Gathering
-gathered step.Leaf tokens g = g
-gathered step.Action tokens g = g
-gathered step.System tokens g = g
-gathered (step.Prefix op) tokens g = with_prefix op g
-gathered (step.Suffix op) tokens g = with_suffix op g
-gathered (step.Two op) tokens g = with_two op g
-gathered step.Comma tokens g = with_comma g
-gathered step.List tokens g = with_list g
-gathered step.Part tokens g = with_part g
-gathered step.Call tokens g = with_call g
-gathered (step.Test op) tokens g = with_test op g
-gathered step.Bracket tokens g = with_bracket (order (length tokens - 1)) g
-gathered step.Bracketed tokens g = with_closed_bracket g
+gathered GatherStep.Leaf tokens g = g
+gathered GatherStep.Action tokens g = g
+gathered GatherStep.System tokens g = g
+gathered (GatherStep.Prefix op) tokens g = with_prefix op g
+gathered (GatherStep.Suffix op) tokens g = with_suffix op g
+gathered (GatherStep.Two op) tokens g = with_two op g
+gathered GatherStep.Comma tokens g = with_comma g
+gathered GatherStep.List tokens g = with_list g
+gathered GatherStep.Part tokens g = with_part g
+gathered GatherStep.Call tokens g = with_call g
+gathered (GatherStep.Test op) tokens g = with_test op g
+gathered GatherStep.Bracket tokens g = with_bracket (order (length tokens - 1)) g
+gathered GatherStep.Bracketed tokens g = with_closed_bracket g
 
 abbrev pub stepped : GatherStep → Unit → Unit
-stepped step.Leaf u = leaf_gathered u
-stepped step.Action u = action_gathered u
-stepped step.System u = system_gathered u
+stepped GatherStep.Leaf u = leaf_gathered u
+stepped GatherStep.Action u = action_gathered u
+stepped GatherStep.System u = system_gathered u
 stepped s u = record u { gathering = gathered s u.tokens u.gathering }
 
 -- One item more beside the expressions.
@@ -309,8 +290,8 @@ abbrev pub ruled_by : PrintRule → Unit → Unit
 ruled_by r u =
     record u {
       gathering = with_rule (is_own r) u.gathering;
-      items = u.items ++ item.Ruled r ∷ [];
-      code = code_behind (item.Ruled r) u.code;
+      items = u.items ++ Item.Ruled r ∷ [];
+      code = code_behind (Item.Ruled r) u.code;
     }
 
 abbrev pub ruled : Unit → Unit
@@ -318,7 +299,7 @@ ruled u = ruled_by (rule_of (bytes_at u.tokens (length u.tokens - 2))) u
 
 -- A text behind an opcode and before the semicolon is an operand, unless the opcode takes a text of its own.
 abbrev pub opcode_text : Unit → Unit
-opcode_text u = if takes_text (bytes_at u.tokens (next_place u.begun)) then with_item (item.Text (last_leaf u)) u else leaf_gathered u
+opcode_text u = if takes_text (bytes_at u.tokens (next_place u.begun)) then with_item (Item.Text (last_leaf u)) u else leaf_gathered u
 
 -- A text that is printed stands behind a comma, and neither is kept.
 abbrev pub text_passed : Unit → Unit
@@ -338,7 +319,7 @@ last_passed u = record u { tokens = take (last_leaf u) u.tokens }
 
 -- The last token is a semicolon beside the entries of an array. Right behind another one it is not kept.
 abbrev pub is_again : ℕ → List SourceToken → Bool
-is_again at tokens = is_some_mark mark.Semicolon (kind_at tokens (at - 1)) && nat_lt 0 at
+is_again at tokens = is_some_mark Mark.Semicolon (kind_at tokens (at - 1)) && nat_lt 0 at
 
 abbrev pub semicolon_taken : Unit → Unit
 semicolon_taken u = if is_again (last_leaf u) u.tokens then last_passed u else u
@@ -395,40 +376,40 @@ value_sifted f u = value_sifted_by u.crowd f u
 
 -- Unit after a note.
 abbrev pub noted : Note → Unit → Unit
-noted note.Begin u = begun u
-noted note.Local u = headed_more u
-noted note.Arrow u = u
-noted note.Semicolon u = semicolon_taken u
-noted (note.Outer is_sure) u = record u { outer = Some (length u.tokens); is_sure = is_sure }
-noted note.OuterWord u = record u { outer = Some (last_leaf u); is_sure = true }
-noted note.OuterSure u = record u { is_sure = true }
-noted note.OuterEnd u = record u { outer = None }
-noted note.Hold u = record u { held = Some (length u.tokens); outer = None }
-noted note.PrintText u = printed (item.Text (last_leaf u)) u
-noted note.PrintValue u = printed item.Value u
-noted note.PrintRuled u = record u { outer = None }
-noted note.Rule u = ruled u
-noted note.Set u = with_item item.Set u
-noted note.Clear u = with_item item.Clear u
-noted note.Default u = with_item item.Default u
-noted note.AsmText u = opcode_text u
-noted note.Store u = with_item (item.Store (last_leaf u)) u
-noted (note.Branch sense) u = with_item (item.Branch (last_leaf u) sense) u
-noted note.LineToken u = u
-noted note.VerbWord u = u
+noted Note.Begin u = begun u
+noted Note.Local u = headed_more u
+noted Note.Arrow u = u
+noted Note.Semicolon u = semicolon_taken u
+noted (Note.Outer is_sure) u = record u { outer = Some (length u.tokens); is_sure = is_sure }
+noted Note.OuterWord u = record u { outer = Some (last_leaf u); is_sure = true }
+noted Note.OuterSure u = record u { is_sure = true }
+noted Note.OuterEnd u = record u { outer = None }
+noted Note.Hold u = record u { held = Some (length u.tokens); outer = None }
+noted Note.PrintText u = printed (Item.Text (last_leaf u)) u
+noted Note.PrintValue u = printed Item.Value u
+noted Note.PrintRuled u = record u { outer = None }
+noted Note.Rule u = ruled u
+noted Note.Set u = with_item Item.Set u
+noted Note.Clear u = with_item Item.Clear u
+noted Note.Default u = with_item Item.Default u
+noted Note.AsmText u = opcode_text u
+noted Note.Store u = with_item (Item.Store (last_leaf u)) u
+noted (Note.Branch sense) u = with_item (Item.Branch (last_leaf u) sense) u
+noted Note.LineToken u = u
+noted Note.VerbWord u = u
 
 -- Unit after an action has gathered or noted something; an action that ends a unit, or has to do with the statements around it,
 -- does neither.
 abbrev pub played : Role → Unit → Unit
-played (role.Gather s) u = stepped s u
-played (role.Note n) u = noted n u
-played (role.End e) u = u
-played (role.Open o) u = u
-played role.Join u = u
-played role.Close u = u
-played role.Deeper u = u
-played role.MaybeDeeper u = u
-played role.Nothing u = u
+played (Role.Gather s) u = stepped s u
+played (Role.Note n) u = noted n u
+played (Role.End e) u = u
+played (Role.Open o) u = u
+played Role.Join u = u
+played Role.Close u = u
+played Role.Deeper u = u
+played Role.MaybeDeeper u = u
+played Role.Nothing u = u
 
 abbrev pub acted : Action → Unit → Unit
 acted a u = played (role_of a) u
@@ -441,7 +422,7 @@ line_opcode u = opcode_of (bytes_at u.tokens (next_place u.begun))
 
 -- Place of the name of the label to which an assembly line jumps, by its opcode and its operands; the name is then no expression.
 abbrev pub jump_label : List Leaf → Option ℕ
-jump_label ((leaf.Alone at) ∷ []) = Some at
+jump_label ((Leaf.Alone at) ∷ []) = Some at
 jump_label _ = None
 
 abbrev pub jump_by : Option Opcode → List Leaf → Option ℕ
@@ -454,7 +435,7 @@ jump_of u = if is_assembly u then jump_by (line_opcode u) u.gathering.leaves els
 abbrev pub prepared_by : Option ℕ → Unit → Unit
 prepared_by None u = u
 prepared_by (Some at) u =
-    record u { gathering = nothing_gathered; items = u.items ++ item.Jump at ∷ []; code = code_behind (item.Jump at) u.code }
+    record u { gathering = nothing_gathered; items = u.items ++ Item.Jump at ∷ []; code = code_behind (Item.Jump at) u.code }
 
 abbrev pub prepared : Unit → Unit
 prepared u = prepared_by (jump_of u) u

@@ -1,6 +1,5 @@
 //! Items that the units of a routine have beside their expressions.
-ghost use Rattle.std.specs.Prelude.{◌≡◌};
-ghost use Rattle.std.specs.Str.{bytes_eq};
+ghost use Rattle.std.specs.Prelude.{◌≡◌, bytes_eq};
 ghost use Rattle.inf_unit.specs.Items.{code_behind, is_own, least_code, least_of_rule, rule_of};
 
 /// A rule by which a value is printed (Designer's Manual, fourth edition, section 1.11).

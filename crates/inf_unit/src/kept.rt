@@ -1,7 +1,6 @@
 //! Tokens that are kept.
 ghost use Rattle.std.specs.Prelude.{◌≡◌, ◌≤◌, IfOk, IfSome, length, option_map, true};
-ghost use Rattle.inf_unit.specs.Atoms.{atom_of_kind, is_short};
-ghost use Rattle.inf_unit.specs.KeptBytes.{kept_bytes};
+ghost use Rattle.inf_unit.specs.{Atoms.atom_of_kind, Atoms.is_short, KeptBytes.kept_bytes};
 
 use crate::tokens::SourceToken;
 use arrayvec::ArrayVec;
@@ -57,8 +56,7 @@ pub struct Kept {
 }
 
 impl Kept {
-    ghost use Rattle.inf_unit.specs.Kept.{as_spelled};
-    ghost use Rattle.inf_unit.specs.Spelled.{spelled};
+    ghost use Rattle.inf_unit.specs.{Kept.as_spelled, Spelled.spelled};
 
     /// Returns a copy of `token`.
     #[inline(always)]

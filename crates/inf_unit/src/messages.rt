@@ -1,8 +1,6 @@
 //! Messages of a compilation so far, and their places.
 ghost use Rattle.std.specs.Prelude.{◌≡◌, IsOk, OnErr, OnOk, option_map};
-ghost use Rattle.inf_report.specs.Meant.{located, meant, named, worded};
-ghost use Rattle.inf_report.specs.Messages.{number_of};
-ghost use Rattle.inf_report.specs.Writing.{Writes};
+ghost use Rattle.inf_report.specs.{Meant.located, Meant.meant, Meant.named, Meant.worded, Messages.number_of, Writing.Writes};
 ghost use Rattle.inf_expressions.specs.Findings.{error_number};
 ghost use Rattle.inf_unit.specs.Diagnostics.{blamed};
 ghost use Rattle.inf_unit.specs.Messages.{flushed, location, message_of, none_reported, setting_of, with_closing, with_error, with_fatal};

@@ -1,7 +1,6 @@
 //! The characters of texts.
 ghost use Rattle.std.specs.Prelude.{◌≡◌, IfOk};
-ghost use Rattle.inf_unit.specs.Texts.{read_of};
-ghost use Rattle.inf_unit.specs.Spelled.{spelled};
+ghost use Rattle.inf_unit.specs.{Spelled.spelled, Texts.read_of};
 
 use crate::tokens::SourceToken;
 use inf_scanner::TokenKind;

@@ -38,8 +38,7 @@ fn atom_at(kind: TokenKind, bytes: &[u8], is_class: bool) -> u8
 
 impl<'a> SourceToken<'a> {
     ghost use Rattle.inf_report.specs.Meant.{named};
-    ghost use Rattle.inf_unit.specs.Spelled.{spelled};
-    ghost use Rattle.inf_unit.specs.Tokens.{atom_of, keyword, told};
+    ghost use Rattle.inf_unit.specs.{Spelled.spelled, Tokens.atom_of, Tokens.keyword, Tokens.told};
 
     /// Makes a token of `kind` with `bytes` at `place`, which is read as the name of a class if `is_class`. A name has at most 32 bytes.
     #[inline(always)]

@@ -1,12 +1,11 @@
 //! The unit at hand: its tokens, and the parts that the actions of the grammar gather of them.
 ghost use Rattle.std.specs.Prelude.{◌≡◌, ◌≤◌, ◌++◌, ◌∷◌, [], None, IfOk, OnOk, Some, length};
-ghost use Rattle.inf_unit.specs.AtHand.{unit};
-ghost use Rattle.inf_unit.specs.Spelled.{spelled};
+ghost use Rattle.inf_unit.specs.{AtHand.unit, Spelled.spelled};
 ghost use Rattle.inf_unit.specs.Units.{acted, begun, crowd_begun, depth_behind, first_place, forgotten, headed_more, is_again, is_alone};
-ghost use Rattle.inf_unit.specs.Units.{is_assembly, marked_from, value_sifted};
-ghost use Rattle.inf_unit.specs.Units.{is_full, is_sign, jump_label, jump_of, last_leaf, last_passed, leaf_of, line_opcode, long_at};
-ghost use Rattle.inf_unit.specs.Units.{next_place, no_unit, noted, opcode_text, operands_passed, order, outer_tokens, over, own_place};
-ghost use Rattle.inf_unit.specs.Units.{prepared, printed, ruled, semicolon_taken, sifted, stepped, taken, text_passed, told_leaf, with_item};
+ghost use Rattle.inf_unit.specs.Units.{is_assembly, marked_from, value_sifted, is_full, is_sign, jump_label, jump_of, last_leaf};
+ghost use Rattle.inf_unit.specs.Units.{last_passed, leaf_of, line_opcode, long_at, next_place, no_unit, noted, opcode_text};
+ghost use Rattle.inf_unit.specs.Units.{operands_passed, order, outer_tokens, over, own_place, prepared, printed, ruled, semicolon_taken};
+ghost use Rattle.inf_unit.specs.Units.{sifted, stepped, taken, text_passed, told_leaf, with_item};
 
 use crate::crowds::{Crowd, forget_crowd};
 use crate::items::{Item, code_behind, rule_of};

@@ -1,10 +1,7 @@
 //! The tokens of a unit.
 ghost use Rattle.std.specs.Prelude.{◌≡◌, ◌≤◌, [], ◌∷◌, ◌++◌, drop, IfOk, IfSome, OnErr, OnOk, length, map, option_map, slice_get, take};
 ghost use Rattle.inf_names.specs.Spellings.{as_name};
-ghost use Rattle.inf_unit.specs.Kept.{as_spelled};
-ghost use Rattle.inf_unit.specs.NameTokens.{named};
-ghost use Rattle.inf_unit.specs.Spelled.{spelled};
-ghost use Rattle.inf_unit.specs.Tokens.{name_of};
+ghost use Rattle.inf_unit.specs.{Kept.as_spelled, NameTokens.named, Spelled.spelled, Tokens.name_of};
 ghost use Rattle.inf_unit.specs.Units.{bytes_at, directive_word, keyword_at, kind_at, last_place, name_at, name_order, names_in, place_at};
 ghost use Rattle.inf_unit.specs.Units.{quoted_in, with_name};
 
@@ -34,8 +31,7 @@ pub struct UnitTokens {
 
 impl Model for UnitTokens {
     ghost use Rattle.std.specs.Prelude.{List, map};
-    ghost use Rattle.inf_unit.specs.Tokens.{SourceToken};
-    ghost use Rattle.inf_unit.specs.Kept.{as_spelled};
+    ghost use Rattle.inf_unit.specs.{Kept.as_spelled, Tokens.SourceToken};
 
     ghost Value = { List SourceToken };
 

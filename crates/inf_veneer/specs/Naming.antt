@@ -1,8 +1,7 @@
 -- The names in the texts.
+use Rattle.std.specs.{List.list_all, List.list_any, List.prefix_len, Str.str_eq_ignore_ascii_case}
 use Rattle.std.specs.Prelude.{◌≡◌, ℕ, List, [], ◌∷◌, ◌++◌, drop, length, take, map, Bool, true, false, not, ◌&&◌, ◌||◌, ◌==◌, nat_le}
 use Rattle.std.specs.Prelude.{if◌then◌else◌}
-use Rattle.std.specs.List.{list_all, list_any, prefix_len}
-use Rattle.std.specs.Str.{str_eq_ignore_ascii_case}
 use Rattle.inf_veneer.specs.Texts.{all_names, all_texts}
 
 -- a byte of a name: a letter, a digit or `_`

@@ -1,38 +1,25 @@
 -- In a world whose calls run the texts, calls come to what the contracts say.
-use Rattle.std.proofs.Common.{◌≡◌, ◌⊎◌, ℕ, zero, suc, List, [], ◌∷◌, Option, Bool, false, refl, ◌∙◌, ap, inl, inr, le_refl}
-use Rattle.std.proofs.Common.{sym}
+use Rattle.std.proofs.Common.{◌≡◌, ◌⊎◌, ℕ, zero, suc, List, [], ◌∷◌, Option, Bool, false, refl, ◌∙◌, ap, inl, inr, le_refl, sym}
 use Rattle.std.proofs.lemmas.Bool.{eq-eqb}
 use Rattle.std.specs.Prelude.{◌==◌, if◌then◌else◌}
-use Rattle.inf_output.specs.declared.veneer.Veneer.TheVariants as veneer
-use Rattle.inf_output.specs.Veneer.{name_of}
+use Rattle.inf_output.specs.{Veneer.name_of, declared.veneer.Veneer.Veneer}
 use Rattle.inf_expressions.specs.declared.operators.Operand.{Operand}
-use Rattle.inf_interpreter.specs.Machine.{Store, World}
-use Rattle.inf_interpreter.specs.Worlds.{with_left}
-use Rattle.inf_veneer_laws.specs.Calling.{AreCalled, AreDifferent, CallsRunTexts, IsOther, called_in, message_number, number_of}
-use Rattle.inf_veneer_laws.specs.Calling.{routines, with_texts}
-use Rattle.inf_veneer_laws.specs.Calling.{with_texts_to}
+use Rattle.inf_interpreter.specs.{Machine.Store, Machine.World, Worlds.with_left}
+use Rattle.inf_veneer_laws.specs.{Properties.most_rows, Sources.Routine, Worlds.HasObjects}
+use Rattle.inf_veneer_laws.specs.Calling.{AreCalled, AreDifferent, CallsRunTexts, IsOther, called_in, message_number, number_of, routines}
+use Rattle.inf_veneer_laws.specs.Calling.{with_texts, with_texts_to}
 use Rattle.inf_veneer_laws.specs.Classes.{Compares, HasClasses, HasConstants, TellsClass, TellsRegion}
 use Rattle.inf_veneer_laws.specs.Outcomes.{AsksAddress, AsksLength, CountsChildren, FindsOwn, ProvidesProperty, ReadsProperty}
-use Rattle.inf_veneer_laws.specs.Outcomes.{StepsProperty}
-use Rattle.inf_veneer_laws.specs.Outcomes.{WritesProperty}
-use Rattle.inf_veneer_laws.specs.Properties.{most_rows}
+use Rattle.inf_veneer_laws.specs.Outcomes.{StepsProperty, WritesProperty}
 use Rattle.inf_veneer_laws.specs.Routines.{compare, count_children, find_own, of_class, property_address, property_length}
 use Rattle.inf_veneer_laws.specs.Routines.{provides_property, read_property, region, step_byte, step_property, step_word, write_byte}
 use Rattle.inf_veneer_laws.specs.Routines.{write_property, write_word}
 use Rattle.inf_veneer_laws.specs.Running.{Calls, Contract, IsSupplied, Meets, Numbers, called_with}
 use Rattle.inf_veneer_laws.specs.Sending.{KeepsLocals, MessageMeets, Sends, message_called}
-use Rattle.inf_veneer_laws.specs.Sources.{Routine}
-use Rattle.inf_veneer_laws.specs.Worlds.{HasObjects}
-use Rattle.inf_veneer_laws.proofs.Children.{children_are_counted}
-use Rattle.inf_veneer_laws.proofs.Classes.{classes_are_told}
-use Rattle.inf_veneer_laws.proofs.Comparing.{numbers_are_compared}
-use Rattle.inf_veneer_laws.proofs.Entries.{entries_are_stepped, entries_are_written}
-use Rattle.inf_veneer_laws.proofs.Keeping.{locals_stay}
-use Rattle.inf_veneer_laws.proofs.Own.{own_properties_are_found}
-use Rattle.inf_veneer_laws.proofs.Reading.{properties_are_read}
-use Rattle.inf_veneer_laws.proofs.Regions.{regions_are_told}
-use Rattle.inf_veneer_laws.proofs.Sending.{messages_are_sent}
-use Rattle.inf_veneer_laws.proofs.Writing.{properties_are_provided, properties_are_written}
+use Rattle.inf_veneer_laws.proofs.{Children.children_are_counted, Classes.classes_are_told, Comparing.numbers_are_compared}
+use Rattle.inf_veneer_laws.proofs.{Entries.entries_are_stepped, Entries.entries_are_written, Keeping.locals_stay}
+use Rattle.inf_veneer_laws.proofs.{Own.own_properties_are_found, Reading.properties_are_read, Regions.regions_are_told}
+use Rattle.inf_veneer_laws.proofs.{Sending.messages_are_sent, Writing.properties_are_provided, Writing.properties_are_written}
 
 abbrev Has : Routine → List Routine → Type 0
 Has r [] = ⊥
@@ -146,13 +133,14 @@ calls_at w numbers action h k c d =
       steps = calls_text two numbers action step_property (StepsProperty two) d (at_6 (inl refl)) (written.1 writes_below);
       children = calls_text two numbers action count_children (CountsChildren two) d (at_6 (inr (inl refl)))
           (children_are_counted two numbers h2);
-      writes_byte = calls_text two numbers action write_byte (IsSupplied two veneer.WriteByte) d (at_6 (inr (inr (inl refl))))
+      writes_byte = calls_text two numbers action write_byte (IsSupplied two Veneer.WriteByte) d (at_6 (inr (inr (inl refl))))
           (entries_are_written two numbers).0;
-      writes_word = calls_text two numbers action write_word (IsSupplied two veneer.WriteWord) d (at_6 (inr (inr (inr (inl refl)))))
+      writes_word = calls_text two numbers action write_word (IsSupplied two Veneer.WriteWord) d (at_6 (inr (inr (inr (inl refl)))))
           (entries_are_written two numbers).1;
-      steps_byte = calls_text two numbers action step_byte (IsSupplied two veneer.StepByte) d (at_6 (inr (inr (inr (inr (inl refl))))))
+      steps_byte = calls_text two numbers action step_byte (IsSupplied two Veneer.StepByte) d (at_6 (inr (inr (inr (inr (inl refl))))))
           (entries_are_stepped two numbers).0;
-      steps_word = calls_text two numbers action step_word (IsSupplied two veneer.StepWord) d (at_6 (inr (inr (inr (inr (inr (inl refl)))))))
+      steps_word =
+          calls_text two numbers action step_word (IsSupplied two Veneer.StepWord) d (at_6 (inr (inr (inr (inr (inr (inl refl)))))))
           (entries_are_stepped two numbers).1;
       compares = calls_text two numbers action compare Compares d (at_12 (inl refl)) (numbers_are_compared two numbers);
       region = calls_text two numbers action region (TellsRegion two) d (at_12 (inr (inl refl)))
@@ -181,7 +169,7 @@ finds_message w numbers action (x ∷ all) d s ns =
 
 calls_message : (w : World) (numbers : Numbers) (action : Option Operand) → AreDifferent w numbers routines →
     MessageMeets w numbers action (Sends w action) →
-    Calls (with_texts w numbers action) numbers (name_of veneer.CallProperty) (Sends w action)
+    Calls (with_texts w numbers action) numbers (name_of Veneer.CallProperty) (Sends w action)
 calls_message w numbers action d meets = record {
   comes = λ ns s n t c. (0, finds_message w numbers action routines d s ns ∙ ap with_left (meets ns s n t c most_rows));
 }

@@ -1,35 +1,28 @@
 -- The routine that counts the children of an object.
-use Rattle.std.proofs.Common.{arith, ◌≡◌, ◌≤◌, ℕ, zero, suc, ◌+◌, ◌%◌, [], ◌∷◌, Option, Some, Bool, true, false, not, refl, ◌∙◌, ap}
-use Rattle.std.proofs.Common.{sym}
+use Rattle.std.proofs.Common.{arith, ◌≡◌, ◌≤◌, ℕ, zero, suc, ◌+◌, ◌%◌, [], ◌∷◌, Option, Some, Bool, true, false, not, refl, ◌∙◌, ap, sym}
 use Rattle.std.specs.Prelude.{◌==◌, if◌then◌else◌}
-use Rattle.inf_expressions.specs.declared.operators.Binary.TheVariants as binary
-use Rattle.inf_expressions.specs.declared.operators.Direction.TheVariants as stepping
-use Rattle.inf_expressions.specs.declared.operators.Operand.TheVariants.{Variable}
-use Rattle.inf_expressions.specs.declared.operators.Relative.TheVariants as relative
-use Rattle.inf_expressions.specs.declared.operators.Unary.TheVariants as unary
+use Rattle.inf_expressions.specs.{declared.operators.Binary.Binary, declared.operators.Direction.Direction}
+use Rattle.inf_expressions.specs.{declared.operators.Operand.Operand, declared.operators.Relative.Relative, declared.operators.Unary.Unary}
 use Rattle.inf_expressions.specs.Trees.{Leaf, One, Two}
 use Rattle.inf_interpreter.specs.Machine.{Store, World, ◌then◌, with_variable}
 use Rattle.inf_interpreter.proofs.Running.{none_some, same_some}
 use Rattle.inf_meaning_laws.specs.Values.{truth_of}
 use Rattle.inf_control_laws.specs.Control.{Done, Effect, Outcome, Truth, both_run, while_run}
 use Rattle.inf_control_laws.specs.Plain.{alone_run, return_run}
-use Rattle.inf_veneer_laws.specs.Outcomes.{CountsChildren}
-use Rattle.inf_veneer_laws.specs.Laws.{ChildrenAreCounted}
+use Rattle.inf_veneer_laws.specs.{Laws.ChildrenAreCounted, Outcomes.CountsChildren, Routines.count_children, Worlds.HasObjects}
 use Rattle.inf_veneer_laws.specs.Properties.{count_from, most_rows, sibling_in}
-use Rattle.inf_veneer_laws.specs.Routines.{count_children}
 use Rattle.inf_veneer_laws.specs.Running.{Meets, Numbers, called_with, ended, entered, left}
-use Rattle.inf_veneer_laws.specs.Worlds.{HasObjects}
 use Rattle.inf_veneer_laws.proofs.Flow.{both_done, comes_to, is_found, returns_with, while_ends, while_turns}
 use Rattle.inf_veneer_laws.proofs.Locals.{local_left, one_local}
 
 abbrev has_object : World → Truth
-has_object w = truth_of w (Leaf (Variable 1))
+has_object w = truth_of w (Leaf (Operand.Variable 1))
 
 -- one more is counted, and the next object is found
 abbrev goes_on : World → Effect
 goes_on w =
-    both_run (alone_run w (One (unary.Behind stepping.Up) (Leaf (Variable 2)) ∷ []))
-    (alone_run w (Two binary.Assign (Leaf (Variable 1)) (One (unary.Relative relative.Sibling) (Leaf (Variable 1))) ∷ []))
+    both_run (alone_run w (One (Unary.Behind Direction.Up) (Leaf (Operand.Variable 2)) ∷ []))
+    (alone_run w (Two Binary.Assign (Leaf (Operand.Variable 1)) (One (Unary.Relative Relative.Sibling) (Leaf (Operand.Variable 1))) ∷ []))
 
 abbrev counts : World → ℕ → Effect
 counts w turns = while_run (has_object w) (goes_on w) turns
@@ -91,7 +84,7 @@ children_counted : (w : World) (numbers : Numbers) → HasObjects w → (turns o
     called_with w numbers turns count_children (o ∷ []) s ≡ returns_with n s
 children_counted w numbers h turns o n s c =
     ap (λ (m : Option (Outcome × Store)). m then ended s)
-    (both_done (counts w turns) (return_run w (Leaf (Variable 2) ∷ [])) (begun w o s) c.behind c.runs)
+    (both_done (counts w turns) (return_run w (Leaf (Operand.Variable 2) ∷ [])) (begun w o s) c.behind c.runs)
     ∙ ap (λ (x : ℕ). returns_with x (left s c.behind)) c.is
     ∙ ap (returns_with n) (c.same s ∙ one_local (o ∷ []) s 1 (w.child (entered (o ∷ []) s) o) refl)
 

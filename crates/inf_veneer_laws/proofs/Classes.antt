@@ -1,37 +1,27 @@
 -- The routine that tells whether an object is of a class.
-use Rattle.std.proofs.Common.{arith, ◌≡◌, ◌<◌, ◌≤◌, ℕ, zero, suc, ◌+◌, ◌/◌, ◌%◌, [], ◌∷◌, Option, Some, Bool, true, false, not}
-use Rattle.std.proofs.Common.{refl, ◌∙◌, ap, sym}
+use Rattle.std.proofs.Common.{arith, ◌≡◌, ◌<◌, ◌≤◌, ℕ, zero, suc, ◌+◌, ◌/◌, ◌%◌, [], ◌∷◌, Option, Some, Bool, true, false, not, refl, ◌∙◌}
+use Rattle.std.proofs.Common.{ap, sym, ◌==◌, ◌||◌, nat_le, nat_lt, codes, if◌then◌else◌}
 use Rattle.std.proofs.lemmas.Bool.{cond_both, le-ltb, lt-ltb}
-use Rattle.std.specs.Prelude.{◌==◌, ◌||◌, nat_le, nat_lt, codes, if◌then◌else◌}
-use Rattle.inf_area.specs.declared.targets.Target.TheVariants as target
-use Rattle.inf_expressions.specs.Numbers.{magnitude, negated, same, truth}
-use Rattle.inf_expressions.specs.declared.operators.Binary.TheVariants as binary
-use Rattle.inf_expressions.specs.declared.operators.Direction.TheVariants as stepping
-use Rattle.inf_expressions.specs.declared.operators.Operand.TheVariants.{Known, Later, Variable}
-use Rattle.inf_expressions.specs.declared.operators.Operation.TheVariants as operation
-use Rattle.inf_expressions.specs.declared.operators.Single.TheVariants as single
-use Rattle.inf_expressions.specs.declared.operators.Test.TheVariants as test
-use Rattle.inf_expressions.specs.declared.operators.Unary.TheVariants as unary
-use Rattle.inf_expressions.specs.Trees.{Leaf, One, Tree, Two}
+use Rattle.inf_area.specs.declared.targets.Target.{Target}
+use Rattle.inf_expressions.specs.{Numbers.magnitude, Numbers.negated, Numbers.same, Numbers.truth, Trees.Leaf, Trees.One, Trees.Tree}
+use Rattle.inf_expressions.specs.{Trees.Two, declared.operators.Binary.Binary, declared.operators.Direction.Direction}
+use Rattle.inf_expressions.specs.{declared.operators.Operand.Operand, declared.operators.Operation.Operation}
+use Rattle.inf_expressions.specs.{declared.operators.Single.Single, declared.operators.Test.Test, declared.operators.Unary.Unary}
 use Rattle.inf_objects.specs.Reading.{long_count}
 use Rattle.inf_interpreter.specs.Machine.{Store, World, ◌then◌, divided, less, with_variable}
 use Rattle.inf_interpreter.proofs.Running.{none_some, opened, same_some}
 use Rattle.inf_meaning_laws.specs.Values.{answer, nobody, sense, truth_of}
 use Rattle.inf_control_laws.specs.Control.{Change, Done, Effect, Outcome, Returned, Truth, behind_turn, both_run, for_run, if_run}
 use Rattle.inf_control_laws.specs.Plain.{alone_run, return_run}
+use Rattle.inf_veneer_laws.specs.{Routines.of_class, Sources.GetPropAddr, Sources.GetPropLen, Sources.Number}
 use Rattle.inf_veneer_laws.specs.Classes.{ClassesAreTold, HasClasses, TellsRegion, class_by, is_among, is_class_in, is_listed, object_class}
 use Rattle.inf_veneer_laws.specs.Classes.{region_of}
 use Rattle.inf_veneer_laws.specs.Properties.{Bytes, address_in, byte_in, length_in, most_rows, size_by, word_in}
-use Rattle.inf_veneer_laws.specs.Routines.{of_class}
-use Rattle.inf_veneer_laws.specs.Routines as named
 use Rattle.inf_veneer_laws.specs.Running.{Calls, Numbers, asked, called_with, ended, entered, left, operand_in}
-use Rattle.inf_veneer_laws.specs.Sources.{GetPropAddr, GetPropLen, Number}
-use Rattle.inf_veneer_laws.proofs.Comparing.{below, same_side, tests}
-use Rattle.inf_veneer_laws.proofs.Flow.{both_done, both_returns, both_same, comes_to, guard_passes, guard_returns, if_by, is_found}
-use Rattle.inf_veneer_laws.proofs.Flow.{or_false}
-use Rattle.inf_veneer_laws.proofs.Flow.{returns_with}
-use Rattle.inf_veneer_laws.proofs.Locals.{local_left, one_local}
-use Rattle.inf_veneer_laws.proofs.Own.{returns_0}
+use Rattle.inf_veneer_laws.specs.Routines as named
+use Rattle.inf_veneer_laws.proofs.{Comparing.below, Comparing.same_side, Comparing.tests, Flow.both_done, Flow.both_returns, Flow.both_same}
+use Rattle.inf_veneer_laws.proofs.{Flow.comes_to, Flow.guard_passes, Flow.guard_returns, Flow.if_by, Flow.is_found, Flow.or_false}
+use Rattle.inf_veneer_laws.proofs.{Flow.returns_with, Locals.local_left, Locals.one_local, Own.returns_0}
 
 -- The variables are the object (1), the class (2), an address (3), a number (4) and a kind or a place in a list (5).
 
@@ -75,16 +65,16 @@ equal_is t x y b e = ap (is_found t) (or_false (x == y) ∙ e)
 -- The list of classes is searched.
 
 abbrev word_there : Tree
-word_there = Two (binary.Operation operation.Word) (Leaf (Variable 3)) (Leaf (Variable 5))
+word_there = Two (Binary.Operation Operation.Word) (Leaf (Operand.Variable 3)) (Leaf (Operand.Variable 5))
 
 abbrev goes_on : World → Truth
-goes_on w = tests w test.Less (Leaf (Variable 5)) (Leaf (Variable 4))
+goes_on w = tests w Test.Less (Leaf (Operand.Variable 5)) (Leaf (Operand.Variable 4))
 
 abbrev steps : World → Change
-steps w = (sense w (One (unary.Behind stepping.Up) (Leaf (Variable 5)))).alone
+steps w = (sense w (One (Unary.Behind Direction.Up) (Leaf (Operand.Variable 5)))).alone
 
 abbrev is_there : World → Truth
-is_there w = tests w test.Equal word_there (Leaf (Variable 2))
+is_there w = tests w Test.Equal word_there (Leaf (Operand.Variable 2))
 
 abbrev returns_1 : Effect
 returns_1 s = Some (Returned 1, s)
@@ -208,16 +198,17 @@ length_asked w numbers = asked w (operand_in numbers of_class) GetPropLen (named
 
 abbrev halved : World → Effect
 halved w =
-    alone_run w (Two binary.Assign (Leaf (Variable 4)) (Two (binary.Operation operation.Divide) (Leaf (Variable 4)) (Leaf (Known 2))) ∷ [])
+    alone_run w (Two Binary.Assign (Leaf (Operand.Variable 4))
+    (Two (Binary.Operation Operation.Divide) (Leaf (Operand.Variable 4)) (Leaf (Operand.Known 2))) ∷ [])
 
 abbrev starts : World → Change
-starts w = (sense w (Two binary.Assign (Leaf (Variable 5)) (Leaf (Known 0)))).alone
+starts w = (sense w (Two Binary.Assign (Leaf (Operand.Variable 5)) (Leaf (Operand.Known 0)))).alone
 
 abbrev searched : World → ℕ → Effect
 searched w turns = both_run (λ s. starts w s then λ t. for_run (goes_on w) (steps w) (turn w) turns t) returns_0
 
 abbrev no_list : World → Truth
-no_list w = tests w test.Equal (Leaf (Variable 3)) (Leaf (Known 0))
+no_list w = tests w Test.Equal (Leaf (Operand.Variable 3)) (Leaf (Operand.Known 0))
 
 abbrev measured : World → Numbers → ℕ → Effect
 measured w numbers turns = both_run (length_asked w numbers) (both_run (halved w) (searched w turns))
@@ -263,14 +254,15 @@ list_found w numbers turns enough t false e =
 
 abbrev class_told : World → Truth
 class_told w =
-    truth_of w (Two binary.Or (Two (binary.Test test.Equal) (One (unary.Single single.Parent) (Leaf (Variable 1))) (Leaf (Known 1)))
-    (Two (binary.Test test.Less) (Leaf (Variable 1)) (Leaf (Known 5))))
+    truth_of w (Two Binary.Or (Two (Binary.Test Test.Equal) (One (Unary.Single Single.Parent) (Leaf (Operand.Variable 1)))
+    (Leaf (Operand.Known 1)))
+    (Two (Binary.Test Test.Less) (Leaf (Operand.Variable 1)) (Leaf (Operand.Known 5))))
 
 abbrev class_kept : World → Effect
 class_kept w =
-    alone_run w (Two binary.Assign (Leaf (Variable 4))
-    (Two binary.Or (Two (binary.Test test.Equal) (One (unary.Single single.Parent) (Leaf (Variable 1))) (Leaf (Known 1)))
-    (Two (binary.Test test.Less) (Leaf (Variable 1)) (Leaf (Known 5)))) ∷ [])
+    alone_run w (Two Binary.Assign (Leaf (Operand.Variable 4))
+    (Two Binary.Or (Two (Binary.Test Test.Equal) (One (Unary.Single Single.Parent) (Leaf (Operand.Variable 1))) (Leaf (Operand.Known 1)))
+    (Two (Binary.Test Test.Less) (Leaf (Operand.Variable 1)) (Leaf (Operand.Known 5)))) ∷ [])
 
 either_found : (s : Store) (b c : Bool) → (if b then is_found s true else is_found s c) ≡ is_found s (b || c)
 either_found s true c = refl
@@ -294,13 +286,13 @@ truth_not false = refl
 -- The statements for an object
 
 abbrev asks_class : World → ℕ → Truth
-asks_class w n = tests w test.Equal (Leaf (Variable 2)) (Leaf (Known n))
+asks_class w n = tests w Test.Equal (Leaf (Operand.Variable 2)) (Leaf (Operand.Known n))
 
 abbrev number_returned : World → Effect
-number_returned w = return_run w (Leaf (Variable 4) ∷ [])
+number_returned w = return_run w (Leaf (Operand.Variable 4) ∷ [])
 
 abbrev no_number_returned : World → Effect
-no_number_returned w = return_run w (Two (binary.Test test.Equal) (Leaf (Variable 4)) (Leaf (Known 0)) ∷ [])
+no_number_returned w = return_run w (Two (Binary.Test Test.Equal) (Leaf (Operand.Variable 4)) (Leaf (Operand.Known 0)) ∷ [])
 
 abbrev list_asked : World → Numbers → Effect
 list_asked w numbers = asked w (operand_in numbers of_class) GetPropAddr (named.o ∷ Number 2 ∷ []) (codes "a")
@@ -354,8 +346,9 @@ object_found w numbers h turns enough t b known =
 
 abbrev kind_asked : World → Numbers → Effect
 kind_asked w numbers =
-    alone_run w (Two binary.Assign (Leaf (Variable 5)) (Two binary.Call (Leaf (Later (target.Name (numbers (codes "Z__Region")))))
-    (Leaf (Variable 1))) ∷ [])
+    alone_run w (Two Binary.Assign (Leaf (Operand.Variable 5))
+    (Two Binary.Call (Leaf (Operand.Later (Target.Name (numbers (codes "Z__Region")))))
+    (Leaf (Operand.Variable 1))) ∷ [])
 
 abbrev kind_stored : Option (ℕ × ℕ × Store) → Option (Outcome × Store)
 kind_stored m =
@@ -363,15 +356,15 @@ kind_stored m =
     then λ u. Some (Done, u)
 
 abbrev no_kind : World → Truth
-no_kind w = tests w test.Equal (Leaf (Variable 5)) (Leaf (Known 0))
+no_kind w = tests w Test.Equal (Leaf (Operand.Variable 5)) (Leaf (Operand.Known 0))
 
 abbrev no_object : World → Truth
-no_object w = tests w test.Greater (Leaf (Variable 5)) (Leaf (Known 1))
+no_object w = tests w Test.Greater (Leaf (Operand.Variable 5)) (Leaf (Operand.Known 1))
 
 abbrev kind_compared : World → Effect
 kind_compared w =
-    return_run w (Two (binary.Test test.Equal) (Leaf (Variable 2))
-    (Two (binary.Operation operation.Add) (Leaf (Variable 5)) (Leaf (Known 1))) ∷ [])
+    return_run w (Two (Binary.Test Test.Equal) (Leaf (Operand.Variable 2))
+    (Two (Binary.Operation Operation.Add) (Leaf (Operand.Variable 5)) (Leaf (Operand.Known 1))) ∷ [])
 
 abbrev for_object : World → Numbers → ℕ → Effect
 for_object w numbers turns = both_run (class_kept w) (by_class w numbers turns)

@@ -2,19 +2,13 @@
 use Rattle.std.proofs.Common.{arith, ◌≡◌, ◌<◌, ◌≤◌, ℕ, ◌+◌, ◌-◌, [], ◌∷◌, Option, Bool, true, false, not, refl, ◌∙◌, ap, sym}
 use Rattle.std.proofs.lemmas.Bool.{le-ltb, leb-false, leb-true, lt-ltb, ltb-false, ltb-true}
 use Rattle.std.specs.Prelude.{◌==◌, ◌&&◌, nat_le, nat_lt, if◌then◌else◌}
-use Rattle.inf_expressions.specs.Numbers.{shifted}
-use Rattle.inf_expressions.specs.declared.operators.Binary.TheVariants as binary
-use Rattle.inf_expressions.specs.declared.operators.Operand.TheVariants.{Known, Variable}
-use Rattle.inf_expressions.specs.declared.operators.Test.{Test}
-use Rattle.inf_expressions.specs.declared.operators.Test.TheVariants as test
-use Rattle.inf_expressions.specs.declared.operators.Unary.TheVariants as unary
-use Rattle.inf_expressions.specs.Trees.{Leaf, One, Tree, Two}
+use Rattle.inf_expressions.specs.{Numbers.shifted, Trees.Leaf, Trees.One, Trees.Tree, Trees.Two, declared.operators.Binary.Binary}
+use Rattle.inf_expressions.specs.{declared.operators.Operand.Operand, declared.operators.Test.Test, declared.operators.Unary.Unary}
 use Rattle.inf_interpreter.specs.Machine.{Store, World, ◌then◌, less}
 use Rattle.inf_meaning_laws.specs.Values.{truth_of}
 use Rattle.inf_control_laws.specs.Control.{Effect, Outcome, Returned, Truth, both_run, if_run}
 use Rattle.inf_control_laws.specs.Plain.{return_run}
-use Rattle.inf_veneer_laws.specs.Classes.{NumbersAreCompared, order}
-use Rattle.inf_veneer_laws.specs.Routines.{compare}
+use Rattle.inf_veneer_laws.specs.{Classes.NumbersAreCompared, Classes.order, Routines.compare}
 use Rattle.inf_veneer_laws.specs.Running.{Numbers, called_with, ended, entered}
 use Rattle.inf_veneer_laws.proofs.Flow.{comes_to, guard_passes, guard_returns, is_found, or_false, returns_with}
 use Rattle.inf_veneer_laws.proofs.Locals.{entered_left}
@@ -86,29 +80,29 @@ orders x y fx fy =
 -- The statements: the numbers are the variables 1 and 2.
 
 abbrev pub tests : World → Test → Tree → Tree → Truth
-tests w t a b = truth_of w (Two (binary.Test t) a b)
+tests w t a b = truth_of w (Two (Binary.Test t) a b)
 
 abbrev pub number_returned : World → ℕ → Effect
-number_returned w n = return_run w (Leaf (Known n) ∷ [])
+number_returned w n = return_run w (Leaf (Operand.Known n) ∷ [])
 
 abbrev minus_returned : World → Effect
-minus_returned w = return_run w (One unary.Negate (Leaf (Known 1)) ∷ [])
+minus_returned w = return_run w (One Unary.Negate (Leaf (Operand.Known 1)) ∷ [])
 
 abbrev same_numbers : World → Truth
-same_numbers w = tests w test.Equal (Leaf (Variable 1)) (Leaf (Variable 2))
+same_numbers w = tests w Test.Equal (Leaf (Operand.Variable 1)) (Leaf (Operand.Variable 2))
 
 abbrev first_negative : World → Truth
 first_negative w =
-    truth_of w (Two binary.And (Two (binary.Test test.Less) (Leaf (Variable 1)) (Leaf (Known 0)))
-    (Two (binary.Test test.AtLeast) (Leaf (Variable 2)) (Leaf (Known 0))))
+    truth_of w (Two Binary.And (Two (Binary.Test Test.Less) (Leaf (Operand.Variable 1)) (Leaf (Operand.Known 0)))
+    (Two (Binary.Test Test.AtLeast) (Leaf (Operand.Variable 2)) (Leaf (Operand.Known 0))))
 
 abbrev second_negative : World → Truth
 second_negative w =
-    truth_of w (Two binary.And (Two (binary.Test test.AtLeast) (Leaf (Variable 1)) (Leaf (Known 0)))
-    (Two (binary.Test test.Less) (Leaf (Variable 2)) (Leaf (Known 0))))
+    truth_of w (Two Binary.And (Two (Binary.Test Test.AtLeast) (Leaf (Operand.Variable 1)) (Leaf (Operand.Known 0)))
+    (Two (Binary.Test Test.Less) (Leaf (Operand.Variable 2)) (Leaf (Operand.Known 0))))
 
 abbrev first_more : World → Truth
-first_more w = tests w test.Greater (Leaf (Variable 1)) (Leaf (Variable 2))
+first_more w = tests w Test.Greater (Leaf (Operand.Variable 1)) (Leaf (Operand.Variable 2))
 
 abbrev by_signs : World → Effect
 by_signs w = both_run (if_run (first_more w) (number_returned w 1)) (minus_returned w)

@@ -1,10 +1,9 @@
 -- The expressions of the routines are covered, one by one.
 use Rattle.std.proofs.Common.{refl, inl, lit≤}
-use Rattle.inf_veneer_laws.specs.Covered.{IsCovered, RoutinesAreCovered}
+use Rattle.inf_veneer_laws.specs.{Covered.IsCovered, Covered.RoutinesAreCovered, Running.Numbers}
 use Rattle.inf_veneer_laws.specs.Routines.{compare, count_children, find_own, of_class, property_address, property_length}
 use Rattle.inf_veneer_laws.specs.Routines.{provides_property, read_property, region, step_byte, step_property, step_word, write_byte}
 use Rattle.inf_veneer_laws.specs.Routines.{write_property, write_word}
-use Rattle.inf_veneer_laws.specs.Running.{Numbers}
 
 write_byte_covered : (numbers : Numbers) → IsCovered numbers write_byte
 write_byte_covered numbers = (((refl, tt), (tt, tt, tt), tt), tt)

@@ -1,11 +1,8 @@
 -- The routines that assign or step an entry of an array.
-use Rattle.std.proofs.Common.{◌≡◌, ℕ, ◌+◌, ◌%◌, [], ◌∷◌, Option, Bool, true, false, not, refl, ◌∙◌, ap}
-use Rattle.std.specs.Prelude.{◌==◌, if◌then◌else◌}
-use Rattle.inf_expressions.specs.declared.operators.Binary.TheVariants as binary
-use Rattle.inf_expressions.specs.declared.operators.Operand.TheVariants.{Variable}
-use Rattle.inf_expressions.specs.declared.operators.Operation.TheVariants as operation
+use Rattle.std.proofs.Common.{◌≡◌, ℕ, ◌+◌, ◌%◌, [], ◌∷◌, Option, Bool, true, false, not, refl, ◌∙◌, ap, ◌==◌, if◌then◌else◌}
+use Rattle.inf_expressions.specs.declared.{operators.Binary.Binary, operators.Operand.Operand, operators.Operation.Operation}
 use Rattle.inf_expressions.specs.Trees.{Leaf, Two}
-use Rattle.inf_output.specs.declared.veneer.Veneer.TheVariants as veneer
+use Rattle.inf_output.specs.declared.veneer.Veneer.{Veneer}
 use Rattle.inf_interpreter.specs.Machine.{Store, World, ◌then◌, byte_at, with_variable, word_at}
 use Rattle.inf_interpreter.specs.Supplied.{byte_written, word_written}
 use Rattle.inf_interpreter.proofs.Running.{none_some}
@@ -28,7 +25,7 @@ word_is_written : (w : World) (numbers : Numbers) (turns a i n : ℕ) (s : Store
     called_with w numbers turns write_word (a ∷ i ∷ n ∷ []) s ≡ returns_with n (word_written a i n s)
 word_is_written w numbers turns a i n s = ap (returns_with n) (ap (word_written a i n) (entered_left (a ∷ i ∷ n ∷ []) s))
 
-write_byte_meets : (w : World) (numbers : Numbers) → Meets w numbers write_byte (IsSupplied w veneer.WriteByte)
+write_byte_meets : (w : World) (numbers : Numbers) → Meets w numbers write_byte (IsSupplied w Veneer.WriteByte)
 write_byte_meets w numbers [] s n t e turns enough = none_some e
 write_byte_meets w numbers (a ∷ []) s n t e turns enough = none_some e
 write_byte_meets w numbers (a ∷ i ∷ []) s n t e turns enough = none_some e
@@ -36,7 +33,7 @@ write_byte_meets w numbers (a ∷ i ∷ v ∷ []) s n t e turns enough =
     byte_is_written w numbers turns a i v s ∙ e
 write_byte_meets w numbers (a ∷ i ∷ v ∷ x ∷ ns) s n t e turns enough = none_some e
 
-write_word_meets : (w : World) (numbers : Numbers) → Meets w numbers write_word (IsSupplied w veneer.WriteWord)
+write_word_meets : (w : World) (numbers : Numbers) → Meets w numbers write_word (IsSupplied w Veneer.WriteWord)
 write_word_meets w numbers [] s n t e turns enough = none_some e
 write_word_meets w numbers (a ∷ []) s n t e turns enough = none_some e
 write_word_meets w numbers (a ∷ i ∷ []) s n t e turns enough = none_some e
@@ -50,13 +47,13 @@ entries_are_written w numbers = (write_byte_meets w numbers, write_word_meets w 
 -- The end of a routine that steps a value: where `k` is not 0, the sum of `v` and `d` is returned, and else `v`.
 
 abbrev keeps_new : World → Truth
-keeps_new w = truth_of w (Leaf (Variable 4))
+keeps_new w = truth_of w (Leaf (Operand.Variable 4))
 
 abbrev new_returned : World → Effect
-new_returned w = return_run w (Two (binary.Operation operation.Add) (Leaf (Variable 5)) (Leaf (Variable 3)) ∷ [])
+new_returned w = return_run w (Two (Binary.Operation Operation.Add) (Leaf (Operand.Variable 5)) (Leaf (Operand.Variable 3)) ∷ [])
 
 abbrev old_returned : World → Effect
-old_returned w = return_run w (Leaf (Variable 5) ∷ [])
+old_returned w = return_run w (Leaf (Operand.Variable 5) ∷ [])
 
 abbrev pub step_end : World → Effect
 step_end w = both_run (if_run (keeps_new w) (new_returned w)) (old_returned w)
@@ -100,7 +97,7 @@ word_is_stepped w numbers turns a i d k s =
     ap (λ (o : Option (Outcome × Store)). o then ended s) (step_answered w now)
     ∙ ap (returns_with (step_result d k n)) (ap (word_written a i m) (one_local ns s 5 n refl))
 
-step_byte_meets : (w : World) (numbers : Numbers) → Meets w numbers step_byte (IsSupplied w veneer.StepByte)
+step_byte_meets : (w : World) (numbers : Numbers) → Meets w numbers step_byte (IsSupplied w Veneer.StepByte)
 step_byte_meets w numbers [] s n t e turns enough = none_some e
 step_byte_meets w numbers (a ∷ []) s n t e turns enough = none_some e
 step_byte_meets w numbers (a ∷ i ∷ []) s n t e turns enough = none_some e
@@ -109,7 +106,7 @@ step_byte_meets w numbers (a ∷ i ∷ d ∷ k ∷ []) s n t e turns enough =
     byte_is_stepped w numbers turns a i d k s ∙ e
 step_byte_meets w numbers (a ∷ i ∷ d ∷ k ∷ x ∷ ns) s n t e turns enough = none_some e
 
-step_word_meets : (w : World) (numbers : Numbers) → Meets w numbers step_word (IsSupplied w veneer.StepWord)
+step_word_meets : (w : World) (numbers : Numbers) → Meets w numbers step_word (IsSupplied w Veneer.StepWord)
 step_word_meets w numbers [] s n t e turns enough = none_some e
 step_word_meets w numbers (a ∷ []) s n t e turns enough = none_some e
 step_word_meets w numbers (a ∷ i ∷ []) s n t e turns enough = none_some e

@@ -1,6 +1,5 @@
 -- Statements behind one another, and the turns of a loop.
-use Rattle.std.proofs.Common.{◌≡◌, ℕ, suc, Option, Some, Bool, true, false, refl, ◌∙◌, ap}
-use Rattle.std.specs.Prelude.{◌||◌, if◌then◌else◌}
+use Rattle.std.proofs.Common.{◌≡◌, ℕ, suc, Option, Some, Bool, true, false, refl, ◌∙◌, ap, ◌||◌, if◌then◌else◌}
 use Rattle.inf_interpreter.specs.Machine.{Store, ◌then◌}
 use Rattle.inf_control_laws.specs.Control.{Done, Effect, Outcome, Returned, Truth, behind_turn, both_run, followed_by, if_run, while_run}
 

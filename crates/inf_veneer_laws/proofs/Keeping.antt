@@ -1,19 +1,13 @@
 -- Calls that run texts neither ask for the locals of the caller nor change them.
-use Rattle.std.proofs.Common.{◌≡◌, ℕ, List, [], ◌∷◌, Option, Some, None, Bool, true, false, refl, ◌∙◌, ap}
-use Rattle.std.specs.Prelude.{◌==◌, if◌then◌else◌}
+use Rattle.std.proofs.Common.{◌≡◌, ℕ, List, [], ◌∷◌, Option, Some, None, Bool, true, false, refl, ◌∙◌, ap, ◌==◌, if◌then◌else◌}
 use Rattle.inf_expressions.specs.declared.operators.Operand.{Operand}
-use Rattle.inf_expressions.specs.declared.operators.Operand.TheVariants.{Unknown}
-use Rattle.inf_interpreter.specs.Machine.{Store, World, ◌then◌}
-use Rattle.inf_interpreter.specs.Worlds.{with_left}
+use Rattle.inf_interpreter.specs.{Machine.Store, Machine.World, Machine.◌then◌, Worlds.with_left}
 use Rattle.inf_control_laws.specs.Control.{Broke, Continued, Done, Outcome, Returned, effect}
+use Rattle.inf_veneer_laws.specs.{Message.message_names, Message.send_message, Properties.most_rows, Sending.KeepsLocals}
+use Rattle.inf_veneer_laws.specs.{Sending.message_called, Sources.Routine, Sources.on_side}
 use Rattle.inf_veneer_laws.specs.Calling.{called_in, message_number, number_of, routines, with_texts}
-use Rattle.inf_veneer_laws.specs.Message.{message_names, send_message}
-use Rattle.inf_veneer_laws.specs.Properties.{most_rows}
 use Rattle.inf_veneer_laws.specs.Running.{Numbers, called_by, called_with, control, ended, entered, left, operand_in, result}
-use Rattle.inf_veneer_laws.specs.Sending.{KeepsLocals, message_called}
-use Rattle.inf_veneer_laws.specs.Sources.{Routine, on_side}
-use Rattle.inf_veneer_laws.proofs.Locals.{entered_alike, left_through}
-use Rattle.inf_veneer_laws.proofs.Sending.{with_locals}
+use Rattle.inf_veneer_laws.proofs.{Locals.entered_alike, Locals.left_through, Sending.with_locals}
 
 abbrev with_them : Store → Option (ℕ × Store) → Option (ℕ × Store)
 with_them t m = m then λ q. Some (q.0, left t q.1)
@@ -37,7 +31,7 @@ run_alike w known turns r ns s t =
 message_alike : (w : World) (numbers : Numbers) (action : Option Operand) (turns : ℕ) (ns : List ℕ) (s t : Store) →
     message_called w numbers action turns ns (left t s) ≡ with_them t (message_called w numbers action turns ns s)
 message_alike w numbers None turns ns s t =
-    run_alike w (message_names numbers Unknown) turns (on_side false send_message) ns s t
+    run_alike w (message_names numbers Operand.Unknown) turns (on_side false send_message) ns s t
 message_alike w numbers (Some x) turns ns s t =
     run_alike w (message_names numbers x) turns (on_side true send_message) ns s t
 

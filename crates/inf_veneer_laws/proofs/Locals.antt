@@ -1,7 +1,6 @@
 -- Behind a call the caller has its locals, whatever the routine wrote to its own.
-use Rattle.std.proofs.Common.{◌≡◌, ℕ, ◌-◌, List, Bool, true, false, refl, ◌∙◌, ap, sym}
+use Rattle.std.proofs.Common.{◌≡◌, ℕ, ◌-◌, List, Bool, true, false, refl, ◌∙◌, ap, sym, ◌==◌, if◌then◌else◌}
 use Rattle.std.proofs.lemmas.Bool.{both_ways, eqb-true, false_from_ne_true}
-use Rattle.std.specs.Prelude.{◌==◌, if◌then◌else◌}
 use mathlib.Core.Path.{fun_ext}
 use Rattle.inf_interpreter.specs.Machine.{Store, with_variable}
 use Rattle.inf_veneer_laws.specs.Running.{argument, entered, is_local, left}

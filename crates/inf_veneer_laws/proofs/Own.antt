@@ -1,22 +1,17 @@
 -- The routine that finds an individual property of an object.
 use Rattle.std.proofs.Common.{arith, ◌≡◌, ◌≤◌, ℕ, zero, suc, ◌+◌, ◌%◌, [], ◌∷◌, Option, Some, Bool, true, false, not, refl, ◌∙◌, ap}
 use Rattle.std.specs.Prelude.{◌==◌, ◌||◌, if◌then◌else◌, codes}
-use Rattle.inf_expressions.specs.declared.operators.Binary.TheVariants as binary
-use Rattle.inf_expressions.specs.declared.operators.Operand.TheVariants.{Known, Variable}
-use Rattle.inf_expressions.specs.declared.operators.Operation.TheVariants as operation
-use Rattle.inf_expressions.specs.declared.operators.Test.TheVariants as test
-use Rattle.inf_expressions.specs.Trees.{Leaf, Tree, Two}
+use Rattle.inf_expressions.specs.{Trees.Leaf, Trees.Tree, Trees.Two, declared.operators.Binary.Binary, declared.operators.Operand.Operand}
+use Rattle.inf_expressions.specs.{declared.operators.Operation.Operation, declared.operators.Test.Test}
 use Rattle.inf_interpreter.specs.Machine.{Store, World, ◌then◌, with_variable}
 use Rattle.inf_interpreter.proofs.Running.{none_some, opened, same_some}
 use Rattle.inf_meaning_laws.specs.Values.{truth_of}
 use Rattle.inf_control_laws.specs.Control.{Done, Effect, Outcome, Returned, Truth, both_run, if_run, while_run}
 use Rattle.inf_control_laws.specs.Plain.{alone_run, return_run}
-use Rattle.inf_veneer_laws.specs.Laws.{OwnPropertiesAreFound}
+use Rattle.inf_veneer_laws.specs.{Laws.OwnPropertiesAreFound, Routines.find_own, Sources.GetPropAddr, Sources.Number}
 use Rattle.inf_veneer_laws.specs.Properties.{address_in, byte_in, most_rows, own_behind, own_from, own_in, word_in}
-use Rattle.inf_veneer_laws.specs.Routines.{find_own}
-use Rattle.inf_veneer_laws.specs.Routines as named
 use Rattle.inf_veneer_laws.specs.Running.{Numbers, asked, called_with, ended, entered, left, operand_in}
-use Rattle.inf_veneer_laws.specs.Sources.{GetPropAddr, Number}
+use Rattle.inf_veneer_laws.specs.Routines as named
 use Rattle.inf_veneer_laws.proofs.Flow.{both_done, both_returns, both_same, comes_to, guard_passes, guard_returns, is_found, returns_with}
 use Rattle.inf_veneer_laws.proofs.Flow.{while_ends, while_returns, while_turns}
 use Rattle.inf_veneer_laws.proofs.Locals.{local_left, one_local}
@@ -24,27 +19,27 @@ use Rattle.inf_veneer_laws.proofs.Locals.{local_left, one_local}
 -- The variables are the object (1), the property (2) and a place in the table (3).
 
 abbrev pub place : Tree
-place = Leaf (Variable 3)
+place = Leaf (Operand.Variable 3)
 
 abbrev word_there : Tree
-word_there = Two (binary.Operation operation.Word) place (Leaf (Known 0))
+word_there = Two (Binary.Operation Operation.Word) place (Leaf (Operand.Known 0))
 
 abbrev pub sum_of : Tree → Tree → Tree
-sum_of a b = Two (binary.Operation operation.Add) a b
+sum_of a b = Two (Binary.Operation Operation.Add) a b
 
 abbrev has_row : World → Truth
 has_row w = truth_of w word_there
 
 abbrev is_row : World → Truth
-is_row w = truth_of w (Two (binary.Test test.Equal) word_there (Leaf (Variable 2)))
+is_row w = truth_of w (Two (Binary.Test Test.Equal) word_there (Leaf (Operand.Variable 2)))
 
 abbrev row_returned : World → Effect
-row_returned w = return_run w (sum_of place (Leaf (Known 2)) ∷ [])
+row_returned w = return_run w (sum_of place (Leaf (Operand.Known 2)) ∷ [])
 
 abbrev goes_on : World → Effect
 goes_on w =
-    alone_run w (Two binary.Assign place (sum_of (sum_of place (Leaf (Known 3)))
-    (Two (binary.Operation operation.Byte) place (Leaf (Known 2)))) ∷ [])
+    alone_run w (Two Binary.Assign place (sum_of (sum_of place (Leaf (Operand.Known 3)))
+    (Two (Binary.Operation Operation.Byte) place (Leaf (Operand.Known 2)))) ∷ [])
 
 abbrev turn : World → Effect
 turn w = both_run (if_run (is_row w) (row_returned w)) (goes_on w)
@@ -117,10 +112,10 @@ found w (suc most) (suc turns) enough t n e =
 -- The table begins at the word at the address of property 3, where this is not 0.
 
 abbrev pub is_zero : World → Truth
-is_zero w = truth_of w (Two (binary.Test test.Equal) place (Leaf (Known 0)))
+is_zero w = truth_of w (Two (Binary.Test Test.Equal) place (Leaf (Operand.Known 0)))
 
 abbrev starts : World → Effect
-starts w = alone_run w (Two binary.Assign place word_there ∷ [])
+starts w = alone_run w (Two Binary.Assign place word_there ∷ [])
 
 abbrev starts_and_looks : World → ℕ → Effect
 starts_and_looks w turns = both_run (starts w) (both_run (looks w turns) returns_0)

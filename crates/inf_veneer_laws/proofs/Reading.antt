@@ -1,26 +1,21 @@
 -- The routines that read a property's value, its address and its length.
 use Rattle.std.proofs.Common.{◌≡◌, ℕ, ◌+◌, ◌%◌, List, [], ◌∷◌, Option, Some, Bool, true, false, not, refl, ◌∙◌, ap, sym}
 use Rattle.std.specs.Prelude.{◌==◌, if◌then◌else◌, codes}
-use Rattle.inf_area.specs.declared.targets.Target.TheVariants as target
-use Rattle.inf_expressions.specs.declared.operators.Binary.TheVariants as binary
-use Rattle.inf_expressions.specs.declared.operators.Operand.TheVariants.{Known, Later, Variable}
-use Rattle.inf_expressions.specs.declared.operators.Operation.TheVariants as operation
-use Rattle.inf_expressions.specs.declared.operators.Test.TheVariants as test
-use Rattle.inf_expressions.specs.Trees.{Leaf, Two}
+use Rattle.inf_area.specs.declared.targets.Target.{Target}
+use Rattle.inf_expressions.specs.{Trees.Leaf, Trees.Two, declared.operators.Binary.Binary, declared.operators.Operand.Operand}
+use Rattle.inf_expressions.specs.{declared.operators.Operation.Operation, declared.operators.Test.Test}
 use Rattle.inf_interpreter.specs.Machine.{Store, World, ◌then◌, less, with_variable}
 use Rattle.inf_interpreter.proofs.Running.{none_some, opened, same_some}
 use Rattle.inf_meaning_laws.specs.Values.{answer, nobody, truth_of}
 use Rattle.inf_control_laws.specs.Control.{Done, Effect, Outcome, Returned, Truth, both_run, effect, if_run}
 use Rattle.inf_control_laws.specs.Plain.{alone_run, return_run}
-use Rattle.inf_veneer_laws.specs.Outcomes.{AsksAddress, AsksLength, FindsOwn, ReadsProperty}
-use Rattle.inf_veneer_laws.specs.Laws.{PropertiesAreRead}
+use Rattle.inf_veneer_laws.specs.{Laws.PropertiesAreRead, Outcomes.AsksAddress, Outcomes.AsksLength, Outcomes.FindsOwn}
+use Rattle.inf_veneer_laws.specs.{Outcomes.ReadsProperty, Routines.property_address, Routines.property_length, Routines.read_property}
+use Rattle.inf_veneer_laws.specs.{Sources.GetProp, Sources.GetPropAddr, Sources.GetPropLen, Sources.Routine, Worlds.HasObjects}
 use Rattle.inf_veneer_laws.specs.Properties.{address_in, byte_in, length_in, own_address, own_in, own_length, own_value, size_by, value_in}
 use Rattle.inf_veneer_laws.specs.Properties.{word_in}
-use Rattle.inf_veneer_laws.specs.Routines.{property_address, property_length, read_property}
-use Rattle.inf_veneer_laws.specs.Routines as named
 use Rattle.inf_veneer_laws.specs.Running.{Calls, Meets, Numbers, asked, called_with, control, ended, entered, left, operand_in}
-use Rattle.inf_veneer_laws.specs.Sources.{GetProp, GetPropAddr, GetPropLen, Routine}
-use Rattle.inf_veneer_laws.specs.Worlds.{HasObjects}
+use Rattle.inf_veneer_laws.specs.Routines as named
 use Rattle.inf_veneer_laws.proofs.Flow.{both_done, comes_to, guard_passes, guard_returns, is_found, returns_with}
 use Rattle.inf_veneer_laws.proofs.Locals.{local_left, one_local}
 use Rattle.inf_veneer_laws.proofs.Own.{ask_done, is_zero, place, returns_0, sum_of, zero_is}
@@ -28,7 +23,7 @@ use Rattle.inf_veneer_laws.proofs.Own.{ask_done, is_zero, place, returns_0, sum_
 -- The variables are the object (1), the property (2) and an address (3).
 
 abbrev is_small : World → Truth
-is_small w = truth_of w (Two (binary.Test test.Less) (Leaf (Variable 2)) (Leaf (Known 64)))
+is_small w = truth_of w (Two (Binary.Test Test.Less) (Leaf (Operand.Variable 2)) (Leaf (Operand.Known 64)))
 
 abbrev has_place : World → Truth
 has_place w = truth_of w place
@@ -51,8 +46,8 @@ returns w numbers turns r ns s n c =
 
 abbrev own_called : World → Numbers → Effect
 own_called w numbers =
-    alone_run w (Two binary.Assign place (Two binary.Call (Leaf (Later (target.Name (numbers (codes "CP__Tab")))))
-    (Two binary.Then (Leaf (Variable 1)) (Leaf (Variable 2)))) ∷ [])
+    alone_run w (Two Binary.Assign place (Two Binary.Call (Leaf (Operand.Later (Target.Name (numbers (codes "CP__Tab")))))
+    (Two Binary.Then (Leaf (Operand.Variable 1)) (Leaf (Operand.Variable 2)))) ∷ [])
 
 abbrev call_stored : Option (ℕ × ℕ × Store) → Option (Outcome × Store)
 call_stored m =
@@ -67,7 +62,7 @@ own_stored w numbers calls s n known =
 -- Addresses
 
 abbrev next_returned : World → Effect
-next_returned w = return_run w (sum_of place (Leaf (Known 1)) ∷ [])
+next_returned w = return_run w (sum_of place (Leaf (Operand.Known 1)) ∷ [])
 
 address_end : (w : World) (s : Store) (b : Bool) → (s.variables 3 == 0) ≡ b →
     both_run (if_run (has_place w) (next_returned w)) returns_0 s
@@ -145,7 +140,7 @@ length_left s t true e = e
 length_left s t false e = local_left s t 3 (length_in t.bytes (t.variables 3)) refl ∙ e
 
 abbrev own_size_returned : World → Effect
-own_size_returned w = return_run w (Two (binary.Operation operation.Byte) place (Leaf (Known 0)) ∷ [])
+own_size_returned w = return_run w (Two (Binary.Operation Operation.Byte) place (Leaf (Operand.Known 0)) ∷ [])
 
 own_length_end : (w : World) (s : Store) (b : Bool) → (s.variables 3 == 0) ≡ b →
     both_run (if_run (has_place w) (own_size_returned w)) returns_0 s
@@ -208,7 +203,7 @@ length_meets w numbers h calls (o ∷ p ∷ x ∷ ns) s n t e turns enough = non
 
 abbrev own_word_returned : World → Effect
 own_word_returned w =
-    return_run w (Two (binary.Operation operation.Word) (sum_of place (Leaf (Known 1))) (Leaf (Known 0)) ∷ [])
+    return_run w (Two (Binary.Operation Operation.Word) (sum_of place (Leaf (Operand.Known 1))) (Leaf (Operand.Known 0)) ∷ [])
 
 value_end : (w : World) (s : Store) (b : Bool) → (s.variables 3 == 0) ≡ b →
     both_run (if_run (is_zero w) returns_0) (own_word_returned w) s

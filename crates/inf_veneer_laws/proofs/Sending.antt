@@ -1,28 +1,21 @@
 -- The routine that sends messages.
 use Rattle.std.proofs.Common.{◌≡◌, ◌<◌, ℕ, List, [], ◌∷◌, Option, Some, None, Bool, true, false, not, refl, ◌∙◌, ap, sym}
 use Rattle.std.specs.Prelude.{◌==◌, codes, if◌then◌else◌}
-use Rattle.inf_area.specs.declared.targets.Target.TheVariants as target
-use Rattle.inf_expressions.specs.declared.operators.Binary.TheVariants as binary
-use Rattle.inf_expressions.specs.declared.operators.Operand.{Operand}
-use Rattle.inf_expressions.specs.declared.operators.Operand.TheVariants.{Known, Later, Variable, Function, Unknown}
-use Rattle.inf_expressions.specs.declared.operators.Test.TheVariants as test
+use Rattle.inf_area.specs.declared.targets.Target.{Target}
+use Rattle.inf_expressions.specs.{declared.operators.Binary.Binary, declared.operators.Operand.Operand, declared.operators.Test.Test}
 use Rattle.inf_expressions.specs.Trees.{Leaf, Tree, Two}
 use Rattle.inf_interpreter.specs.Machine.{Store, World, ◌then◌, with_variable}
 use Rattle.inf_interpreter.proofs.Running.{opened, same_some}
 use Rattle.inf_meaning_laws.specs.Values.{answer, is_own, nobody, number, opposite, read, tested, truth_of}
 use Rattle.inf_control_laws.specs.Control.{Done, Effect, Outcome, Returned, Truth, both_run, effect, if_run}
 use Rattle.inf_control_laws.specs.Plain.{return_run}
-use Rattle.inf_veneer_laws.specs.Classes.{TellsRegion, region_of}
-use Rattle.inf_veneer_laws.specs.Message.{message_names, send_message}
-use Rattle.inf_veneer_laws.specs.Properties.{any_value}
+use Rattle.inf_veneer_laws.specs.{Classes.TellsRegion, Classes.region_of, Message.message_names, Message.send_message, Properties.any_value}
+use Rattle.inf_veneer_laws.specs.{Routines.assigned, Sources.Evaluate, Sources.Return, Sources.Statement, Worlds.HasObjects}
 use Rattle.inf_veneer_laws.specs.Running.{Calls, Numbers, control, ended, entered, left, printed}
 use Rattle.inf_veneer_laws.specs.Sending.{HasMessages, IsOuter, KeepsLocals, MessageMeets, MessagesAreSent, Sends, SendsMessage}
 use Rattle.inf_veneer_laws.specs.Sending.{answered_by, five, message_by, message_called, with_action, with_object, with_object_of}
 use Rattle.inf_veneer_laws.specs.Message as named
 use Rattle.inf_veneer_laws.specs.Routines as routines
-use Rattle.inf_veneer_laws.specs.Routines.{assigned}
-use Rattle.inf_veneer_laws.specs.Sources.{Evaluate, Return, Statement}
-use Rattle.inf_veneer_laws.specs.Worlds.{HasObjects}
 use Rattle.inf_veneer_laws.proofs.Flow.{both_done, both_returns, comes_to, guard_passes, guard_returns, is_found, or_false, returns_with}
 use Rattle.inf_veneer_laws.proofs.Locals.{entered_gone, global_left, left_twice, local_left, one_local, outside, self_left}
 
@@ -153,12 +146,12 @@ answered_acted w k numbers x turns o p v m ns s r e =
 
 -- The name `action` stands for the same where stores differ in locals alone.
 read_alike : (w : World) (x : Operand) → IsOuter (Some x) → (l s t : Store) → left l s ≡ left l t → read w x s ≡ read w x t
-read_alike w (Known n) outer l s t e = refl
-read_alike w (Variable v) outer l s t e =
+read_alike w (Operand.Known n) outer l s t e = refl
+read_alike w (Operand.Variable v) outer l s t e =
     ap (λ (n : ℕ). if is_own v then None else Some n) (outside l s t v outer e)
-read_alike w (Later c) outer l s t e = refl
-read_alike w (Function f) outer l s t e = absurd outer
-read_alike w Unknown outer l s t e = absurd outer
+read_alike w (Operand.Later c) outer l s t e = refl
+read_alike w (Operand.Function f) outer l s t e = absurd outer
+read_alike w Operand.Unknown outer l s t e = absurd outer
 
 abbrev action_stored : Store → Option ℕ → Option (Outcome × Store)
 action_stored s m =
@@ -183,21 +176,21 @@ side_kept w numbers x outer turns o v ns s m e =
 -- The conditions ask for the kind of the value in variable 8.
 
 abbrev kind_of : World → Numbers → Tree
-kind_of w numbers = Two binary.Call (Leaf (Later (target.Name (numbers (codes "Z__Region"))))) (Leaf (Variable 8))
+kind_of w numbers = Two Binary.Call (Leaf (Operand.Later (Target.Name (numbers (codes "Z__Region"))))) (Leaf (Operand.Variable 8))
 
 abbrev is_string : World → Numbers → Truth
-is_string w numbers = truth_of w (Two (binary.Test test.Equal) (kind_of w numbers) (Leaf (Known 3)))
+is_string w numbers = truth_of w (Two (Binary.Test Test.Equal) (kind_of w numbers) (Leaf (Operand.Known 3)))
 
 abbrev no_routine : World → Numbers → Truth
-no_routine w numbers = truth_of w (Two (binary.Fails test.Equal) (kind_of w numbers) (Leaf (Known 2)))
+no_routine w numbers = truth_of w (Two (Binary.Fails Test.Equal) (kind_of w numbers) (Leaf (Operand.Known 2)))
 
 abbrev tested_by : World → ℕ → Store → Option (ℕ × ℕ × Store) → Option (Bool × Store)
 tested_by w n s m =
-    tested w test.Equal (record { leaf = None; value = λ u. m then λ r. answer nobody r.0 r.2 } ∷ number n ∷ []) s
+    tested w Test.Equal (record { leaf = None; value = λ u. m then λ r. answer nobody r.0 r.2 } ∷ number n ∷ []) s
 
 abbrev failed_by : World → ℕ → Store → Option (ℕ × ℕ × Store) → Option (Bool × Store)
 failed_by w n s m =
-    opposite (tested w test.Equal (record { leaf = None; value = λ u. m then λ r. answer nobody r.0 r.2 } ∷ number n ∷ [])) s
+    opposite (tested w Test.Equal (record { leaf = None; value = λ u. m then λ r. answer nobody r.0 r.2 } ∷ number n ∷ [])) s
 
 string_is : (w : World) (numbers : Numbers) → Calls w numbers (codes "Z__Region") (TellsRegion w) → (s : Store) →
     s.variables 8 < 65536 → is_string w numbers s ≡ is_found s (region_of w (s.variables 8) == 3)
@@ -224,13 +217,13 @@ own_set w numbers x turns =
     (ran w numbers x turns (Evaluate (assigned named.own_object routines.o)))))
 
 abbrev value_returned : World → Effect
-value_returned w = return_run w (Leaf (Variable 8) ∷ [])
+value_returned w = return_run w (Leaf (Operand.Variable 8) ∷ [])
 
 abbrev by_routine : World → Numbers → Operand → ℕ → Effect
 by_routine w numbers x turns = both_run (if_run (no_routine w numbers) (value_returned w)) (own_set w numbers x turns)
 
 abbrev by_value : World → Numbers → Operand → ℕ → Effect
-by_value w numbers x turns = both_run (if_run (is_string w numbers) (printed w (Leaf (Variable 8)))) (by_routine w numbers x turns)
+by_value w numbers x turns = both_run (if_run (is_string w numbers) (printed w (Leaf (Operand.Variable 8)))) (by_routine w numbers x turns)
 
 -- the outcome of the statements behind the first one, with those behind the directive, by the kind of the value
 sent_by : (w : World) (numbers : Numbers) → Calls w numbers (codes "Z__Region") (TellsRegion w) → (x : Operand) (turns : ℕ)
@@ -243,7 +236,7 @@ sent_by w numbers calls x turns next o p v ns s few true is_routine e f n u m an
     let now = with_variable 8 v (entered (o ∷ p ∷ ns) s) in
     let r = same_some known in
     let ends : by_value w numbers x turns now ≡ comes_to (Returned 1) now =
-    guard_returns (is_string w numbers) (printed w (Leaf (Variable 8))) (by_routine w numbers x turns) now now 1
+    guard_returns (is_string w numbers) (printed w (Leaf (Operand.Variable 8))) (by_routine w numbers x turns) now now 1
     (string_is w numbers calls now few ∙ ap (is_found now) e) refl in
     record {
       behind = now;
@@ -258,7 +251,7 @@ sent_by w numbers calls x turns next o p v ns s few false false e f n u m answer
     guard_returns (no_routine w numbers) (value_returned w) (own_set w numbers x turns) now now v
     (routine_is w numbers calls now few ∙ ap (λ (b : Bool). is_found now (not b)) f) refl in
     let ends : by_value w numbers x turns now ≡ comes_to (Returned v) now =
-    guard_passes (is_string w numbers) (printed w (Leaf (Variable 8))) (by_routine w numbers x turns) now
+    guard_passes (is_string w numbers) (printed w (Leaf (Operand.Variable 8))) (by_routine w numbers x turns) now
     (string_is w numbers calls now few ∙ ap (is_found now) e)
     ∙ other in
     record {
@@ -272,7 +265,7 @@ sent_by w numbers calls x turns next o p v ns s few false true e f n u m answers
     let set = placed o (s.variables 253) (held v (s.variables 253) (s.variables 252) (o ∷ p ∷ ns) s) in
     let a = answers known in
     let goes : by_value w numbers x turns now ≡ comes_to Done set =
-    guard_passes (is_string w numbers) (printed w (Leaf (Variable 8))) (by_routine w numbers x turns) now
+    guard_passes (is_string w numbers) (printed w (Leaf (Operand.Variable 8))) (by_routine w numbers x turns) now
     (string_is w numbers calls now few ∙ ap (is_found now) e)
     ∙ guard_passes (no_routine w numbers) (value_returned w) (own_set w numbers x turns) now
     (routine_is w numbers calls now few ∙ ap (λ (b : Bool). is_found now (not b)) f) in
@@ -310,12 +303,12 @@ abbrev back_from : Store → Option (ℕ × ℕ × Store) → Option (ℕ × Sto
 back_from s m = m then λ r. Some (r.0, with_object_of s r.2)
 
 plain_answers : (w : World) → KeepsLocals w → (numbers : Numbers) (turns o p v : ℕ) (ns : List ℕ) (s : Store) (n : ℕ) (u : Store) →
-    answered_by w None s o v ns ≡ Some (n, u) → Answers (answered w numbers Unknown turns) s (ready o p v ns s) n u
+    answered_by w None s o v ns ≡ Some (n, u) → Answers (answered w numbers Operand.Unknown turns) s (ready o p v ns s) n u
 plain_answers w k numbers turns o p v ns s n u e =
     let got = opened (w.called (with_object o s) v (five ns)) (λ (r : ℕ × ℕ × Store). Some (r.0, with_object_of s r.2)) (n, u) e in
     let r = got.0 in
-    answers_as (answered w numbers Unknown turns) s (ready o p v ns s) (r.0, with_object_of s r.2) (n, u) (same_some got.2)
-    (answered_plain w k numbers Unknown turns o p v ns s r got.1)
+    answers_as (answered w numbers Operand.Unknown turns) s (ready o p v ns s) (r.0, with_object_of s r.2) (n, u) (same_some got.2)
+    (answered_plain w k numbers Operand.Unknown turns o p v ns s r got.1)
 
 abbrev action_answered : World → Numbers → Operand → ℕ → Effect
 action_answered w numbers x turns = both_run (side_ran w numbers x turns) (answered w numbers x turns)
@@ -353,9 +346,9 @@ message_comes : (w : World) (numbers : Numbers) (action : Option Operand) → Ha
     v < 65536 → any_value s.bytes o p ≡ Some v → message_by w action s o v ns ≡ Some (n, u) →
     message_called w numbers action turns (o ∷ p ∷ ns) s ≡ returns_with n u
 message_comes w numbers None h k outer calls o p v ns s n u turns few known e =
-    let next = answered w numbers Unknown turns in
-    sent_with w numbers h Unknown turns next o p v ns s n u known
-    (sent_by w numbers calls Unknown turns next o p v ns s few (region_of w v == 3) (region_of w v == 2) refl refl n u
+    let next = answered w numbers Operand.Unknown turns in
+    sent_with w numbers h Operand.Unknown turns next o p v ns s n u known
+    (sent_by w numbers calls Operand.Unknown turns next o p v ns s few (region_of w v == 3) (region_of w v == 2) refl refl n u
     (answered_by w None s o v ns) (plain_answers w k numbers turns o p v ns s n u) e)
 message_comes w numbers (Some x) h k outer calls o p v ns s n u turns few known e =
     let next = action_answered w numbers x turns in

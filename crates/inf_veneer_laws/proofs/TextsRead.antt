@@ -2,7 +2,6 @@
 use Rattle.std.proofs.Common.{◌≡◌, ℕ, [], ◌∷◌, Some, refl}
 use Rattle.std.specs.Fmt.{digits}
 use Rattle.inf_characters.specs.declared.characters.CharSet.{CharSet}
-use Rattle.inf_characters.specs.declared.characters.CharSet.TheVariants as characters
 use Rattle.inf_machine.specs.Machine.{read}
 use Rattle.inf_syntax.specs.Parts.{piece}
 use Rattle.inf_grammar.specs.Language.{grammar, known}
@@ -20,8 +19,8 @@ HasEvents r = read grammar known (piece ∷ []) (atoms_of (routine_events r)) �
 
 write_byte_tokens : HasTokens write_byte
 unfolding digits
-write_byte_tokens characters.Ascii limit = refl
-write_byte_tokens characters.Latin1 limit = refl
+write_byte_tokens CharSet.Ascii limit = refl
+write_byte_tokens CharSet.Latin1 limit = refl
 
 write_byte_events : HasEvents write_byte
 unfolding grammar known
@@ -29,8 +28,8 @@ write_byte_events = refl
 
 write_word_tokens : HasTokens write_word
 unfolding digits
-write_word_tokens characters.Ascii limit = refl
-write_word_tokens characters.Latin1 limit = refl
+write_word_tokens CharSet.Ascii limit = refl
+write_word_tokens CharSet.Latin1 limit = refl
 
 write_word_events : HasEvents write_word
 unfolding grammar known
@@ -38,8 +37,8 @@ write_word_events = refl
 
 step_byte_tokens : HasTokens step_byte
 unfolding digits
-step_byte_tokens characters.Ascii limit = refl
-step_byte_tokens characters.Latin1 limit = refl
+step_byte_tokens CharSet.Ascii limit = refl
+step_byte_tokens CharSet.Latin1 limit = refl
 
 step_byte_events : HasEvents step_byte
 unfolding grammar known
@@ -47,8 +46,8 @@ step_byte_events = refl
 
 step_word_tokens : HasTokens step_word
 unfolding digits
-step_word_tokens characters.Ascii limit = refl
-step_word_tokens characters.Latin1 limit = refl
+step_word_tokens CharSet.Ascii limit = refl
+step_word_tokens CharSet.Latin1 limit = refl
 
 step_word_events : HasEvents step_word
 unfolding grammar known
@@ -56,8 +55,8 @@ step_word_events = refl
 
 count_children_tokens : HasTokens count_children
 unfolding digits
-count_children_tokens characters.Ascii limit = refl
-count_children_tokens characters.Latin1 limit = refl
+count_children_tokens CharSet.Ascii limit = refl
+count_children_tokens CharSet.Latin1 limit = refl
 
 count_children_events : HasEvents count_children
 unfolding grammar known
@@ -65,8 +64,8 @@ count_children_events = refl
 
 write_property_tokens : HasTokens write_property
 unfolding digits
-write_property_tokens characters.Ascii limit = refl
-write_property_tokens characters.Latin1 limit = refl
+write_property_tokens CharSet.Ascii limit = refl
+write_property_tokens CharSet.Latin1 limit = refl
 
 write_property_events : HasEvents write_property
 unfolding grammar known
@@ -74,8 +73,8 @@ write_property_events = refl
 
 step_property_tokens : HasTokens step_property
 unfolding digits
-step_property_tokens characters.Ascii limit = refl
-step_property_tokens characters.Latin1 limit = refl
+step_property_tokens CharSet.Ascii limit = refl
+step_property_tokens CharSet.Latin1 limit = refl
 
 step_property_events : HasEvents step_property
 unfolding grammar known
@@ -83,8 +82,8 @@ step_property_events = refl
 
 provides_property_tokens : HasTokens provides_property
 unfolding digits
-provides_property_tokens characters.Ascii limit = refl
-provides_property_tokens characters.Latin1 limit = refl
+provides_property_tokens CharSet.Ascii limit = refl
+provides_property_tokens CharSet.Latin1 limit = refl
 
 provides_property_events : HasEvents provides_property
 unfolding grammar known
@@ -92,8 +91,8 @@ provides_property_events = refl
 
 property_address_tokens : HasTokens property_address
 unfolding digits
-property_address_tokens characters.Ascii limit = refl
-property_address_tokens characters.Latin1 limit = refl
+property_address_tokens CharSet.Ascii limit = refl
+property_address_tokens CharSet.Latin1 limit = refl
 
 property_address_events : HasEvents property_address
 unfolding grammar known
@@ -101,8 +100,8 @@ property_address_events = refl
 
 property_length_tokens : HasTokens property_length
 unfolding digits
-property_length_tokens characters.Ascii limit = refl
-property_length_tokens characters.Latin1 limit = refl
+property_length_tokens CharSet.Ascii limit = refl
+property_length_tokens CharSet.Latin1 limit = refl
 
 property_length_events : HasEvents property_length
 unfolding grammar known
@@ -110,8 +109,8 @@ property_length_events = refl
 
 read_property_tokens : HasTokens read_property
 unfolding digits
-read_property_tokens characters.Ascii limit = refl
-read_property_tokens characters.Latin1 limit = refl
+read_property_tokens CharSet.Ascii limit = refl
+read_property_tokens CharSet.Latin1 limit = refl
 
 read_property_events : HasEvents read_property
 unfolding grammar known
@@ -119,8 +118,8 @@ read_property_events = refl
 
 find_own_tokens : HasTokens find_own
 unfolding digits
-find_own_tokens characters.Ascii limit = refl
-find_own_tokens characters.Latin1 limit = refl
+find_own_tokens CharSet.Ascii limit = refl
+find_own_tokens CharSet.Latin1 limit = refl
 
 find_own_events : HasEvents find_own
 unfolding grammar known
@@ -128,8 +127,8 @@ find_own_events = refl
 
 compare_tokens : HasTokens compare
 unfolding digits
-compare_tokens characters.Ascii limit = refl
-compare_tokens characters.Latin1 limit = refl
+compare_tokens CharSet.Ascii limit = refl
+compare_tokens CharSet.Latin1 limit = refl
 
 compare_events : HasEvents compare
 unfolding grammar known
@@ -137,8 +136,8 @@ compare_events = refl
 
 region_tokens : HasTokens region
 unfolding digits
-region_tokens characters.Ascii limit = refl
-region_tokens characters.Latin1 limit = refl
+region_tokens CharSet.Ascii limit = refl
+region_tokens CharSet.Latin1 limit = refl
 
 region_events : HasEvents region
 unfolding grammar known
@@ -146,8 +145,8 @@ region_events = refl
 
 of_class_tokens : HasTokens of_class
 unfolding digits
-of_class_tokens characters.Ascii limit = refl
-of_class_tokens characters.Latin1 limit = refl
+of_class_tokens CharSet.Ascii limit = refl
+of_class_tokens CharSet.Latin1 limit = refl
 
 of_class_events : HasEvents of_class
 unfolding grammar known

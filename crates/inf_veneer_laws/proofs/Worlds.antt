@@ -1,14 +1,11 @@
 -- Worlds whose objects, or classes, are those in memory, whose messages look at these, and whose calls
 -- keep to their own locals.
-use Rattle.std.proofs.Common.{◌≡◌, ℕ, [], Option, Some, None, not, refl, ap, ◌∙◌}
-use Rattle.std.specs.Prelude.{◌==◌}
+use Rattle.std.proofs.Common.{◌≡◌, ℕ, [], Option, Some, None, not, refl, ap, ◌∙◌, ◌==◌}
 use Rattle.inf_interpreter.specs.Machine.{Store, ◌then◌}
-use Rattle.inf_veneer_laws.specs.Classes.{WorldsHaveClasses, known_or_false}
-use Rattle.inf_veneer_laws.specs.Running.{entered, left}
+use Rattle.inf_veneer_laws.specs.{Classes.WorldsHaveClasses, Classes.known_or_false, Running.entered, Running.left}
 use Rattle.inf_veneer_laws.specs.Sending.{WorldsHaveMessages, WorldsKeepLocals, message_by}
 use Rattle.inf_veneer_laws.specs.Worlds.{WorldsHaveObjects, known_or_0, written_at}
-use Rattle.inf_veneer_laws.proofs.Locals.{entered_alike, left_through}
-use Rattle.inf_veneer_laws.proofs.Sending.{with_locals}
+use Rattle.inf_veneer_laws.proofs.{Locals.entered_alike, Locals.left_through, Sending.with_locals}
 
 pub worlds_have_classes : WorldsHaveClasses
 worlds_have_classes w = (

@@ -1,42 +1,34 @@
 -- The routines that write a property, step it, and tell whether an object has one.
 use Rattle.std.proofs.Common.{◌≡◌, ℕ, ◌+◌, ◌%◌, [], ◌∷◌, Option, Some, None, Bool, true, false, not, refl, ◌∙◌, ap, sym}
 use Rattle.std.specs.Prelude.{◌==◌, if◌then◌else◌, codes}
-use Rattle.inf_area.specs.declared.targets.Target.TheVariants as target
-use Rattle.inf_expressions.specs.Numbers.{truth}
-use Rattle.inf_expressions.specs.declared.operators.Binary.TheVariants as binary
-use Rattle.inf_expressions.specs.declared.operators.Operand.TheVariants.{Known, Later, Variable}
-use Rattle.inf_expressions.specs.declared.operators.Operation.TheVariants as operation
-use Rattle.inf_expressions.specs.declared.operators.Test.TheVariants as test
-use Rattle.inf_expressions.specs.Trees.{Leaf, Two}
-use Rattle.inf_output.specs.declared.veneer.Veneer.TheVariants as veneer
-use Rattle.inf_output.specs.Veneer.{name_of}
-use Rattle.inf_interpreter.specs.Machine.{Store, World, ◌then◌, with_variable}
-use Rattle.inf_interpreter.specs.Supplied.{word_written}
+use Rattle.inf_area.specs.declared.targets.Target.{Target}
+use Rattle.inf_expressions.specs.{Numbers.truth, Trees.Leaf, Trees.Two, declared.operators.Binary.Binary}
+use Rattle.inf_expressions.specs.{declared.operators.Operand.Operand, declared.operators.Operation.Operation, declared.operators.Test.Test}
+use Rattle.inf_output.specs.{Veneer.name_of, declared.veneer.Veneer.Veneer}
+use Rattle.inf_interpreter.specs.{Machine.Store, Machine.World, Machine.with_variable, Machine.◌then◌, Supplied.word_written}
 use Rattle.inf_interpreter.proofs.Running.{none_some}
 use Rattle.inf_meaning_laws.specs.Values.{answer, nobody, number, opposite, tested, truth_of}
 use Rattle.inf_control_laws.specs.Control.{Done, Effect, Outcome, Returned, Truth, both_run, if_run}
 use Rattle.inf_control_laws.specs.Plain.{alone_run, return_run}
-use Rattle.inf_veneer_laws.specs.Outcomes.{AsksAddress, StepsProperty, WritesProperty}
-use Rattle.inf_veneer_laws.specs.Laws.{PropertiesAreProvided, PropertiesAreWritten}
-use Rattle.inf_veneer_laws.specs.Properties.{any_address, any_value}
-use Rattle.inf_veneer_laws.specs.Routines.{provides_property, step_property, write_property}
+use Rattle.inf_veneer_laws.specs.{Laws.PropertiesAreProvided, Laws.PropertiesAreWritten, Outcomes.AsksAddress, Outcomes.StepsProperty}
+use Rattle.inf_veneer_laws.specs.{Outcomes.WritesProperty, Properties.any_address, Properties.any_value, Routines.provides_property}
+use Rattle.inf_veneer_laws.specs.{Routines.step_property, Routines.write_property, Worlds.HasObjects, Worlds.written_at}
 use Rattle.inf_veneer_laws.specs.Running.{Calls, Meets, Numbers, called_with, ended, entered, left}
-use Rattle.inf_veneer_laws.specs.Worlds.{HasObjects, written_at}
-use Rattle.inf_veneer_laws.proofs.Entries.{step_answered, step_end, step_result}
+use Rattle.inf_veneer_laws.proofs.{Entries.step_answered, Entries.step_end, Entries.step_result, Locals.entered_left, Locals.one_local}
 use Rattle.inf_veneer_laws.proofs.Flow.{both_done, comes_to, guard_does, guard_passes, is_found, or_false, returns_with}
-use Rattle.inf_veneer_laws.proofs.Locals.{entered_left, one_local}
 
 -- A value is written where there are data.
 
 abbrev has_data : World → Truth
-has_data w = truth_of w (Leaf (Variable 4))
+has_data w = truth_of w (Leaf (Operand.Variable 4))
 
 abbrev data_written : World → Effect
 data_written w =
-    alone_run w (Two binary.Assign (Two (binary.Operation operation.Word) (Leaf (Variable 4)) (Leaf (Known 0))) (Leaf (Variable 3)) ∷ [])
+    alone_run w (Two Binary.Assign (Two (Binary.Operation Operation.Word) (Leaf (Operand.Variable 4)) (Leaf (Operand.Known 0)))
+    (Leaf (Operand.Variable 3)) ∷ [])
 
 abbrev value_returned : World → Effect
-value_returned w = return_run w (Leaf (Variable 3) ∷ [])
+value_returned w = return_run w (Leaf (Operand.Variable 3) ∷ [])
 
 written_if : (w : World) (s : Store) (b : Bool) → (s.variables 4 == 0) ≡ b →
     both_run (if_run (has_data w) (data_written w)) (value_returned w) s
@@ -82,9 +74,9 @@ call_done m = ((m then λ r. answer nobody r.0 r.2) then λ p. Some p.1) then λ
 
 abbrev sum_written : World → Numbers → Effect
 sum_written w numbers =
-    alone_run w (Two binary.Call (Leaf (Later (target.Name (numbers (codes "WV__Pr")))))
-    (Two binary.Then (Leaf (Variable 1)) (Two binary.Then (Leaf (Variable 2))
-    (Two (binary.Operation operation.Add) (Leaf (Variable 5)) (Leaf (Variable 3))))) ∷ [])
+    alone_run w (Two Binary.Call (Leaf (Operand.Later (Target.Name (numbers (codes "WV__Pr")))))
+    (Two Binary.Then (Leaf (Operand.Variable 1)) (Two Binary.Then (Leaf (Operand.Variable 2))
+    (Two (Binary.Operation Operation.Add) (Leaf (Operand.Variable 5)) (Leaf (Operand.Variable 3))))) ∷ [])
 
 answered_behind : (w : World) (s : Store) (start m : ℕ) (b : Bool) →
     step_end w (if b then s else word_written start 0 m s)
@@ -93,7 +85,7 @@ answered_behind w s start m true = step_answered w s
 answered_behind w s start m false = step_answered w (word_written start 0 m s)
 
 -- the call, from a store that has the property's value in `v`
-sum_is_written : (w : World) (numbers : Numbers) → HasObjects w → Calls w numbers (name_of veneer.WriteProperty) (WritesProperty w) →
+sum_is_written : (w : World) (numbers : Numbers) → HasObjects w → Calls w numbers (name_of Veneer.WriteProperty) (WritesProperty w) →
     (s : Store) (start : ℕ) → any_address s.bytes (s.variables 1) (s.variables 2) ≡ Some start →
     let m = (s.variables 5 + s.variables 3) % 65536 in
     both_run (sum_written w numbers) (step_end w) s
@@ -108,7 +100,7 @@ sum_is_written w numbers h calls s start known =
     both_done (sum_written w numbers) (step_end w) s (written_at start m s) done ∙ answered_behind w s start m (start == 0)
 
 property_is_stepped : (w : World) (numbers : Numbers) → HasObjects w →
-    Calls w numbers (name_of veneer.WriteProperty) (WritesProperty w) → (turns o p d k n start : ℕ) (s : Store) →
+    Calls w numbers (name_of Veneer.WriteProperty) (WritesProperty w) → (turns o p d k n start : ℕ) (s : Store) →
     any_value s.bytes o p ≡ Some n → any_address s.bytes o p ≡ Some start →
     called_with w numbers turns step_property (o ∷ p ∷ d ∷ k ∷ []) s
     ≡ returns_with (step_result d k n) (written_at start ((n + d) % 65536) s)
@@ -121,7 +113,7 @@ property_is_stepped w numbers h calls turns o p d k n start s is at =
     ∙ ap (returns_with (step_result d k n)) (written_left s now start ((n + d) % 65536) (start == 0) (one_local ns s 5 n refl))
 
 step_property_meets : (w : World) (numbers : Numbers) → HasObjects w →
-    Calls w numbers (name_of veneer.WriteProperty) (WritesProperty w) → Meets w numbers step_property (StepsProperty w)
+    Calls w numbers (name_of Veneer.WriteProperty) (WritesProperty w) → Meets w numbers step_property (StepsProperty w)
 step_property_meets w numbers h calls [] s n t e turns enough = absurd e.0
 step_property_meets w numbers h calls (o ∷ []) s n t e turns enough = absurd e.0
 step_property_meets w numbers h calls (o ∷ p ∷ []) s n t e turns enough = none_some e.2
@@ -144,11 +136,11 @@ properties_are_written w numbers h = (write_property_meets w numbers h, step_pro
 -- the call's end, by what the call of the routine that finds the address comes to
 abbrev told_by : World → Store → Store → Option (ℕ × ℕ × Store) → Option (ℕ × Store)
 told_by w s begun m =
-    ((opposite (tested w test.Equal (record { leaf = None; value = λ u. m then λ r. answer nobody r.0 r.2 } ∷ number 0 ∷ [])) begun
+    ((opposite (tested w Test.Equal (record { leaf = None; value = λ u. m then λ r. answer nobody r.0 r.2 } ∷ number 0 ∷ [])) begun
     then λ p. answer nobody (truth p.0) p.1) then λ p. Some (Returned p.0, p.1)) then ended s
 
 property_is_told : (w : World) (numbers : Numbers) → HasObjects w →
-    Calls w numbers (name_of veneer.PropertyAddress) (AsksAddress w) → (turns o p start : ℕ) (s : Store) →
+    Calls w numbers (name_of Veneer.PropertyAddress) (AsksAddress w) → (turns o p start : ℕ) (s : Store) →
     any_address s.bytes o p ≡ Some start →
     called_with w numbers turns provides_property (o ∷ p ∷ []) s ≡ returns_with (truth (not (start == 0))) s
 property_is_told w numbers h calls turns o p start s known =

@@ -1,23 +1,18 @@
 -- Worlds in which a call of a supplied routine comes to a run of the tree of its text.
 use Rattle.std.specs.Prelude.{◌≡◌, ℕ, zero, suc, ◌==◌, false, List, [], ◌∷◌, Option, codes, if◌then◌else◌}
-use Rattle.inf_area.specs.declared.targets.Target.TheVariants as target
-use Rattle.inf_output.specs.declared.veneer.Veneer.TheVariants as veneer
-use Rattle.inf_output.specs.Veneer.{name_of}
+use Rattle.inf_area.specs.declared.targets.Target.{Target}
+use Rattle.inf_output.specs.{Veneer.name_of, declared.veneer.Veneer.Veneer}
 use Rattle.inf_expressions.specs.declared.operators.Operand.{Operand}
-use Rattle.inf_interpreter.specs.Machine.{Store, World}
-use Rattle.inf_interpreter.specs.Worlds.{with_left}
+use Rattle.inf_interpreter.specs.{Machine.Store, Machine.World, Worlds.with_left}
+use Rattle.inf_veneer_laws.specs.{Properties.most_rows, Sources.Routine, Worlds.HasObjects}
 use Rattle.inf_veneer_laws.specs.Classes.{Compares, HasClasses, HasConstants, TellsClass, TellsRegion}
 use Rattle.inf_veneer_laws.specs.Outcomes.{AsksAddress, AsksLength, CountsChildren, FindsOwn, ProvidesProperty, ReadsProperty}
-use Rattle.inf_veneer_laws.specs.Outcomes.{StepsProperty}
-use Rattle.inf_veneer_laws.specs.Outcomes.{WritesProperty}
-use Rattle.inf_veneer_laws.specs.Properties.{most_rows}
+use Rattle.inf_veneer_laws.specs.Outcomes.{StepsProperty, WritesProperty}
 use Rattle.inf_veneer_laws.specs.Routines.{compare, count_children, find_own, of_class, property_address, property_length}
 use Rattle.inf_veneer_laws.specs.Routines.{provides_property, read_property, region, step_byte, step_property, step_word, write_byte}
 use Rattle.inf_veneer_laws.specs.Routines.{write_property, write_word}
 use Rattle.inf_veneer_laws.specs.Running.{Calls, IsSupplied, Numbers, called_with}
 use Rattle.inf_veneer_laws.specs.Sending.{IsOuter, KeepsLocals, Sends, message_called}
-use Rattle.inf_veneer_laws.specs.Sources.{Routine}
-use Rattle.inf_veneer_laws.specs.Worlds.{HasObjects}
 
 abbrev pub routines : List Routine
 routines =
@@ -26,10 +21,10 @@ routines =
 
 -- the number by which a routine is called
 abbrev pub number_of : World → Numbers → Routine → ℕ
-number_of w numbers r = w.later (target.Name (numbers r.name))
+number_of w numbers r = w.later (Target.Name (numbers r.name))
 
 abbrev pub message_number : World → Numbers → ℕ
-message_number w numbers = w.later (target.Name (numbers (name_of veneer.CallProperty)))
+message_number w numbers = w.later (Target.Name (numbers (name_of Veneer.CallProperty)))
 
 -- These numbers, and that of the routine that sends messages, differ.
 abbrev pub IsOther : World → Numbers → Routine → List Routine → Type 0
@@ -58,20 +53,20 @@ with_texts_to (suc depth) w numbers action = with_texts (with_texts_to depth w n
 -- Calls of the routines come to what their contracts say.
 pub record AreCalled (w : World) (numbers : Numbers) : Type 0 where
   pub own : Calls w numbers (codes "CP__Tab") FindsOwn
-  pub address : Calls w numbers (name_of veneer.PropertyAddress) (AsksAddress w)
-  pub length : Calls w numbers (name_of veneer.PropertyLength) (AsksLength w)
-  pub value : Calls w numbers (name_of veneer.ReadProperty) (ReadsProperty w)
-  pub provides : Calls w numbers (name_of veneer.Provides) (ProvidesProperty w)
-  pub writes : Calls w numbers (name_of veneer.WriteProperty) (WritesProperty w)
-  pub steps : Calls w numbers (name_of veneer.StepProperty) (StepsProperty w)
-  pub children : Calls w numbers (name_of veneer.Children) (CountsChildren w)
-  pub writes_byte : Calls w numbers (name_of veneer.WriteByte) (IsSupplied w veneer.WriteByte)
-  pub writes_word : Calls w numbers (name_of veneer.WriteWord) (IsSupplied w veneer.WriteWord)
-  pub steps_byte : Calls w numbers (name_of veneer.StepByte) (IsSupplied w veneer.StepByte)
-  pub steps_word : Calls w numbers (name_of veneer.StepWord) (IsSupplied w veneer.StepWord)
+  pub address : Calls w numbers (name_of Veneer.PropertyAddress) (AsksAddress w)
+  pub length : Calls w numbers (name_of Veneer.PropertyLength) (AsksLength w)
+  pub value : Calls w numbers (name_of Veneer.ReadProperty) (ReadsProperty w)
+  pub provides : Calls w numbers (name_of Veneer.Provides) (ProvidesProperty w)
+  pub writes : Calls w numbers (name_of Veneer.WriteProperty) (WritesProperty w)
+  pub steps : Calls w numbers (name_of Veneer.StepProperty) (StepsProperty w)
+  pub children : Calls w numbers (name_of Veneer.Children) (CountsChildren w)
+  pub writes_byte : Calls w numbers (name_of Veneer.WriteByte) (IsSupplied w Veneer.WriteByte)
+  pub writes_word : Calls w numbers (name_of Veneer.WriteWord) (IsSupplied w Veneer.WriteWord)
+  pub steps_byte : Calls w numbers (name_of Veneer.StepByte) (IsSupplied w Veneer.StepByte)
+  pub steps_word : Calls w numbers (name_of Veneer.StepWord) (IsSupplied w Veneer.StepWord)
   pub compares : Calls w numbers (codes "Unsigned__Compare") Compares
   pub region : Calls w numbers (codes "Z__Region") (TellsRegion w)
-  pub class : Calls w numbers (name_of veneer.OfClass) (TellsClass w)
+  pub class : Calls w numbers (name_of Veneer.OfClass) (TellsClass w)
 
 -- No text but that of messages calls deeper than through two others. A call of that one comes to what the message comes to, where a call of
 -- the routine that answers it runs texts one call less deep.
@@ -82,4 +77,4 @@ CallsRunTexts =
     let below = with_texts_to (suc (suc (suc depth))) w numbers action in
     AreCalled below numbers
     × (KeepsLocals w → IsOuter action →
-    Calls (with_texts below numbers action) numbers (name_of veneer.CallProperty) (Sends below action))
+    Calls (with_texts below numbers action) numbers (name_of Veneer.CallProperty) (Sends below action))

@@ -1,17 +1,13 @@
 -- The kinds of things that numbers of a story stand for, and the classes of objects. Designer's Manual, fourth edition, sections 3.7 to
 -- 3.9; Inform Technical Manual, section 9.
-use Rattle.std.specs.Prelude.{◌≡◌, ℕ, zero, suc, ◌+◌, ◌/◌, ◌%◌, ◌<◌, nat_le, nat_lt, ◌==◌, ◌||◌, not, Bool, false, [], ◌∷◌, Option}
-use Rattle.std.specs.Prelude.{Some, None}
-use Rattle.std.specs.Prelude.{codes, if◌then◌else◌}
-use Rattle.inf_area.specs.declared.targets.SystemConstant.{SystemConstant}
-use Rattle.inf_area.specs.declared.targets.SystemConstant.TheVariants as system
-use Rattle.inf_area.specs.declared.targets.Target.TheVariants as target
-use Rattle.inf_output.specs.declared.veneer.Veneer.TheVariants as veneer
+use Rattle.std.specs.Prelude.{◌≡◌, ℕ, zero, suc, ◌+◌, ◌/◌, ◌%◌, ◌<◌, nat_le, nat_lt, ◌==◌, ◌||◌, not, Bool, false, [], ◌∷◌, Option, Some}
+use Rattle.std.specs.Prelude.{None, codes, if◌then◌else◌}
+use Rattle.inf_area.specs.{declared.targets.SystemConstant.SystemConstant, declared.targets.Target.Target}
+use Rattle.inf_output.specs.declared.veneer.Veneer.{Veneer}
 use Rattle.inf_interpreter.specs.Machine.{Store, World, ◌then◌, less}
+use Rattle.inf_veneer_laws.specs.{Routines.compare, Routines.of_class, Routines.region, Worlds.HasObjects}
 use Rattle.inf_veneer_laws.specs.Properties.{Bytes, address_in, entry, length_in, word_in}
-use Rattle.inf_veneer_laws.specs.Routines.{compare, of_class, region}
 use Rattle.inf_veneer_laws.specs.Running.{Calls, Contract, IsSupplied, Meets, Numbers}
-use Rattle.inf_veneer_laws.specs.Worlds.{HasObjects}
 
 -- Two numbers without a sign: 0 where they are the same, 1 where the first is more, and else -1.
 abbrev pub order : ℕ → ℕ → ℕ
@@ -26,19 +22,19 @@ Compares (x ∷ y ∷ z ∷ ns) s n t = ⊥
 -- Kinds: objects have the numbers from 1 on, and routines and strings packed addresses, strings behind routines.
 
 abbrev pub constant_in : World → SystemConstant → ℕ
-constant_in w c = w.later (target.System c)
+constant_in w c = w.later (Target.System c)
 
 pub record HasConstants (w : World) : Type 0 where
-  pub objects : constant_in w system.HighestObjectNumber < 65536
-  pub strings : constant_in w system.StringsOffset < 65536
-  pub code : constant_in w system.CodeOffset < 65536
+  pub objects : constant_in w SystemConstant.HighestObjectNumber < 65536
+  pub strings : constant_in w SystemConstant.StringsOffset < 65536
+  pub code : constant_in w SystemConstant.CodeOffset < 65536
 
 abbrev pub region_of : World → ℕ → ℕ
 region_of w x =
     if x == 0 then 0
-    else if nat_le x (constant_in w system.HighestObjectNumber) then 1
-    else if nat_le (constant_in w system.StringsOffset) x then 3
-    else if nat_le (constant_in w system.CodeOffset) x then 2
+    else if nat_le x (constant_in w SystemConstant.HighestObjectNumber) then 1
+    else if nat_le (constant_in w SystemConstant.StringsOffset) x then 3
+    else if nat_le (constant_in w SystemConstant.CodeOffset) x then 2
     else 0
 
 abbrev pub TellsRegion : World → Contract
@@ -95,7 +91,7 @@ abbrev pub TellsClass : World → Contract
 TellsClass w [] s n t = ⊥
 TellsClass w (o ∷ []) s n t = ⊥
 TellsClass w (o ∷ c ∷ ns) s n t =
-    (o < 65536) × ((b : Bool) × (class_by (region_of w o) s.bytes o c ≡ Some b)) × IsSupplied w veneer.OfClass (o ∷ c ∷ ns) s n t
+    (o < 65536) × ((b : Bool) × (class_by (region_of w o) s.bytes o c ≡ Some b)) × IsSupplied w Veneer.OfClass (o ∷ c ∷ ns) s n t
 
 abbrev pub NumbersAreCompared : Type 0
 NumbersAreCompared = (w : World) (numbers : Numbers) → Meets w numbers compare Compares

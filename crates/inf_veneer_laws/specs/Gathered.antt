@@ -1,55 +1,42 @@
 -- The trees that units gather of the expressions of a routine, as its tokens are taken and the actions of the grammar are carried out.
 use Rattle.std.specs.Prelude.{◌≡◌, ℕ, zero, suc, false, List, [], ◌∷◌, ◌++◌, length, map, if◌then◌else◌}
 use Rattle.inf_characters.specs.declared.characters.CharSet.{CharSet}
-use Rattle.inf_area.specs.declared.targets.Target.TheVariants as target
-use Rattle.inf_expressions.specs.declared.operators.Function.TheVariants as function
-use Rattle.inf_expressions.specs.declared.operators.Operand.{Operand}
-use Rattle.inf_expressions.specs.declared.operators.Operand.TheVariants as operand
-use Rattle.inf_expressions.specs.declared.operators.Relative.TheVariants as relative
-use Rattle.inf_expressions.specs.declared.operators.Single.TheVariants as single
-use Rattle.inf_expressions.specs.declared.operators.Unary.{Unary}
-use Rattle.inf_expressions.specs.declared.operators.Unary.TheVariants as unary
-use Rattle.inf_expressions.specs.declared.units.Wanted.TheVariants as wanted
-use Rattle.inf_expressions.specs.Rooted.{Rooted}
-use Rattle.inf_expressions.specs.Trees.{Tree}
-use Rattle.inf_expressions.specs.Units.{trees_of}
-use Rattle.inf_scanner.specs.Tokens.{next_token}
-use Rattle.inf_scanner.specs.declared.lines.Lines.{Lines}
+use Rattle.inf_area.specs.declared.targets.Target.{Target}
+use Rattle.inf_expressions.specs.{Rooted.Rooted, Trees.Tree, Units.trees_of, declared.operators.Function.Function}
+use Rattle.inf_expressions.specs.{declared.operators.Operand.Operand, declared.operators.Relative.Relative}
+use Rattle.inf_expressions.specs.{declared.operators.Single.Single, declared.operators.Unary.Unary, declared.units.Wanted.Wanted}
+use Rattle.inf_scanner.specs.{Tokens.next_token, declared.lines.Lines.Lines}
 use Rattle.inf_machine.specs.Grammar.{Did}
-use Rattle.inf_syntax.specs.declared.actions.Action.TheVariants as action
-use Rattle.inf_unit.specs.Tokens.{SourceToken, is_end}
-use Rattle.inf_unit.specs.Units.{no_unit}
-use Rattle.inf_expression_laws.specs.Gathered.{read_by}
-use Rattle.inf_expression_laws.specs.Precedence.{commas}
-use Rattle.inf_veneer_laws.specs.Events.{expression_events}
+use Rattle.inf_syntax.specs.declared.actions.Action.{Action}
+use Rattle.inf_unit.specs.{Tokens.SourceToken, Tokens.is_end, Units.no_unit}
+use Rattle.inf_expression_laws.specs.{Gathered.read_by, Precedence.commas}
+use Rattle.inf_veneer_laws.specs.{Events.expression_events, Running.Numbers, Running.operand_in, Running.tree_of}
 use Rattle.inf_veneer_laws.specs.Routines.{compare, count_children, find_own, of_class, property_address, property_length}
 use Rattle.inf_veneer_laws.specs.Routines.{provides_property, read_property, region, step_byte, step_property, step_word, write_byte}
 use Rattle.inf_veneer_laws.specs.Routines.{write_property, write_word}
-use Rattle.inf_veneer_laws.specs.Running.{Numbers, operand_in, tree_of}
 use Rattle.inf_veneer_laws.specs.Sources.{Ask, Evaluate, Expression, For, If, Name, Number, One, PrintString, Return, ReturnFalse}
-use Rattle.inf_veneer_laws.specs.Sources.{ReturnTrue}
-use Rattle.inf_veneer_laws.specs.Sources.{Routine, Statement, System, Then, Two, While, spelled}
+use Rattle.inf_veneer_laws.specs.Sources.{ReturnTrue, Routine, Statement, System, Then, Two, While, spelled}
 
 -- The operands of an expression, leaf by leaf: a function of the system is a leaf in front of its argument.
 
 abbrev pub function_operands : Unary → List Operand
-function_operands (unary.Relative relative.Child) = operand.Function function.Child ∷ []
-function_operands (unary.Relative relative.Sibling) = operand.Function function.Sibling ∷ []
-function_operands (unary.Single single.Parent) = operand.Function function.Parent ∷ []
-function_operands (unary.Single single.Random) = operand.Function function.Random ∷ []
-function_operands (unary.Single single.Complement) = []
-function_operands unary.Children = operand.Function function.Children ∷ []
-function_operands unary.Indirect = operand.Function function.Indirect ∷ []
-function_operands unary.Negate = []
-function_operands unary.Not = []
-function_operands (unary.Before step) = []
-function_operands (unary.Behind step) = []
-function_operands unary.Call = []
+function_operands (Unary.Relative Relative.Child) = Operand.Function Function.Child ∷ []
+function_operands (Unary.Relative Relative.Sibling) = Operand.Function Function.Sibling ∷ []
+function_operands (Unary.Single Single.Parent) = Operand.Function Function.Parent ∷ []
+function_operands (Unary.Single Single.Random) = Operand.Function Function.Random ∷ []
+function_operands (Unary.Single Single.Complement) = []
+function_operands Unary.Children = Operand.Function Function.Children ∷ []
+function_operands Unary.Indirect = Operand.Function Function.Indirect ∷ []
+function_operands Unary.Negate = []
+function_operands Unary.Not = []
+function_operands (Unary.Before step) = []
+function_operands (Unary.Behind step) = []
+function_operands Unary.Call = []
 
 abbrev pub operands_in : (List ℕ → Operand) → Expression → List Operand
-operands_in known (Number n) = operand.Known n ∷ []
+operands_in known (Number n) = Operand.Known n ∷ []
 operands_in known (Name name) = known name ∷ []
-operands_in known (System c) = operand.Later (target.System c) ∷ []
+operands_in known (System c) = Operand.Later (Target.System c) ∷ []
 operands_in known (One op a) = function_operands op ++ operands_in known a
 operands_in known (Two op a b) = operands_in known a ++ operands_in known b
 
@@ -68,8 +55,8 @@ text_tokens set limit text = tokens_in set limit (length text) (record { line = 
 -- the trees that a unit has gathered once the tokens of an expression are taken by its events
 abbrev pub trees_gathered : CharSet → ℕ → (List ℕ → Operand) → Expression → List Tree
 trees_gathered set limit known e =
-    let u = read_by (Did action.Outer ∷ expression_events commas e) (text_tokens set limit (spelled commas e)) no_unit in
-    map (λ (r : Rooted). r.tree) (trees_of wanted.Value 0 (operands_in known e) u.gathering.symbols)
+    let u = read_by (Did Action.Outer ∷ expression_events commas e) (text_tokens set limit (spelled commas e)) no_unit in
+    map (λ (r : Rooted). r.tree) (trees_of Wanted.Value 0 (operands_in known e) u.gathering.symbols)
 
 abbrev pub GathersOne : CharSet → ℕ → (List ℕ → Operand) → Expression → Type 0
 GathersOne set limit known e = trees_gathered set limit known e ≡ tree_of known e ∷ []

@@ -4,33 +4,20 @@ use Rattle.std.specs.Prelude.{◌≡◌, ℕ, Bool, true, false, List, [], ◌�
 use Rattle.inf_characters.specs.declared.characters.CharSet.{CharSet}
 use Rattle.inf_expressions.specs.declared.operators.Operand.{Operand}
 use Rattle.inf_names.specs.Symbols.{declared_before}
-use Rattle.inf_output.specs.Output.{Out}
-use Rattle.inf_output.specs.Veneer.{name_of}
-use Rattle.inf_output.specs.declared.veneer.Veneer.TheVariants as veneer
+use Rattle.inf_output.specs.{Output.Out, Veneer.name_of, declared.veneer.Veneer.Veneer}
 use Rattle.inf_veneer.specs.Texts.{all_names, all_texts}
 use Rattle.inf_machine.specs.Machine.{read}
 use Rattle.inf_syntax.specs.Parts.{piece}
 use Rattle.inf_grammar.specs.Language.{grammar, known}
-use Rattle.inf_unit.specs.Atoms.{bad_atom}
-use Rattle.inf_unit.specs.Tokens.{SourceToken, atom_of}
-use Rattle.inf_conditionals.specs.Judging.{hash, judged}
-use Rattle.inf_conditionals.specs.Open.{Conditions, no_conditions}
-use Rattle.inf_conditionals.specs.declared.filtered.Filtered.{Filtered}
-use Rattle.inf_conditionals.specs.declared.filtered.Forwarded.{Forwarded}
-use Rattle.inf_conditionals.specs.declared.filtered.Forwarded.TheVariants as handed
-use Rattle.inf_conditionals.specs.declared.filtered.Sign.{Sign}
-use Rattle.inf_conditionals.specs.declared.filtered.Site.{Site}
-use Rattle.inf_veneer_laws.specs.Covered.{AreCovered}
-use Rattle.inf_veneer_laws.specs.Events.{atoms_of, routine_events}
-use Rattle.inf_veneer_laws.specs.Gathered.{Gathers, text_tokens}
-use Rattle.inf_veneer_laws.specs.Laws.{text_named}
-use Rattle.inf_veneer_laws.specs.Message.{message_names, send_message}
-use Rattle.inf_veneer_laws.specs.Running.{Numbers}
-use Rattle.inf_veneer_laws.specs.Sending.{IsOuter}
-use Rattle.inf_veneer_laws.specs.Sources.{on_side, sided_spelled}
+use Rattle.inf_unit.specs.{Atoms.bad_atom, Tokens.SourceToken, Tokens.atom_of}
+use Rattle.inf_conditionals.specs.{Judging.hash, Judging.judged, Open.Conditions, Open.no_conditions, declared.filtered.Filtered.Filtered}
+use Rattle.inf_conditionals.specs.{declared.filtered.Forwarded.Forwarded, declared.filtered.Sign.Sign, declared.filtered.Site.Site}
+use Rattle.inf_veneer_laws.specs.{Covered.AreCovered, Events.atoms_of, Events.routine_events, Gathered.Gathers, Gathered.text_tokens}
+use Rattle.inf_veneer_laws.specs.{Laws.text_named, Message.message_names, Message.send_message, Running.Numbers, Sending.IsOuter}
+use Rattle.inf_veneer_laws.specs.{Sources.on_side, Sources.sided_spelled}
 
 abbrev pub MessageIsSpelled : Type 0
-MessageIsSpelled = text_named (name_of veneer.CallProperty) all_names all_texts ≡ Some (sided_spelled send_message)
+MessageIsSpelled = text_named (name_of Veneer.CallProperty) all_names all_texts ≡ Some (sided_spelled send_message)
 
 -- The tokens that are handed to the grammar, each by its atom: one that does not fit comes as a bad token, and those of a conditional
 -- directive do not come at all. The first token is between the pieces of a source, and no other one.
@@ -39,9 +26,9 @@ abbrev pub site : Bool → ℕ → Site
 site is_between longest = record { is_between = is_between; is_quiet = false; longest = longest }
 
 abbrev pub atoms_handed : Forwarded → SourceToken → List ℕ
-atoms_handed handed.Kept t = atom_of t ∷ []
-atoms_handed handed.Unfit t = bad_atom ∷ []
-atoms_handed handed.Condition t = []
+atoms_handed Forwarded.Kept t = atom_of t ∷ []
+atoms_handed Forwarded.Unfit t = bad_atom ∷ []
+atoms_handed Forwarded.Condition t = []
 
 abbrev pub sign_atoms : Option Sign → List ℕ
 sign_atoms None = []

@@ -1,19 +1,15 @@
 -- The texts of supplied routines are the spellings of their trees, and calls of these meet the contracts of the routines.
-use Rattle.std.specs.Prelude.{◌≡◌, ℕ, List, [], ◌∷◌, Option, Some, None, codes, if◌then◌else◌}
-use Rattle.std.specs.Str.{bytes_eq}
-use Rattle.inf_output.specs.declared.veneer.Veneer.TheVariants as veneer
-use Rattle.inf_output.specs.Veneer.{name_of}
+use Rattle.std.specs.Prelude.{◌≡◌, ℕ, List, [], ◌∷◌, Option, Some, None, codes, if◌then◌else◌, bytes_eq}
+use Rattle.inf_output.specs.{Veneer.name_of, declared.veneer.Veneer.Veneer}
 use Rattle.inf_veneer.specs.Texts.{all_names, all_texts}
 use Rattle.inf_interpreter.specs.Machine.{World}
+use Rattle.inf_veneer_laws.specs.{Sources.Routine, Sources.routine_spelled, Worlds.HasObjects}
 use Rattle.inf_veneer_laws.specs.Outcomes.{AsksAddress, AsksLength, CountsChildren, FindsOwn, ProvidesProperty, ReadsProperty}
-use Rattle.inf_veneer_laws.specs.Outcomes.{StepsProperty}
-use Rattle.inf_veneer_laws.specs.Outcomes.{WritesProperty}
+use Rattle.inf_veneer_laws.specs.Outcomes.{StepsProperty, WritesProperty}
 use Rattle.inf_veneer_laws.specs.Routines.{compare, count_children, find_own, of_class, property_address, property_length}
 use Rattle.inf_veneer_laws.specs.Routines.{provides_property, read_property, region, step_byte, step_property, step_word, write_byte}
 use Rattle.inf_veneer_laws.specs.Routines.{write_property, write_word}
 use Rattle.inf_veneer_laws.specs.Running.{Calls, IsSupplied, Meets, Numbers}
-use Rattle.inf_veneer_laws.specs.Sources.{Routine, routine_spelled}
-use Rattle.inf_veneer_laws.specs.Worlds.{HasObjects}
 
 -- Texts
 
@@ -27,33 +23,33 @@ IsText name r = text_named name all_names all_texts ≡ Some (routine_spelled r)
 
 abbrev pub TextsAreSpelled : Type 0
 TextsAreSpelled =
-    IsText (name_of veneer.WriteByte) write_byte
-    × IsText (name_of veneer.WriteWord) write_word
-    × IsText (name_of veneer.StepByte) step_byte
-    × IsText (name_of veneer.StepWord) step_word
-    × IsText (name_of veneer.Children) count_children
-    × IsText (name_of veneer.WriteProperty) write_property
-    × IsText (name_of veneer.StepProperty) step_property
-    × IsText (name_of veneer.Provides) provides_property
-    × IsText (name_of veneer.PropertyAddress) property_address
-    × IsText (name_of veneer.PropertyLength) property_length
-    × IsText (name_of veneer.ReadProperty) read_property
+    IsText (name_of Veneer.WriteByte) write_byte
+    × IsText (name_of Veneer.WriteWord) write_word
+    × IsText (name_of Veneer.StepByte) step_byte
+    × IsText (name_of Veneer.StepWord) step_word
+    × IsText (name_of Veneer.Children) count_children
+    × IsText (name_of Veneer.WriteProperty) write_property
+    × IsText (name_of Veneer.StepProperty) step_property
+    × IsText (name_of Veneer.Provides) provides_property
+    × IsText (name_of Veneer.PropertyAddress) property_address
+    × IsText (name_of Veneer.PropertyLength) property_length
+    × IsText (name_of Veneer.ReadProperty) read_property
     × IsText (codes "CP__Tab") find_own
     × IsText (codes "Unsigned__Compare") compare
     × IsText (codes "Z__Region") region
-    × IsText (name_of veneer.OfClass) of_class
+    × IsText (name_of Veneer.OfClass) of_class
 
 -- Entries of arrays, in any world
 
 abbrev pub EntriesAreWritten : Type 0
 EntriesAreWritten =
     (w : World) (numbers : Numbers) →
-    Meets w numbers write_byte (IsSupplied w veneer.WriteByte) × Meets w numbers write_word (IsSupplied w veneer.WriteWord)
+    Meets w numbers write_byte (IsSupplied w Veneer.WriteByte) × Meets w numbers write_word (IsSupplied w Veneer.WriteWord)
 
 abbrev pub EntriesAreStepped : Type 0
 EntriesAreStepped =
     (w : World) (numbers : Numbers) →
-    Meets w numbers step_byte (IsSupplied w veneer.StepByte) × Meets w numbers step_word (IsSupplied w veneer.StepWord)
+    Meets w numbers step_byte (IsSupplied w Veneer.StepByte) × Meets w numbers step_word (IsSupplied w Veneer.StepWord)
 
 -- Objects and properties
 
@@ -66,11 +62,11 @@ abbrev pub PropertiesAreWritten : Type 0
 PropertiesAreWritten =
     (w : World) (numbers : Numbers) → HasObjects w →
     Meets w numbers write_property (WritesProperty w)
-    × (Calls w numbers (name_of veneer.WriteProperty) (WritesProperty w) → Meets w numbers step_property (StepsProperty w))
+    × (Calls w numbers (name_of Veneer.WriteProperty) (WritesProperty w) → Meets w numbers step_property (StepsProperty w))
 
 abbrev pub PropertiesAreProvided : Type 0
 PropertiesAreProvided =
-    (w : World) (numbers : Numbers) → HasObjects w → Calls w numbers (name_of veneer.PropertyAddress) (AsksAddress w) →
+    (w : World) (numbers : Numbers) → HasObjects w → Calls w numbers (name_of Veneer.PropertyAddress) (AsksAddress w) →
     Meets w numbers provides_property (ProvidesProperty w)
 
 abbrev pub OwnPropertiesAreFound : Type 0

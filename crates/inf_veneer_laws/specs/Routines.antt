@@ -1,15 +1,9 @@
 -- The statements of routines that the compiler supplies, as trees: the entries of arrays, the children of an object, and properties.
 use Rattle.std.specs.Prelude.{ℕ, List, [], ◌∷◌, codes}
 use Rattle.inf_area.specs.declared.targets.SystemConstant.{SystemConstant}
-use Rattle.inf_area.specs.declared.targets.SystemConstant.TheVariants as system
-use Rattle.inf_expressions.specs.declared.operators.Binary.TheVariants as binary
-use Rattle.inf_expressions.specs.declared.operators.Direction.TheVariants as stepping
-use Rattle.inf_expressions.specs.declared.operators.Operation.TheVariants as operation
-use Rattle.inf_expressions.specs.declared.operators.PropertyPart.TheVariants as property
-use Rattle.inf_expressions.specs.declared.operators.Relative.TheVariants as relative
-use Rattle.inf_expressions.specs.declared.operators.Single.TheVariants as single
-use Rattle.inf_expressions.specs.declared.operators.Test.TheVariants as test
-use Rattle.inf_expressions.specs.declared.operators.Unary.TheVariants as unary
+use Rattle.inf_expressions.specs.declared.{operators.Binary.Binary, operators.Direction.Direction, operators.Operation.Operation}
+use Rattle.inf_expressions.specs.declared.{operators.PropertyPart.PropertyPart, operators.Relative.Relative, operators.Single.Single}
+use Rattle.inf_expressions.specs.declared.{operators.Test.Test, operators.Unary.Unary}
 use Rattle.inf_veneer_laws.specs.Sources.{Ask, Evaluate, Expression, For, GetProp, GetPropAddr, GetPropLen, If, Name, Number, One, Return}
 use Rattle.inf_veneer_laws.specs.Sources.{ReturnFalse, ReturnTrue, Routine, Statement, System, Then, Two, While}
 
@@ -42,22 +36,22 @@ n = Name (codes "n")
 -- Expressions of some operators
 
 abbrev pub assigned : Expression → Expression → Expression
-assigned to value = Two binary.Assign to value
+assigned to value = Two Binary.Assign to value
 
 abbrev pub sum : Expression → Expression → Expression
-sum x y = Two (binary.Operation operation.Add) x y
+sum x y = Two (Binary.Operation Operation.Add) x y
 
 abbrev pub byte_entry : Expression → Expression → Expression
-byte_entry array index = Two (binary.Operation operation.Byte) array index
+byte_entry array index = Two (Binary.Operation Operation.Byte) array index
 
 abbrev pub word_entry : Expression → Expression → Expression
-word_entry array index = Two (binary.Operation operation.Word) array index
+word_entry array index = Two (Binary.Operation Operation.Word) array index
 
 abbrev pub equal : Expression → Expression → Expression
-equal x y = Two (binary.Test test.Equal) x y
+equal x y = Two (Binary.Test Test.Equal) x y
 
 abbrev pub called_with_two : List ℕ → Expression → Expression → Expression
-called_with_two name x y = Two binary.Call (Name name) (Two binary.Then x y)
+called_with_two name x y = Two Binary.Call (Name name) (Two Binary.Then x y)
 
 -- a call of `CP__Tab` with the object and the property, stored to `a`
 abbrev pub finds_own : Statement
@@ -102,9 +96,9 @@ abbrev pub count_children : Routine
 count_children = record {
   name = codes "Ch__Ln";
   locals = codes "o" ∷ codes "n" ∷ [];
-  body = Then (Evaluate (assigned o (One (unary.Relative relative.Child) o)))
-      (Then (While o (Then (Evaluate (One (unary.Behind stepping.Up) n))
-      (Evaluate (assigned o (One (unary.Relative relative.Sibling) o))))) (Return n));
+  body = Then (Evaluate (assigned o (One (Unary.Relative Relative.Child) o)))
+      (Then (While o (Then (Evaluate (One (Unary.Behind Direction.Up) n))
+      (Evaluate (assigned o (One (Unary.Relative Relative.Sibling) o))))) (Return n));
 }
 
 -- Properties
@@ -113,7 +107,7 @@ abbrev pub write_property : Routine
 write_property = record {
   name = codes "WV__Pr";
   locals = codes "o" ∷ codes "p" ∷ codes "v" ∷ codes "a" ∷ [];
-  body = Then (Evaluate (assigned a (Two (binary.Property property.Address) o p)))
+  body = Then (Evaluate (assigned a (Two (Binary.Property PropertyPart.Address) o p)))
       (Then (If a (Evaluate (assigned (word_entry a (Number 0)) v))) (Return v));
 }
 
@@ -121,15 +115,15 @@ abbrev pub step_property : Routine
 step_property = record {
   name = codes "AP__Va";
   locals = codes "o" ∷ codes "p" ∷ codes "d" ∷ codes "k" ∷ codes "v" ∷ [];
-  body = Then (Evaluate (assigned v (Two (binary.Property property.Value) o p)))
-      (Then (Evaluate (Two binary.Call (Name (codes "WV__Pr")) (Two binary.Then o (Two binary.Then p (sum v d))))) step_answer);
+  body = Then (Evaluate (assigned v (Two (Binary.Property PropertyPart.Value) o p)))
+      (Then (Evaluate (Two Binary.Call (Name (codes "WV__Pr")) (Two Binary.Then o (Two Binary.Then p (sum v d))))) step_answer);
 }
 
 abbrev pub provides_property : Routine
 provides_property = record {
   name = codes "OP__Pr";
   locals = codes "o" ∷ codes "p" ∷ [];
-  body = Return (Two (binary.Fails test.Equal) (called_with_two (codes "RA__Pr") o p) (Number 0));
+  body = Return (Two (Binary.Fails Test.Equal) (called_with_two (codes "RA__Pr") o p) (Number 0));
 }
 
 -- Individual properties: a row is looked for from the first one of the table on.
@@ -150,7 +144,7 @@ find_own = record {
 -- Properties of both kinds: those with numbers below 64 by an opcode, and others by their own tables.
 
 abbrev pub is_declared : Expression
-is_declared = Two (binary.Test test.Less) p (Number 64)
+is_declared = Two (Binary.Test Test.Less) p (Number 64)
 
 abbrev pub property_address : Routine
 property_address = record {
@@ -189,22 +183,22 @@ abbrev pub c : Expression
 c = Name (codes "c")
 
 abbrev pub less : Expression → Expression → Expression
-less to than = Two (binary.Test test.Less) to than
+less to than = Two (Binary.Test Test.Less) to than
 
 abbrev pub at_least : Expression → Expression → Expression
-at_least to than = Two (binary.Test test.AtLeast) to than
+at_least to than = Two (Binary.Test Test.AtLeast) to than
 
 abbrev pub minus_one : Expression
-minus_one = One unary.Negate (Number 1)
+minus_one = One Unary.Negate (Number 1)
 
 abbrev pub compare : Routine
 compare = record {
   name = codes "Unsigned__Compare";
   locals = codes "x" ∷ codes "y" ∷ [];
   body = Then (If (equal x y) (Return (Number 0)))
-      (Then (If (Two binary.And (less x (Number 0)) (at_least y (Number 0))) (Return (Number 1)))
-      (Then (If (Two binary.And (at_least x (Number 0)) (less y (Number 0))) (Return minus_one))
-      (Then (If (Two (binary.Test test.Greater) x y) (Return (Number 1))) (Return minus_one))));
+      (Then (If (Two Binary.And (less x (Number 0)) (at_least y (Number 0))) (Return (Number 1)))
+      (Then (If (Two Binary.And (at_least x (Number 0)) (less y (Number 0))) (Return minus_one))
+      (Then (If (Two (Binary.Test Test.Greater) x y) (Return (Number 1))) (Return minus_one))));
 }
 
 abbrev pub compared : SystemConstant → Expression
@@ -215,25 +209,25 @@ region = record {
   name = codes "Z__Region";
   locals = codes "x" ∷ [];
   body = Then (If (equal x (Number 0)) ReturnFalse)
-      (Then (If (Two (binary.Test test.AtMost) (compared system.HighestObjectNumber) (Number 0)) (Return (Number 1)))
-      (Then (If (at_least (compared system.StringsOffset) (Number 0)) (Return (Number 3)))
-      (Then (If (at_least (compared system.CodeOffset) (Number 0)) (Return (Number 2))) ReturnFalse)));
+      (Then (If (Two (Binary.Test Test.AtMost) (compared SystemConstant.HighestObjectNumber) (Number 0)) (Return (Number 1)))
+      (Then (If (at_least (compared SystemConstant.StringsOffset) (Number 0)) (Return (Number 3)))
+      (Then (If (at_least (compared SystemConstant.CodeOffset) (Number 0)) (Return (Number 2))) ReturnFalse)));
 }
 
 -- Classes: those of an object are the words of its property 2.
 
 abbrev pub is_class : Expression
-is_class = Two binary.Or (equal (One (unary.Single single.Parent) o) (Number 1)) (less o (Number 5))
+is_class = Two Binary.Or (equal (One (Unary.Single Single.Parent) o) (Number 1)) (less o (Number 5))
 
 abbrev pub classes_searched : Statement
-classes_searched = Then (For (assigned i (Number 0)) (less i n) (One (unary.Behind stepping.Up) i)
+classes_searched = Then (For (assigned i (Number 0)) (less i n) (One (Unary.Behind Direction.Up) i)
     (If (equal (word_entry a i) c) ReturnTrue)) ReturnFalse
 
 abbrev pub classes_found : Statement
 classes_found = Then (Ask GetPropAddr (o ∷ Number 2 ∷ []) (codes "a"))
     (Then (If (equal a (Number 0)) ReturnFalse)
     (Then (Ask GetPropLen (a ∷ []) (codes "n"))
-    (Then (Evaluate (assigned n (Two (binary.Operation operation.Divide) n (Number 2)))) classes_searched)))
+    (Then (Evaluate (assigned n (Two (Binary.Operation Operation.Divide) n (Number 2)))) classes_searched)))
 
 abbrev pub object_asked : Statement
 object_asked = Then (Evaluate (assigned n is_class))
@@ -244,7 +238,7 @@ abbrev pub of_class : Routine
 of_class = record {
   name = codes "OC__Cl";
   locals = codes "o" ∷ codes "c" ∷ codes "a" ∷ codes "n" ∷ codes "i" ∷ [];
-  body = Then (Evaluate (assigned i (Two binary.Call (Name (codes "Z__Region")) o)))
+  body = Then (Evaluate (assigned i (Two Binary.Call (Name (codes "Z__Region")) o)))
       (Then (If (equal i (Number 0)) ReturnFalse)
-      (Then (If (Two (binary.Test test.Greater) i (Number 1)) (Return (equal c (sum i (Number 1))))) object_asked));
+      (Then (If (Two (Binary.Test Test.Greater) i (Number 1)) (Return (equal c (sum i (Number 1))))) object_asked));
 }

@@ -1,12 +1,8 @@
 -- Calls of routines by the trees of their statements: names as operands, statements as control flow, and the locals of a call.
-use Rattle.std.specs.Prelude.{◌≡◌, ℕ, zero, suc, ◌-◌, ◌≤◌, nat_lt, Bool, ◌&&◌, List, [], ◌∷◌, Option, Some, None, if◌then◌else◌}
-use Rattle.std.specs.Str.{bytes_eq}
-use Rattle.inf_area.specs.declared.targets.Target.TheVariants as target
-use Rattle.inf_expressions.specs.declared.operators.Operand.{Operand}
-use Rattle.inf_expressions.specs.declared.operators.Operand.TheVariants as operand
-use Rattle.inf_expressions.specs.Folding.{joined, joined_single}
+use Rattle.std.specs.Prelude.{◌≡◌, ℕ, zero, suc, ◌-◌, ◌≤◌, nat_lt, Bool, ◌&&◌, List, [], ◌∷◌, Option, Some, None, if◌then◌else◌, bytes_eq}
+use Rattle.inf_area.specs.declared.targets.Target.{Target}
+use Rattle.inf_expressions.specs.{Folding.joined, Folding.joined_single, Trees.Tree, declared.operators.Operand.Operand}
 use Rattle.inf_expressions.specs.Trees as tree
-use Rattle.inf_expressions.specs.Trees.{Tree}
 use Rattle.inf_output.specs.declared.veneer.Veneer.{Veneer}
 use Rattle.inf_interpreter.specs.Machine.{Store, World, ◌then◌, of_one, of_two, with_variable}
 use Rattle.inf_interpreter.specs.Supplied.{supplied}
@@ -25,9 +21,9 @@ abbrev pub Numbers : Type 0
 Numbers = List ℕ → ℕ
 
 abbrev pub named_operand : Numbers → ℕ → List (List ℕ) → List ℕ → Operand
-named_operand numbers v [] name = operand.Later (target.Name (numbers name))
+named_operand numbers v [] name = Operand.Later (Target.Name (numbers name))
 named_operand numbers v (local ∷ locals) name =
-    if bytes_eq local name then operand.Variable v else named_operand numbers (suc v) locals name
+    if bytes_eq local name then Operand.Variable v else named_operand numbers (suc v) locals name
 
 abbrev pub operand_in : Numbers → Routine → List ℕ → Operand
 operand_in numbers r name = named_operand numbers 1 r.locals name
@@ -35,18 +31,18 @@ operand_in numbers r name = named_operand numbers 1 r.locals name
 -- Trees, in which an operator of numbers is the number that it gives. An operand of an assembly line is a number or a name.
 
 abbrev pub tree_of : (List ℕ → Operand) → Expression → Tree
-tree_of known (Number n) = tree.Leaf (operand.Known n)
+tree_of known (Number n) = tree.Leaf (Operand.Known n)
 tree_of known (Name name) = tree.Leaf (known name)
-tree_of known (System c) = tree.Leaf (operand.Later (target.System c))
+tree_of known (System c) = tree.Leaf (Operand.Later (Target.System c))
 tree_of known (One op a) = joined_single op (tree_of known a)
 tree_of known (Two op a b) = joined op (tree_of known a) (tree_of known b)
 
 abbrev pub leaf_of : (List ℕ → Operand) → Expression → Operand
-leaf_of known (Number n) = operand.Known n
+leaf_of known (Number n) = Operand.Known n
 leaf_of known (Name name) = known name
-leaf_of known (System c) = operand.Later (target.System c)
-leaf_of known (One op a) = operand.Unknown
-leaf_of known (Two op a b) = operand.Unknown
+leaf_of known (System c) = Operand.Later (Target.System c)
+leaf_of known (One op a) = Operand.Unknown
+leaf_of known (Two op a b) = Operand.Unknown
 
 -- Assembly lines that ask of a property: operands are read from the first on, and the answer is stored to a variable.
 
@@ -61,11 +57,11 @@ read_all w known (e ∷ operands) s =
     read w (leaf_of known e) s then λ n. read_all w known operands s then λ ns. Some (n ∷ ns)
 
 abbrev pub stored : Operand → ℕ → Effect
-stored (operand.Variable v) n s = Some (Done, with_variable v n s)
-stored (operand.Known m) n s = None
-stored (operand.Later t) n s = None
-stored (operand.Function f) n s = None
-stored operand.Unknown n s = None
+stored (Operand.Variable v) n s = Some (Done, with_variable v n s)
+stored (Operand.Known m) n s = None
+stored (Operand.Later t) n s = None
+stored (Operand.Function f) n s = None
+stored Operand.Unknown n s = None
 
 abbrev pub asked : World → (List ℕ → Operand) → Question → List Expression → List ℕ → Effect
 asked w known q operands variable s =
@@ -142,4 +138,4 @@ Meets w numbers r C =
 
 pub record Calls (w : World) (numbers : Numbers) (name : List ℕ) (C : Contract) : Type 0 where
   pub comes : (ns : List ℕ) (s : Store) (n : ℕ) (t : Store) → C ns s n t →
-      (temp : ℕ) × (w.called s (w.later (target.Name (numbers name))) ns ≡ Some (n, temp, t))
+      (temp : ℕ) × (w.called s (w.later (Target.Name (numbers name))) ns ≡ Some (n, temp, t))

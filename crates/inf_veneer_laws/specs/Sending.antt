@@ -1,27 +1,22 @@
 -- Messages to objects: a property's value is looked at, and a routine that it is is called, with `self` and `sender` set. Designer's
 -- Manual, fourth edition, sections 3.6 and 3.7.
-use Rattle.std.specs.Prelude.{◌≡◌, ℕ, ◌<◌, ◌==◌, true, false, List, [], ◌∷◌, Option, Some, None, codes}
-use Rattle.std.specs.Prelude.{if◌then◌else◌}
+use Rattle.std.specs.Prelude.{◌≡◌, ℕ, ◌<◌, ◌==◌, true, false, List, [], ◌∷◌, Option, Some, None, codes, if◌then◌else◌}
 use Rattle.inf_expressions.specs.declared.operators.Operand.{Operand}
-use Rattle.inf_expressions.specs.declared.operators.Operand.TheVariants as operand
-use Rattle.inf_output.specs.declared.veneer.Veneer.TheVariants as veneer
+use Rattle.inf_output.specs.declared.veneer.Veneer.{Veneer}
 use Rattle.inf_interpreter.specs.Machine.{Store, World, ◌then◌, with_variable}
 use Rattle.inf_meaning_laws.specs.Values.{read}
+use Rattle.inf_veneer_laws.specs.{Message.message_names, Message.send_message, Properties.any_value, Sources.on_side, Worlds.HasObjects}
 use Rattle.inf_veneer_laws.specs.Classes.{HasClasses, TellsRegion, region_of}
-use Rattle.inf_veneer_laws.specs.Message.{message_names, send_message}
-use Rattle.inf_veneer_laws.specs.Properties.{any_value}
 use Rattle.inf_veneer_laws.specs.Running.{Calls, Contract, IsSupplied, Numbers, argument, called_by, entered, is_local, left}
-use Rattle.inf_veneer_laws.specs.Sources.{on_side}
-use Rattle.inf_veneer_laws.specs.Worlds.{HasObjects}
 
 -- The name `action`, if the source declares it, stands for a number, or for a variable that is no local.
 abbrev pub IsOuter : Option Operand → Type 0
 IsOuter None = Unit {0}
-IsOuter (Some (operand.Known n)) = Unit {0}
-IsOuter (Some (operand.Variable v)) = is_local v ≡ false
-IsOuter (Some (operand.Later t)) = Unit {0}
-IsOuter (Some (operand.Function f)) = ⊥
-IsOuter (Some operand.Unknown) = ⊥
+IsOuter (Some (Operand.Known n)) = Unit {0}
+IsOuter (Some (Operand.Variable v)) = is_local v ≡ false
+IsOuter (Some (Operand.Later t)) = Unit {0}
+IsOuter (Some (Operand.Function f)) = ⊥
+IsOuter (Some Operand.Unknown) = ⊥
 
 -- Variable 253 is `self`, 252 `sender`, and 251 `sw__var`. While a message is answered the object is `self`, and what was `self` before is
 -- `sender`; and `sw__var` is the action, where the source declares that name.
@@ -99,12 +94,12 @@ SaysNumber (o ∷ []) s = ⊥
 SaysNumber (o ∷ p ∷ ns) s = (v : ℕ) × (v < 65536) × (any_value s.bytes o p ≡ Some v)
 
 abbrev pub SendsMessage : World → Contract
-SendsMessage w ns s n t = SaysNumber ns s × IsSupplied w veneer.CallProperty ns s n t
+SendsMessage w ns s n t = SaysNumber ns s × IsSupplied w Veneer.CallProperty ns s n t
 
 -- the call of the text, where `action` is declared or is not
 abbrev pub message_called : World → Numbers → Option Operand → ℕ → List ℕ → Store → Option (ℕ × Store)
 message_called w numbers None turns ns s =
-    called_by w (message_names numbers operand.Unknown) turns (on_side false send_message) ns s
+    called_by w (message_names numbers Operand.Unknown) turns (on_side false send_message) ns s
 message_called w numbers (Some x) turns ns s =
     called_by w (message_names numbers x) turns (on_side true send_message) ns s
 

@@ -2,20 +2,9 @@
 -- inside of one that binds tighter. Designer's Manual, fourth edition, sections 1.3 to 1.9, and the table of operators in its appendix.
 use Rattle.std.specs.Prelude.{ℕ, suc, nat_lt, Bool, List, [], ◌∷◌, ◌++◌, codes, decimal, if◌then◌else◌}
 use Rattle.inf_area.specs.declared.targets.SystemConstant.{SystemConstant}
-use Rattle.inf_area.specs.declared.targets.SystemConstant.TheVariants as system
-use Rattle.inf_expressions.specs.declared.operators.Binary.{Binary}
-use Rattle.inf_expressions.specs.declared.operators.Binary.TheVariants as binary
-use Rattle.inf_expressions.specs.declared.operators.Direction.TheVariants as stepping
-use Rattle.inf_expressions.specs.declared.operators.Operation.{Operation}
-use Rattle.inf_expressions.specs.declared.operators.Operation.TheVariants as operation
-use Rattle.inf_expressions.specs.declared.operators.PropertyPart.{PropertyPart}
-use Rattle.inf_expressions.specs.declared.operators.PropertyPart.TheVariants as property
-use Rattle.inf_expressions.specs.declared.operators.Relative.TheVariants as relative
-use Rattle.inf_expressions.specs.declared.operators.Single.TheVariants as single
-use Rattle.inf_expressions.specs.declared.operators.Test.{Test}
-use Rattle.inf_expressions.specs.declared.operators.Test.TheVariants as test
-use Rattle.inf_expressions.specs.declared.operators.Unary.{Unary}
-use Rattle.inf_expressions.specs.declared.operators.Unary.TheVariants as unary
+use Rattle.inf_expressions.specs.declared.{operators.Binary.Binary, operators.Direction.Direction, operators.Operation.Operation}
+use Rattle.inf_expressions.specs.declared.{operators.PropertyPart.PropertyPart, operators.Relative.Relative, operators.Single.Single}
+use Rattle.inf_expressions.specs.declared.{operators.Test.Test, operators.Unary.Unary}
 use Rattle.inf_expression_laws.specs.Precedence.{addresses, assignments, commas, complements, connections, denials, entries, members}
 use Rattle.inf_expression_laws.specs.Precedence.{negations, primaries, products, steps_behind, steps_in_front, sums, tests}
 
@@ -71,20 +60,20 @@ abbrev pub function : List ℕ → Around
 function name = record { front = name ++ codes "("; behind = codes ")"; level = members; inner = commas }
 
 abbrev pub around_of : Unary → Around
-around_of unary.Negate = in_front (codes "-") negations
-around_of unary.Not = in_front (codes "~~") denials
-around_of (unary.Single single.Complement) = in_front (codes "~") complements
-around_of (unary.Single single.Parent) = function (codes "parent")
-around_of (unary.Single single.Random) = function (codes "random")
-around_of (unary.Before stepping.Up) = in_front (codes "++") steps_in_front
-around_of (unary.Before stepping.Down) = in_front (codes "--") steps_in_front
-around_of (unary.Behind stepping.Up) = after (codes "++") steps_behind
-around_of (unary.Behind stepping.Down) = after (codes "--") steps_behind
-around_of (unary.Relative relative.Child) = function (codes "child")
-around_of (unary.Relative relative.Sibling) = function (codes "sibling")
-around_of unary.Children = function (codes "children")
-around_of unary.Call = after (codes "()") members
-around_of unary.Indirect = function (codes "indirect")
+around_of Unary.Negate = in_front (codes "-") negations
+around_of Unary.Not = in_front (codes "~~") denials
+around_of (Unary.Single Single.Complement) = in_front (codes "~") complements
+around_of (Unary.Single Single.Parent) = function (codes "parent")
+around_of (Unary.Single Single.Random) = function (codes "random")
+around_of (Unary.Before Direction.Up) = in_front (codes "++") steps_in_front
+around_of (Unary.Before Direction.Down) = in_front (codes "--") steps_in_front
+around_of (Unary.Behind Direction.Up) = after (codes "++") steps_behind
+around_of (Unary.Behind Direction.Down) = after (codes "--") steps_behind
+around_of (Unary.Relative Relative.Child) = function (codes "child")
+around_of (Unary.Relative Relative.Sibling) = function (codes "sibling")
+around_of Unary.Children = function (codes "children")
+around_of Unary.Call = after (codes "()") members
+around_of Unary.Indirect = function (codes "indirect")
 
 -- Operators of two parts: the sign between them, the one behind both, and the levels. Of lists only the arguments of a call are spelled
 -- so, and not the alternatives of a test.
@@ -104,72 +93,72 @@ abbrev pub tested : List ℕ → Between
 tested sign = record { sign = sign; behind = []; level = tests; left = sums; right = sums }
 
 abbrev pub operation_between : Operation → Between
-operation_between operation.Add = joined (codes "+") sums
-operation_between operation.Subtract = joined (codes "-") sums
-operation_between operation.Multiply = joined (codes "*") products
-operation_between operation.Divide = joined (codes "/") products
-operation_between operation.Remainder = joined (codes "%") products
-operation_between operation.BitAnd = joined (codes "&") products
-operation_between operation.BitOr = joined (codes "|") products
-operation_between operation.Byte = joined (codes "->") entries
-operation_between operation.Word = joined (codes "-->") entries
+operation_between Operation.Add = joined (codes "+") sums
+operation_between Operation.Subtract = joined (codes "-") sums
+operation_between Operation.Multiply = joined (codes "*") products
+operation_between Operation.Divide = joined (codes "/") products
+operation_between Operation.Remainder = joined (codes "%") products
+operation_between Operation.BitAnd = joined (codes "&") products
+operation_between Operation.BitOr = joined (codes "|") products
+operation_between Operation.Byte = joined (codes "->") entries
+operation_between Operation.Word = joined (codes "-->") entries
 
 abbrev pub property_between : PropertyPart → Between
-property_between property.Value = joined (codes ".") members
-property_between property.Address = joined (codes ".&") addresses
-property_between property.Length = joined (codes ".#") addresses
+property_between PropertyPart.Value = joined (codes ".") members
+property_between PropertyPart.Address = joined (codes ".&") addresses
+property_between PropertyPart.Length = joined (codes ".#") addresses
 
 abbrev pub test_between : Test → Between
-test_between test.Equal = tested (codes "==")
-test_between test.Less = tested (codes "<")
-test_between test.Greater = tested (codes ">")
-test_between test.AtMost = tested (codes "<=")
-test_between test.AtLeast = tested (codes ">=")
-test_between test.Has = tested (codes " has ")
-test_between test.In = tested (codes " in ")
-test_between test.OfClass = tested (codes " ofclass ")
-test_between test.Provides = tested (codes " provides ")
+test_between Test.Equal = tested (codes "==")
+test_between Test.Less = tested (codes "<")
+test_between Test.Greater = tested (codes ">")
+test_between Test.AtMost = tested (codes "<=")
+test_between Test.AtLeast = tested (codes ">=")
+test_between Test.Has = tested (codes " has ")
+test_between Test.In = tested (codes " in ")
+test_between Test.OfClass = tested (codes " ofclass ")
+test_between Test.Provides = tested (codes " provides ")
 
 -- A test that is to fail. The language has a sign for three of these; `~` before the sign of another one is no sign of a source.
 abbrev pub failed_between : Test → Between
-failed_between test.Equal = tested (codes "~=")
-failed_between test.Less = tested (codes "~<")
-failed_between test.Greater = tested (codes "~>")
-failed_between test.AtMost = tested (codes "~<=")
-failed_between test.AtLeast = tested (codes "~>=")
-failed_between test.Has = tested (codes " hasnt ")
-failed_between test.In = tested (codes " notin ")
-failed_between test.OfClass = tested (codes " ~ofclass ")
-failed_between test.Provides = tested (codes " ~provides ")
+failed_between Test.Equal = tested (codes "~=")
+failed_between Test.Less = tested (codes "~<")
+failed_between Test.Greater = tested (codes "~>")
+failed_between Test.AtMost = tested (codes "~<=")
+failed_between Test.AtLeast = tested (codes "~>=")
+failed_between Test.Has = tested (codes " hasnt ")
+failed_between Test.In = tested (codes " notin ")
+failed_between Test.OfClass = tested (codes " ~ofclass ")
+failed_between Test.Provides = tested (codes " ~provides ")
 
 abbrev pub between_of : Binary → Between
-between_of (binary.Operation o) = operation_between o
-between_of (binary.Property p) = property_between p
-between_of (binary.Test t) = test_between t
-between_of (binary.Fails t) = failed_between t
-between_of binary.Assign =
+between_of (Binary.Operation o) = operation_between o
+between_of (Binary.Property p) = property_between p
+between_of (Binary.Test t) = test_between t
+between_of (Binary.Fails t) = failed_between t
+between_of Binary.Assign =
     record { sign = codes "="; behind = []; level = assignments; left = connections; right = assignments }
-between_of binary.Comma = joined (codes ",") commas
-between_of binary.And = joined (codes "&&") connections
-between_of binary.Or = joined (codes "||") connections
-between_of binary.Call = record { sign = codes "("; behind = codes ")"; level = members; left = members; right = commas }
-between_of binary.Then = record { sign = codes ","; behind = []; level = commas; left = assignments; right = commas }
-between_of binary.To = record { sign = codes " to "; behind = []; level = commas; left = negations; right = negations }
+between_of Binary.Comma = joined (codes ",") commas
+between_of Binary.And = joined (codes "&&") connections
+between_of Binary.Or = joined (codes "||") connections
+between_of Binary.Call = record { sign = codes "("; behind = codes ")"; level = members; left = members; right = commas }
+between_of Binary.Then = record { sign = codes ","; behind = []; level = commas; left = assignments; right = commas }
+between_of Binary.To = record { sign = codes " to "; behind = []; level = commas; left = negations; right = negations }
 
 abbrev pub bracketed : Bool → List ℕ → List ℕ
 bracketed is_looser text = if is_looser then codes "(" ++ text ++ codes ")" else text
 
 abbrev pub system_name : SystemConstant → List ℕ
-system_name system.GrammarTable = codes "grammar_table"
-system_name system.ActionsTable = codes "actions_table"
-system_name system.PreactionsTable = codes "preactions_table"
-system_name system.DictionaryTable = codes "dictionary_table"
-system_name system.ClassesTable = codes "classes_table"
-system_name system.GlobalsArray = codes "globals_array"
-system_name system.ReadableMemoryOffset = codes "readable_memory_offset"
-system_name system.CodeOffset = codes "code_offset"
-system_name system.StringsOffset = codes "strings_offset"
-system_name system.HighestObjectNumber = codes "highest_object_number"
+system_name SystemConstant.GrammarTable = codes "grammar_table"
+system_name SystemConstant.ActionsTable = codes "actions_table"
+system_name SystemConstant.PreactionsTable = codes "preactions_table"
+system_name SystemConstant.DictionaryTable = codes "dictionary_table"
+system_name SystemConstant.ClassesTable = codes "classes_table"
+system_name SystemConstant.GlobalsArray = codes "globals_array"
+system_name SystemConstant.ReadableMemoryOffset = codes "readable_memory_offset"
+system_name SystemConstant.CodeOffset = codes "code_offset"
+system_name SystemConstant.StringsOffset = codes "strings_offset"
+system_name SystemConstant.HighestObjectNumber = codes "highest_object_number"
 
 -- the spelling of an expression where it has to bind at a level at least
 abbrev pub spelled : ℕ → Expression → List ℕ

@@ -1,7 +1,6 @@
 -- Worlds whose objects and properties are those in the memory of a story, and how any world is made one of these.
 use Rattle.std.specs.Prelude.{◌≡◌, ℕ, ◌==◌, not, Option, Some, None, if◌then◌else◌}
-use Rattle.inf_interpreter.specs.Machine.{Store, World}
-use Rattle.inf_interpreter.specs.Supplied.{word_written}
+use Rattle.inf_interpreter.specs.{Machine.Store, Machine.World, Supplied.word_written}
 use Rattle.inf_veneer_laws.specs.Properties.{any_address, any_length, any_value, child_in, children_in, sibling_in}
 
 -- A value is written to a property at the address of its data; nothing is written where the address is 0.

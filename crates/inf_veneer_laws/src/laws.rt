@@ -1,14 +1,11 @@
 //! The texts of supplied routines meet the contracts of these routines.
-ghost use Rattle.inf_veneer_laws.specs.Calling.{CallsRunTexts};
+ghost use Rattle.inf_veneer_laws.specs.{Calling.CallsRunTexts, Covered.RoutinesAreCovered, Events.TextsAreRead, Gathered.TreesAreGathered};
+ghost use Rattle.inf_veneer_laws.specs.{Worlds.WorldsHaveObjects};
 ghost use Rattle.inf_veneer_laws.specs.Classes.{ClassesAreTold, NumbersAreCompared, RegionsAreTold, WorldsHaveClasses};
-ghost use Rattle.inf_veneer_laws.specs.Covered.{RoutinesAreCovered};
-ghost use Rattle.inf_veneer_laws.specs.Events.{TextsAreRead};
-ghost use Rattle.inf_veneer_laws.specs.Gathered.{TreesAreGathered};
 ghost use Rattle.inf_veneer_laws.specs.Kept.{MessageIsCovered, MessageIsGathered, MessageIsKept, MessageIsRead, MessageIsSpelled};
 ghost use Rattle.inf_veneer_laws.specs.Laws.{ChildrenAreCounted, EntriesAreStepped, EntriesAreWritten, OwnPropertiesAreFound};
 ghost use Rattle.inf_veneer_laws.specs.Laws.{PropertiesAreProvided, PropertiesAreRead, PropertiesAreWritten, TextsAreSpelled};
 ghost use Rattle.inf_veneer_laws.specs.Sending.{MessagesAreSent, WorldsHaveMessages, WorldsKeepLocals};
-ghost use Rattle.inf_veneer_laws.specs.Worlds.{WorldsHaveObjects};
 
 /// States that the texts of fifteen supplied routines are the spellings of the trees of which the other laws speak.
 pub fn texts_are_spelled()

@@ -1,9 +1,7 @@
 -- The lines of a verb behind an `Extend`
-use Rattle.std.proofs.Common.{◌≡◌, List, [], ◌∷◌, ◌++◌, refl, ◌∙◌, ap, sym, append_assoc, append-nil}
-use Rattle.std.specs.List.{fold}
-use Rattle.inf_verbs.specs.Lines.{LineOf}
+use Rattle.std.proofs.Common.{◌≡◌, List, [], ◌∷◌, ◌++◌, refl, ◌∙◌, ap, sym, append_assoc, append-nil, fold}
+use Rattle.inf_verbs.specs.{Lines.LineOf, declared.verbs.LinePlace.LinePlace}
 use Rattle.inf_verbs.specs.Verbs.{VerbOf, begun_first, lines_of, no_lines, with_first, with_last}
-use Rattle.inf_verbs.specs.declared.verbs.LinePlace.TheVariants as place
 use Rattle.inf_verb_laws.specs.Laws.{ExtendAgrees}
 
 firsts : (new : List LineOf) (v : VerbOf) → lines_of (fold (λ v l. with_first l v) v new) ≡ v.first ++ (new ++ v.rest)
@@ -18,6 +16,6 @@ lasts (l ∷ new) v =
     ∙ append_assoc (v.first ++ v.rest) (l ∷ []) new
 
 pub extend_agrees : ExtendAgrees
-extend_agrees place.First new v = firsts new (begun_first v)
-extend_agrees place.Last new v = lasts new v
-extend_agrees place.Replace new v = lasts new no_lines
+extend_agrees LinePlace.First new v = firsts new (begun_first v)
+extend_agrees LinePlace.Last new v = lasts new v
+extend_agrees LinePlace.Replace new v = lasts new no_lines

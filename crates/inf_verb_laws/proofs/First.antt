@@ -3,8 +3,7 @@ use Rattle.std.proofs.Common.{◌≡◌, ℕ, List, [], ◌∷◌, ◌++◌, Boo
 use Rattle.std.specs.Prelude.{◌||◌, cond, nat_eq}
 use Rattle.std.specs.List.{fold, list_any}
 use Rattle.inf_verbs.specs.Routines.{AllActions, with_action, with_routine}
-use Rattle.inf_verb_laws.specs.Laws.{ActionsAgree, RoutinesAgree, no_actions}
-use Rattle.inf_verb_laws.specs.Verbs.{distinct}
+use Rattle.inf_verb_laws.specs.{Laws.ActionsAgree, Laws.RoutinesAgree, Laws.no_actions, Verbs.distinct}
 
 or_swapped : (a b c : Bool) → (a || (b || c)) ≡ (b || (a || c))
 or_swapped true true c = refl

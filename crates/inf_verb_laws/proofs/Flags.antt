@@ -1,25 +1,20 @@
 -- The flags of words: a use joins its bits, by the table of the description.
 use Rattle.std.proofs.Common.{◌≡◌, ℕ, List, [], ◌∷◌, Option, Some, None, Bool, true, false, refl, ◌∙◌, ap, sym}
-use Rattle.std.specs.Int.Bits.{or_zero_l}
+use Rattle.std.specs.{Int.Bits.or_zero_l, List.fold}
 use Rattle.std.specs.Prelude.{bit_or, cond, map, if◌then◌else◌}
-use Rattle.std.specs.List.{fold}
-use Rattle.inf_dictionary.specs.declared.uses.Word.{Word}
-use Rattle.inf_dictionary.specs.declared.uses.WordUse.{WordUse}
-use Rattle.inf_dictionary.specs.declared.uses.WordUse.TheVariants as word_use
+use Rattle.inf_dictionary.specs.{Words.flags_of, Words.joined, declared.uses.Word.Word, declared.uses.WordUse.WordUse}
 use Rattle.inf_dictionary.specs.Uses.{UseOf, said_by, said_of}
-use Rattle.inf_dictionary.specs.Words.{flags_of, joined}
-use Rattle.inf_verb_laws.specs.Verbs.{Text, same_text}
-use Rattle.inf_verb_laws.specs.Laws.{FlagsAgree, bits_of, flags_in}
+use Rattle.inf_verb_laws.specs.{Laws.FlagsAgree, Laws.bits_of, Laws.flags_in, Verbs.Text, Verbs.same_text}
 
 by_table : (how : WordUse) (p : Bool) → flags_of how p ≡ bits_of how p
-by_table (word_use.Verb n) true = refl
-by_table (word_use.Verb n) false = refl
-by_table (word_use.MetaVerb n) true = refl
-by_table (word_use.MetaVerb n) false = refl
-by_table word_use.Preposition true = refl
-by_table word_use.Preposition false = refl
-by_table word_use.Other true = refl
-by_table word_use.Other false = refl
+by_table (WordUse.Verb n) true = refl
+by_table (WordUse.Verb n) false = refl
+by_table (WordUse.MetaVerb n) true = refl
+by_table (WordUse.MetaVerb n) false = refl
+by_table WordUse.Preposition true = refl
+by_table WordUse.Preposition false = refl
+by_table WordUse.Other true = refl
+by_table WordUse.Other false = refl
 
 joined_flags : (known : Option Word) (how : WordUse) (p : Bool)
     → flags_in (Some (joined known how p)) ≡ bit_or (flags_in known) (bits_of how p)

@@ -1,61 +1,53 @@
 -- Lines of verbs are read back.
 use Rattle.std.proofs.Common.{◌≡◌, ◌<◌, ℕ, zero, suc, ◌+◌, ◌*◌, ◌/◌, ◌%◌, List, [], ◌∷◌, ◌++◌, Bool, true, false, refl, ◌∙◌, ap, sym}
-use Rattle.std.proofs.Common.{append_assoc, arith, length}
-use Rattle.std.specs.Prelude.{◌==◌, cond, map, nat_le}
-use Rattle.inf_area.specs.Cells.{value_cells}
-use Rattle.inf_area.specs.declared.cells.Cell.{Cell}
-use Rattle.inf_area.specs.declared.cells.Cell.TheVariants as cell
-use Rattle.inf_area.specs.declared.targets.Target.{Target}
-use Rattle.inf_area.specs.declared.targets.Value.{Value}
-use Rattle.inf_area.specs.declared.targets.Value.TheVariants as value
+use Rattle.std.proofs.Common.{append_assoc, arith, length, ◌==◌, cond, map, nat_le}
+use Rattle.inf_area.specs.{Cells.value_cells, declared.cells.Cell.Cell, declared.targets.Target.Target, declared.targets.Value.Value}
 use Rattle.inf_objects.specs.Reading.{filled, number_in}
+use Rattle.inf_verbs.specs.{declared.lines.LineToken.LineToken, declared.lines.Noun.Noun}
 use Rattle.inf_verbs.specs.Lines.{LineOf, action_word, lines_cells, token_type, token_value, tokens_cells}
-use Rattle.inf_verbs.specs.declared.lines.LineToken.{LineToken}
-use Rattle.inf_verbs.specs.declared.lines.LineToken.TheVariants as token
-use Rattle.inf_verbs.specs.declared.lines.Noun.TheVariants as noun
 use Rattle.inf_verb_laws.specs.Laws.{AreActions, LinesAreRead, line_seen, token_seen}
 use Rattle.inf_verb_laws.specs.Reading.{Read, lines_read, tokens_read}
 
 module _ (address : Target → ℕ) where
   filled_both : (xs ys : List Cell) → filled address (xs ++ ys) ≡ filled address xs ++ filled address ys
   filled_both [] ys = refl
-  filled_both (cell.Byte b ∷ xs) ys = ap (λ l. b ∷ l) (filled_both xs ys)
-  filled_both (cell.Later t ∷ xs) ys = ap (λ l. (address t / 256) ∷ (address t % 256) ∷ l) (filled_both xs ys)
+  filled_both (Cell.Byte b ∷ xs) ys = ap (λ l. b ∷ l) (filled_both xs ys)
+  filled_both (Cell.Later t ∷ xs) ys = ap (λ l. (address t / 256) ∷ (address t % 256) ∷ l) (filled_both xs ys)
 
   word_back : (n : ℕ) → 256 * (n / 256) + n % 256 ≡ n
   word_back n = omega arith
 
   -- the type of a token is no 15, and it is that of the table
   type_is : (t : LineToken) → (token_type t, number_in address (token_value t)) ≡ token_seen address t
-  type_is (token.Noun noun.Noun) = refl
-  type_is (token.Noun noun.Held) = refl
-  type_is (token.Noun noun.Multi) = refl
-  type_is (token.Noun noun.MultiHeld) = refl
-  type_is (token.Noun noun.MultiExcept) = refl
-  type_is (token.Noun noun.MultiInside) = refl
-  type_is (token.Noun noun.Creature) = refl
-  type_is (token.Noun noun.Special) = refl
-  type_is (token.Noun noun.Number) = refl
-  type_is (token.Noun noun.Topic) = refl
-  type_is (token.Preposition text true true) = refl
-  type_is (token.Preposition text true false) = refl
-  type_is (token.Preposition text false true) = refl
-  type_is (token.Preposition text false false) = refl
-  type_is (token.Filter n) = refl
-  type_is (token.Attribute n) = refl
-  type_is (token.Scope n) = refl
-  type_is (token.Routine n) = refl
+  type_is (LineToken.Noun Noun.Noun) = refl
+  type_is (LineToken.Noun Noun.Held) = refl
+  type_is (LineToken.Noun Noun.Multi) = refl
+  type_is (LineToken.Noun Noun.MultiHeld) = refl
+  type_is (LineToken.Noun Noun.MultiExcept) = refl
+  type_is (LineToken.Noun Noun.MultiInside) = refl
+  type_is (LineToken.Noun Noun.Creature) = refl
+  type_is (LineToken.Noun Noun.Special) = refl
+  type_is (LineToken.Noun Noun.Number) = refl
+  type_is (LineToken.Noun Noun.Topic) = refl
+  type_is (LineToken.Preposition text true true) = refl
+  type_is (LineToken.Preposition text true false) = refl
+  type_is (LineToken.Preposition text false true) = refl
+  type_is (LineToken.Preposition text false false) = refl
+  type_is (LineToken.Filter n) = refl
+  type_is (LineToken.Attribute n) = refl
+  type_is (LineToken.Scope n) = refl
+  type_is (LineToken.Routine n) = refl
 
   no_end : (t : LineToken) → (token_type t == 15) ≡ false
-  no_end (token.Noun n) = refl
-  no_end (token.Preposition text true true) = refl
-  no_end (token.Preposition text true false) = refl
-  no_end (token.Preposition text false true) = refl
-  no_end (token.Preposition text false false) = refl
-  no_end (token.Filter n) = refl
-  no_end (token.Attribute n) = refl
-  no_end (token.Scope n) = refl
-  no_end (token.Routine n) = refl
+  no_end (LineToken.Noun n) = refl
+  no_end (LineToken.Preposition text true true) = refl
+  no_end (LineToken.Preposition text true false) = refl
+  no_end (LineToken.Preposition text false true) = refl
+  no_end (LineToken.Preposition text false false) = refl
+  no_end (LineToken.Filter n) = refl
+  no_end (LineToken.Attribute n) = refl
+  no_end (LineToken.Scope n) = refl
+  no_end (LineToken.Routine n) = refl
 
   abbrev Found : Type 0
   Found = List (ℕ × ℕ) × List ℕ
@@ -64,13 +56,13 @@ module _ (address : Target → ℕ) where
   with_one t more = (t ∷ more.0, more.1)
 
   one_back : (most k : ℕ) (v : Value) (cells : List Cell) (rest : List ℕ) → (k == 15) ≡ false
-      → tokens_read (suc most) (filled address ((cell.Byte k ∷ value_cells v) ++ cells) ++ rest)
+      → tokens_read (suc most) (filled address ((Cell.Byte k ∷ value_cells v) ++ cells) ++ rest)
       ≡ with_one (k, number_in address v) (tokens_read most (filled address cells ++ rest))
-  one_back most k (value.Known n) cells rest h =
+  one_back most k (Value.Known n) cells rest h =
       let left = filled address cells ++ rest in
       ap (λ b. cond {A = Found} b ([], (n / 256) ∷ (n % 256) ∷ left) (with_one (k, 256 * (n / 256) + n % 256) (tokens_read most left))) h
       ∙ ap (λ m. with_one (k, m) (tokens_read most left)) (word_back n)
-  one_back most k (value.Later t) cells rest h =
+  one_back most k (Value.Later t) cells rest h =
       let left = filled address cells ++ rest in
       let high = address t / 256 in
       let low = address t % 256 in
@@ -88,8 +80,8 @@ module _ (address : Target → ℕ) where
 
   longer_by : (v : Value) (cells : List Cell) (rest : List ℕ) (n : ℕ) → n < length (filled address cells ++ rest)
       → suc n < length (filled address (value_cells v ++ cells) ++ rest) + 1
-  longer_by (value.Known m) cells rest n h = omega arith
-  longer_by (value.Later t) cells rest n h = omega arith
+  longer_by (Value.Known m) cells rest n h = omega arith
+  longer_by (Value.Later t) cells rest n h = omega arith
 
   long : (ts : List LineToken) (rest : List ℕ) → length ts < length (filled address (tokens_cells ts) ++ 15 ∷ rest)
   long [] rest = omega arith
@@ -127,14 +119,14 @@ module _ (address : Target → ℕ) where
   lines_back (l ∷ lines) rest are =
       let n = action_word l in
       let behind = filled address (lines_cells lines) ++ rest in
-      let parts : filled address (tokens_cells l.tokens ++ cell.Byte 15 ∷ lines_cells lines) ++ rest
+      let parts : filled address (tokens_cells l.tokens ++ Cell.Byte 15 ∷ lines_cells lines) ++ rest
       ≡ filled address (tokens_cells l.tokens) ++ 15 ∷ behind =
-      ap (λ b. b ++ rest) (filled_both (tokens_cells l.tokens) (cell.Byte 15 ∷ lines_cells lines))
+      ap (λ b. b ++ rest) (filled_both (tokens_cells l.tokens) (Cell.Byte 15 ∷ lines_cells lines))
       ∙ append_assoc (filled address (tokens_cells l.tokens)) (15 ∷ filled address (lines_cells lines)) rest in
       let turned : filled address (lines_cells (l ∷ lines)) ++ rest
-      ≡ (n / 256) ∷ (n % 256) ∷ (filled address (tokens_cells l.tokens ++ cell.Byte 15 ∷ lines_cells lines) ++ rest) =
+      ≡ (n / 256) ∷ (n % 256) ∷ (filled address (tokens_cells l.tokens ++ Cell.Byte 15 ∷ lines_cells lines) ++ rest) =
       ap (λ c. (n / 256) ∷ (n % 256) ∷ (filled address c ++ rest))
-      (append_assoc (tokens_cells l.tokens) (cell.Byte 15 ∷ []) (lines_cells lines)) in
+      (append_assoc (tokens_cells l.tokens) (Cell.Byte 15 ∷ []) (lines_cells lines)) in
       ap (lines_read (suc (length lines))) turned
       ∙ ap (λ b. body_read (length lines) n (tokens_read (length b) b)) parts
       ∙ ap (body_read (length lines) n)

@@ -1,22 +1,11 @@
 -- Words and lines: the definitions of the tables agree with the description.
-use Rattle.std.specs.Prelude.{◌≡◌, ℕ, ◌++◌, [], ◌∷◌, List, map, Bool, Option, Some, None, if◌then◌else◌, ◌<◌, length}
-use Rattle.std.specs.List.{fold}
+use Rattle.std.specs.Prelude.{◌≡◌, ℕ, ◌++◌, [], ◌∷◌, List, map, Bool, Option, Some, None, if◌then◌else◌, ◌<◌, length, fold}
 use Rattle.inf_area.specs.declared.targets.Target.{Target}
-use Rattle.inf_area.specs.declared.targets.Target.TheVariants as target
-use Rattle.inf_dictionary.specs.Uses.{UseOf, said_of}
-use Rattle.inf_dictionary.specs.declared.uses.Word.{Word}
-use Rattle.inf_dictionary.specs.declared.uses.WordUse.{WordUse}
-use Rattle.inf_dictionary.specs.declared.uses.WordUse.TheVariants as word_use
+use Rattle.inf_dictionary.specs.{Uses.UseOf, Uses.said_of, declared.uses.Word.Word, declared.uses.WordUse.WordUse}
 use Rattle.inf_objects.specs.Reading.{filled}
-use Rattle.inf_verbs.specs.Lines.{LineOf, lines_cells}
-use Rattle.inf_verbs.specs.Routines.{AllActions, with_action, with_routine}
+use Rattle.inf_verbs.specs.{Lines.LineOf, Lines.lines_cells, Routines.AllActions, Routines.with_action, Routines.with_routine}
+use Rattle.inf_verbs.specs.{declared.lines.LineToken.LineToken, declared.lines.Noun.Noun as NounKind, declared.verbs.LinePlace.LinePlace}
 use Rattle.inf_verbs.specs.Verbs.{VerbOf, extended as with_place, lines_of, with_line}
-use Rattle.inf_verbs.specs.declared.lines.LineToken.{LineToken}
-use Rattle.inf_verbs.specs.declared.lines.LineToken.TheVariants as token
-use Rattle.inf_verbs.specs.declared.lines.Noun.{Noun as NounKind}
-use Rattle.inf_verbs.specs.declared.lines.Noun.TheVariants as noun
-use Rattle.inf_verbs.specs.declared.verbs.LinePlace.{LinePlace}
-use Rattle.inf_verbs.specs.declared.verbs.LinePlace.TheVariants as place
 use Rattle.inf_verb_laws.specs.Reading.{Read, lines_read}
 use Rattle.inf_verb_laws.specs.Verbs.{First, Last, Replace, Text, Where, all_bits, distinct, extended}
 
@@ -27,10 +16,10 @@ flags_in None = 0
 flags_in (Some word) = word.flags
 
 abbrev pub bits_of : WordUse → Bool → ℕ
-bits_of (word_use.Verb number) is_plural = if is_plural then 5 else 1
-bits_of (word_use.MetaVerb number) is_plural = if is_plural then 7 else 3
-bits_of word_use.Preposition is_plural = if is_plural then 12 else 8
-bits_of word_use.Other is_plural = if is_plural then 132 else 128
+bits_of (WordUse.Verb number) is_plural = if is_plural then 5 else 1
+bits_of (WordUse.MetaVerb number) is_plural = if is_plural then 7 else 3
+bits_of WordUse.Preposition is_plural = if is_plural then 12 else 8
+bits_of WordUse.Other is_plural = if is_plural then 132 else 128
 
 abbrev pub FlagsAgree : Type 0
 FlagsAgree =
@@ -53,9 +42,9 @@ ActionsAgree =
 -- An `Extend` puts its lines, one by one, where the description has them.
 
 abbrev pub where_of : LinePlace → Where
-where_of place.First = First
-where_of place.Last = Last
-where_of place.Replace = Replace
+where_of LinePlace.First = First
+where_of LinePlace.Last = Last
+where_of LinePlace.Replace = Replace
 
 abbrev pub ExtendAgrees : Type 0
 ExtendAgrees =
@@ -65,25 +54,25 @@ ExtendAgrees =
 -- A line of the tables as it should be read: the number of each kind of noun, and the type of each kind of token
 
 abbrev pub noun_of : NounKind → ℕ
-noun_of noun.Noun = 0
-noun_of noun.Held = 1
-noun_of noun.Multi = 2
-noun_of noun.MultiHeld = 3
-noun_of noun.MultiExcept = 4
-noun_of noun.MultiInside = 5
-noun_of noun.Creature = 6
-noun_of noun.Special = 7
-noun_of noun.Number = 8
-noun_of noun.Topic = 9
+noun_of NounKind.Noun = 0
+noun_of NounKind.Held = 1
+noun_of NounKind.Multi = 2
+noun_of NounKind.MultiHeld = 3
+noun_of NounKind.MultiExcept = 4
+noun_of NounKind.MultiInside = 5
+noun_of NounKind.Creature = 6
+noun_of NounKind.Special = 7
+noun_of NounKind.Number = 8
+noun_of NounKind.Topic = 9
 
 abbrev pub token_seen : (Target → ℕ) → LineToken → ℕ × ℕ
-token_seen address (token.Noun n) = (1, noun_of n)
-token_seen address (token.Preposition text is_first is_last) =
-    (if is_first then (if is_last then 2 else 34) else (if is_last then 18 else 50), address (target.Word text))
-token_seen address (token.Filter n) = (3, n)
-token_seen address (token.Attribute n) = (4, n)
-token_seen address (token.Scope n) = (5, n)
-token_seen address (token.Routine n) = (6, n)
+token_seen address (LineToken.Noun n) = (1, noun_of n)
+token_seen address (LineToken.Preposition text is_first is_last) =
+    (if is_first then (if is_last then 2 else 34) else (if is_last then 18 else 50), address (Target.Word text))
+token_seen address (LineToken.Filter n) = (3, n)
+token_seen address (LineToken.Attribute n) = (4, n)
+token_seen address (LineToken.Scope n) = (5, n)
+token_seen address (LineToken.Routine n) = (6, n)
 
 abbrev pub line_seen : (Target → ℕ) → LineOf → Read
 line_seen address l = record { action = l.action; is_reverse = l.is_reverse; tokens = map (token_seen address) l.tokens }

@@ -1,19 +1,12 @@
 -- One small source with a verb that is extended: its verbs and words by the description, and by the tables of a story.
 use Rattle.std.specs.Prelude.{◌≡◌, ℕ, [], ◌∷◌, List, map, true, false, None, if◌then◌else◌}
 use Rattle.inf_area.specs.declared.targets.Target.{Target}
-use Rattle.inf_area.specs.declared.targets.Target.TheVariants as target
-use Rattle.inf_dictionary.specs.Uses.{UseOf, said_of}
-use Rattle.inf_dictionary.specs.Words.{verb_byte_of, verb_in_word}
-use Rattle.inf_dictionary.specs.declared.uses.WordUse.{WordUse}
-use Rattle.inf_dictionary.specs.declared.uses.WordUse.TheVariants as word_use
+use Rattle.inf_dictionary.specs.{Uses.UseOf, Uses.said_of, Words.verb_byte_of, Words.verb_in_word, declared.uses.WordUse.WordUse}
 use Rattle.inf_objects.specs.Reading.{filled}
-use Rattle.inf_verbs.specs.Lines.{LineOf}
+use Rattle.inf_verbs.specs.{Lines.LineOf, declared.lines.LineToken.LineToken, declared.verbs.LinePlace.LinePlace}
 use Rattle.inf_verbs.specs.Verbs.{AllVerbs, grammar_cells, with_extended, with_line_of, with_verb}
-use Rattle.inf_verbs.specs.declared.lines.LineToken.TheVariants as line_token
 use Rattle.inf_verbs.specs.declared.lines.Noun.TheVariants as noun
-use Rattle.inf_verbs.specs.declared.verbs.LinePlace.TheVariants as place
-use Rattle.inf_verb_laws.specs.Laws.{flags_in}
-use Rattle.inf_verb_laws.specs.Reading.{line_told, verb_read}
+use Rattle.inf_verb_laws.specs.{Laws.flags_in, Reading.line_told, Reading.verb_read}
 use Rattle.inf_verb_laws.specs.Verbs.{Extend, First, Noun, Said, Text, Verb, Words, actions, flags, routines, same_text, verb_byte, verbs}
 
 -- three words, which stand at 982, 991 and 1000
@@ -30,7 +23,7 @@ abbrev pub word_at : Text → ℕ
 word_at t = if same_text t off then 982 else if same_text t take then 991 else 1000
 
 abbrev pub address : Target → ℕ
-address (target.Word text) = word_at text
+address (Target.Word text) = word_at text
 address t = 21845
 
 -- Verb 'take' * noun -> Take; Extend 'take' first * 'off'/'up' noun -> Take reverse;
@@ -45,23 +38,23 @@ abbrev pub first_line : LineOf
 first_line = record {
   action = 0;
   is_reverse = true;
-  tokens = line_token.Preposition off true false ∷ line_token.Preposition up false true ∷ line_token.Noun noun.Noun ∷ [];
+  tokens = LineToken.Preposition off true false ∷ LineToken.Preposition up false true ∷ LineToken.Noun noun.Noun ∷ [];
 }
 
 abbrev pub last_line : LineOf
-last_line = record { action = 0; is_reverse = false; tokens = line_token.Noun noun.Noun ∷ [] }
+last_line = record { action = 0; is_reverse = false; tokens = LineToken.Noun noun.Noun ∷ [] }
 
 abbrev pub tables : AllVerbs
 tables =
-    with_line_of 0 place.First first_line
-    (with_extended 0 place.First (with_line_of 0 place.Last last_line (with_verb (record { list = [] }))))
+    with_line_of 0 LinePlace.First first_line
+    (with_extended 0 LinePlace.First (with_line_of 0 LinePlace.Last last_line (with_verb (record { list = [] }))))
 
 abbrev pub use_of : Text → WordUse → UseOf
 use_of text how = record { text = text; how = how; is_plural = false }
 
 abbrev pub uses : List UseOf
 uses =
-    use_of take (word_use.Verb 0) ∷ use_of take (word_use.Verb 0) ∷ use_of off word_use.Preposition ∷ use_of up word_use.Preposition ∷ []
+    use_of take (WordUse.Verb 0) ∷ use_of take (WordUse.Verb 0) ∷ use_of off WordUse.Preposition ∷ use_of up WordUse.Preposition ∷ []
 
 -- The lines that are read from the bytes of the grammar, behind the address of the verb, are those of the description, and the bytes are
 -- these.

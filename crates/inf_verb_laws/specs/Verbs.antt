@@ -1,9 +1,7 @@
 -- Verbs, actions and the words of a dictionary, by the list of what a source says of them (Designer's Manual, fourth edition, section 30).
 -- Actions and routines are known by numbers that stand for their names, words by their six bytes.
-use Rattle.std.specs.Prelude.{ℕ, ◌+◌, ◌-◌, nat_eq, bit_or, List, [], ◌∷◌, ◌++◌, map, Bool}
-use Rattle.std.specs.Prelude.{Option, Some, None, if◌then◌else◌}
-use Rattle.std.specs.Ordering.{nat_cmp, is_eq}
-use Rattle.std.specs.Cmp.Lexicographic.{slice_cmp}
+use Rattle.std.specs.{Cmp.Lexicographic.slice_cmp, Ordering.is_eq, Ordering.nat_cmp}
+use Rattle.std.specs.Prelude.{ℕ, ◌+◌, ◌-◌, nat_eq, bit_or, List, [], ◌∷◌, ◌++◌, map, Bool, Option, Some, None, if◌then◌else◌}
 use Rattle.std.specs.List.{filter_map, flat_map, fold, list_any}
 
 abbrev pub Text : Type 0

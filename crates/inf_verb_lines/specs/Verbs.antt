@@ -3,60 +3,29 @@
 use Rattle.std.specs.Prelude.{ℕ, zero, suc, ◌+◌, ◌-◌, ◌==◌, min, nat_le, nat_lt, List, [], ◌∷◌, ◌++◌, length, codes, Bool, true, false, not}
 use Rattle.std.specs.Prelude.{◌||◌, if◌then◌else◌, Option, Some, None, is_some, option_map}
 use Rattle.std.specs.Str.{str_eq_ignore_ascii_case}
-use Rattle.inf_settings.specs.Bounds.{Limits}
-use Rattle.inf_dictionary.specs.Texts.{Text}
-use Rattle.inf_dictionary.specs.Words.{first_misfit, verb_of}
-use Rattle.inf_dictionary.specs.declared.uses.WordUse.{WordUse}
-use Rattle.inf_dictionary.specs.declared.uses.WordUse.TheVariants as word_use
-use Rattle.inf_expressions.specs.declared.findings.Finding.{Finding}
-use Rattle.inf_expressions.specs.declared.findings.UnitError.TheVariants as unit_error
+use Rattle.inf_settings.specs.{Bounds.Limits, Settings.number_of as setting_number, declared.setting.Setting.Setting}
+use Rattle.inf_settings.specs.{declared.settings.Settings.Settings}
+use Rattle.inf_dictionary.specs.{Texts.Text, Words.first_misfit, Words.verb_of, declared.uses.WordUse.WordUse}
+use Rattle.inf_expressions.specs.{declared.findings.Finding.Finding, declared.findings.UnitError.UnitError}
 use Rattle.inf_expressions.specs.Findings.{least_of_both, wrong_kind}
-use Rattle.inf_names.specs.Symbols.{Table, found_in}
-use Rattle.inf_names.specs.declared.meanings.Meaning.{Meaning}
-use Rattle.inf_names.specs.declared.meanings.Meaning.TheVariants as meaning
-use Rattle.inf_names.specs.declared.symbols.DeclareFault.{DeclareFault}
-use Rattle.inf_names.specs.declared.symbols.Found.{Found}
-use Rattle.inf_names.specs.declared.symbols.Found.TheVariants as found
+use Rattle.inf_names.specs.{Spellings.Name, Symbols.Table, Symbols.found_in, declared.meanings.Meaning.Meaning}
+use Rattle.inf_names.specs.{declared.symbols.DeclareFault.DeclareFault, declared.symbols.Found.Found}
 use Rattle.inf_output.specs.Actions.{action_of, faked, routine_referred}
 use Rattle.inf_output.specs.Output.{Code, Out, passed_table, with_word}
-use Rattle.inf_report.specs.Messages.{TooMany}
-use Rattle.inf_report.specs.declared.messages.FixedLimit.TheVariants as countable
-use Rattle.inf_scanner.specs.declared.tokens.DictionaryWord.{DictionaryWord}
-use Rattle.inf_scanner.specs.declared.tokens.Mark.{Mark}
-use Rattle.inf_scanner.specs.declared.tokens.Mark.TheVariants as mark
-use Rattle.inf_scanner.specs.declared.tokens.Place.{Place}
-use Rattle.inf_scanner.specs.declared.tokens.TokenKind.{TokenKind}
-use Rattle.inf_scanner.specs.declared.tokens.TokenKind.TheVariants as kind
-use Rattle.inf_settings.specs.declared.setting.Setting.{Setting}
-use Rattle.inf_settings.specs.declared.setting.Setting.TheVariants as setting
-use Rattle.inf_names.specs.Spellings.{Name}
-use Rattle.inf_unit.specs.Messages.{Diagnostic}
-use Rattle.inf_compilation.specs.Context.{Context}
-use Rattle.inf_settings.specs.Settings.{number_of as setting_number}
-use Rattle.inf_settings.specs.declared.settings.Settings.{Settings}
-use Rattle.inf_unit.specs.LongLines.{LongLine, name_added, word_added}
-use Rattle.inf_unit.specs.Tokens.{SourceToken}
+use Rattle.inf_report.specs.{Messages.TooMany, declared.messages.FixedLimit.FixedLimit}
+use Rattle.inf_scanner.specs.{declared.tokens.DictionaryWord.DictionaryWord, declared.tokens.Mark.Mark, declared.tokens.Place.Place}
+use Rattle.inf_scanner.specs.{declared.tokens.TokenKind.TokenKind}
+use Rattle.inf_unit.specs.{LongLines.LongLine, LongLines.name_added, LongLines.word_added, Messages.Diagnostic, Tokens.SourceToken}
 use Rattle.inf_unit.specs.Units.{Unit, bytes_at, first_place, is_some_mark, kind_at, last_leaf, name_at, name_order, next_place, order}
 use Rattle.inf_unit.specs.Units.{sifted}
-use Rattle.inf_verbs.specs.Lines.{LineOf}
-use Rattle.inf_verbs.specs.Routines.{number_of, with_routine}
-use Rattle.inf_verbs.specs.Verbs.{AllVerbs, add_fault, line_fault_of, with_extended, with_line_of, with_verb}
-use Rattle.inf_verbs.specs.declared.lines.LineToken.{LineToken}
-use Rattle.inf_verbs.specs.declared.lines.LineToken.TheVariants as line_token_of
-use Rattle.inf_verbs.specs.declared.lines.Noun.{Noun}
-use Rattle.inf_verbs.specs.declared.lines.Noun.TheVariants as noun
-use Rattle.inf_verbs.specs.declared.verbs.LineFault.{LineFault}
-use Rattle.inf_verbs.specs.declared.verbs.LinePlace.{LinePlace}
-use Rattle.inf_verbs.specs.declared.verbs.LinePlace.TheVariants as line_place
-use Rattle.inf_verbs.specs.declared.verbs.VerbFault.{VerbFault}
-use Rattle.inf_verbs.specs.declared.verbs.VerbFault.TheVariants as refused
+use Rattle.inf_compilation.specs.{Context.Context, declared.compilation.Extending.Extending}
 use Rattle.inf_compilation.specs.Actions.{Compilation, passed, unit_ended}
 use Rattle.inf_compilation.specs.Findings.{Again, Findings, again_by, again_finding, found_alone, many_finding}
-use Rattle.inf_compilation.specs.declared.compilation.Extending.{Extending}
-use Rattle.inf_verb_lines.specs.declared.lines.Named.{Named}
-use Rattle.inf_verb_lines.specs.declared.lines.Named.TheVariants as named
-use Rattle.inf_verb_lines.specs.declared.verbs.Opened.{Opened}
-use Rattle.inf_verb_lines.specs.declared.verbs.VerbHead.{VerbHead}
+use Rattle.inf_verbs.specs.{Lines.LineOf, declared.lines.LineToken.LineToken, declared.lines.Noun.Noun, declared.verbs.LineFault.LineFault}
+use Rattle.inf_verbs.specs.{declared.verbs.LinePlace.LinePlace, declared.verbs.VerbFault.VerbFault}
+use Rattle.inf_verbs.specs.Routines.{number_of, with_routine}
+use Rattle.inf_verbs.specs.Verbs.{AllVerbs, add_fault, line_fault_of, with_extended, with_line_of, with_verb}
+use Rattle.inf_verb_lines.specs.{declared.lines.Named.Named, declared.verbs.Opened.Opened, declared.verbs.VerbHead.VerbHead}
 
 -- Tokens
 
@@ -64,12 +33,12 @@ abbrev pub is_mark_at : List SourceToken → ℕ → Mark → Bool
 is_mark_at tokens at m = is_some_mark m (kind_at tokens at)
 
 abbrev pub is_name_in : Option TokenKind → Bool
-is_name_in (Some kind.Name) = true
+is_name_in (Some TokenKind.Name) = true
 is_name_in _ = false
 
 -- the word of the dictionary that a token is
 abbrev pub word_in : Option TokenKind → Option DictionaryWord
-word_in (Some (kind.Word word)) = Some word
+word_in (Some (TokenKind.Word word)) = Some word
 word_in _ = None
 
 abbrev pub word_at : List SourceToken → ℕ → Option DictionaryWord
@@ -77,14 +46,14 @@ word_at tokens at = word_in (kind_at tokens at)
 
 -- the findings about a unit of a verb: a limit that it passes is that of verbs
 abbrev pub verb_findings : Option Finding → Findings
-verb_findings found = record (found_alone found) { many = countable.Verbs }
+verb_findings found = record (found_alone found) { many = FixedLimit.Verbs }
 
 abbrev pub verb_ended : Limits → Context → Place → Option Finding → Compilation → Compilation
 verb_ended limits context first found w = unit_ended limits context first false (verb_findings found) w
 
 -- the finding that the word at a place should, or should not, be one of a verb
 abbrev pub wrong_verb : ℕ → Finding
-wrong_verb at = record { order = order at; error = unit_error.WrongVerb }
+wrong_verb at = record { order = order at; error = UnitError.WrongVerb }
 
 -- The header of `Verb`: behind its word `meta` may come, then there are words, and at its end `=` and a word may come, whose verb gets
 -- more words.
@@ -107,7 +76,7 @@ head_with is_meta has_sign order count = record {
 
 abbrev pub verb_head : List SourceToken → VerbHead
 verb_head tokens =
-    head_with (is_name_in (kind_at tokens (name_order tokens))) (is_mark_at tokens (length tokens - 2) mark.Assign) (name_order tokens)
+    head_with (is_name_in (kind_at tokens (name_order tokens))) (is_mark_at tokens (length tokens - 2) Mark.Assign) (name_order tokens)
     (length tokens)
 
 -- The findings about the header: the verb behind `=` is none, or there are 255 verbs; or a word is one of a verb's already, or comes
@@ -165,10 +134,10 @@ abbrev pub new_verb_by : Limits → Option VerbFault → Out → Out × Opened
 new_verb_by limits None o =
     let number =
     length o.tables.verbs.list in (with_verbs (with_verb o.tables.verbs) o, record { words = Some number; lines = Some number })
-new_verb_by limits (Some refused.TooMany) o = (o, record { words = None; lines = None })
-new_verb_by limits (Some refused.Full) o = verb_passed limits setting.Verbs o
-new_verb_by limits (Some refused.NoSpace) o = verb_passed limits setting.GrammarLines o
-new_verb_by limits (Some refused.Memory) o = (o, record { words = None; lines = None })
+new_verb_by limits (Some VerbFault.TooMany) o = (o, record { words = None; lines = None })
+new_verb_by limits (Some VerbFault.Full) o = verb_passed limits Setting.Verbs o
+new_verb_by limits (Some VerbFault.NoSpace) o = verb_passed limits Setting.GrammarLines o
+new_verb_by limits (Some VerbFault.Memory) o = (o, record { words = None; lines = None })
 
 abbrev pub new_verb : Limits → Out → Out × Opened
 new_verb limits o = new_verb_by limits (add_fault limits o.tables.verbs) o
@@ -179,7 +148,7 @@ verb_begun limits (Some at) tokens o = (o, record { words = verb_named tokens at
 
 -- the use of a verb's words
 abbrev pub verb_use : ℕ → Bool → WordUse
-verb_use number is_meta = if is_meta then word_use.MetaVerb number else word_use.Verb number
+verb_use number is_meta = if is_meta then WordUse.MetaVerb number else WordUse.Verb number
 
 abbrev pub word_used : Limits → Option DictionaryWord → WordUse → Code
 word_used limits None how o = o
@@ -191,7 +160,7 @@ words_used limits (suc at) tokens how o = word_used limits (word_at tokens at) h
 
 abbrev pub like_used : Limits → Option ℕ → List SourceToken → ℕ → Code
 like_used limits None tokens number o = o
-like_used limits (Some at) tokens number o = word_used limits (word_at tokens at) (word_use.Verb number) o
+like_used limits (Some at) tokens number o = word_used limits (word_at tokens at) (WordUse.Verb number) o
 
 abbrev pub words_given : Limits → Option ℕ → VerbHead → List SourceToken → Code
 words_given limits None head tokens o = o
@@ -205,9 +174,9 @@ abbrev pub lines_of : Option ℕ → LinePlace → Extending
 lines_of verb place = record { verb = verb; place = place }
 
 abbrev pub header_opened : Limits → Option Finding → VerbHead → Compilation → Compilation
-header_opened limits (Some f) head w = record w { extending = lines_of None line_place.Last }
+header_opened limits (Some f) head w = record w { extending = lines_of None LinePlace.Last }
 header_opened limits None head w =
-    let v = verb_opened limits head w.unit.tokens w.output in record w { output = v.0; extending = lines_of v.1 line_place.Last }
+    let v = verb_opened limits head w.unit.tokens w.output in record w { output = v.0; extending = lines_of v.1 LinePlace.Last }
 
 abbrev pub verb_header_with : Limits → Context → Place → VerbHead → Compilation → Compilation
 verb_header_with limits context first head w =
@@ -219,8 +188,8 @@ verb_header limits context first w = verb_header_with limits context first (verb
 -- The header of `Extend`: the word behind that of the verb says where further lines go.
 abbrev pub place_named : List ℕ → LinePlace
 place_named name =
-    if str_eq_ignore_ascii_case name (codes "first") then line_place.First else
-    if str_eq_ignore_ascii_case name (codes "replace") then line_place.Replace else line_place.Last
+    if str_eq_ignore_ascii_case name (codes "first") then LinePlace.First else
+    if str_eq_ignore_ascii_case name (codes "replace") then LinePlace.Replace else LinePlace.Last
 
 abbrev pub lines_extended : ℕ → LinePlace → Code
 lines_extended number place o =
@@ -228,7 +197,7 @@ lines_extended number place o =
 
 abbrev pub verb_extended : Limits → Option ℕ → LinePlace → Option DictionaryWord → Code
 verb_extended limits None place word o = o
-verb_extended limits (Some number) place word o = lines_extended number place (word_used limits word (word_use.Verb number) o)
+verb_extended limits (Some number) place word o = lines_extended number place (word_used limits word (WordUse.Verb number) o)
 
 abbrev pub extend_with : Limits → Context → Place → ℕ → Option ℕ → LinePlace → Compilation → Compilation
 extend_with limits context first at number place w =
@@ -244,34 +213,34 @@ extend_header limits context first w =
 
 abbrev pub noun_named : List ℕ → Option Noun
 noun_named name =
-    if str_eq_ignore_ascii_case name (codes "noun") then Some noun.Noun else
-    if str_eq_ignore_ascii_case name (codes "held") then Some noun.Held else
-    if str_eq_ignore_ascii_case name (codes "multi") then Some noun.Multi else
-    if str_eq_ignore_ascii_case name (codes "multiheld") then Some noun.MultiHeld else
-    if str_eq_ignore_ascii_case name (codes "multiexcept") then Some noun.MultiExcept else
-    if str_eq_ignore_ascii_case name (codes "multiinside") then Some noun.MultiInside else
-    if str_eq_ignore_ascii_case name (codes "creature") then Some noun.Creature else
-    if str_eq_ignore_ascii_case name (codes "special") then Some noun.Special else
-    if str_eq_ignore_ascii_case name (codes "number") then Some noun.Number else
-    if str_eq_ignore_ascii_case name (codes "topic") then Some noun.Topic else None
+    if str_eq_ignore_ascii_case name (codes "noun") then Some Noun.Noun else
+    if str_eq_ignore_ascii_case name (codes "held") then Some Noun.Held else
+    if str_eq_ignore_ascii_case name (codes "multi") then Some Noun.Multi else
+    if str_eq_ignore_ascii_case name (codes "multiheld") then Some Noun.MultiHeld else
+    if str_eq_ignore_ascii_case name (codes "multiexcept") then Some Noun.MultiExcept else
+    if str_eq_ignore_ascii_case name (codes "multiinside") then Some Noun.MultiInside else
+    if str_eq_ignore_ascii_case name (codes "creature") then Some Noun.Creature else
+    if str_eq_ignore_ascii_case name (codes "special") then Some Noun.Special else
+    if str_eq_ignore_ascii_case name (codes "number") then Some Noun.Number else
+    if str_eq_ignore_ascii_case name (codes "topic") then Some Noun.Topic else None
 
 -- a meaning that may be a routine's, or is an attribute's
 abbrev pub is_routine : Meaning → Bool
-is_routine (meaning.Routine place) = true
+is_routine (Meaning.Routine place) = true
 is_routine _ = false
 
 abbrev pub can_be_routine : Found Place → Bool
-can_be_routine (found.Declared m first) = is_routine m
-can_be_routine (found.System m) = false
-can_be_routine found.Used = true
-can_be_routine found.Unknown = true
+can_be_routine (Found.Declared m first) = is_routine m
+can_be_routine (Found.System m) = false
+can_be_routine Found.Used = true
+can_be_routine Found.Unknown = true
 
 abbrev pub attribute_of : Meaning → Option ℕ
-attribute_of (meaning.Attribute number) = Some number
+attribute_of (Meaning.Attribute number) = Some number
 attribute_of _ = None
 
 abbrev pub attribute_in : Found Place → Option ℕ
-attribute_in (found.Declared m first) = attribute_of m
+attribute_in (Found.Declared m first) = attribute_of m
 attribute_in _ = None
 
 -- A name by itself is a noun, an attribute or a routine; one before `=` is `noun` or `scope`, and one behind it a routine.
@@ -282,21 +251,21 @@ abbrev pub is_sign_word : List ℕ → Bool
 is_sign_word name = is_filter_word name || str_eq_ignore_ascii_case name (codes "scope")
 
 abbrev pub named_behind : List ℕ → Named
-named_behind word = if is_filter_word word then named.Filter else named.Scope
+named_behind word = if is_filter_word word then Named.Filter else Named.Scope
 
 abbrev pub named_at : List SourceToken → ℕ → Named
 named_at tokens at =
-    if is_mark_at tokens (next_place at) mark.Assign then named.Sign else
-    if is_mark_at tokens (at - 1) mark.Assign then named_behind (bytes_at tokens (at - 2)) else named.Alone
+    if is_mark_at tokens (next_place at) Mark.Assign then Named.Sign else
+    if is_mark_at tokens (at - 1) Mark.Assign then named_behind (bytes_at tokens (at - 2)) else Named.Alone
 
 abbrev pub is_lone_name : Option Noun → Found Place → Bool
 is_lone_name n f = is_some n || (is_some (attribute_in f) || can_be_routine f)
 
 abbrev pub is_right : Named → List ℕ → Table Place → Bool
-is_right named.Sign name names = is_sign_word name
-is_right named.Filter name names = can_be_routine (found_in name names)
-is_right named.Scope name names = can_be_routine (found_in name names)
-is_right named.Alone name names = is_lone_name (noun_named name) (found_in name names)
+is_right Named.Sign name names = is_sign_word name
+is_right Named.Filter name names = can_be_routine (found_in name names)
+is_right Named.Scope name names = can_be_routine (found_in name names)
+is_right Named.Alone name names = is_lone_name (noun_named name) (found_in name names)
 
 abbrev pub wrong_unless : Bool → ℕ → Option Finding
 wrong_unless is_right at = if is_right then None else Some (wrong_kind (order at))
@@ -318,7 +287,7 @@ tokens_finding (suc at) tokens names = least_of_both (tokens_finding at tokens n
 -- a word, which a mark before or behind it makes one of some alternatives
 abbrev pub preposition : List SourceToken → ℕ → DictionaryWord → LineToken
 preposition tokens at word =
-    line_token_of.Preposition word.text (not (is_mark_at tokens (at - 1) mark.Divide)) (not (is_mark_at tokens (next_place at) mark.Divide))
+    LineToken.Preposition word.text (not (is_mark_at tokens (at - 1) Mark.Divide)) (not (is_mark_at tokens (next_place at) Mark.Divide))
 
 -- Routines that parse are used, and have numbers of their own.
 abbrev pub with_parsing : List ℕ → Code
@@ -336,17 +305,17 @@ parsing_routine limits None o = (o, 0)
 parsing_routine limits (Some n) o = parsing_of (routine_referred limits n.bytes n.place o)
 
 abbrev pub filter_token : Out × ℕ → Out × Option LineToken
-filter_token r = (r.0, Some (line_token_of.Filter r.1))
+filter_token r = (r.0, Some (LineToken.Filter r.1))
 
 abbrev pub scope_token : Out × ℕ → Out × Option LineToken
-scope_token r = (r.0, Some (line_token_of.Scope r.1))
+scope_token r = (r.0, Some (LineToken.Scope r.1))
 
 abbrev pub routine_token : Out × ℕ → Out × Option LineToken
-routine_token r = (r.0, Some (line_token_of.Routine r.1))
+routine_token r = (r.0, Some (LineToken.Routine r.1))
 
 abbrev pub lone_by : Limits → Option Noun → Option ℕ → Option Name → Out → Out × Option LineToken
-lone_by limits (Some n) attribute name o = (o, Some (line_token_of.Noun n))
-lone_by limits None (Some number) name o = (o, Some (line_token_of.Attribute number))
+lone_by limits (Some n) attribute name o = (o, Some (LineToken.Noun n))
+lone_by limits None (Some number) name o = (o, Some (LineToken.Attribute number))
 lone_by limits None None name o = routine_token (parsing_routine limits name o)
 
 abbrev pub lone_token : Limits → List SourceToken → ℕ → Out → Out × Option LineToken
@@ -354,15 +323,15 @@ lone_token limits tokens at o =
     lone_by limits (noun_named (bytes_at tokens at)) (attribute_in (found_in (bytes_at tokens at) o.names)) (name_at tokens at) o
 
 abbrev pub name_token : Limits → Named → List SourceToken → ℕ → Out → Out × Option LineToken
-name_token limits named.Sign tokens at o = (o, None)
-name_token limits named.Filter tokens at o = filter_token (parsing_routine limits (name_at tokens at) o)
-name_token limits named.Scope tokens at o = scope_token (parsing_routine limits (name_at tokens at) o)
-name_token limits named.Alone tokens at o = lone_token limits tokens at o
+name_token limits Named.Sign tokens at o = (o, None)
+name_token limits Named.Filter tokens at o = filter_token (parsing_routine limits (name_at tokens at) o)
+name_token limits Named.Scope tokens at o = scope_token (parsing_routine limits (name_at tokens at) o)
+name_token limits Named.Alone tokens at o = lone_token limits tokens at o
 
 abbrev pub line_token_by : Limits → Option TokenKind → List SourceToken → ℕ → Out → Out × Option LineToken
-line_token_by limits (Some (kind.Word word)) tokens at o =
-    (with_word limits word.text word_use.Preposition word.is_plural o, Some (preposition tokens at word))
-line_token_by limits (Some kind.Name) tokens at o = name_token limits (named_at tokens at) tokens at o
+line_token_by limits (Some (TokenKind.Word word)) tokens at o =
+    (with_word limits word.text WordUse.Preposition word.is_plural o, Some (preposition tokens at word))
+line_token_by limits (Some TokenKind.Name) tokens at o = name_token limits (named_at tokens at) tokens at o
 line_token_by limits _ tokens at o = (o, None)
 
 abbrev pub line_token : Limits → List SourceToken → ℕ → Out → Out × Option LineToken
@@ -384,7 +353,7 @@ line_tokens limits (suc at) tokens o = let line = line_tokens limits at tokens o
 
 -- the last arrow is the one before the action
 abbrev pub arrow_or : List SourceToken → ℕ → ℕ → ℕ
-arrow_or tokens at other = if is_mark_at tokens at mark.Arrow then at else other
+arrow_or tokens at other = if is_mark_at tokens at Mark.Arrow then at else other
 
 abbrev pub arrow_before : ℕ → List SourceToken → ℕ
 arrow_before zero tokens = 0
@@ -404,7 +373,7 @@ is_reverse tokens arrow = nat_lt 2 (length tokens - arrow)
 -- The line is one of the verb whose lines are read. Where there would be too many lines, that limit is passed.
 abbrev pub one_line_by : Limits → Option LineFault → ℕ → LinePlace → LineOf → Code
 one_line_by limits None number place line o = with_verbs (with_line_of number place line o.tables.verbs) o
-one_line_by limits (Some f) number place line o = passed_table limits setting.GrammarLines o
+one_line_by limits (Some f) number place line o = passed_table limits Setting.GrammarLines o
 
 abbrev pub one_line : Limits → ℕ → LinePlace → LineOf → Code
 one_line limits number place line o =
@@ -458,15 +427,16 @@ fake_action limits context first (name ∷ names) w = fake_with limits context f
 
 -- whether a name is a noun of the language at its place in a line
 abbrev pub is_noun : Named → List ℕ → Bool
-is_noun named.Alone name = is_some (noun_named name)
+is_noun Named.Alone name = is_some (noun_named name)
 is_noun _ name = false
 
 -- the token at a place, which ends a token of the line, comes, and whether it is new
 abbrev pub token_brought_by : Option TokenKind → Settings → List SourceToken → ℕ → LongLine → LongLine × Bool
-token_brought_by (Some (kind.Word word)) settings tokens at l = word_added word.text (setting_number setting.DictionaryEntries settings) l
-token_brought_by (Some kind.Name) settings tokens at l =
+token_brought_by (Some (TokenKind.Word word)) settings tokens at l =
+    word_added word.text (setting_number Setting.DictionaryEntries settings) l
+token_brought_by (Some TokenKind.Name) settings tokens at l =
     if is_noun (named_at tokens at) (bytes_at tokens at) then (l, false)
-    else name_added (bytes_at tokens at) (setting_number setting.Symbols settings) l
+    else name_added (bytes_at tokens at) (setting_number Setting.Symbols settings) l
 token_brought_by _ settings tokens at l = (l, false)
 
 abbrev pub token_brought : Settings → List SourceToken → ℕ → LongLine → LongLine × Bool

@@ -1,7 +1,7 @@
 //! The lines of grammar of the verb at hand, each of which is a unit.
-ghost use Rattle.inf_compilation.specs.Context.{handed};
+ghost use Rattle.inf_compilation.specs.{Context.handed, Works.work};
 ghost use Rattle.std.specs.Prelude.{IfOk, IfSome, OnOk, length, option_map, true, ◌<◌, ◌≡◌, ◌≤◌};
-ghost use Rattle.inf_unit.specs.NameTokens.{named as named_token};
+ghost use Rattle.inf_unit.specs.{AtHand.unit as unit_of, NameTokens.named as named_token};
 ghost use Rattle.inf_verbs.specs.Lines.{LineOf};
 ghost use Rattle.inf_verb_lines.specs.Verbs.{action_by, arrow_in, arrow_or, attribute_in, can_be_routine, has_verb, is_filter_word};
 ghost use Rattle.inf_verb_lines.specs.Verbs.{is_lone_name, is_mark_at, is_noun, is_reverse, is_right, is_sign_word, last_brought};
@@ -9,8 +9,6 @@ ghost use Rattle.inf_verb_lines.specs.Verbs.{last_finding, line_added, line_behi
 ghost use Rattle.inf_verb_lines.specs.Verbs.{line_laid, line_token, line_tokens, lone_by, lone_token, name_token, named_at, named_behind};
 ghost use Rattle.inf_verb_lines.specs.Verbs.{new_finding, noun_named, one_line, parsing_routine, preposition, token_brought, token_finding};
 ghost use Rattle.inf_verb_lines.specs.Verbs.{token_sifted, tokens_finding, with_next, with_token, wrong_unless};
-ghost use Rattle.inf_unit.specs.AtHand.{unit as unit_of};
-ghost use Rattle.inf_compilation.specs.Works.{work};
 
 use crate::verbs::{end_of_verb, has_verb, is_mark_at};
 use inf_compilation::compilation::{Compilation, Extending};

@@ -1,5 +1,5 @@
 //! The directives `Verb`, `Extend` and `Fake_action`: their headers.
-ghost use Rattle.inf_compilation.specs.Context.{handed};
+ghost use Rattle.inf_compilation.specs.{Context.handed, Meant.again_as, Meant.found_as, Works.work};
 ghost use Rattle.std.specs.Prelude.{IfOk, OnOk, length, map, option_map, true, ◌<◌, ◌≡◌};
 ghost use Rattle.inf_names.specs.Spellings.{as_name};
 ghost use Rattle.inf_verb_lines.specs.Verbs.{extend_header, extend_with, fake_action, fake_findings, fake_with, has_most_verbs, has_verb};
@@ -10,8 +10,6 @@ ghost use Rattle.inf_verb_lines.specs.Verbs.{verb_header, verb_header_with, verb
 ghost use Rattle.inf_verb_lines.specs.Verbs.{word_at, word_in, word_used, words_end, words_finding, words_from, words_given, words_used};
 ghost use Rattle.inf_verb_lines.specs.Verbs.{wrong_verb};
 ghost use Rattle.inf_output.specs.Actions.{faked};
-ghost use Rattle.inf_compilation.specs.Meant.{again_as, found_as};
-ghost use Rattle.inf_compilation.specs.Works.{work};
 
 use inf_compilation::compilation::{Compilation, Extending};
 use inf_compilation::context::Context;

@@ -2,18 +2,11 @@
 use Rattle.std.proofs.Common.{◌≡◌, ℕ, zero, suc, ◌+◌, ◌*◌, ◌-◌, ◌≤◌, ◌<◌, List, [], ◌∷◌, ◌++◌, length, refl, arith, ap, sym, ◌∙◌, get_or}
 use Rattle.std.proofs.Common.{set, drop, length-append, append_assoc, append-nil, fold, length-set}
 use Rattle.std.proofs.lemmas.List.{get_or-set_same}
-use Rattle.inf_area.specs.declared.targets.AreaName.TheVariants as area_name
-use Rattle.inf_area.specs.declared.targets.Target.TheVariants as target
+use Rattle.inf_area.specs.{declared.cells.Cell.Cell, declared.targets.AreaName.AreaName, declared.targets.Target.Target}
 use Rattle.inf_area.specs.Cells.{bytes_of, later_count, value_cells}
-use Rattle.inf_area.specs.declared.cells.Cell.{Cell}
-use Rattle.inf_area.specs.declared.cells.Cell.TheVariants as cell
-use Rattle.inf_verbs.specs.declared.lines.LineToken.{LineToken}
-use Rattle.inf_verbs.specs.declared.lines.LineToken.TheVariants as token
-use Rattle.inf_verbs.specs.declared.verbs.LinePlace.{LinePlace}
-use Rattle.inf_verbs.specs.declared.verbs.LinePlace.TheVariants as place
+use Rattle.inf_verbs.specs.{Routines.routines_cells, declared.lines.LineToken.LineToken, declared.verbs.LinePlace.LinePlace}
 use Rattle.inf_verbs.specs.Lines.{LineOf, is_preposition, line_cells, line_size, lines_cells, lines_prepositions, lines_size, prepositions}
 use Rattle.inf_verbs.specs.Lines.{token_type, token_value, tokens_cells}
-use Rattle.inf_verbs.specs.Routines.{routines_cells}
 use Rattle.inf_verbs.specs.Verbs.{VerbOf, address_cells, extended, grammar_cells, lines_of, no_lines, part_size, places_from, places_of}
 use Rattle.inf_verbs.specs.Verbs.{parts_cells, verb_cells, verb_laters, verb_size, verbs_laters, verbs_size, with_line}
 
@@ -70,12 +63,12 @@ few_prepositions : (ts : List LineToken) → prepositions ts ≤ length ts
 few_prepositions [] = omega arith
 few_prepositions (t ∷ ts) = omega (arith, few_prepositions ts, one t) where
   one : (t : LineToken) → is_preposition t ≤ 1
-  one (token.Noun n) = omega arith
-  one (token.Preposition text is_first is_last) = omega arith
-  one (token.Filter n) = omega arith
-  one (token.Attribute n) = omega arith
-  one (token.Scope n) = omega arith
-  one (token.Routine n) = omega arith
+  one (LineToken.Noun n) = omega arith
+  one (LineToken.Preposition text is_first is_last) = omega arith
+  one (LineToken.Filter n) = omega arith
+  one (LineToken.Attribute n) = omega arith
+  one (LineToken.Scope n) = omega arith
+  one (LineToken.Routine n) = omega arith
 
 few_in_lines : (ls : List LineOf) → lines_prepositions ls ≤ lines_size ls
 few_in_lines [] = omega arith
@@ -97,29 +90,29 @@ size_parts (v ∷ vs) = omega (arith, size_parts vs)
 -- the bytes of joined cells are those of both lists
 bytes_joined : (xs ys : List Cell) → bytes_of (xs ++ ys) ≡ bytes_of xs ++ bytes_of ys
 bytes_joined [] ys = refl
-bytes_joined (cell.Byte b ∷ xs) ys = ap (λ bs. b ∷ bs) (bytes_joined xs ys)
-bytes_joined (cell.Later t ∷ xs) ys = ap (λ bs. 0 ∷ 0 ∷ bs) (bytes_joined xs ys)
+bytes_joined (Cell.Byte b ∷ xs) ys = ap (λ bs. b ∷ bs) (bytes_joined xs ys)
+bytes_joined (Cell.Later t ∷ xs) ys = ap (λ bs. 0 ∷ 0 ∷ bs) (bytes_joined xs ys)
 
 later_joined : (xs ys : List Cell) → later_count (xs ++ ys) ≡ later_count xs + later_count ys
 later_joined [] ys = omega arith
-later_joined (cell.Byte b ∷ xs) ys = later_joined xs ys
-later_joined (cell.Later t ∷ xs) ys = omega (arith, later_joined xs ys)
+later_joined (Cell.Byte b ∷ xs) ys = later_joined xs ys
+later_joined (Cell.Later t ∷ xs) ys = omega (arith, later_joined xs ys)
 
 later_token : (t : LineToken) → later_count (value_cells (token_value t)) ≡ is_preposition t
-later_token (token.Noun n) = refl
-later_token (token.Preposition text is_first is_last) = refl
-later_token (token.Filter n) = refl
-later_token (token.Attribute n) = refl
-later_token (token.Scope n) = refl
-later_token (token.Routine n) = refl
+later_token (LineToken.Noun n) = refl
+later_token (LineToken.Preposition text is_first is_last) = refl
+later_token (LineToken.Filter n) = refl
+later_token (LineToken.Attribute n) = refl
+later_token (LineToken.Scope n) = refl
+later_token (LineToken.Routine n) = refl
 
 later_tokens : (ts : List LineToken) → later_count (tokens_cells ts) ≡ prepositions ts
 later_tokens [] = refl
 later_tokens (t ∷ ts) =
-    omega (arith, later_joined (cell.Byte (token_type t) ∷ value_cells (token_value t)) (tokens_cells ts), later_token t, later_tokens ts)
+    omega (arith, later_joined (Cell.Byte (token_type t) ∷ value_cells (token_value t)) (tokens_cells ts), later_token t, later_tokens ts)
 
 later_line : (l : LineOf) → later_count (line_cells l) ≡ prepositions l.tokens
-later_line l = omega (arith, later_joined (tokens_cells l.tokens) (cell.Byte 15 ∷ []), later_tokens l.tokens)
+later_line l = omega (arith, later_joined (tokens_cells l.tokens) (Cell.Byte 15 ∷ []), later_tokens l.tokens)
 
 later_lines : (ls : List LineOf) → later_count (lines_cells ls) ≡ lines_prepositions ls
 later_lines [] = refl
@@ -128,7 +121,7 @@ later_lines (l ∷ ls) = omega (arith, later_joined (line_cells l) (lines_cells 
 later_addresses : (n : ℕ) → later_count (address_cells n) ≡ n
 later_addresses zero = refl
 later_addresses (suc n) =
-    omega (arith, later_joined (address_cells n) (cell.Later (target.Part area_name.Grammar n) ∷ []), later_addresses n)
+    omega (arith, later_joined (address_cells n) (Cell.Later (Target.Part AreaName.Grammar n) ∷ []), later_addresses n)
 
 later_parts : (vs : List VerbOf) → length vs + later_count (parts_cells vs) ≡ verbs_laters vs
 later_parts [] = omega arith
@@ -141,12 +134,12 @@ laters_written vs =
 
 -- the number of bytes that tokens, lines and verbs are written in
 bytes_token : (t : LineToken) → length (bytes_of (value_cells (token_value t))) ≡ 2
-bytes_token (token.Noun n) = refl
-bytes_token (token.Preposition text is_first is_last) = refl
-bytes_token (token.Filter n) = refl
-bytes_token (token.Attribute n) = refl
-bytes_token (token.Scope n) = refl
-bytes_token (token.Routine n) = refl
+bytes_token (LineToken.Noun n) = refl
+bytes_token (LineToken.Preposition text is_first is_last) = refl
+bytes_token (LineToken.Filter n) = refl
+bytes_token (LineToken.Attribute n) = refl
+bytes_token (LineToken.Scope n) = refl
+bytes_token (LineToken.Routine n) = refl
 
 size_cells : (xs ys : List Cell) → length (bytes_of (xs ++ ys)) ≡ length (bytes_of xs) + length (bytes_of ys)
 size_cells xs ys = ap length (bytes_joined xs ys) ∙ length-append (bytes_of xs) (bytes_of ys)
@@ -154,10 +147,10 @@ size_cells xs ys = ap length (bytes_joined xs ys) ∙ length-append (bytes_of xs
 bytes_tokens : (ts : List LineToken) → length (bytes_of (tokens_cells ts)) ≡ 3 * length ts
 bytes_tokens [] = omega arith
 bytes_tokens (t ∷ ts) =
-    omega (arith, size_cells (cell.Byte (token_type t) ∷ value_cells (token_value t)) (tokens_cells ts), bytes_token t, bytes_tokens ts)
+    omega (arith, size_cells (Cell.Byte (token_type t) ∷ value_cells (token_value t)) (tokens_cells ts), bytes_token t, bytes_tokens ts)
 
 bytes_line : (l : LineOf) → length (bytes_of (line_cells l)) ≡ line_size l
-bytes_line l = omega (arith, size_cells (tokens_cells l.tokens) (cell.Byte 15 ∷ []), bytes_tokens l.tokens)
+bytes_line l = omega (arith, size_cells (tokens_cells l.tokens) (Cell.Byte 15 ∷ []), bytes_tokens l.tokens)
 
 bytes_lines : (ls : List LineOf) → length (bytes_of (lines_cells ls)) ≡ lines_size ls
 bytes_lines [] = refl
@@ -172,7 +165,7 @@ bytes_parts (v ∷ vs) = omega (arith, size_cells (verb_cells v) (parts_cells vs
 
 bytes_addresses : (n : ℕ) → length (bytes_of (address_cells n)) ≡ 2 * n
 bytes_addresses zero = omega arith
-bytes_addresses (suc n) = omega (arith, size_cells (address_cells n) (cell.Later (target.Part area_name.Grammar n) ∷ []), bytes_addresses n)
+bytes_addresses (suc n) = omega (arith, size_cells (address_cells n) (Cell.Later (Target.Part AreaName.Grammar n) ∷ []), bytes_addresses n)
 
 pub size_written : (vs : List VerbOf) → length (bytes_of (grammar_cells vs)) ≡ verbs_size vs
 size_written vs =
@@ -264,24 +257,24 @@ laters_within (x ∷ xs) zero d within = omega arith
 laters_within (x ∷ xs) (suc n) d within = omega (arith, laters_within xs n d (omega (arith, within)))
 
 pub extended_size : (how : LinePlace) (v : VerbOf) → lines_size (lines_of (extended how v)) ≤ lines_size (lines_of v)
-extended_size place.First v = omega arith
-extended_size place.Last v = omega arith
-extended_size place.Replace v = omega arith
+extended_size LinePlace.First v = omega arith
+extended_size LinePlace.Last v = omega arith
+extended_size LinePlace.Replace v = omega arith
 
 pub extended_laters : (how : LinePlace) (v : VerbOf) → lines_prepositions (lines_of (extended how v)) ≤ lines_prepositions (lines_of v)
-extended_laters place.First v = omega arith
-extended_laters place.Last v = omega arith
-extended_laters place.Replace v = omega arith
+extended_laters LinePlace.First v = omega arith
+extended_laters LinePlace.Last v = omega arith
+extended_laters LinePlace.Replace v = omega arith
 
 -- lines that come one by one follow one another
 pub told_first : (first rest more : List LineOf)
-    → lines_of (fold (λ v line. with_line place.First line v) (record { first = first; rest = rest }) more) ≡ (first ++ more) ++ rest
+    → lines_of (fold (λ v line. with_line LinePlace.First line v) (record { first = first; rest = rest }) more) ≡ (first ++ more) ++ rest
 told_first first rest [] = ap (λ ls. ls ++ rest) (sym (append-nil first))
 told_first first rest (line ∷ more) =
     told_first (first ++ line ∷ []) rest more ∙ ap (λ ls. ls ++ rest) (append_assoc first (line ∷ []) more)
 
 pub told_last : (first rest more : List LineOf)
-    → lines_of (fold (λ v line. with_line place.Last line v) (record { first = first; rest = rest }) more) ≡ (first ++ rest) ++ more
+    → lines_of (fold (λ v line. with_line LinePlace.Last line v) (record { first = first; rest = rest }) more) ≡ (first ++ rest) ++ more
 told_last first rest [] = sym (append-nil (first ++ rest))
 told_last first rest (line ∷ more) =
     told_last first (rest ++ line ∷ []) more
@@ -289,7 +282,7 @@ told_last first rest (line ∷ more) =
     ∙ append_assoc (first ++ rest) (line ∷ []) more
 
 pub told_replace : (first rest more : List LineOf)
-    → lines_of (fold (λ v line. with_line place.Replace line v) (record { first = first; rest = rest }) more) ≡ (first ++ rest) ++ more
+    → lines_of (fold (λ v line. with_line LinePlace.Replace line v) (record { first = first; rest = rest }) more) ≡ (first ++ rest) ++ more
 told_replace first rest [] = sym (append-nil (first ++ rest))
 told_replace first rest (line ∷ more) =
     told_replace first (rest ++ line ∷ []) more
@@ -298,15 +291,15 @@ told_replace first rest (line ∷ more) =
 
 with_line_size : (how : LinePlace) (line : LineOf) (v : VerbOf) →
     lines_size (lines_of (with_line how line v)) ≡ lines_size (lines_of v) + line_size line
-with_line_size place.First line v = size_more_first v.first v.rest line
-with_line_size place.Last line v = size_more_last v.first [] v.rest line
-with_line_size place.Replace line v = size_more_last v.first [] v.rest line
+with_line_size LinePlace.First line v = size_more_first v.first v.rest line
+with_line_size LinePlace.Last line v = size_more_last v.first [] v.rest line
+with_line_size LinePlace.Replace line v = size_more_last v.first [] v.rest line
 
 with_line_laters : (how : LinePlace) (line : LineOf) (v : VerbOf)
     → lines_prepositions (lines_of (with_line how line v)) ≡ lines_prepositions (lines_of v) + prepositions line.tokens
-with_line_laters place.First line v = prepositions_more_first v.first v.rest line
-with_line_laters place.Last line v = prepositions_more_last v.first [] v.rest line
-with_line_laters place.Replace line v = prepositions_more_last v.first [] v.rest line
+with_line_laters LinePlace.First line v = prepositions_more_first v.first v.rest line
+with_line_laters LinePlace.Last line v = prepositions_more_last v.first [] v.rest line
+with_line_laters LinePlace.Replace line v = prepositions_more_last v.first [] v.rest line
 
 -- verbs of which one gets another line keep their sizes and limits
 pub line_stands : (xs : List VerbOf) (n : ℕ) (how : LinePlace) (line : LineOf) (old new : VerbOf) (size later limit space s l : ℕ)

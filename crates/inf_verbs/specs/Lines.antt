@@ -1,15 +1,8 @@
 -- Lines of verbs (Inform Technical Manual, section 8.5).
 use Rattle.std.specs.Prelude.{ℕ, ◌+◌, ◌*◌, ◌%◌, List, [], ◌∷◌, ◌++◌, Bool, length, if◌then◌else◌}
-use Rattle.inf_area.specs.declared.targets.Target.TheVariants as target
-use Rattle.inf_area.specs.declared.targets.Value.{Value}
-use Rattle.inf_area.specs.declared.targets.Value.TheVariants as value
+use Rattle.inf_area.specs.{declared.cells.Cell.Cell, declared.targets.Target.Target, declared.targets.Value.Value}
 use Rattle.inf_area.specs.Cells.{value_cells, word_cells}
-use Rattle.inf_area.specs.declared.cells.Cell.{Cell}
-use Rattle.inf_area.specs.declared.cells.Cell.TheVariants as cell
-use Rattle.inf_verbs.specs.declared.lines.LineToken.{LineToken}
-use Rattle.inf_verbs.specs.declared.lines.LineToken.TheVariants as token
-use Rattle.inf_verbs.specs.declared.lines.Noun.{Noun}
-use Rattle.inf_verbs.specs.declared.lines.Noun.TheVariants as noun
+use Rattle.inf_verbs.specs.{declared.lines.LineToken.LineToken, declared.lines.Noun.Noun}
 
 -- a line: the action that it means, whether its nouns change places, and its tokens
 pub record LineOf : Type 0 where
@@ -18,41 +11,41 @@ pub record LineOf : Type 0 where
   pub tokens : List LineToken
 
 abbrev pub noun_number : Noun → ℕ
-noun_number noun.Noun = 0
-noun_number noun.Held = 1
-noun_number noun.Multi = 2
-noun_number noun.MultiHeld = 3
-noun_number noun.MultiExcept = 4
-noun_number noun.MultiInside = 5
-noun_number noun.Creature = 6
-noun_number noun.Special = 7
-noun_number noun.Number = 8
-noun_number noun.Topic = 9
+noun_number Noun.Noun = 0
+noun_number Noun.Held = 1
+noun_number Noun.Multi = 2
+noun_number Noun.MultiHeld = 3
+noun_number Noun.MultiExcept = 4
+noun_number Noun.MultiInside = 5
+noun_number Noun.Creature = 6
+noun_number Noun.Special = 7
+noun_number Noun.Number = 8
+noun_number Noun.Topic = 9
 
 -- the type of a token; a preposition has $10 where another one comes before it in its list, $20 where another follows
 abbrev pub token_type : LineToken → ℕ
-token_type (token.Noun n) = 1
-token_type (token.Preposition text is_first is_last) = 2 + (if is_first then 0 else 16) + (if is_last then 0 else 32)
-token_type (token.Filter n) = 3
-token_type (token.Attribute n) = 4
-token_type (token.Scope n) = 5
-token_type (token.Routine n) = 6
+token_type (LineToken.Noun n) = 1
+token_type (LineToken.Preposition text is_first is_last) = 2 + (if is_first then 0 else 16) + (if is_last then 0 else 32)
+token_type (LineToken.Filter n) = 3
+token_type (LineToken.Attribute n) = 4
+token_type (LineToken.Scope n) = 5
+token_type (LineToken.Routine n) = 6
 
 abbrev pub token_value : LineToken → Value
-token_value (token.Noun n) = value.Known (noun_number n)
-token_value (token.Preposition text is_first is_last) = value.Later (target.Word text)
-token_value (token.Filter n) = value.Known n
-token_value (token.Attribute n) = value.Known n
-token_value (token.Scope n) = value.Known n
-token_value (token.Routine n) = value.Known n
+token_value (LineToken.Noun n) = Value.Known (noun_number n)
+token_value (LineToken.Preposition text is_first is_last) = Value.Later (Target.Word text)
+token_value (LineToken.Filter n) = Value.Known n
+token_value (LineToken.Attribute n) = Value.Known n
+token_value (LineToken.Scope n) = Value.Known n
+token_value (LineToken.Routine n) = Value.Known n
 
 abbrev pub is_preposition : LineToken → ℕ
-is_preposition (token.Noun n) = 0
-is_preposition (token.Preposition text is_first is_last) = 1
-is_preposition (token.Filter n) = 0
-is_preposition (token.Attribute n) = 0
-is_preposition (token.Scope n) = 0
-is_preposition (token.Routine n) = 0
+is_preposition (LineToken.Noun n) = 0
+is_preposition (LineToken.Preposition text is_first is_last) = 1
+is_preposition (LineToken.Filter n) = 0
+is_preposition (LineToken.Attribute n) = 0
+is_preposition (LineToken.Scope n) = 0
+is_preposition (LineToken.Routine n) = 0
 
 -- the number of tokens that are prepositions
 abbrev pub prepositions : List LineToken → ℕ
@@ -65,10 +58,10 @@ action_word line = if line.is_reverse then (line.action + 1024) % 65536 else lin
 
 abbrev pub tokens_cells : List LineToken → List Cell
 tokens_cells [] = []
-tokens_cells (t ∷ tokens) = (cell.Byte (token_type t) ∷ value_cells (token_value t)) ++ tokens_cells tokens
+tokens_cells (t ∷ tokens) = (Cell.Byte (token_type t) ∷ value_cells (token_value t)) ++ tokens_cells tokens
 
 abbrev pub line_cells : LineOf → List Cell
-line_cells line = word_cells (action_word line) ++ tokens_cells line.tokens ++ cell.Byte 15 ∷ []
+line_cells line = word_cells (action_word line) ++ tokens_cells line.tokens ++ Cell.Byte 15 ∷ []
 
 abbrev pub lines_cells : List LineOf → List Cell
 lines_cells [] = []

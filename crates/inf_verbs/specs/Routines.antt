@@ -2,13 +2,9 @@
 use Rattle.std.specs.Prelude.{ℕ, ◌+◌, ◌%◌, List, [], ◌∷◌, Option, Some, None, Bool, not, ◌&&◌, length, nat_eq, nat_le, if◌then◌else◌}
 use Rattle.std.specs.List.{list_any, position_or_len}
 use Rattle.indexmap.specs.IndexSet.{insert_key}
-use Rattle.inf_area.specs.declared.targets.Target.TheVariants as target
-use Rattle.inf_area.specs.declared.cells.Cell.{Cell}
-use Rattle.inf_area.specs.declared.cells.Cell.TheVariants as cell
-use Rattle.inf_settings.specs.Bounds.{Limits}
-use Rattle.inf_settings.specs.declared.setting.Setting.TheVariants as setting
+use Rattle.inf_area.specs.{declared.cells.Cell.Cell, declared.targets.Target.Target}
+use Rattle.inf_settings.specs.{Bounds.Limits, declared.setting.Setting.Setting}
 use Rattle.inf_verbs.specs.declared.routines.ActionFault.{ActionFault}
-use Rattle.inf_verbs.specs.declared.routines.ActionFault.TheVariants as fault
 
 -- Tells whether `routine` is among `routines`.
 abbrev pub is_among : ℕ → List ℕ → Bool
@@ -40,9 +36,10 @@ with_fake actions = record actions { fakes = (actions.fakes + 1) % 65536 }
 -- the reason why an action cannot be added: it is new, and there are as many as there may be
 abbrev pub action_fault : Limits → ℕ → AllActions → Option ActionFault
 action_fault limits routine actions =
-    if not (is_among routine actions.routines) && nat_le (limits setting.Actions) (length actions.routines) then Some fault.Full else None
+    if not (is_among routine actions.routines) && nat_le (limits Setting.Actions) (length actions.routines) then Some
+    ActionFault.Full else None
 
 -- Routines as they are written: a place for the address of each.
 abbrev pub routines_cells : List ℕ → List Cell
 routines_cells [] = []
-routines_cells (routine ∷ routines) = cell.Later (target.Name routine) ∷ routines_cells routines
+routines_cells (routine ∷ routines) = Cell.Later (Target.Name routine) ∷ routines_cells routines

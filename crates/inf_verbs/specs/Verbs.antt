@@ -1,19 +1,10 @@
 -- Verbs and their lines (Inform Technical Manual, section 8.5).
 use Rattle.std.specs.Prelude.{ℕ, zero, suc, ◌+◌, ◌*◌, ◌%◌, List, [], ◌∷◌, ◌++◌, Option, Some, None, length, nat_le, nat_lt, slice_index_or}
 use Rattle.std.specs.Prelude.{slice_set, if◌then◌else◌}
-use Rattle.inf_area.specs.declared.targets.AreaName.TheVariants as area_name
-use Rattle.inf_area.specs.declared.targets.Target.TheVariants as target
-use Rattle.inf_area.specs.declared.cells.Cell.{Cell}
-use Rattle.inf_area.specs.declared.cells.Cell.TheVariants as cell
-use Rattle.inf_settings.specs.Bounds.{Limits}
-use Rattle.inf_settings.specs.declared.setting.Setting.TheVariants as setting
+use Rattle.inf_area.specs.{declared.cells.Cell.Cell, declared.targets.AreaName.AreaName, declared.targets.Target.Target}
+use Rattle.inf_settings.specs.{Bounds.Limits, declared.setting.Setting.Setting}
+use Rattle.inf_verbs.specs.{declared.verbs.LineFault.LineFault, declared.verbs.LinePlace.LinePlace, declared.verbs.VerbFault.VerbFault}
 use Rattle.inf_verbs.specs.Lines.{LineOf, lines_cells, lines_prepositions, lines_size}
-use Rattle.inf_verbs.specs.declared.verbs.LinePlace.{LinePlace}
-use Rattle.inf_verbs.specs.declared.verbs.LinePlace.TheVariants as place
-use Rattle.inf_verbs.specs.declared.verbs.LineFault.{LineFault}
-use Rattle.inf_verbs.specs.declared.verbs.LineFault.TheVariants as line_fault
-use Rattle.inf_verbs.specs.declared.verbs.VerbFault.{VerbFault}
-use Rattle.inf_verbs.specs.declared.verbs.VerbFault.TheVariants as verb_fault
 
 -- a verb: the lines that the last `Extend first` put in front, and the others
 pub record VerbOf : Type 0 where
@@ -39,15 +30,15 @@ with_last line verb = record { first = verb.first; rest = verb.rest ++ line ∷ 
 
 -- a verb as `Extend` makes it before its lines come
 abbrev pub extended : LinePlace → VerbOf → VerbOf
-extended place.First verb = begun_first verb
-extended place.Last verb = verb
-extended place.Replace verb = no_lines
+extended LinePlace.First verb = begun_first verb
+extended LinePlace.Last verb = verb
+extended LinePlace.Replace verb = no_lines
 
 -- a verb with a further line of its `Extend`
 abbrev pub with_line : LinePlace → LineOf → VerbOf → VerbOf
-with_line place.First line verb = with_first line verb
-with_line place.Last line verb = with_last line verb
-with_line place.Replace line verb = with_last line verb
+with_line LinePlace.First line verb = with_first line verb
+with_line LinePlace.Last line verb = with_last line verb
+with_line LinePlace.Replace line verb = with_last line verb
 
 -- all verbs by number
 pub record AllVerbs : Type 0 where
@@ -88,19 +79,19 @@ verbs_laters (verb ∷ verbs) = verb_laters verb + verbs_laters verbs
 -- may
 abbrev pub add_fault : Limits → AllVerbs → Option VerbFault
 add_fault limits verbs =
-    if nat_le 255 (length verbs.list) then Some verb_fault.TooMany
-    else if nat_le (limits setting.Verbs) (length verbs.list) then Some verb_fault.Full
-    else if nat_lt (limits setting.GrammarLines) (verbs_size verbs.list + 3) then Some verb_fault.NoSpace
+    if nat_le 255 (length verbs.list) then Some VerbFault.TooMany
+    else if nat_le (limits Setting.Verbs) (length verbs.list) then Some VerbFault.Full
+    else if nat_lt (limits Setting.GrammarLines) (verbs_size verbs.list + 3) then Some VerbFault.NoSpace
     else None
 
 -- the reason why another line of `count` tokens cannot be added
 abbrev pub line_fault_of : Limits → ℕ → AllVerbs → Option LineFault
 line_fault_of limits count verbs =
-    if nat_lt (limits setting.GrammarLines) (verbs_size verbs.list + (3 + 3 * count)) then Some line_fault.NoSpace else None
+    if nat_lt (limits Setting.GrammarLines) (verbs_size verbs.list + (3 + 3 * count)) then Some LineFault.NoSpace else None
 
 -- Verbs as they are written: the address of each verb's lines, then for each verb the number of its lines, and these.
 abbrev pub verb_cells : VerbOf → List Cell
-verb_cells verb = (cell.Byte (length (lines_of verb) % 256) ∷ []) ++ lines_cells (lines_of verb)
+verb_cells verb = (Cell.Byte (length (lines_of verb) % 256) ∷ []) ++ lines_cells (lines_of verb)
 
 abbrev pub parts_cells : List VerbOf → List Cell
 parts_cells [] = []
@@ -109,7 +100,7 @@ parts_cells (verb ∷ verbs) = verb_cells verb ++ parts_cells verbs
 -- places for the addresses of the lines of the verbs before `number`
 abbrev pub address_cells : ℕ → List Cell
 address_cells zero = []
-address_cells (suc number) = address_cells number ++ cell.Later (target.Part area_name.Grammar number) ∷ []
+address_cells (suc number) = address_cells number ++ Cell.Later (Target.Part AreaName.Grammar number) ∷ []
 
 abbrev pub grammar_cells : List VerbOf → List Cell
 grammar_cells verbs = address_cells (length verbs) ++ parts_cells verbs

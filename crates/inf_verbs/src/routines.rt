@@ -1,14 +1,12 @@
 //! Routines that a grammar names, by number.
 ghost use Rattle.std.specs.Prelude.{◌≡◌, ◌<◌, ◌≤◌, ◌+◌, ◌++◌, ◌%◌, [], false, None, OnOk, OnErr, IfOk, IfErr, MatchResult};
 ghost use Rattle.std.specs.Prelude.{length, unwrap_or};
-ghost use Rattle.inf_area.specs.Fixups.{with_fixups};
-ghost use Rattle.inf_area.specs.declared.targets.AreaName.TheVariants as area_name;
+ghost use Rattle.inf_area.specs.{Fixups.with_fixups, declared.cells.WriteFault.WriteFault, declared.targets.AreaName.AreaName};
 ghost use Rattle.inf_area.specs.Cells.{bytes_of, fixups_of};
-ghost use Rattle.inf_area.specs.declared.cells.WriteFault.TheVariants as write_fault;
 ghost use Rattle.inf_verbs.specs.Routines.{action_fault, is_among, number_in, number_of, routines_cells, with_action, with_fake};
 ghost use Rattle.inf_verbs.specs.Routines.{with_routine};
 ghost use Rattle.inf_verbs.specs.declared.routines.ActionFault.TheVariants.{Memory};
-ghost use Rattle.inf_settings.specs.declared.setting.Setting.TheVariants as setting;
+ghost use Rattle.inf_settings.specs.declared.setting.Setting.{Setting};
 
 use indexmap::IndexSet;
 use inf_area::{Area, AreaName, Cells, Refs, Target, WriteFault, append_cells};
@@ -46,7 +44,7 @@ pub struct Actions<B: Bounds> {
     fakes: u16,
     limit: usize,
     of: PhantomData<B>,
-    ghost is_most: { limit ≡ B.most setting.Actions },
+    ghost is_most: { limit ≡ B.most Setting.Actions },
 }
 
 impl<B: Bounds> Model for Actions<B> {
@@ -64,7 +62,7 @@ impl<B: Bounds> Actions<B> {
     /// Returns a set without actions, which takes `limit` actions at most, beside fake ones. It takes no memory until
     /// the first one comes.
     pub fn new(alloc: Global, limit: usize) -> Actions<B>
-        requires { limit ≡ B.most setting.Actions }
+        requires { limit ≡ B.most Setting.Actions }
         ensures { result ≡ record { routines = []; fakes = 0 } }
     {
         Actions {
@@ -80,7 +78,7 @@ impl<B: Bounds> Actions<B> {
     /// written.
     pub fn len(&self) -> usize
         ensures value { result ≡ length self.now.routines }
-        ensures limited { result ≤ B.most setting.Actions }
+        ensures limited { result ≤ B.most Setting.Actions }
     {
         self.routines.len()
     }
@@ -131,13 +129,13 @@ impl<B: Bounds> Actions<B> {
     pub fn write<A: Area>(&self, area: &mut A, refs: &mut Refs) -> Result<(), WriteFault>
         ensures bytes { OnOk result (A.bytes area.new ≡ A.bytes area.old ++ bytes_of (routines_cells self.now.routines)) }
         ensures fixups { OnOk result (refs.new ≡ with_fixups
-            (refs.old.list ++ fixups_of area_name.Actions (length (A.bytes area.old)) (routines_cells self.now.routines)) refs.old) }
+            (refs.old.list ++ fixups_of AreaName.Actions (length (A.bytes area.old)) (routines_cells self.now.routines)) refs.old) }
         ensures room { OnOk result (length refs.old.list + length self.now.routines ≤ refs.old.limit) }
         ensures bytes_stay { OnErr result (A.bytes area.new ≡ A.bytes area.old) }
         ensures fixups_stay { OnErr result (refs.new ≡ refs.old) }
-        ensures full { IfErr result (λ fault. fault ≡ write_fault.Full
+        ensures full { IfErr result (λ fault. fault ≡ WriteFault.Full
             → refs.old.limit < length refs.old.list + length self.now.routines) }
-        ensures memory { IfErr result (λ fault. fault ≡ write_fault.Memory
+        ensures memory { IfErr result (λ fault. fault ≡ WriteFault.Memory
             → length refs.old.list + length self.now.routines ≤ refs.old.limit) }
     {
         write_routines(self.alloc, AreaName::Actions, &self.routines, area, refs)
@@ -199,12 +197,12 @@ impl ParsingRoutines {
     pub fn write<A: Area>(&self, area: &mut A, refs: &mut Refs) -> Result<(), WriteFault>
         ensures bytes { OnOk result (A.bytes area.new ≡ A.bytes area.old ++ bytes_of (routines_cells self.now)) }
         ensures fixups { OnOk result (refs.new ≡ with_fixups
-            (refs.old.list ++ fixups_of area_name.ParsingRoutines (length (A.bytes area.old)) (routines_cells self.now)) refs.old) }
+            (refs.old.list ++ fixups_of AreaName.ParsingRoutines (length (A.bytes area.old)) (routines_cells self.now)) refs.old) }
         ensures room { OnOk result (length refs.old.list + length self.now ≤ refs.old.limit) }
         ensures bytes_stay { OnErr result (A.bytes area.new ≡ A.bytes area.old) }
         ensures fixups_stay { OnErr result (refs.new ≡ refs.old) }
-        ensures full { IfErr result (λ fault. fault ≡ write_fault.Full → refs.old.limit < length refs.old.list + length self.now) }
-        ensures memory { IfErr result (λ fault. fault ≡ write_fault.Memory → length refs.old.list + length self.now ≤ refs.old.limit) }
+        ensures full { IfErr result (λ fault. fault ≡ WriteFault.Full → refs.old.limit < length refs.old.list + length self.now) }
+        ensures memory { IfErr result (λ fault. fault ≡ WriteFault.Memory → length refs.old.list + length self.now ≤ refs.old.limit) }
     {
         write_routines(
             self.alloc,
@@ -231,8 +229,8 @@ fn write_routines<A: Area>(
     ensures room { OnOk result (length refs.old.list + length routines.now.keys ≤ refs.old.limit) }
     ensures bytes_stay { OnErr result (A.bytes area.new ≡ A.bytes area.old) }
     ensures fixups_stay { OnErr result (refs.new ≡ refs.old) }
-    ensures full { IfErr result (λ fault. fault ≡ write_fault.Full → refs.old.limit < length refs.old.list + length routines.now.keys) }
-    ensures memory { IfErr result (λ fault. fault ≡ write_fault.Memory → length refs.old.list + length routines.now.keys ≤ refs.old.limit) }
+    ensures full { IfErr result (λ fault. fault ≡ WriteFault.Full → refs.old.limit < length refs.old.list + length routines.now.keys) }
+    ensures memory { IfErr result (λ fault. fault ≡ WriteFault.Memory → length refs.old.list + length routines.now.keys ≤ refs.old.limit) }
 {
     if refs.limit() - refs.len() < routines.len() {
         return Err(WriteFault::Full);

@@ -25,8 +25,7 @@ pub(crate) struct Verb {
 
 impl Model for Verb {
     ghost use Rattle.std.specs.Prelude.{◌≡◌, ◌++◌, reverse};
-    ghost use Rattle.inf_verbs.specs.Lines.{lines_prepositions, lines_size};
-    ghost use Rattle.inf_verbs.specs.Verbs.{VerbOf};
+    ghost use Rattle.inf_verbs.specs.{Lines.lines_prepositions, Lines.lines_size, Verbs.VerbOf};
 
     ghost Value = { VerbOf };
 

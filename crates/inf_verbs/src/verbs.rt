@@ -1,15 +1,12 @@
 //! Verbs, line by line.
 ghost use Rattle.std.specs.Prelude.{◌≡◌, ◌<◌, ◌≤◌, ◌+◌, ◌*◌, ◌++◌, ◌^◌, [], None, OnOk, OnErr, IfOk, IfErr, IfNone, MatchResult, length};
 ghost use Rattle.std.specs.Prelude.{unwrap_or};
-ghost use Rattle.inf_area.specs.Fixups.{with_fixups};
-ghost use Rattle.inf_area.specs.declared.targets.AreaName.TheVariants as area_name;
+ghost use Rattle.inf_area.specs.{Fixups.with_fixups, declared.cells.WriteFault.WriteFault, declared.targets.AreaName.AreaName};
 ghost use Rattle.inf_area.specs.Cells.{bytes_of, fixups_of};
-ghost use Rattle.inf_area.specs.declared.cells.WriteFault.TheVariants as write_fault;
+ghost use Rattle.inf_verbs.specs.{declared.verbs.LineFault.LineFault, declared.verbs.VerbFault.VerbFault};
 ghost use Rattle.inf_verbs.specs.Verbs.{add_fault, address_cells, grammar_cells, line_fault_of, parts_cells, places_of, verb_at};
 ghost use Rattle.inf_verbs.specs.Verbs.{verbs_laters, verbs_size, with_extended, with_line_of, with_verb};
-ghost use Rattle.inf_verbs.specs.declared.verbs.LineFault.TheVariants as line_fault;
-ghost use Rattle.inf_verbs.specs.declared.verbs.VerbFault.TheVariants as verb_fault;
-ghost use Rattle.inf_settings.specs.declared.setting.Setting.TheVariants as setting;
+ghost use Rattle.inf_settings.specs.declared.setting.Setting.{Setting};
 
 use crate::lines::{Line, LineToken, prepositions};
 use crate::verb::Verb;
@@ -46,7 +43,7 @@ pub enum VerbFault {
 }
 
 impl<T: Drop> From<AllocFailed<T>> for VerbFault {
-    ghost from_gives = { λ _ fault. fault ≡ verb_fault.Memory };
+    ghost from_gives = { λ _ fault. fault ≡ VerbFault.Memory };
 
     fn from(_error: AllocFailed<T>) -> VerbFault {
         VerbFault::Memory
@@ -63,7 +60,7 @@ pub enum LineFault {
 }
 
 impl From<AllocError> for LineFault {
-    ghost from_gives = { λ _ fault. fault ≡ line_fault.Memory };
+    ghost from_gives = { λ _ fault. fault ≡ LineFault.Memory };
 
     fn from(_error: AllocError) -> LineFault {
         LineFault::Memory
@@ -81,8 +78,8 @@ pub struct Verbs<B: Bounds> {
     limit: usize,
     space: usize,
     of: PhantomData<B>,
-    ghost is_most: { limit ≡ B.most setting.Verbs },
-    ghost is_most_bytes: { space ≡ B.most setting.GrammarLines },
+    ghost is_most: { limit ≡ B.most Setting.Verbs },
+    ghost is_most_bytes: { space ≡ B.most Setting.GrammarLines },
 }
 
 impl<B: Bounds> Model for Verbs<B> {
@@ -101,8 +98,8 @@ impl<B: Bounds> Verbs<B> {
     /// Returns a grammar without verbs, which takes at most `limit` verbs and `space` bytes. It takes no memory until
     /// the first verb comes.
     pub fn new(alloc: Global, limit: usize, space: usize) -> Verbs<B>
-        requires verbs { limit ≡ B.most setting.Verbs }
-        requires bytes { space ≡ B.most setting.GrammarLines }
+        requires verbs { limit ≡ B.most Setting.Verbs }
+        requires bytes { space ≡ B.most Setting.GrammarLines }
         ensures { result ≡ record { list = [] } }
     {
         Verbs {
@@ -119,7 +116,7 @@ impl<B: Bounds> Verbs<B> {
     /// Returns the number of verbs, which is at most 255, and never more than there may be.
     pub fn len(&self) -> usize
         ensures value { result ≡ length self.now.list }
-        ensures limited { result ≤ B.most setting.Verbs }
+        ensures limited { result ≤ B.most Setting.Verbs }
         ensures byte { result ≤ 255 }
     {
         self.verbs.len()
@@ -128,7 +125,7 @@ impl<B: Bounds> Verbs<B> {
     /// Returns the number of bytes of the grammar, which is never more than there may be.
     pub fn size(&self) -> usize
         ensures value { result ≡ verbs_size self.now.list }
-        ensures limited { result ≤ B.most setting.GrammarLines }
+        ensures limited { result ≤ B.most Setting.GrammarLines }
     {
         self.size
     }
@@ -151,7 +148,7 @@ impl<B: Bounds> Verbs<B> {
         ensures number { IfOk result (λ number. number ≡ length self.old.list) }
         ensures err { OnErr result (self.new ≡ self.old) }
         ensures fault { let fault = add_fault B.most self.old in
-            MatchResult result (λ _. fault ≡ None) (λ refused. refused ≡ unwrap_or fault verb_fault.Memory) }
+            MatchResult result (λ _. fault ≡ None) (λ refused. refused ≡ unwrap_or fault VerbFault.Memory) }
     {
         let number = self.verbs.len();
         if let Some(fault) = self.add_fault() {
@@ -167,8 +164,8 @@ impl<B: Bounds> Verbs<B> {
     fn add_fault(&self) -> Option<VerbFault>
         ensures value { result ≡ add_fault B.most self.now }
         ensures few { IfNone result (length self.now.list < 255) }
-        ensures room { IfNone result (length self.now.list < B.most setting.Verbs) }
-        ensures space { IfNone result (verbs_size self.now.list + 3 ≤ B.most setting.GrammarLines) }
+        ensures room { IfNone result (length self.now.list < B.most Setting.Verbs) }
+        ensures space { IfNone result (verbs_size self.now.list + 3 ≤ B.most Setting.GrammarLines) }
     {
         if self.verbs.len() >= MOST {
             return Some(VerbFault::TooMany);
@@ -217,7 +214,7 @@ impl<B: Bounds> Verbs<B> {
             ≡ with_line_of number place (record { action = action; is_reverse = is_reverse; tokens = tokens.now }) self.old) }
         ensures err { OnErr result (self.new ≡ self.old) }
         ensures fault { let fault = line_fault_of B.most (length tokens.now) self.old in
-            MatchResult result (λ _. fault ≡ None) (λ refused. refused ≡ unwrap_or fault line_fault.Memory) }
+            MatchResult result (λ _. fault ≡ None) (λ refused. refused ≡ unwrap_or fault LineFault.Memory) }
     {
         if (self.space - self.size) / 3 <= tokens.len() {
             return Err(LineFault::NoSpace);
@@ -240,13 +237,13 @@ impl<B: Bounds> Verbs<B> {
     pub fn write<A: Area>(&self, area: &mut A, refs: &mut Refs) -> Result<(), WriteFault>
         ensures bytes { OnOk result (A.bytes area.new ≡ A.bytes area.old ++ bytes_of (grammar_cells self.now.list)) }
         ensures fixups { OnOk result (refs.new ≡ with_fixups
-            (refs.old.list ++ fixups_of area_name.Grammar (length (A.bytes area.old)) (grammar_cells self.now.list)) refs.old) }
+            (refs.old.list ++ fixups_of AreaName.Grammar (length (A.bytes area.old)) (grammar_cells self.now.list)) refs.old) }
         ensures room { OnOk result (length refs.old.list + verbs_laters self.now.list ≤ refs.old.limit) }
         ensures bytes_stay { OnErr result (A.bytes area.new ≡ A.bytes area.old) }
         ensures fixups_stay { OnErr result (refs.new ≡ refs.old) }
-        ensures full { IfErr result (λ fault. fault ≡ write_fault.Full
+        ensures full { IfErr result (λ fault. fault ≡ WriteFault.Full
             → refs.old.limit < length refs.old.list + verbs_laters self.now.list) }
-        ensures memory { IfErr result (λ fault. fault ≡ write_fault.Memory
+        ensures memory { IfErr result (λ fault. fault ≡ WriteFault.Memory
             → length refs.old.list + verbs_laters self.now.list ≤ refs.old.limit) }
     {
         if refs.limit() - refs.len() < self.later {

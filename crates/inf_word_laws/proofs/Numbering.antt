@@ -1,54 +1,33 @@
 -- Names by their numbers, leaf by leaf.
-use Rattle.std.proofs.Common.{arith, ◌≡◌, ◌≤◌, ℕ, List, [], ◌∷◌, ◌++◌, codes, Bool, true, false, Option, Some, None, refl, ap, sym}
-use Rattle.std.proofs.Common.{subst}
+use Rattle.std.proofs.Common.{arith, ◌≡◌, ◌≤◌, ℕ, List, [], ◌∷◌, ◌++◌, codes, Bool, true, false, Option, Some, None, refl, ap, sym, subst}
 use Rattle.std.specs.Prelude.{is_some, length, ◌+◌, ◌<◌, if◌then◌else◌}
 use Rattle.std.specs.Str.{bytes_eq, str_eq_ignore_ascii_case}
 use Rattle.inf_settings.specs.Bounds.{Limits, unbounded}
 use Rattle.inf_scanner.specs.declared.tokens.Place.{Place}
-use Rattle.inf_area.specs.declared.scale.Scale.{Scale}
-use Rattle.inf_area.specs.declared.targets.SystemConstant.{SystemConstant}
-use Rattle.inf_area.specs.declared.targets.Target.TheVariants as target
-use Rattle.inf_area.specs.Scales.{version}
-use Rattle.inf_characters.specs.declared.characters.CharSet.{CharSet}
-use Rattle.inf_characters.specs.declared.texts.TextItem.{TextItem}
-use Rattle.inf_dictionary.specs.declared.dictionary.AddFault.{AddFault}
-use Rattle.inf_dictionary.specs.declared.dictionary.AddFault.TheVariants as word_fault
-use Rattle.inf_dictionary.specs.Texts.{Text}
-use Rattle.inf_dictionary.specs.declared.uses.WordUse.{WordUse}
-use Rattle.inf_dictionary.specs.declared.uses.WordUse.TheVariants as word_use
+use Rattle.inf_area.specs.{Scales.version, declared.scale.Scale.Scale, declared.targets.SystemConstant.SystemConstant}
+use Rattle.inf_area.specs.{declared.targets.Target.Target}
+use Rattle.inf_characters.specs.{declared.characters.CharSet.CharSet, declared.texts.TextItem.TextItem}
+use Rattle.inf_dictionary.specs.{Texts.Text, declared.dictionary.AddFault.AddFault, declared.uses.WordUse.WordUse}
 use Rattle.inf_dictionary.specs.Words.{add_fault, word_of}
 use Rattle.inf_expressions.specs.declared.operators.Operand.{Operand}
-use Rattle.inf_expressions.specs.declared.operators.Operand.TheVariants as operand
 use Rattle.inf_gathering.specs.declared.gathering.Leaf.{Leaf}
-use Rattle.inf_gathering.specs.declared.gathering.Leaf.TheVariants as leaf
-use Rattle.inf_names.specs.Locals.{Local, number_of as local_number}
-use Rattle.inf_names.specs.Spellings.{Name}
+use Rattle.inf_names.specs.{Locals.Local, Locals.local_number, Spellings.Name, declared.meanings.Meaning.Meaning}
+use Rattle.inf_names.specs.{declared.symbols.DeclareFault.DeclareFault, declared.symbols.Found.Found}
+use Rattle.inf_names.specs.{declared.symbols.ReferFault.ReferFault, declared.system_names.SystemName.SystemName}
 use Rattle.inf_names.specs.Symbols.{IsDeclared, IsUsed, Named, Standing, Table, declare_fault, folded, found_as, found_in, index_of}
 use Rattle.inf_names.specs.Symbols.{number_by, put, refer_fault, standing_of, with_used_by}
 use Rattle.inf_names.specs.SystemNames.{is_known, meaning_if, meaning_of, named, system_meaning}
-use Rattle.inf_names.specs.declared.meanings.Meaning.{Meaning}
-use Rattle.inf_names.specs.declared.meanings.Meaning.TheVariants as meaning
-use Rattle.inf_names.specs.declared.symbols.DeclareFault.{DeclareFault}
-use Rattle.inf_names.specs.declared.symbols.Found.{Found}
-use Rattle.inf_names.specs.declared.symbols.Found.TheVariants as found
-use Rattle.inf_names.specs.declared.symbols.ReferFault.{ReferFault}
-use Rattle.inf_names.specs.declared.system_names.SystemName.{SystemName}
-use Rattle.inf_names.specs.declared.system_names.SystemName.TheVariants as own
+use Rattle.inf_output.specs.{Strings.fits, Texts.used_in}
 use Rattle.inf_output.specs.Actions.{action_by, appeared, fake_number, key_of, numbered_as, numbered_by, routine_name, routine_referred}
 use Rattle.inf_output.specs.Actions.{seen_by}
 use Rattle.inf_output.specs.Output.{Out, referred_as_by, referred_by, with_text_by, with_word_by}
-use Rattle.inf_output.specs.Strings.{fits}
-use Rattle.inf_output.specs.Texts.{used_in}
 use Rattle.inf_text.specs.Packing.{packed}
-use Rattle.inf_unit.specs.Tokens.{SourceToken}
-use Rattle.inf_unit.specs.Units.{bytes_at, name_at}
+use Rattle.inf_unit.specs.{Tokens.SourceToken, Units.bytes_at, Units.name_at}
 use Rattle.inf_operands.specs.Operands.{Settled, found_operand, is_stack, operand_by, settled, settled_action, settled_alone, settled_as}
 use Rattle.inf_operands.specs.Operands.{settled_by, settled_leaf, settled_name, settled_text, standing, system_by, system_constant}
 use Rattle.inf_operands.specs.Operands.{system_operand, with_settled}
-use Rattle.inf_operands.specs.Texts.{text_at}
-use Rattle.inf_operands.specs.Texts.{text_packed}
-use Rattle.inf_verbs.specs.Routines.{action_fault}
-use Rattle.inf_verbs.specs.declared.routines.ActionFault.{ActionFault}
+use Rattle.inf_operands.specs.Texts.{text_at, text_packed}
+use Rattle.inf_verbs.specs.{Routines.action_fault, declared.routines.ActionFault.ActionFault}
 use Rattle.inf_word_laws.specs.Names.{AllNamed, IsNamed, OperandsNamed}
 
 -- Names in their list
@@ -97,10 +76,10 @@ Grows o v = length o.names.names ≤ length v.names.names
 
 used_grows : (f : Found Place) (name : List ℕ) (place : Place) (t : Table Place) →
     length t.names ≤ length (with_used_by f name place t).names
-used_grows found.Unknown name place t = put_longer (folded name) (IsUsed name place) t.names
-used_grows found.Used name place t = omega arith
-used_grows (found.System m) name place t = omega arith
-used_grows (found.Declared m first) name place t = omega arith
+used_grows Found.Unknown name place t = put_longer (folded name) (IsUsed name place) t.names
+used_grows Found.Used name place t = omega arith
+used_grows (Found.System m) name place t = omega arith
+used_grows (Found.Declared m first) name place t = omega arith
 
 referred_grows : (limits : Limits) (f : Option ReferFault) (name : List ℕ) (place : Place) (o : Out) →
     Grows o (referred_by limits f name place o)
@@ -120,7 +99,7 @@ alone_grows : (limits : Limits) (locals : List Local) (tokens : List SourceToken
     Grows o (settled_alone limits locals tokens at o).0
 alone_grows limits locals tokens at o = go (is_stack (bytes_at tokens at) (local_number (bytes_at tokens at) locals))
   where
-    go : (b : Bool) → Grows o (if b then (o, operand.Variable 0) else settled_name limits locals (name_at tokens at) o).0
+    go : (b : Bool) → Grows o (if b then (o, Operand.Variable 0) else settled_name limits locals (name_at tokens at) o).0
     go true = omega arith
     go false = name_grows limits locals (name_at tokens at) o
 
@@ -136,9 +115,9 @@ text_grows limits (Some items) o =
 word_grows : (limits : Limits) (f : Option AddFault) (text : Text) (how : WordUse) (is_plural : Bool) (o : Out) →
     Grows o (with_word_by limits f text how is_plural o)
 word_grows limits None text how is_plural o = omega arith
-word_grows limits (Some word_fault.Full) text how is_plural o = omega arith
-word_grows limits (Some word_fault.OtherVerb) text how is_plural o = omega arith
-word_grows limits (Some word_fault.Memory) text how is_plural o = omega arith
+word_grows limits (Some AddFault.Full) text how is_plural o = omega arith
+word_grows limits (Some AddFault.OtherVerb) text how is_plural o = omega arith
+word_grows limits (Some AddFault.Memory) text how is_plural o = omega arith
 
 seen_grows : (f : Option (DeclareFault Place)) (key : List ℕ) (place : Place) (o : Out) → Grows o (seen_by f key place o)
 seen_grows None key place o = omega arith
@@ -168,42 +147,42 @@ named_grows limits (Some n) o = action_grows limits (fake_number (key_of n.bytes
 
 leaf_grows : (limits : Limits) (set : CharSet) (locals : List Local) (tokens : List SourceToken) (l : Leaf) (o : Out) →
     Grows o (settled_leaf limits set locals tokens l o).0
-leaf_grows limits set locals tokens (leaf.Name at) o = name_grows limits locals (name_at tokens at) o
-leaf_grows limits set locals tokens (leaf.Alone at) o = alone_grows limits locals tokens at o
-leaf_grows limits set locals tokens (leaf.Number number) o = omega arith
-leaf_grows limits set locals tokens (leaf.Char zscii) o = omega arith
-leaf_grows limits set locals tokens (leaf.Word word) o =
-    word_grows limits (add_fault limits (word_of word.text o.tables.dictionary.list) word_use.Other o.tables.dictionary) word.text
-    word_use.Other word.is_plural o
-leaf_grows limits set locals tokens (leaf.Text at) o = text_grows limits (text_at set tokens at) o
-leaf_grows limits set locals tokens (leaf.Action at) o = named_grows limits (name_at tokens at) o
-leaf_grows limits set locals tokens (leaf.System at) o = omega arith
+leaf_grows limits set locals tokens (Leaf.Name at) o = name_grows limits locals (name_at tokens at) o
+leaf_grows limits set locals tokens (Leaf.Alone at) o = alone_grows limits locals tokens at o
+leaf_grows limits set locals tokens (Leaf.Number number) o = omega arith
+leaf_grows limits set locals tokens (Leaf.Char zscii) o = omega arith
+leaf_grows limits set locals tokens (Leaf.Word word) o =
+    word_grows limits (add_fault limits (word_of word.text o.tables.dictionary.list) WordUse.Other o.tables.dictionary) word.text
+    WordUse.Other word.is_plural o
+leaf_grows limits set locals tokens (Leaf.Text at) o = text_grows limits (text_at set tokens at) o
+leaf_grows limits set locals tokens (Leaf.Action at) o = named_grows limits (name_at tokens at) o
+leaf_grows limits set locals tokens (Leaf.System at) o = omega arith
 
 -- The language's own names have operands of their own.
 
 own_operand : (n : SystemName) → is_some (standing (meaning_of n)) ≡ true
-own_operand own.True = refl
-own_operand own.False = refl
-own_operand own.Nothing = refl
-own_operand own.Null = refl
-own_operand own.WordSize = refl
-own_operand own.TargetZcode = refl
-own_operand own.Name = refl
-own_operand own.Class = refl
-own_operand own.Object = refl
-own_operand own.Routine = refl
-own_operand own.String = refl
-own_operand own.Child = refl
-own_operand own.Parent = refl
-own_operand own.Sibling = refl
-own_operand own.Children = refl
-own_operand own.Random = refl
-own_operand own.Indirect = refl
-own_operand own.OwnObject = refl
-own_operand own.Sender = refl
-own_operand own.SwitchVariable = refl
-own_operand own.TemporaryGlobal = refl
-own_operand own.Debug = refl
+own_operand SystemName.True = refl
+own_operand SystemName.False = refl
+own_operand SystemName.Nothing = refl
+own_operand SystemName.Null = refl
+own_operand SystemName.WordSize = refl
+own_operand SystemName.TargetZcode = refl
+own_operand SystemName.Name = refl
+own_operand SystemName.Class = refl
+own_operand SystemName.Object = refl
+own_operand SystemName.Routine = refl
+own_operand SystemName.String = refl
+own_operand SystemName.Child = refl
+own_operand SystemName.Parent = refl
+own_operand SystemName.Sibling = refl
+own_operand SystemName.Children = refl
+own_operand SystemName.Random = refl
+own_operand SystemName.Indirect = refl
+own_operand SystemName.OwnObject = refl
+own_operand SystemName.Sender = refl
+own_operand SystemName.SwitchVariable = refl
+own_operand SystemName.TemporaryGlobal = refl
+own_operand SystemName.Debug = refl
 
 pub own_by : (debugging : Bool) (n : Option SystemName) (m : Meaning) → meaning_if debugging n ≡ Some m → is_some (standing m) ≡ true
 own_by debugging None m e = not_some e
@@ -214,38 +193,38 @@ own_by debugging (Some n) m e = go (is_known debugging n) e
     go false f = not_some f
 
 own_named : (m : Meaning) (number : Option ℕ) (v : Out) → is_some (standing m) ≡ true → IsNamed (operand_by (standing m) number) v
-own_named (meaning.Number n) number v h = tt
-own_named (meaning.Variable n) number v h = tt
-own_named (meaning.Attribute n) number v h = tt
-own_named (meaning.Property n is_additive) number v h = tt
-own_named (meaning.IndividualProperty n) number v h = tt
-own_named (meaning.Object n) number v h = tt
-own_named (meaning.Class n) number v h = tt
-own_named (meaning.FakeAction n) number v h = tt
-own_named (meaning.Function f) number v h = tt
-own_named (meaning.Text place) number v h = cc
-own_named (meaning.Word place) number v h = cc
-own_named (meaning.LowString place) number v h = cc
-own_named (meaning.Array place) number v h = cc
-own_named (meaning.Routine place) number v h = cc
-own_named (meaning.PackedAddress place) number v h = cc
+own_named (Meaning.Number n) number v h = tt
+own_named (Meaning.Variable n) number v h = tt
+own_named (Meaning.Attribute n) number v h = tt
+own_named (Meaning.Property n is_additive) number v h = tt
+own_named (Meaning.IndividualProperty n) number v h = tt
+own_named (Meaning.Object n) number v h = tt
+own_named (Meaning.Class n) number v h = tt
+own_named (Meaning.FakeAction n) number v h = tt
+own_named (Meaning.Function f) number v h = tt
+own_named (Meaning.Text place) number v h = cc
+own_named (Meaning.Word place) number v h = cc
+own_named (Meaning.LowString place) number v h = cc
+own_named (Meaning.Array place) number v h = cc
+own_named (Meaning.Routine place) number v h = cc
+own_named (Meaning.PackedAddress place) number v h = cc
 
 numbered_named : (m : Meaning) (n : ℕ) (v : Out) → n < length v.names.names → IsNamed (operand_by (standing m) (Some n)) v
-numbered_named (meaning.Number k) n v h = tt
-numbered_named (meaning.Variable k) n v h = tt
-numbered_named (meaning.Attribute k) n v h = tt
-numbered_named (meaning.Property k is_additive) n v h = tt
-numbered_named (meaning.IndividualProperty k) n v h = tt
-numbered_named (meaning.Object k) n v h = tt
-numbered_named (meaning.Class k) n v h = tt
-numbered_named (meaning.FakeAction k) n v h = tt
-numbered_named (meaning.Function f) n v h = tt
-numbered_named (meaning.Text place) n v h = h
-numbered_named (meaning.Word place) n v h = h
-numbered_named (meaning.LowString place) n v h = h
-numbered_named (meaning.Array place) n v h = h
-numbered_named (meaning.Routine place) n v h = h
-numbered_named (meaning.PackedAddress place) n v h = h
+numbered_named (Meaning.Number k) n v h = tt
+numbered_named (Meaning.Variable k) n v h = tt
+numbered_named (Meaning.Attribute k) n v h = tt
+numbered_named (Meaning.Property k is_additive) n v h = tt
+numbered_named (Meaning.IndividualProperty k) n v h = tt
+numbered_named (Meaning.Object k) n v h = tt
+numbered_named (Meaning.Class k) n v h = tt
+numbered_named (Meaning.FakeAction k) n v h = tt
+numbered_named (Meaning.Function f) n v h = tt
+numbered_named (Meaning.Text place) n v h = h
+numbered_named (Meaning.Word place) n v h = h
+numbered_named (Meaning.LowString place) n v h = h
+numbered_named (Meaning.Array place) n v h = h
+numbered_named (Meaning.Routine place) n v h = h
+numbered_named (Meaning.PackedAddress place) n v h = h
 
 -- a name that was found, in the output where it was used
 found_named : (name : List ℕ) (place : Place) (t : Table Place) (v : Out) (sys : Option Meaning) (st : Option (Standing Place)) →
@@ -285,7 +264,7 @@ alone_named : (limits : Limits) (locals : List Local) (tokens : List SourceToken
     IsNamed (settled_alone limits locals tokens at o).1 (settled_alone limits locals tokens at o).0
 alone_named limits locals tokens at o = go (is_stack (bytes_at tokens at) (local_number (bytes_at tokens at) locals))
   where
-    go : (b : Bool) → let r = (if b then (o, operand.Variable 0) else settled_name limits locals (name_at tokens at) o) in IsNamed r.1 r.0
+    go : (b : Bool) → let r = (if b then (o, Operand.Variable 0) else settled_name limits locals (name_at tokens at) o) in IsNamed r.1 r.0
     go true = tt
     go false = name_named limits locals (name_at tokens at) o
 
@@ -304,35 +283,35 @@ constant_named (Some c) v = tt
 system_named : (n : List ℕ) (scale : Scale) (v : Out) → IsNamed (system_operand n scale) v
 system_named n scale v = go (str_eq_ignore_ascii_case n (codes "version_number"))
   where
-    go : (b : Bool) → IsNamed (if b then operand.Known (version scale) else system_by (system_constant n)) v
+    go : (b : Bool) → IsNamed (if b then Operand.Known (version scale) else system_by (system_constant n)) v
     go true = tt
     go false = constant_named (system_constant n) v
 
 leaf_named : (limits : Limits) (set : CharSet) (locals : List Local) (tokens : List SourceToken) (l : Leaf) (o : Out) →
     IsNamed (settled_leaf limits set locals tokens l o).1 (settled_leaf limits set locals tokens l o).0
-leaf_named limits set locals tokens (leaf.Name at) o = name_named limits locals (name_at tokens at) o
-leaf_named limits set locals tokens (leaf.Alone at) o = alone_named limits locals tokens at o
-leaf_named limits set locals tokens (leaf.Number number) o = tt
-leaf_named limits set locals tokens (leaf.Char zscii) o = tt
-leaf_named limits set locals tokens (leaf.Word word) o = tt
-leaf_named limits set locals tokens (leaf.Text at) o =
+leaf_named limits set locals tokens (Leaf.Name at) o = name_named limits locals (name_at tokens at) o
+leaf_named limits set locals tokens (Leaf.Alone at) o = alone_named limits locals tokens at o
+leaf_named limits set locals tokens (Leaf.Number number) o = tt
+leaf_named limits set locals tokens (Leaf.Char zscii) o = tt
+leaf_named limits set locals tokens (Leaf.Word word) o = tt
+leaf_named limits set locals tokens (Leaf.Text at) o =
     text_named limits (text_at set tokens at) o (settled_text limits (text_at set tokens at) o).0
-leaf_named limits set locals tokens (leaf.Action at) o =
+leaf_named limits set locals tokens (Leaf.Action at) o =
     action_named limits (name_at tokens at) o (settled_action limits (name_at tokens at) o).0
-leaf_named limits set locals tokens (leaf.System at) o = system_named (bytes_at tokens at) o.code.scale o
+leaf_named limits set locals tokens (Leaf.System at) o = system_named (bytes_at tokens at) o.code.scale o
 
 -- All leaves
 
 operand_stays : (x : Operand) (o v : Out) → Grows o v → IsNamed x o → IsNamed x v
-operand_stays (operand.Later (target.Name number)) o v g h = omega (arith, g, h)
-operand_stays (operand.Later (target.Word text)) o v g h = tt
-operand_stays (operand.Later (target.Place area place)) o v g h = tt
-operand_stays (operand.Later (target.Part area part)) o v g h = tt
-operand_stays (operand.Later (target.System asked)) o v g h = tt
-operand_stays (operand.Known n) o v g h = tt
-operand_stays (operand.Variable n) o v g h = tt
-operand_stays (operand.Function f) o v g h = tt
-operand_stays operand.Unknown o v g h = tt
+operand_stays (Operand.Later (Target.Name number)) o v g h = omega (arith, g, h)
+operand_stays (Operand.Later (Target.Word text)) o v g h = tt
+operand_stays (Operand.Later (Target.Place area place)) o v g h = tt
+operand_stays (Operand.Later (Target.Part area part)) o v g h = tt
+operand_stays (Operand.Later (Target.System asked)) o v g h = tt
+operand_stays (Operand.Known n) o v g h = tt
+operand_stays (Operand.Variable n) o v g h = tt
+operand_stays (Operand.Function f) o v g h = tt
+operand_stays Operand.Unknown o v g h = tt
 
 one_more : (operands : List Operand) (x : Operand) (o v : Out) → Grows o v → IsNamed x v → AllNamed operands o →
     AllNamed (operands ++ x ∷ []) v

@@ -1,43 +1,24 @@
 -- Steps that leave the dictionary as it is, and those that add to it.
 use Rattle.std.proofs.Common.{◌≡◌, ℕ, List, [], ◌∷◌, Bool, true, false, ◌&&◌, ◌||◌, Option, Some, None, refl, ◌∙◌, ap, ◌⊎◌, inl, inr}
-use Rattle.std.proofs.Common.{Ordering, Less, Equal, Greater}
-use Rattle.std.specs.Prelude.{is_none, is_some, nat_le, if◌then◌else◌, length}
-use Rattle.std.specs.Cmp.{nat_cmp_total}
-use Rattle.std.specs.Cmp.Lexicographic.{lists_total, slice_cmp}
-use Rattle.std.specs.Ordering.{is_eq, nat_cmp, ordering_reverse}
-use Rattle.inf_settings.specs.Bounds.{Limits}
-use Rattle.inf_settings.specs.declared.setting.Setting.{Setting}
-use Rattle.inf_settings.specs.declared.setting.Setting.TheVariants as setting
+use Rattle.std.proofs.Common.{Ordering, Less, Equal, Greater, is_none, is_some, nat_le, if◌then◌else◌, length, is_eq, nat_cmp}
+use Rattle.std.specs.{Cmp.Lexicographic.lists_total, Cmp.Lexicographic.slice_cmp, Cmp.nat_cmp_total, Ordering.ordering_reverse}
+use Rattle.inf_settings.specs.{Bounds.Limits, declared.setting.Setting.Setting}
 use Rattle.inf_scanner.specs.declared.tokens.Place.{Place}
-use Rattle.inf_assembler.specs.declared.routines.CloseFault.{CloseFault}
-use Rattle.inf_assembler.specs.declared.routines.CloseFault.TheVariants as close_fault
-use Rattle.inf_assembler.specs.declared.routines.Limit.{Limit as CodeLimit}
-use Rattle.inf_assembler.specs.declared.routines.Limit.TheVariants as code_setting
-use Rattle.inf_assembler.specs.declared.routines.RoutineKind.{RoutineKind}
+use Rattle.inf_assembler.specs.{declared.routines.CloseFault.CloseFault, declared.routines.Limit.Limit as CodeLimit}
+use Rattle.inf_assembler.specs.{declared.routines.RoutineKind.RoutineKind}
 use Rattle.inf_code.specs.Code.{Routines, fault_closed, full_begun, full_opened, is_lost_in, with_none_open}
-use Rattle.inf_dictionary.specs.Texts.{Text}
-use Rattle.inf_dictionary.specs.Uses.{UseOf}
+use Rattle.inf_dictionary.specs.{Texts.Text, Uses.UseOf, declared.dictionary.AddFault.AddFault, declared.uses.Word.Word}
+use Rattle.inf_dictionary.specs.{declared.uses.WordUse.WordUse}
 use Rattle.inf_dictionary.specs.Words.{add_fault, is_of_other_verb, joined, with_use, word_of}
-use Rattle.inf_dictionary.specs.declared.dictionary.AddFault.{AddFault}
-use Rattle.inf_dictionary.specs.declared.dictionary.AddFault.TheVariants as word_fault
-use Rattle.inf_dictionary.specs.declared.uses.Word.{Word}
-use Rattle.inf_dictionary.specs.declared.uses.WordUse.{WordUse}
 use Rattle.inf_dictionary.proofs.Known.{known_by_all}
+use Rattle.inf_names.specs.declared.{meanings.Meaning.Meaning, symbols.DeclareFault.DeclareFault, symbols.ReferFault.ReferFault}
 use Rattle.inf_names.specs.Symbols.{declare_fault, refer_fault}
-use Rattle.inf_names.specs.declared.meanings.Meaning.{Meaning}
-use Rattle.inf_names.specs.declared.symbols.DeclareFault.{DeclareFault}
-use Rattle.inf_names.specs.declared.symbols.DeclareFault.TheVariants as declaring
-use Rattle.inf_names.specs.declared.symbols.ReferFault.{ReferFault}
+use Rattle.inf_output.specs.{Strings.fits, declared.items.Item.Item, declared.past.Past.Past}
 use Rattle.inf_output.specs.Output.{Out, begun_by, behind, closed_by, code_closed, counted, declared_by, fitted, full_item, full_of}
-use Rattle.inf_output.specs.Output.{full_past, in_routine, laid, laid_by, less, next_label, opened_by, or_full, passed_limit, passed_table, past_by}
-use Rattle.inf_output.specs.Output.{past_of, referred_by, with_labels_left, with_low_text_by, with_text_by}
-use Rattle.inf_output.specs.Output.{with_word_by, without, without_item, without_lost}
-use Rattle.inf_output.specs.Strings.{fits}
-use Rattle.inf_output.specs.declared.items.Item.{Item}
-use Rattle.inf_output.specs.declared.items.Item.TheVariants.{Instruction, Mark}
-use Rattle.inf_output.specs.declared.past.Past.{Past}
-use Rattle.inf_tables.specs.LowStrings.{low_fits}
-use Rattle.inf_tables.specs.Tables.{references}
+use Rattle.inf_output.specs.Output.{full_past, in_routine, laid, laid_by, less, next_label, opened_by, or_full, passed_limit, passed_table}
+use Rattle.inf_output.specs.Output.{past_by, past_of, referred_by, with_labels_left, with_low_text_by, with_text_by, with_word_by, without}
+use Rattle.inf_output.specs.Output.{without_item, without_lost}
+use Rattle.inf_tables.specs.{LowStrings.low_fits, Tables.references}
 use Rattle.inf_word_laws.specs.Standing.{Keeps, StandingAreThere, Stands, StepsKeepWords, UsedWordsStand, has_word, is_limited, is_limited_by}
 
 or-true : (b : Bool) → (b || true) ≡ true
@@ -68,12 +49,12 @@ with_past text limits o v code q same tables past stands =
 -- Items
 
 lost_tables : (item : Item) (past : Past) → (without_lost item past).tables ≡ past.tables
-lost_tables (Instruction parts) past = refl
-lost_tables (Mark label) past = refl
+lost_tables (Item.Instruction parts) past = refl
+lost_tables (Item.Mark label) past = refl
 
 item_tables : (item : Item) (past : Past) → (without item past).tables ≡ past.tables
-item_tables (Instruction parts) past = refl
-item_tables (Mark label) past = refl
+item_tables (Item.Instruction parts) past = refl
+item_tables (Item.Mark label) past = refl
 
 passed_tables : (code : Routines) (item : Item) (past : Past) → (without_item code item past).tables ≡ past.tables
 passed_tables code item past = go (is_lost_in code.opened)
@@ -107,9 +88,9 @@ keeps_item limits item = record { keeps = λ text o stands. laid_stands limits i
 -- Routines
 
 limit_tables : (limit : CodeLimit) (past : Past) → (passed_limit limit past).tables ≡ past.tables
-limit_tables code_setting.Labels past = refl
-limit_tables code_setting.Code past = refl
-limit_tables code_setting.Refs past = refl
+limit_tables CodeLimit.Labels past = refl
+limit_tables CodeLimit.Code past = refl
+limit_tables CodeLimit.Refs past = refl
 
 opened_stands : (limits : Limits) (f : Option CodeLimit) (locals : ℕ) (is_lost : Bool) (text : Text) (o : Out) → Stands text o
     → Stands text (opened_by limits f locals is_lost o)
@@ -128,18 +109,18 @@ begun_stands limits (Some limit) text o stands =
 closed_stands : (limits : Limits) (f : Option CloseFault) (kind : RoutineKind) (text : Text) (o : Out) → Stands text o
     → Stands text (closed_by limits f kind o)
 closed_stands limits None kind text o stands = stands
-closed_stands limits (Some (close_fault.Full limit)) kind text o stands =
+closed_stands limits (Some (CloseFault.Full limit)) kind text o stands =
     let code = with_none_open o.code in
-    with_past text limits o (closed_by limits (Some (close_fault.Full limit)) kind o) code (passed_limit limit (past_by limits o.past code))
+    with_past text limits o (closed_by limits (Some (CloseFault.Full limit)) kind o) code (passed_limit limit (past_by limits o.past code))
     (limit_tables limit (past_by limits o.past code)) refl refl stands
-closed_stands limits (Some (close_fault.LabelMissing label)) kind text o stands = stands
-closed_stands limits (Some (close_fault.LabelTwice label)) kind text o stands = stands
-closed_stands limits (Some close_fault.TooFar) kind text o stands = stands
-closed_stands limits (Some close_fault.Memory) kind text o stands = stands
+closed_stands limits (Some (CloseFault.LabelMissing label)) kind text o stands = stands
+closed_stands limits (Some (CloseFault.LabelTwice label)) kind text o stands = stands
+closed_stands limits (Some CloseFault.TooFar) kind text o stands = stands
+closed_stands limits (Some CloseFault.Memory) kind text o stands = stands
 
 left_stands : (limits : Limits) (rest : Option ℕ) (text : Text) (o : Out) → Stands text o → Stands text (with_labels_left limits rest o)
 left_stands limits None text o stands =
-    with_past text limits o (with_labels_left limits None o) o.code (passed_limit code_setting.Labels (past_of limits o)) refl refl refl stands
+    with_past text limits o (with_labels_left limits None o) o.code (passed_limit CodeLimit.Labels (past_of limits o)) refl refl refl stands
 left_stands limits (Some rest) text o stands = stands
 
 -- Texts and names
@@ -156,16 +137,17 @@ limit_stands limits limit text o = or-true (has_word text o)
 low_text_stands : (limits : Limits) (fit : Bool) (bytes : List ℕ) (text : Text) (o : Out) → Stands text o
     → Stands text (with_low_text_by limits fit bytes o)
 low_text_stands limits true bytes text o stands = stands
-low_text_stands limits false bytes text o stands = limit_stands limits setting.LowStrings text o
+low_text_stands limits false bytes text o stands = limit_stands limits Setting.LowStrings text o
 
 declared_stands : (limits : Limits) (f : Option (DeclareFault Place)) (name : List ℕ) (place : Place) (m : Meaning) (text : Text) (o : Out)
     → Stands text o → Stands text (declared_by limits f name place m o)
 declared_stands limits None name place m text o stands = stands
-declared_stands limits (Some declaring.Full) name place m text o stands =
-    with_past text limits o (declared_by limits (Some declaring.Full) name place m o) o.code (record (past_of limits o) { symbols = true })
+declared_stands limits (Some DeclareFault.Full) name place m text o stands =
+    with_past text limits o (declared_by limits (Some DeclareFault.Full) name place m o) o.code
+    (record (past_of limits o) { symbols = true })
     refl refl refl stands
-declared_stands limits (Some (declaring.Present first)) name place m text o stands = stands
-declared_stands limits (Some declaring.Memory) name place m text o stands = stands
+declared_stands limits (Some (DeclareFault.Present first)) name place m text o stands = stands
+declared_stands limits (Some DeclareFault.Memory) name place m text o stands = stands
 
 referred_stands : (limits : Limits) (f : Option ReferFault) (name : List ℕ) (place : Place) (text : Text) (o : Out) → Stands text o
     → Stands text (referred_by limits f name place o)
@@ -218,9 +200,9 @@ word_added limits None used how is_plural text o stands = go (or_parts_true (has
     go (inr is) =
         ap (λ b. is_some (word_of text (with_use used how is_plural o.tables.dictionary).list) || b) is
         ∙ or-true (is_some (word_of text (with_use used how is_plural o.tables.dictionary).list))
-word_added limits (Some word_fault.Full) used how is_plural text o stands = limit_stands limits setting.DictionaryEntries text o
-word_added limits (Some word_fault.OtherVerb) used how is_plural text o stands = stands
-word_added limits (Some word_fault.Memory) used how is_plural text o stands = stands
+word_added limits (Some AddFault.Full) used how is_plural text o stands = limit_stands limits Setting.DictionaryEntries text o
+word_added limits (Some AddFault.OtherVerb) used how is_plural text o stands = stands
+word_added limits (Some AddFault.Memory) used how is_plural text o stands = stands
 
 -- a word of another verb is there
 of_verb : (word : Option Word) (how : WordUse) → is_of_other_verb word how ≡ true → is_some word ≡ true
@@ -228,7 +210,8 @@ of_verb None how e = e
 of_verb (Some word) how e = refl
 
 pub used_words_stand : (limits : Limits) → UsedWordsStand limits
-used_words_stand limits used how is_plural o = go (is_of_other_verb word how) refl (is_none word && nat_le (limits setting.DictionaryEntries) count)
+used_words_stand limits used how is_plural o =
+    go (is_of_other_verb word how) refl (is_none word && nat_le (limits Setting.DictionaryEntries) count)
   where
     word : Option Word
     word = word_of used o.tables.dictionary.list
@@ -237,10 +220,10 @@ used_words_stand limits used how is_plural o = go (is_of_other_verb word how) re
     count = length o.tables.dictionary.list
 
     go : (other : Bool) → is_of_other_verb word how ≡ other → (full : Bool)
-        → Stands used (with_word_by limits (if other then Some word_fault.OtherVerb else if full then Some word_fault.Full else None) used how
+        → Stands used (with_word_by limits (if other then Some AddFault.OtherVerb else if full then Some AddFault.Full else None) used how
         is_plural o)
     go true e full = ap (λ b. b || is_limited o) (of_verb word how e)
-    go false e true = limit_stands limits setting.DictionaryEntries used o
+    go false e true = limit_stands limits Setting.DictionaryEntries used o
     go false e false = ap (λ b. b || is_limited o) (word_comes used how is_plural o)
 
 pub steps_keep_words : (limits : Limits) → StepsKeepWords limits
@@ -277,16 +260,16 @@ told : (past : Past) (refs : ℕ) → is_some past.tables ≡ true → full_past
 told past refs is none = symbols past.symbols past.tables past.labels is none
   where
     others : Option Setting
-    others = full_of past.code setting.Code (if past.strings then Some setting.Strings else
-        full_of (less past.refs refs) setting.References None)
+    others = full_of past.code Setting.Code (if past.strings then Some Setting.Strings else
+        full_of (less past.refs refs) Setting.References None)
 
-    labels : (o : Option ℕ) (t : Option Setting) → is_some t ≡ true → full_of o setting.Labels (or_full t others) ≡ None → ⊥
+    labels : (o : Option ℕ) (t : Option Setting) → is_some t ≡ true → full_of o Setting.Labels (or_full t others) ≡ None → ⊥
     labels None t is none = cc
     labels (Some rest) (Some limit) is none = cc
     labels (Some rest) None is none = cc
 
     symbols : (s : Bool) (t : Option Setting) (l : Option ℕ) → is_some t ≡ true
-        → (if s then Some setting.Symbols else full_of l setting.Labels (or_full t others)) ≡ None → ⊥
+        → (if s then Some Setting.Symbols else full_of l Setting.Labels (or_full t others)) ≡ None → ⊥
     symbols true t l is none = cc
     symbols false t l is none = labels l t is none
 

@@ -2,9 +2,7 @@
 use Rattle.std.proofs.Common.{arith, ◌≡◌, ◌<◌, ℕ, zero, suc, List, [], ◌∷◌, length, Option, Some, None, true, refl, subst}
 use Rattle.std.specs.Prelude.{is_some, slice_get}
 use Rattle.inf_area.specs.declared.targets.Value.{Value}
-use Rattle.inf_names.specs.Symbols.{Named, meaning_in}
-use Rattle.inf_names.specs.declared.meanings.Meaning.{Meaning}
-use Rattle.inf_names.specs.declared.meanings.Meaning.TheVariants as meaning
+use Rattle.inf_names.specs.{Symbols.Named, Symbols.meaning_in, declared.meanings.Meaning.Meaning}
 use Rattle.inf_scanner.specs.declared.tokens.Place.{Place}
 use Rattle.inf_story.specs.Names.{value_by, values_of, with_value}
 use Rattle.inf_word_laws.specs.Values.{AllDirect, IsDirect, NamesAreFound}
@@ -22,21 +20,21 @@ value_below (v ∷ values) (suc number) below = value_below values number (omega
 
 value_direct : (m : Option Meaning) (v : Value) → value_by m ≡ Some v → IsDirect v
 value_direct None v e = not_some e
-value_direct (Some (meaning.Number number)) v e = subst IsDirect (same_some e) tt
-value_direct (Some (meaning.Variable number)) v e = subst IsDirect (same_some e) tt
-value_direct (Some (meaning.Attribute number)) v e = subst IsDirect (same_some e) tt
-value_direct (Some (meaning.Property number is_additive)) v e = subst IsDirect (same_some e) tt
-value_direct (Some (meaning.IndividualProperty number)) v e = subst IsDirect (same_some e) tt
-value_direct (Some (meaning.Object number)) v e = subst IsDirect (same_some e) tt
-value_direct (Some (meaning.Class number)) v e = subst IsDirect (same_some e) tt
-value_direct (Some (meaning.FakeAction number)) v e = subst IsDirect (same_some e) tt
-value_direct (Some (meaning.Text place)) v e = subst IsDirect (same_some e) tt
-value_direct (Some (meaning.LowString place)) v e = subst IsDirect (same_some e) tt
-value_direct (Some (meaning.Array place)) v e = subst IsDirect (same_some e) tt
-value_direct (Some (meaning.Routine place)) v e = subst IsDirect (same_some e) tt
-value_direct (Some (meaning.PackedAddress place)) v e = subst IsDirect (same_some e) tt
-value_direct (Some (meaning.Word text)) v e = subst IsDirect (same_some e) tt
-value_direct (Some (meaning.Function function)) v e = not_some e
+value_direct (Some (Meaning.Number number)) v e = subst IsDirect (same_some e) tt
+value_direct (Some (Meaning.Variable number)) v e = subst IsDirect (same_some e) tt
+value_direct (Some (Meaning.Attribute number)) v e = subst IsDirect (same_some e) tt
+value_direct (Some (Meaning.Property number is_additive)) v e = subst IsDirect (same_some e) tt
+value_direct (Some (Meaning.IndividualProperty number)) v e = subst IsDirect (same_some e) tt
+value_direct (Some (Meaning.Object number)) v e = subst IsDirect (same_some e) tt
+value_direct (Some (Meaning.Class number)) v e = subst IsDirect (same_some e) tt
+value_direct (Some (Meaning.FakeAction number)) v e = subst IsDirect (same_some e) tt
+value_direct (Some (Meaning.Text place)) v e = subst IsDirect (same_some e) tt
+value_direct (Some (Meaning.LowString place)) v e = subst IsDirect (same_some e) tt
+value_direct (Some (Meaning.Array place)) v e = subst IsDirect (same_some e) tt
+value_direct (Some (Meaning.Routine place)) v e = subst IsDirect (same_some e) tt
+value_direct (Some (Meaning.PackedAddress place)) v e = subst IsDirect (same_some e) tt
+value_direct (Some (Meaning.Word text)) v e = subst IsDirect (same_some e) tt
+value_direct (Some (Meaning.Function function)) v e = not_some e
 
 -- Some values are as many as some names, and all are direct.
 abbrev AreValues : ℕ → List Value → Type 0

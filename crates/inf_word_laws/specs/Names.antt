@@ -1,10 +1,9 @@
 -- Names for which the operands of a unit stand.
 use Rattle.std.specs.Prelude.{◌<◌, ◌≤◌, List, [], ◌∷◌, length}
 use Rattle.inf_settings.specs.Bounds.{Limits}
-use Rattle.inf_area.specs.declared.targets.Target.TheVariants as target
+use Rattle.inf_area.specs.declared.targets.Target.{Target}
 use Rattle.inf_characters.specs.declared.characters.CharSet.{CharSet}
 use Rattle.inf_expressions.specs.declared.operators.Operand.{Operand}
-use Rattle.inf_expressions.specs.declared.operators.Operand.TheVariants as operand
 use Rattle.inf_gathering.specs.declared.gathering.Leaf.{Leaf}
 use Rattle.inf_names.specs.Locals.{Local}
 use Rattle.inf_unit.specs.Tokens.{SourceToken}
@@ -13,7 +12,7 @@ use Rattle.inf_operands.specs.Operands.{Settled, settled}
 
 -- Tells whether the name for which an operand stands by its number, if it does, is among those of an output.
 abbrev pub IsNamed : Operand → Out → Type 0
-IsNamed (operand.Later (target.Name number)) o = number < length o.names.names
+IsNamed (Operand.Later (Target.Name number)) o = number < length o.names.names
 IsNamed _ o = Unit {0}
 
 abbrev pub AllNamed : List Operand → Out → Type 0

@@ -1,10 +1,9 @@
 -- Words for which the operands of a unit stand.
 use Rattle.std.specs.Prelude.{List, [], ◌∷◌}
 use Rattle.inf_settings.specs.Bounds.{Limits}
-use Rattle.inf_area.specs.declared.targets.Target.TheVariants as target
+use Rattle.inf_area.specs.declared.targets.Target.{Target}
 use Rattle.inf_characters.specs.declared.characters.CharSet.{CharSet}
 use Rattle.inf_expressions.specs.declared.operators.Operand.{Operand}
-use Rattle.inf_expressions.specs.declared.operators.Operand.TheVariants as operand
 use Rattle.inf_gathering.specs.declared.gathering.Leaf.{Leaf}
 use Rattle.inf_names.specs.Locals.{Local}
 use Rattle.inf_unit.specs.Tokens.{SourceToken}
@@ -14,7 +13,7 @@ use Rattle.inf_word_laws.specs.Standing.{Keeps, Stands}
 
 -- Tells whether an operand stands in an output: the word for which it stands, if it does, is there.
 abbrev pub OperandStands : Operand → Out → Type 0
-OperandStands (operand.Later (target.Word text)) o = Stands text o
+OperandStands (Operand.Later (Target.Word text)) o = Stands text o
 OperandStands _ o = Unit {0}
 
 abbrev pub AllStand : List Operand → Out → Type 0

@@ -1,18 +1,14 @@
 -- Words of the dictionary that stand in an output, and steps that keep them there.
 use Rattle.std.specs.Prelude.{◌≡◌, ℕ, List, Bool, true, false, ◌||◌, is_some, Option, Some, None}
-use Rattle.inf_settings.specs.Bounds.{Limits}
-use Rattle.inf_settings.specs.declared.setting.Setting.{Setting}
+use Rattle.inf_settings.specs.{Bounds.Limits, declared.setting.Setting.Setting}
 use Rattle.inf_scanner.specs.declared.tokens.Place.{Place}
 use Rattle.inf_assembler.specs.declared.routines.RoutineKind.{RoutineKind}
-use Rattle.inf_dictionary.specs.Texts.{Text}
-use Rattle.inf_dictionary.specs.Words.{word_of}
-use Rattle.inf_dictionary.specs.declared.uses.WordUse.{WordUse}
+use Rattle.inf_dictionary.specs.{Texts.Text, Words.word_of, declared.uses.WordUse.WordUse}
 use Rattle.inf_names.specs.declared.meanings.Meaning.{Meaning}
 use Rattle.inf_opcode.specs.declared.instructions.Label.{Label}
-use Rattle.inf_output.specs.Output.{Code, Out, begun, closed, declared, full, laid, opened, passed_table, referred, with_label, with_low_text}
-use Rattle.inf_output.specs.Output.{with_text, with_word, ◌▸◌}
-use Rattle.inf_output.specs.declared.items.Item.{Item}
-use Rattle.inf_output.specs.declared.past.Past.{Past}
+use Rattle.inf_output.specs.{declared.items.Item.Item, declared.past.Past.Past}
+use Rattle.inf_output.specs.Output.{Code, Out, begun, closed, declared, full, laid, opened, passed_table, referred, with_label}
+use Rattle.inf_output.specs.Output.{with_low_text, with_text, with_word, ◌▸◌}
 
 -- whether the dictionary of an output has the word with a text
 abbrev pub has_word : Text → Out → Bool

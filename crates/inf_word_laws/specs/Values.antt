@@ -1,17 +1,14 @@
 -- The values of the names of a source, as they are looked up in a story.
 use Rattle.std.specs.Prelude.{◌≡◌, ℕ, ◌<◌, List, [], ◌∷◌, length, true, is_some, slice_get, Some}
-use Rattle.inf_area.specs.declared.targets.Target.TheVariants as target
-use Rattle.inf_area.specs.declared.targets.Value.{Value}
-use Rattle.inf_area.specs.declared.targets.Value.TheVariants as value
+use Rattle.inf_area.specs.{declared.targets.Target.Target, declared.targets.Value.Value}
 use Rattle.inf_scanner.specs.declared.tokens.Place.{Place}
 use Rattle.inf_names.specs.Symbols.{Named}
-use Rattle.inf_story.specs.Names.{values_of}
-use Rattle.inf_story.specs.Tables.{looked_up}
+use Rattle.inf_story.specs.{Names.values_of, Tables.looked_up}
 use Rattle.inf_tables.specs.Tables.{AllTables}
 
 -- Tells whether a value is no reference to a name.
 abbrev pub IsDirect : Value → Type 0
-IsDirect (value.Later (target.Name number)) = ⊥
+IsDirect (Value.Later (Target.Name number)) = ⊥
 IsDirect _ = Unit {0}
 
 abbrev pub AllDirect : List Value → Type 0

@@ -1,6 +1,6 @@
 //! The names of a source and of the language.
 ghost use Rattle.std.specs.Prelude.{◌≡◌};
-ghost use Rattle.inf_settings.specs.declared.setting.Setting.TheVariants as setting;
+ghost use Rattle.inf_settings.specs.declared.setting.Setting.{Setting};
 
 use inf_names::hashing::NameHashing;
 use inf_names::meanings::Meaning;
@@ -121,7 +121,7 @@ pub(crate) fn answer(alloc: Global, line: &str) -> Result<String, AllocError> {
 
 /// Returns the answer to a line of names, of which there may be `limit`.
 fn answer_under<B: Bounds>(alloc: Global, limit: u32, line: &[u8]) -> Result<String, AllocError>
-    requires { limit ≡ B.most setting.Symbols }
+    requires { limit ≡ B.most Setting.Symbols }
 {
     let mut names = Symbols::<u32, B>::new(alloc, limit, false, NameHashing::new(b""));
     answers(alloc, &mut names, text_of(line))

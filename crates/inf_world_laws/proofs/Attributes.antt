@@ -3,8 +3,7 @@ use Rattle.std.proofs.Common.{◌≡◌, ◌<◌, ℕ, zero, suc, ◌+◌, List,
 use Rattle.std.specs.Prelude.{◌==◌, cond, if◌then◌else◌, map, slice_set}
 use Rattle.std.specs.List.{fold, range_with_len}
 use Rattle.inf_objects.proofs.Saying.{said_in_order as by_the_body}
-use Rattle.inf_world_laws.specs.Things.{said}
-use Rattle.inf_world_laws.specs.Laws.{AttributesAgree}
+use Rattle.inf_world_laws.specs.{Laws.AttributesAgree, Things.said}
 
 abbrev changed : (ℕ → Bool) → ℕ → Bool → ℕ → Bool
 changed f i b a = if i == a then b else f a

@@ -3,13 +3,10 @@ use Rattle.std.proofs.Common.{◌≡◌, ℕ, List, [], ◌∷◌, ◌++◌, Opt
 use Rattle.std.specs.Prelude.{◌==◌, ◌||◌, cond, map, nat_eq, option_map}
 use Rattle.std.specs.List.{cons_option, filter_map, flat_map, fold}
 use Rattle.inf_area.specs.declared.targets.Value.{Value}
-use Rattle.inf_properties.specs.declared.values.Property.{Property}
-use Rattle.inf_properties.specs.Properties.{found, inherited}
-use Rattle.inf_world_laws.specs.Declaring.{property}
+use Rattle.inf_properties.specs.{Properties.found, Properties.inherited, declared.values.Property.Property}
+use Rattle.inf_world_laws.specs.{Declaring.property, Things.contains, Things.distinct, Things.values_given}
 use Rattle.inf_world_laws.specs.Laws.{Properties, PropertiesAgree, as_properties, inherited_above, inherited_all, numbers_of}
-use Rattle.inf_world_laws.specs.Things.{contains, distinct, values_given}
-use Rattle.inf_world_laws.proofs.Order.{order_agrees}
-use Rattle.inf_world_laws.proofs.Properties.{values_agree}
+use Rattle.inf_world_laws.proofs.{Order.order_agrees, Properties.values_agree}
 
 -- Numbers that are new, each behind those before it
 

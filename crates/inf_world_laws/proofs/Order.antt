@@ -1,12 +1,9 @@
 -- The order of properties: own ones, then those of each class that are new
 use Rattle.std.proofs.Common.{◌≡◌, ℕ, List, [], ◌∷◌, ◌++◌, Option, Some, Bool, true, false, refl, ◌∙◌, ap, sym, append_assoc, append-nil}
-use Rattle.std.proofs.Common.{arith}
-use Rattle.std.specs.Prelude.{◌==◌, ◌||◌, cond, if◌then◌else◌, is_some, nat_eq}
-use Rattle.std.specs.List.{flat_map, fold}
+use Rattle.std.proofs.Common.{arith, ◌==◌, ◌||◌, cond, if◌then◌else◌, is_some, nat_eq, flat_map, fold}
 use Rattle.inf_properties.specs.declared.values.Property.{Property}
 use Rattle.inf_properties.specs.Properties.{found, has, inherited, lacked, with_joined}
-use Rattle.inf_world_laws.specs.Things.{contains, distinct}
-use Rattle.inf_world_laws.specs.Laws.{AreSingle, OrderAgrees, numbers_of}
+use Rattle.inf_world_laws.specs.{Laws.AreSingle, Laws.OrderAgrees, Laws.numbers_of, Things.contains, Things.distinct}
 
 abbrev without : List ℕ → List ℕ → List ℕ
 without s [] = []

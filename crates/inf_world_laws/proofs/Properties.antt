@@ -1,15 +1,12 @@
 -- Of each number an object has the values of all that give it where it is additive, and else those of the first.
 use Rattle.std.proofs.Common.{◌≡◌, ℕ, List, [], ◌∷◌, ◌++◌, Option, Some, None, Bool, true, false, refl, ◌∙◌, ap, sym, append_assoc}
-use Rattle.std.proofs.Common.{append-nil, arith}
-use Rattle.std.specs.Prelude.{◌==◌, cond, if◌then◌else◌, option_map}
-use Rattle.std.specs.List.{cons_option, filter_map, flat_map}
+use Rattle.std.proofs.Common.{append-nil, arith, ◌==◌, cond, if◌then◌else◌, option_map, filter_map, flat_map}
+use Rattle.std.specs.List.{cons_option}
 use Rattle.inf_area.specs.declared.targets.Value.{Value}
-use Rattle.inf_properties.specs.declared.values.Property.{Property}
-use Rattle.inf_properties.specs.Properties.{found, found_or_above, inherited}
+use Rattle.inf_properties.specs.{Properties.found, Properties.found_or_above, Properties.inherited, declared.values.Property.Property}
 use Rattle.inf_properties.proofs.Having.{found-inherited}
-use Rattle.inf_world_laws.specs.Declaring.{property}
+use Rattle.inf_world_laws.specs.{Declaring.property, Things.values_in, Things.whole}
 use Rattle.inf_world_laws.specs.Laws.{Properties, ValuesAgree, as_properties, inherited_above}
-use Rattle.inf_world_laws.specs.Things.{values_in, whole}
 
 -- Two that give a property, where the first comes before the other
 

@@ -1,10 +1,8 @@
 -- The sibling of a number: the first child behind it of its parent
-use Rattle.std.proofs.Common.{◌≡◌, ◌<◌, ◌≤◌, ℕ, zero, suc, ◌+◌, List, [], ◌∷◌, Bool, true, false, refl, ◌∙◌, ap, sym, arith}
-use Rattle.std.specs.Prelude.{◌==◌, cond, if◌then◌else◌, nat_lt, slice_index_or}
-use Rattle.std.specs.List.{filter}
+use Rattle.std.proofs.Common.{◌≡◌, ◌<◌, ◌≤◌, ℕ, zero, suc, ◌+◌, List, [], ◌∷◌, Bool, true, false, refl, ◌∙◌, ap, sym, arith, ◌==◌, cond}
+use Rattle.std.proofs.Common.{if◌then◌else◌, nat_lt, slice_index_or, filter}
 use Rattle.inf_objects.specs.Tree.{children_from, next_below, sibling_from}
-use Rattle.inf_world_laws.specs.Families.{first_number, parent_at}
-use Rattle.inf_world_laws.specs.Laws.{SiblingAgrees}
+use Rattle.inf_world_laws.specs.{Families.first_number, Families.parent_at, Laws.SiblingAgrees}
 use Rattle.inf_world_laws.proofs.Tree.{children_agree, first_is}
 
 kept_by : (number k : ℕ) (b : Bool) (c : List ℕ) → number < k → filter (nat_lt number) c ≡ c

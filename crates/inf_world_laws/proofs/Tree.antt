@@ -1,16 +1,12 @@
 -- The tree: the latest object with some arrows, and the children of a number
 use Rattle.std.proofs.Common.{◌≡◌, ℕ, ◌+◌, List, [], ◌∷◌, ◌++◌, Option, Some, None, Bool, true, false, refl, ◌∙◌, ap, sym, append_assoc}
-use Rattle.std.proofs.Common.{arith, length, length-append}
+use Rattle.std.proofs.Common.{arith, length, length-append, ◌==◌, ◌&&◌, not, cond, if◌then◌else◌, slice_index_or, filter}
 use Rattle.std.proofs.Math.Seq.{get_or-append_seam}
-use Rattle.std.specs.Prelude.{◌==◌, ◌&&◌, not, cond, if◌then◌else◌, slice_index_or}
-use Rattle.std.specs.List.{filter, range_with_len}
-use Rattle.inf_objects.specs.declared.objects.Object.{Object}
-use Rattle.inf_objects.specs.Tree.{children_from, first_of}
+use Rattle.std.specs.List.{range_with_len}
+use Rattle.inf_objects.specs.{Tree.children_from, Tree.first_of, declared.objects.Object.Object}
 use Rattle.inf_tables.specs.Objects.{has_arrows, latest_from, or_latest}
-use Rattle.inf_world_laws.specs.Declaring.{object_of}
-use Rattle.inf_world_laws.specs.Families.{children, first_number}
+use Rattle.inf_world_laws.specs.{Declaring.object_of, Families.children, Families.first_number, Things.Thing, Things.latest}
 use Rattle.inf_world_laws.specs.Laws.{ChildAgrees, ChildrenAgree, LatestAgree, latest_last, number_or_none}
-use Rattle.inf_world_laws.specs.Things.{Thing, latest}
 
 or_turned : (a b c : Option ℕ) → or_latest (or_latest a b) c ≡ or_latest a (or_latest b c)
 or_turned None b c = refl

@@ -2,18 +2,16 @@
 use Rattle.std.specs.Prelude.{◌≡◌, ℕ, ◌+◌, ◌∷◌, [], List, map, Bool, true, false, Some, None, nat_lt, if◌then◌else◌}
 use Rattle.std.specs.List.{fold, range_with_len}
 use Rattle.inf_area.specs.declared.targets.Value.{Value}
-use Rattle.inf_properties.specs.declared.sizes.Owner.{Owner}
-use Rattle.inf_properties.specs.declared.sizes.Owner.TheVariants as owner
-use Rattle.inf_properties.specs.declared.values.Property.{Property}
+use Rattle.inf_properties.specs.{declared.sizes.Owner.Owner, declared.values.Property.Property}
 use Rattle.inf_objects.specs.declared.objects.Object.{Object}
-use Rattle.inf_tables.specs.declared.kinds.Parent.TheVariants as parent
+use Rattle.inf_tables.specs.declared.kinds.Parent.{Parent}
 use Rattle.inf_tables.specs.World.{WorldOf, with_class_header, with_class_of, with_end, with_further_value, with_given_property}
 use Rattle.inf_tables.specs.World.{with_individual, with_object_header, with_set_attribute}
 use Rattle.inf_world_laws.specs.Things.{Arrows, Declaration, Declared, Individual, Inside, Place, PropertyName, Thing, all_names}
 use Rattle.inf_world_laws.specs.Things.{number_of, things}
 
 abbrev pub owner_of : Bool → Owner
-owner_of is_class = if is_class then owner.Class else owner.Object
+owner_of is_class = if is_class then Owner.Class else Owner.Object
 
 abbrev pub property : (ℕ → Bool) → ℕ → List Value → Property
 property additive n values = record { number = n; is_additive = additive n; values = values }
@@ -37,8 +35,8 @@ objects_of additive (name ∷ names) (t ∷ all) = object_of additive name t ∷
 
 abbrev pub headed : Bool → Place → List ℕ → WorldOf → WorldOf
 headed true place name w = with_class_header name w
-headed false (Arrows n) name w = with_object_header (parent.Arrows n) name w
-headed false (Inside number) name w = with_object_header (parent.Object number) name w
+headed false (Arrows n) name w = with_object_header (Parent.Arrows n) name w
+headed false (Inside number) name w = with_object_header (Parent.Object number) name w
 
 -- An individual property that comes for the first time is numbered before it is given.
 abbrev pub numbered : PropertyName → List ℕ → WorldOf → WorldOf

@@ -2,14 +2,11 @@
 use Rattle.std.specs.Prelude.{◌≡◌, ℕ, ◌++◌, [], ◌∷◌, List, map, Bool, Option, Some, None, option_map, if◌then◌else◌, ◌==◌, slice_set}
 use Rattle.std.specs.List.{flat_map, fold, range_with_len}
 use Rattle.inf_area.specs.declared.targets.Value.{Value}
-use Rattle.inf_properties.specs.declared.values.Property.{Property}
-use Rattle.inf_properties.specs.Properties.{found, inherited}
-use Rattle.inf_objects.specs.declared.objects.Object.{Object}
-use Rattle.inf_objects.specs.Attributes.{attributes_by, nothing_said}
+use Rattle.inf_properties.specs.{Properties.found, Properties.inherited, declared.values.Property.Property}
+use Rattle.inf_objects.specs.{Attributes.attributes_by, Attributes.nothing_said, declared.objects.Object.Object}
 use Rattle.inf_objects.specs.Tree.{child_of, children_of, sibling_of}
 use Rattle.inf_tables.specs.Objects.{latest_with}
-use Rattle.inf_world_laws.specs.Declaring.{object_of, property}
-use Rattle.inf_world_laws.specs.Families.{child, children, sibling}
+use Rattle.inf_world_laws.specs.{Declaring.object_of, Declaring.property, Families.child, Families.children, Families.sibling}
 use Rattle.inf_world_laws.specs.Things.{Thing, distinct, latest, properties_of, said, values_given}
 
 abbrev pub Properties : Type 0

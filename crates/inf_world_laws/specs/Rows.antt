@@ -1,10 +1,8 @@
 -- Four small stories: their declarations, and the bytes of their objects.
 use Rattle.std.specs.Prelude.{◌≡◌, ℕ, ◌==◌, ◌||◌, ◌-◌, List, [], ◌∷◌, Bool, true, false, map, if◌then◌else◌}
-use Rattle.inf_area.specs.declared.targets.Value.TheVariants as value
-use Rattle.inf_objects.specs.Attributes.{attribute_cells}
-use Rattle.inf_objects.specs.Reading.{filled}
+use Rattle.inf_area.specs.declared.targets.Value.{Value}
+use Rattle.inf_objects.specs.{Attributes.attribute_cells, Reading.filled, declared.objects.Object.Object}
 use Rattle.inf_objects.specs.Tables.{individual_table_cells, table_cells}
-use Rattle.inf_objects.specs.declared.objects.Object.{Object}
 use Rattle.inf_tables.specs.World.{WorldOf, no_world, with_property}
 use Rattle.inf_world_laws.specs.Declaring.{WorldIsThings, objects_of}
 use Rattle.inf_world_laws.specs.Families.{child, parent_at, parents, sibling}
@@ -24,21 +22,21 @@ two_classes =
       place = Arrows 0;
       classes = [];
       has = (0, true) ∷ [];
-      with = (Declared 4, value.Known 1 ∷ []) ∷ (Declared 1, value.Known 1007 ∷ []) ∷ [];
+      with = (Declared 4, Value.Known 1 ∷ []) ∷ (Declared 1, Value.Known 1007 ∷ []) ∷ [];
     }
     ∷ record {
       is_class = true;
       place = Arrows 0;
       classes = [];
       has = (1, true) ∷ [];
-      with = (Declared 4, value.Known 2 ∷ []) ∷ (Declared 5, value.Known 7 ∷ []) ∷ (Declared 1, value.Known 1016 ∷ []) ∷ [];
+      with = (Declared 4, Value.Known 2 ∷ []) ∷ (Declared 5, Value.Known 7 ∷ []) ∷ (Declared 1, Value.Known 1016 ∷ []) ∷ [];
     }
     ∷ record {
       is_class = false;
       place = Arrows 0;
       classes = 5 ∷ 6 ∷ [];
       has = (0, false) ∷ [];
-      with = (Declared 1, value.Known 1025 ∷ []) ∷ [];
+      with = (Declared 1, Value.Known 1025 ∷ []) ∷ [];
     } ∷ []
 
 -- Object o with s 1 2;
@@ -49,7 +47,7 @@ individual_property =
       place = Arrows 0;
       classes = [];
       has = [];
-      with = (Individual 8, value.Known 1 ∷ value.Known 2 ∷ []) ∷ [];
+      with = (Individual 8, Value.Known 1 ∷ Value.Known 2 ∷ []) ∷ [];
     } ∷ []
 
 abbrev pub plain : ℕ → Declaration
@@ -70,21 +68,21 @@ classes_of_classes =
       place = Arrows 0;
       classes = [];
       has = (0, true) ∷ (1, true) ∷ [];
-      with = (Declared 4, value.Known 1 ∷ []) ∷ (Declared 5, value.Known 10 ∷ []) ∷ (Individual 8, value.Known 3 ∷ []) ∷ [];
+      with = (Declared 4, Value.Known 1 ∷ []) ∷ (Declared 5, Value.Known 10 ∷ []) ∷ (Individual 8, Value.Known 3 ∷ []) ∷ [];
     }
     ∷ record {
       is_class = true;
       place = Arrows 0;
       classes = 5 ∷ [];
       has = (0, false) ∷ [];
-      with = (Declared 5, value.Known 20 ∷ []) ∷ (Individual 9, []) ∷ [];
+      with = (Declared 5, Value.Known 20 ∷ []) ∷ (Individual 9, []) ∷ [];
     }
     ∷ record {
       is_class = false;
       place = Arrows 0;
       classes = 6 ∷ 5 ∷ [];
       has = (2, true) ∷ [];
-      with = (Declared 5, value.Known 30 ∷ []) ∷ (Individual 9, value.Known 1 ∷ value.Known 2 ∷ []) ∷ [];
+      with = (Declared 5, Value.Known 30 ∷ []) ∷ (Individual 9, Value.Known 1 ∷ Value.Known 2 ∷ []) ∷ [];
     }
     ∷ record { is_class = false; place = Arrows 1; classes = 5 ∷ 6 ∷ []; has = []; with = (Individual 7, []) ∷ [] }
     ∷ record { is_class = false; place = Inside 7; classes = []; has = []; with = [] }
@@ -99,7 +97,7 @@ shorts = (208 ∷ 165 ∷ []) ∷ (208 ∷ 165 ∷ []) ∷ (208 ∷ 165 ∷ []) 
 
 -- two properties were declared
 abbrev pub two_properties : Bool → WorldOf
-two_properties is_additive = with_property is_additive (value.Known 9) (with_property false (value.Known 0) no_world)
+two_properties is_additive = with_property is_additive (Value.Known 9) (with_property false (Value.Known 0) no_world)
 
 -- The tables have the things of the description.
 abbrev pub ClassesAgree : Type 0

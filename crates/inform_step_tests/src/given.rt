@@ -2,8 +2,7 @@
 ghost use Rattle.inf_settings.specs.Bounds.{AreSet};
 ghost use Rattle.std.specs.Prelude.{◌≡◌, ◌<◌, IfOk, OnOk, [], false, true, length};
 ghost use Rattle.inf_session.specs.Standing.{IsSet};
-ghost use Rattle.inf_devices.specs.Files.{names_from};
-ghost use Rattle.inf_devices.specs.MemoryFiles.{sources_of};
+ghost use Rattle.inf_devices.specs.{Files.names_from, MemoryFiles.sources_of};
 
 use inf_compile::NameHashing;
 use inf_devices::failures::Failures;

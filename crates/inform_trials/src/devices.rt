@@ -1,7 +1,6 @@
 //! Devices for tests: a sink that takes little, and a reader that gives little.
 ghost use Rattle.std.specs.Prelude.{◌≡◌, ◌+◌, None, Some, [], ◌∷◌, false, true, length, min, if◌then◌else◌};
-ghost use Rattle.inf_devices.specs.Files.{is_too_long, last_count, names_from, too_long_given};
-ghost use Rattle.inf_devices.specs.MemoryFiles.{sources_of};
+ghost use Rattle.inf_devices.specs.{Files.is_too_long, Files.last_count, Files.names_from, Files.too_long_given, MemoryFiles.sources_of};
 
 use inf_devices::failures::Failures;
 use inf_devices::files::{Files, OpenFault, ReadFault};

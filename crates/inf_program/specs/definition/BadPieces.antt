@@ -3,25 +3,17 @@
 use Rattle.std.specs.Prelude.{◌≡◌, ℕ, zero, suc, List, [], ◌∷◌, ◌++◌, map, true, false}
 use Rattle.inf_settings.specs.Bounds.{Limits}
 use Rattle.inf_machine.specs.declared.symbols.Symbol.{Symbol}
-use Rattle.inf_machine.specs.declared.symbols.Symbol.TheVariants.{Rule}
 use Rattle.inf_syntax.specs.declared.actions.Action.{Action}
-use Rattle.inf_unit.specs.Messages.{location}
-use Rattle.inf_unit.specs.Tokens.{SourceToken, atom_of, is_end}
-use Rattle.inf_compilation.specs.Actions.{Compilation, piece_begun as work_begun}
-use Rattle.inf_compilation.specs.Context.{Context}
-use Rattle.inf_reader.specs.Acting.{cut_at}
-use Rattle.inf_reader.specs.Handing.{skips}
+use Rattle.inf_unit.specs.{Messages.location, Tokens.SourceToken, Tokens.atom_of, Tokens.is_end}
+use Rattle.inf_compilation.specs.{Actions.Compilation, Actions.piece_begun as work_begun, Context.Context}
+use Rattle.inf_reader.specs.{Acting.cut_at, Handing.skips, Tests.complaint_of, declared.recovery.Recovery.Recovery}
 use Rattle.inf_reader.specs.Reading.{between, passed as mode_behind, piece_rule, with_complaint}
-use Rattle.inf_reader.specs.Tests.{complaint_of}
-use Rattle.inf_reader.specs.declared.recovery.Recovery.{Recovery}
 use Rattle.inf_session.specs.Choices.{Choices}
 use Rattle.inf_laws.specs.BadTokens.{skip_behind}
 use Rattle.inf_laws.specs.KeptTokens.{Given, IsBad, Kept, Unfit, token_in}
-use Rattle.inf_statement_laws.specs.Happenings.{Between}
-use Rattle.inf_statement_laws.specs.Laid.{passed}
+use Rattle.inf_statement_laws.specs.{Happenings.Between, Laid.passed}
 use Rattle.inf_program.specs.definition.States.{AsksNothing, State, context_of}
-use Rattle.inf_program.specs.definition.Steps.{AllKept}
-use Rattle.inf_program.specs.definition.Steps.{Ends, Passes, Reads, Step}
+use Rattle.inf_program.specs.definition.Steps.{AllKept, Ends, Passes, Reads, Step}
 use Rattle.inf_program.specs.definition.NextToken.{Position, at_front, behind_at, passed_over, steps_at, within}
 use Rattle.inf_program.specs.definition.Fronts.{Course, Derives, Front, IsOpen, Progress, done_by, fresh_progress, is_whole, kept_atoms}
 use Rattle.inf_program.specs.definition.Fronts.{progress_of, reached}
@@ -124,7 +116,7 @@ pub record BadFirst (limits : Limits) (o : Choices) (s : State) : Type 0 where
   pub after : List Step
   pub bad : HandsOnBad limits o left at_front s (fresh_progress course s.work) (Passes effect ∷ Reads (Kept token) ∷ rest) given after
   pub is_no_end : is_end token.kind ≡ false
-  pub derives : Derives (Rule piece_rule ∷ []) (kept_atoms (Passes effect ∷ Reads (Kept token) ∷ rest)) course left
+  pub derives : Derives (Symbol.Rule piece_rule ∷ []) (kept_atoms (Passes effect ∷ Reads (Kept token) ∷ rest)) course left
 
 abbrev pub cut_first : {limits : Limits} {o : Choices} {s : State} → BadFirst limits o s → SkipState
 cut_first {limits} {o} {s} b =

@@ -5,24 +5,17 @@ use Rattle.std.specs.Prelude.{◌≡◌, ℕ, zero, suc, List, [], ◌∷◌, �
 use Rattle.inf_settings.specs.Bounds.{Limits}
 use Rattle.inf_machine.specs.Grammar.{Did, Event, Leads, Took, action, here, row, token}
 use Rattle.inf_machine.specs.declared.symbols.Symbol.{Symbol}
-use Rattle.inf_machine.specs.declared.symbols.Symbol.TheVariants.{Rule}
 use Rattle.inf_syntax.specs.declared.actions.Action.{Action}
-use Rattle.inf_grammar.specs.Language.{grammar}
-use Rattle.inf_grammar.specs.Routines.{closings}
+use Rattle.inf_grammar.specs.{Language.grammar, Routines.closings}
 use Rattle.inf_unit.specs.Tokens.{SourceToken, atom_of, is_end}
+use Rattle.inf_compilation.specs.{Context.Context, Nesting.closed_ahead}
 use Rattle.inf_compilation.specs.Actions.{Compilation, piece_begun as work_begun, took as work_took}
-use Rattle.inf_compilation.specs.Context.{Context}
-use Rattle.inf_compilation.specs.Nesting.{closed_ahead}
-use Rattle.inf_reader.specs.Acting.{all_acted}
-use Rattle.inf_reader.specs.Handing.{is_empty}
-use Rattle.inf_reader.specs.Reading.{piece_rule}
+use Rattle.inf_reader.specs.{Acting.all_acted, Handing.is_empty, Reading.piece_rule}
 use Rattle.inf_session.specs.Choices.{Choices}
 use Rattle.inf_laws.specs.KeptTokens.{Kept, Unfit}
-use Rattle.inf_statement_laws.specs.Happenings.{Between}
-use Rattle.inf_statement_laws.specs.Laid.{passed}
+use Rattle.inf_statement_laws.specs.{Happenings.Between, Laid.passed}
 use Rattle.inf_program.specs.definition.States.{AsksNothing, State, context_of}
-use Rattle.inf_program.specs.definition.Steps.{AllKept}
-use Rattle.inf_program.specs.definition.Steps.{Ends, Passes, Reads, Step}
+use Rattle.inf_program.specs.definition.Steps.{AllKept, Ends, Passes, Reads, Step}
 use Rattle.inf_program.specs.definition.NextToken.{Position, at_front, behind_at, steps_at, within}
 
 -- Events of a text
@@ -188,7 +181,7 @@ pub record Front (limits : Limits) (o : Choices) (s : State) : Type 0 where
   pub begins : FirstKept limits o s
   pub are_kept : AllKept (steps_at limits o at_front s)
   pub go_on : AllGoOn limits o left more (begun_piece limits o course s)
-  pub derives : Derives (Rule piece_rule ∷ [])
+  pub derives : Derives (Symbol.Rule piece_rule ∷ [])
       (kept_atoms (steps_at limits o at_front s) ++ atoms_from limits o more (begun_piece limits o course s) further) course left
 
 -- the state behind a front

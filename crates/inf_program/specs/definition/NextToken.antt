@@ -2,20 +2,14 @@
 -- passed over behind a bad one. It is read, and kept or not, by the open files, the sides of conditionals and the compilation, and by
 -- nothing else of a reading.
 use Rattle.std.specs.Prelude.{List, Bool, true, false, None}
-use Rattle.inf_settings.specs.Bounds.{Limits}
-use Rattle.inf_settings.specs.Settings.{number_of}
-use Rattle.inf_settings.specs.declared.setting.Setting.TheVariants as setting
+use Rattle.inf_settings.specs.{Bounds.Limits, Settings.number_of, declared.setting.Setting.Setting}
 use Rattle.inf_sources.specs.Cursors.{behind, read}
 use Rattle.inf_unit.specs.Tokens.{SourceToken}
 use Rattle.inf_compilation.specs.Actions.{Compilation}
-use Rattle.inf_conditional_sides.specs.Sides.{Step as SideStep, heard, step as side_step}
-use Rattle.inf_conditional_sides.specs.Told.{Told, told_of}
-use Rattle.inf_reader.specs.Reading.{between}
-use Rattle.inf_reader.specs.declared.recovery.Recovery.TheVariants as mode
-use Rattle.inf_session.specs.Choices.{Choices}
-use Rattle.inf_session.specs.Taking.{token_at}
-use Rattle.inf_program.specs.definition.States.{State}
-use Rattle.inf_program.specs.definition.Steps.{Step, token_steps}
+use Rattle.inf_conditional_sides.specs.{Sides.Step as SideStep, Sides.heard, Sides.step as side_step, Told.Told, Told.told_of}
+use Rattle.inf_reader.specs.{Reading.between, declared.recovery.Recovery.Recovery}
+use Rattle.inf_session.specs.{Choices.Choices, Taking.token_at}
+use Rattle.inf_program.specs.{definition.States.State, definition.Steps.Step, definition.Steps.token_steps}
 
 -- The position at which a token comes: at the front of a piece or not, and among tokens that are passed over or not.
 pub record Position : Type 0 where
@@ -47,7 +41,7 @@ step_at p s = side_step p.is_front s.declared s.work.output (coming p s) s.sides
 -- what the next token tells of a condition
 abbrev pub told_at : Choices → Position → State → Told
 told_at o p s =
-    let longest = number_of setting.ExpressionNodes o.settings in
+    let longest = number_of Setting.ExpressionNodes o.settings in
     told_of p.is_passed longest s.declared s.work.output (coming p s) s.sides (record { said = None; most_tokens = s.most_tokens })
 
 -- the tokens that are handed on for the next one, and the effects of conditional directives before and behind them
@@ -66,4 +60,4 @@ behind_at o p w s =
 
 -- the state without the rest of the piece at hand
 abbrev pub afresh : State → State
-afresh s = record s { reading = between mode.Reads }
+afresh s = record s { reading = between Recovery.Reads }

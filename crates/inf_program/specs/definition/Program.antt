@@ -5,8 +5,7 @@ use Rattle.std.specs.Prelude.{◌≡◌, ℕ, List, [], ◌∷◌, true, false}
 use Rattle.inf_settings.specs.Bounds.{Limits}
 use Rattle.inf_devices.specs.Files.{Sources}
 use Rattle.inf_unit.specs.Tokens.{SourceToken, is_end}
-use Rattle.inf_reader.specs.Reading.{between}
-use Rattle.inf_reader.specs.declared.recovery.Recovery.TheVariants as mode
+use Rattle.inf_reader.specs.{Reading.between, declared.recovery.Recovery.Recovery}
 use Rattle.inf_session.specs.Choices.{Choices}
 use Rattle.inf_laws.specs.KeptTokens.{Kept}
 use Rattle.inf_statement_laws.specs.Happenings.{Between}
@@ -44,7 +43,7 @@ pub data Next (limits : Limits) (sources : Sources) (o : Choices) (s t : State) 
   Piece : (f : Front limits o s) → f.further ≡ [] → f.left ≡ [] → t ≡ followed sources o (reached f).state → Next limits sources o s t
   BrokenOff : (f : Front limits o s) → (reached f).state.work.report.counts.is_over ≡ true → t ≡ (reached f).state
       → Next limits sources o s t
-  FileEnd : FileEnds limits o s → t ≡ followed sources o (record (front_passed limits o s) { reading = between mode.Ended })
+  FileEnd : FileEnds limits o s → t ≡ followed sources o (record (front_passed limits o s) { reading = between Recovery.Ended })
       → Next limits sources o s t
   Bad : (b : BadPiece limits o s) (n : ℕ) → AllSkipOn limits o n (cut_of b)
       → t ≡ followed sources o (lands (all_skipped limits o n (cut_of b))) → Next limits sources o s t
@@ -52,5 +51,5 @@ pub data Next (limits : Limits) (sources : Sources) (o : Choices) (s t : State) 
 -- Reading ends in a state, or goes on from a place between two pieces with what comes next.
 pub data IsProgram (limits : Limits) (sources : Sources) (o : Choices) (final : State) : State → Type 0 where
   IsOver : {s : State} → has_ended s ≡ true → s ≡ final → IsProgram limits sources o final s
-  Continues : {s t : State} → has_ended s ≡ false → s.reading ≡ between mode.Reads → Next limits sources o s t
+  Continues : {s t : State} → has_ended s ≡ false → s.reading ≡ between Recovery.Reads → Next limits sources o s t
       → IsProgram limits sources o final t → IsProgram limits sources o final s

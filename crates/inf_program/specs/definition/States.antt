@@ -7,23 +7,17 @@ use Rattle.inf_scanner.specs.declared.tokens.Place.{Place}
 use Rattle.inf_devices.specs.Files.{Sources}
 use Rattle.inf_letters.specs.Letters.{set_of}
 use Rattle.inf_report.specs.Messages.{Message, NoInclude, TooManyFiles}
-use Rattle.inf_sources.specs.Choosing.{nesting_with}
-use Rattle.inf_sources.specs.Heading.{past_head}
+use Rattle.inf_sources.specs.{Choosing.nesting_with, Heading.past_head, declared.open_file.Conditional.Conditional}
+use Rattle.inf_sources.specs.{declared.open_files.Included.Included}
 use Rattle.inf_sources.specs.Inclusions.{Inclusion, Nesting, Opens, OpensNone, Waiting, inclusion, main_opened, resumed, with_opened}
-use Rattle.inf_sources.specs.declared.open_file.Conditional.{Conditional}
-use Rattle.inf_sources.specs.declared.open_files.Included.{Included}
-use Rattle.inf_sources.specs.declared.open_files.Included.TheVariants as answer
 use Rattle.inf_unit.specs.Directives.{Characters, End, Include, Nothing, Request}
 use Rattle.inf_unit.specs.Messages.{location, with_fatal}
-use Rattle.inf_compilation.specs.Actions.{Compilation}
-use Rattle.inf_compilation.specs.Context.{Context}
+use Rattle.inf_compilation.specs.{Actions.Compilation, Context.Context}
 use Rattle.inf_conditional_sides.specs.Ends.{file_told_by, inner_only, piece_told_by}
 use Rattle.inf_conditional_sides.specs.Sides.{Side, Sides, has_none, no_sides, only_between, outer_sides, piece_ended}
-use Rattle.inf_reader.specs.Handing.{is_between}
+use Rattle.inf_reader.specs.{Handing.is_between, declared.recovery.Recovery.Recovery}
 use Rattle.inf_reader.specs.Reading.{Reading, has_ended_at, is_mode_ended}
-use Rattle.inf_reader.specs.declared.recovery.Recovery.TheVariants as mode
-use Rattle.inf_session.specs.Choices.{Choices, most_quoted}
-use Rattle.inf_session.specs.Session.{begun_with}
+use Rattle.inf_session.specs.{Choices.Choices, Choices.most_quoted, Session.begun_with}
 
 -- The files that are open, each with the bytes that are still to come of it; the sides of conditionals in the innermost; the number of
 -- names that were declared before the directive at hand, and the most tokens that a condition had; whether tokens are read, or passed
@@ -82,7 +76,7 @@ left_by [] s = s
 left_by (w ∷ waiting) s = record s {
   nesting = resumed (w ∷ waiting) s.nesting;
   sides = record s.sides { sides = outer_sides w.conditionals };
-  reading = record s.reading { mode = mode.Reads };
+  reading = record s.reading { mode = Recovery.Reads };
   work = record s.work { is_system = w.is_system };
 }
 
@@ -95,9 +89,9 @@ refused_with unit m s = record s { work = record s.work { report = with_fatal (l
 
 -- the state where the reason is told why no file is opened for a text
 abbrev pub none_included : Place → List ℕ → Included → State → State
-none_included unit text answer.Entered s = s
-none_included unit text answer.NotThere s = refused_with unit (NoInclude text) s
-none_included unit text answer.TooDeep s = refused_with unit TooManyFiles s
+none_included unit text Included.Entered s = s
+none_included unit text Included.NotThere s = refused_with unit (NoInclude text) s
+none_included unit text Included.TooDeep s = refused_with unit TooManyFiles s
 
 -- the state in a file that was entered: no side is open between its directives, and no routine may be replaced yet
 abbrev pub file_begun : State → State

@@ -4,13 +4,11 @@ use Rattle.std.specs.Prelude.{List, [], ◌∷◌, Option, Some, None}
 use Rattle.inf_settings.specs.Bounds.{Limits}
 use Rattle.inf_scanner.specs.declared.tokens.Place.{Place}
 use Rattle.inf_unit.specs.Messages.{FileNames}
-use Rattle.inf_conditionals.specs.Ends.{with_lone}
-use Rattle.inf_conditionals.specs.Said.{Said, with_right, with_said}
+use Rattle.inf_conditionals.specs.{Ends.with_lone, Said.Said, Said.with_right, Said.with_said}
 use Rattle.inf_conditional_sides.specs.Sides as by_sides
 use Rattle.inf_conditional_sides.specs.Sides.{Given as GivenBySides}
 use Rattle.inf_laws.specs.KeptTokens.{Given, Kept, Unfit}
-use Rattle.inf_statement_laws.specs.Happenings.{Between}
-use Rattle.inf_statement_laws.specs.Readings.{directive_between, nothing_between}
+use Rattle.inf_statement_laws.specs.{Happenings.Between, Readings.directive_between, Readings.nothing_between}
 
 -- Steps of a reading: a token is handed on; or conditional directives have an effect; or one of them ends, and closes statements ahead.
 pub data Step : Type 0 where

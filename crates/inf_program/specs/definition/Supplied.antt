@@ -5,12 +5,9 @@ use Rattle.inf_settings.specs.Bounds.{Limits}
 use Rattle.inf_devices.specs.Files.{Sources}
 use Rattle.inf_unit.specs.Messages.{veneer_file}
 use Rattle.inf_conditional_sides.specs.Sides.{no_sides}
-use Rattle.inf_reader.specs.Reading.{between}
-use Rattle.inf_reader.specs.declared.recovery.Recovery.TheVariants as mode
-use Rattle.inf_session.specs.Choices.{Choices, most_quoted}
-use Rattle.inf_session.specs.Veneer.{next_text, veneer_text}
-use Rattle.inf_program.specs.definition.Program.{IsProgram}
-use Rattle.inf_program.specs.definition.States.{State}
+use Rattle.inf_reader.specs.{Reading.between, declared.recovery.Recovery.Recovery}
+use Rattle.inf_session.specs.{Choices.Choices, Choices.most_quoted, Veneer.next_text, Veneer.veneer_text}
+use Rattle.inf_program.specs.{definition.Program.IsProgram, definition.States.State}
 
 -- The state at the front of the text of a routine, where nothing of the source is open. The text is on the line of the routine's number, in
 -- a file of its own. Its conditionals ask for the names that were declared before it.
@@ -28,7 +25,7 @@ text_start o number s = record {
   sides = no_sides;
   declared = s.work.output.names.declared;
   most_tokens = 0;
-  reading = between mode.Reads;
+  reading = between Recovery.Reads;
   work = record s.work { most_tokens = max s.work.most_tokens s.most_tokens; is_system = false };
   is_over = false;
   is_supplied = true;

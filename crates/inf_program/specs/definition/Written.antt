@@ -5,9 +5,8 @@ use Rattle.inf_devices.specs.Files.{Sources}
 use Rattle.inf_unit.specs.Messages.{flushed}
 use Rattle.inf_session.specs.Choices.{Choices}
 use Rattle.inf_ending.specs.Ending.{Outcome, finished, missing}
-use Rattle.inf_program.specs.definition.Program.{IsProgram}
+use Rattle.inf_program.specs.{definition.Program.IsProgram, definition.Supplied.AreSupplied}
 use Rattle.inf_program.specs.definition.States.{State, start}
-use Rattle.inf_program.specs.definition.Supplied.{AreSupplied}
 
 -- The ending behind all that was read: the messages of the reading, and then those of the ending, with the story and the status.
 abbrev pub ending : Limits → List ℕ → State → Outcome

@@ -1,6 +1,5 @@
 use Rattle.std.proofs.Common.{◌≡◌, ◌++◌, drop, map}
-use Rattle.inf_arrays.specs.Arrays.{arrays_cells}
-use Rattle.inf_arrays.specs.Listing.{listed}
+use Rattle.inf_arrays.specs.{Arrays.arrays_cells, Listing.listed}
 use Rattle.inf_arrays.proofs.arrays.cells_of.Given as goal
 
 abbrev pub invariant-loop-array : goal.invariant-loop-array

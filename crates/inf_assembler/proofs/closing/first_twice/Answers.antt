@@ -1,8 +1,7 @@
 -- A mark is seen in all entries behind it.
 use Rattle.std.proofs.Common.{◌≡◌, ℕ, ◌+◌, ◌-◌, ◌∙◌, Option, ap, Some, None, cond, is_some, get_or, take, sym, arith}
 use Rattle.std.proofs.lemmas.List.{take_more}
-use Rattle.inf_opcode.specs.declared.cells.Kept.{Kept}
-use Rattle.inf_opcode.specs.declared.cells.Special.TheVariants.{Marks}
+use Rattle.inf_opcode.specs.{declared.cells.Kept.Kept, declared.cells.Special.Special}
 use Rattle.inf_assembler.specs.Places.{first_of, marks}
 use Rattle.inf_assembler.specs.Closing.{found, nowhere, only, kept_place, kept_again}
 use Rattle.inf_assembler.proofs.Passes.{kept_place-push, again_new, again_other, marks_other, twice_step, first_of-none}
@@ -10,7 +9,7 @@ use Rattle.inf_assembler.proofs.closing.first_twice.Goals.{in-Marks+else-is_some
 use Rattle.inf_assembler.proofs.closing.first_twice.Goals as goal
 
 abbrev nothing : Kept
-nothing = record { place = 0; what = Marks (record { number = 0 }) }
+nothing = record { place = 0; what = Special.Marks (record { number = 0 }) }
 
 pub loop-entry-preserved : goal.loop-entry-preserved
 loop-entry-preserved c =

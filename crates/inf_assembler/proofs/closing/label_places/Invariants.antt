@@ -1,6 +1,5 @@
 use Rattle.std.proofs.Common.{◌≡◌, ℕ, ◌≤◌, drop}
-use Rattle.inf_assembler.specs.Places.{first_of}
-use Rattle.inf_assembler.specs.Closing.{found, kept_place}
+use Rattle.inf_assembler.specs.{Closing.found, Closing.kept_place, Places.first_of}
 use Rattle.inf_assembler.proofs.closing.label_places.Given as goal
 
 -- a label is found in all entries where it is found so far, or in those that are left

@@ -1,18 +1,15 @@
 -- One more reference is listed.
 use Rattle.std.proofs.Common.{◌≡◌, ◌+◌, ◌-◌, ◌∙◌, [], ◌∷◌, ◌++◌, ap, get_or, drop, length, sym, arith, append_assoc, length-append}
 use Rattle.std.proofs.lemmas.Result.{err_from_is_err_and}
-use Rattle.inf_area.specs.declared.targets.AreaName.TheVariants.{Code}
-use Rattle.inf_area.specs.declared.fixups.Fixup.{Fixup}
-use Rattle.inf_opcode.specs.declared.cells.Kept.{Kept}
-use Rattle.inf_opcode.specs.declared.cells.Special.TheVariants.{Marks}
-use Rattle.inf_assembler.specs.Places.{fixup_at}
-use Rattle.inf_assembler.specs.Closing.{found, saving, kept_fixups}
+use Rattle.inf_area.specs.{declared.fixups.Fixup.Fixup, declared.targets.AreaName.AreaName}
+use Rattle.inf_opcode.specs.{declared.cells.Kept.Kept, declared.cells.Special.Special}
+use Rattle.inf_assembler.specs.{Closing.found, Closing.kept_fixups, Closing.saving, Places.fixup_at}
 use Rattle.inf_assembler.proofs.Passes.{fixups_step, fixup_other}
 use Rattle.inf_assembler.proofs.closing.list_fixups.Goals.{in-Refers+in_ok-add, in_default}
 use Rattle.inf_assembler.proofs.closing.list_fixups.Goals as goal
 
 abbrev nothing : Kept
-nothing = record { place = 0; what = Marks (record { number = 0 }) }
+nothing = record { place = 0; what = Special.Marks (record { number = 0 }) }
 
 pub returns-in_err-add-clause-full : goal.returns-in_err-add-clause-full
 returns-in_err-add-clause-full c =
@@ -53,10 +50,10 @@ loop-entry-preserved c =
     let left = ap (λ hs. list ++ hs) (sym (fixups_step long saved i kept nothing c.loop-entry-test.true)) ∙ now.left in
     elim c.match-entry.branch [
       | in-Refers+in_ok-add w ↦ (
-          let fixup : Fixup = record { area = Code; place = w.saturating_sub.result; target = w.in-Refers.target } in
+          let fixup : Fixup = record { area = AreaName.Code; place = w.saturating_sub.result; target = w.in-Refers.target } in
           let here : fixup_at (entry.place - saved) entry.what ≡ fixup ∷ [] =
           ap (fixup_at (entry.place - saved)) w.in-Refers.is
-          ∙ ap (λ p. record { area = Code; place = p; target = w.in-Refers.target } ∷ []) (sym w.saturating_sub.ensures) in
+          ∙ ap (λ p. record { area = AreaName.Code; place = p; target = w.in-Refers.target } ∷ []) (sym w.saturating_sub.ensures) in
           let is : c.match-entry.refs.list ≡ list ++ fixup ∷ [] = ap (λ r. r.list) (w.refs-is ∙ w.in_ok-add.ensures.ok) in
           let same = ap (λ r. r.limit) (w.refs-is ∙ w.in_ok-add.ensures.ok) in
           record {

@@ -1,15 +1,13 @@
 -- The kept entries are in order, and none of them is longer than while the routine was open.
 use Rattle.std.proofs.Common.{◌≤◌, ◌+◌, ◌-◌, ◌∙◌, ap, get_or, take, drop, length, arith, sym}
-use Rattle.inf_opcode.specs.declared.cells.Kept.{Kept}
-use Rattle.inf_opcode.specs.declared.cells.Special.TheVariants.{Marks}
-use Rattle.inf_opcode.specs.Cells.{special_size}
+use Rattle.inf_opcode.specs.{Cells.special_size, declared.cells.Kept.Kept, declared.cells.Special.Special}
 use Rattle.inf_assembler.specs.Closing.{found, squeezed, placed_bytes}
 use Rattle.inf_assembler.proofs.Passes.{order_step, order_end, closed_size, size_le, squeezed_step}
 use Rattle.inf_assembler.proofs.Placing.{length-placed, take-placed}
 use Rattle.inf_assembler.proofs.closing.squeeze.Goals as goal
 
 abbrev nothing : Kept
-nothing = record { place = 0; what = Marks (record { number = 0 }) }
+nothing = record { place = 0; what = Special.Marks (record { number = 0 }) }
 
 pub closed_special-requires : goal.closed_special-requires
 closed_special-requires g c =

@@ -1,8 +1,8 @@
 use Rattle.std.proofs.Common.{◌≡◌, ◌≤◌, ◌∷◌, ◌∙◌, ◌&&◌, false, eqb, ap, sym, arith, List, ℕ}
 use Rattle.std.proofs.lemmas.Bool.Decides.{nat_tests}
 use Rattle.inf_characters.proofs.Pairs.{pair_from-more}
-use Rattle.inf_characters.proofs.escapes.pair_code.Goals as goal
 use Rattle.inf_characters.proofs.escapes.pair_code.Goals.{else-x-a-via-then-x-a+else-y-b, else-x-a-via-else-x-a}
+use Rattle.inf_characters.proofs.escapes.pair_code.Goals as goal
 
 pub loop-x-preserved : goal.loop-x-preserved
 loop-x-preserved c =

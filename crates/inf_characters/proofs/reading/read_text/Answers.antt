@@ -1,9 +1,7 @@
+use Rattle.std.proofs.{lemmas.List.length-drop, lemmas.List.take_all, lemmas.Result.err_from_is_err_and}
 use Rattle.std.proofs.Common.{◌-◌, [], refl, length, drop, false, sym, ◌∙◌, arith}
-use Rattle.std.proofs.lemmas.List.{take_all, length-drop}
 use Rattle.inf_characters.specs.Reading.{text_from, text_of}
-use Rattle.std.proofs.lemmas.Result.{err_from_is_err_and}
-use Rattle.inf_characters.proofs.Faults.{Continues-fault}
-use Rattle.inf_characters.proofs.Pieces.{Continues-holds, Continues-more, with_front-none}
+use Rattle.inf_characters.proofs.{Faults.Continues-fault, Pieces.Continues-holds, Pieces.Continues-more, Pieces.with_front-none}
 use Rattle.inf_characters.proofs.reading.read_text.Goals as goal
 
 pub loop-first-init : goal.loop-first-init

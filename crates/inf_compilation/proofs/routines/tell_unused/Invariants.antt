@@ -1,7 +1,6 @@
 use Rattle.std.proofs.Common.{◌≡◌, drop, map}
 use Rattle.inf_names.specs.LocalList.{local}
-use Rattle.inf_compilation.specs.Context.{handed}
-use Rattle.inf_compilation.specs.Actions.{with_all_unused}
+use Rattle.inf_compilation.specs.{Actions.with_all_unused, Context.handed}
 use Rattle.inf_compilation.proofs.routines.tell_unused.Given as goal
 
 -- The warnings told so far, and then those of the locals that are left, are the warnings of all.

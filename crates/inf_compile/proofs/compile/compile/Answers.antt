@@ -1,15 +1,11 @@
-use Rattle.std.specs.Prelude.{IfOk, IfErr, OnOk, OnErr}
-use Rattle.std.proofs.Common.{◌≡◌, ◌==◌, inl, ℕ, List, codes, length, true, false, refl, sym, ◌∙◌}
+use Rattle.std.proofs.Common.{IfOk, IfErr, OnOk, OnErr, ◌≡◌, ◌==◌, inl, ℕ, List, codes, length, true, false, refl, sym, ◌∙◌}
 use Rattle.std.proofs.lemmas.Result.{IfErr-weaker, IfOk-weaker, on_err_weaker}
 use Rattle.inf_opcode.proofs.Growing.{on_err}
-use Rattle.inf_devices.specs.Files.{Rose, Sources}
-use Rattle.inf_devices.specs.Sinks.{Takes}
+use Rattle.inf_devices.specs.{Files.Rose, Files.Sources, Sinks.Takes}
 use Rattle.inf_command.specs.FileNames.{source_name}
 use Rattle.inf_compile.specs.Comes.{Begins, Heard, OpenedBy, OpenedPart}
-use Rattle.inf_ending.specs.Ending.{missing}
-use Rattle.inf_ending.specs.Faults.{IfRead, IfStory}
-use Rattle.inf_ending.specs.declared.compiled.Status.TheVariants as status
 use Rattle.inf_compile.specs.Compiling.{Compiles, DeliversPart, HasCause, chosen_by, named_by}
+use Rattle.inf_ending.specs.{Ending.missing, Faults.IfRead, Faults.IfStory, declared.compiled.Status.Status}
 use Rattle.inf_compile.proofs.Delivering.{all_named, more_caused, none_clean, none_read, none_told, refused_begins, refused_compiles}
 use Rattle.inf_compile.proofs.Delivering.{refused_opens, unfailed_always}
 use Rattle.inf_compile.proofs.compile.compile.Goals as goal
@@ -27,7 +23,7 @@ returns-then-names_nothing-clause-headline g c = λ honest.
     let story_old = g.S.Sink.taken c.args.story.now in
     let after = g.M.Sink.taken c.refuse.new.messages in
     let none = sym c.names_nothing.ensures ∙ c.if-names_nothing.true in
-    IfOk-weaker c.refuse.result (λ r. (r ≡ status.Errors) × Takes before after (missing (codes ".inf")).messages)
+    IfOk-weaker c.refuse.result (λ r. (r ≡ Status.Errors) × Takes before after (missing (codes ".inf")).messages)
     (λ r. Compiles (named_by word s) o date name r before after story_old story_old)
     (λ r k. refused_compiles word date s o r before after story_old story_old none k.0 k.1 refl) c.refuse.ensures.ok
 
@@ -55,7 +51,7 @@ returns-then-names_nothing-clause-heard g c =
 
 pub returns-then-names_nothing-clause-clean : goal.returns-then-names_nothing-clause-clean
 returns-then-names_nothing-clause-clean g c =
-    none_clean c.refuse.result _ _ _ (IfOk-weaker c.refuse.result _ (λ r. r ≡ status.Errors) (λ r k. k.0) c.refuse.ensures.ok)
+    none_clean c.refuse.result _ _ _ (IfOk-weaker c.refuse.result _ (λ r. r ≡ Status.Errors) (λ r k. k.0) c.refuse.ensures.ok)
     c.refuse.ensures.fault
 
 pub returns-then-names_nothing-clause-fault : goal.returns-then-names_nothing-clause-fault

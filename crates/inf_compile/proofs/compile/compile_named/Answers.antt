@@ -1,7 +1,6 @@
 use Rattle.std.proofs.Common.{rules, ◌≡◌, ℕ, List, IfErr, refl, ap, ◌∙◌}
 use Rattle.inf_opcode.proofs.Growing.{on_err}
-use Rattle.inf_compile.specs.Chosen.{chosen_for}
-use Rattle.inf_compile.specs.Compiling.{chosen_by}
+use Rattle.inf_compile.specs.{Chosen.chosen_for, Compiling.chosen_by}
 use Rattle.inf_compile.proofs.Delivering.{begins_whole, clean_where_delivered, opened_whole}
 use Rattle.inf_ending.specs.Faults.{UnlessMessages}
 use Rattle.inf_ending.proofs.Quiet.{hides_always, hides_behind, hides_none}

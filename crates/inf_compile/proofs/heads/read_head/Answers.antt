@@ -1,10 +1,7 @@
 use Rattle.std.proofs.Common.{◌-◌, true, false, IsTrue, refl, sym, ap, subst, ◌∙◌, arith, length}
-use Rattle.inf_lexer.specs.Heads.{goes_on_at, is_behind, is_word}
-use Rattle.inf_lexer.specs.Unread.{unread}
-use Rattle.inf_lexer.specs.declared.head.HeadPlace.TheVariants.{Line}
+use Rattle.inf_lexer.specs.{Heads.goes_on_at, Heads.is_behind, Heads.is_word, Unread.unread, declared.head.HeadPlace.HeadPlace}
 use Rattle.inf_opcode.proofs.Growing.{on_err}
-use Rattle.inf_sources.specs.Heading.{ReadsHead, UnfinishedHead}
-use Rattle.inf_sources.specs.Open.{nesting}
+use Rattle.inf_sources.specs.{Heading.ReadsHead, Heading.UnfinishedHead, Open.nesting}
 use Rattle.inf_sources.proofs.Calls.{fit_none, fit_then, went_none, went_then}
 use Rattle.inf_command.specs.Heads.{HeadWords, take_head_word}
 use Rattle.inf_compile.proofs.Heading.{Leads, behind_call, leads_first, leads_on, leads_out, stops_behind}
@@ -18,7 +15,7 @@ loop-head-init g c =
     record {
       led = λ honest start nested.
           let first = nesting (files.sources a) start (files.openings a) x in
-          subst (λ (h : HeadWords). Leads first first Line h) (sym c.none-head.ensures) (leads_first first);
+          subst (λ (h : HeadWords). Leads first first HeadPlace.Line h) (sym c.none-head.ensures) (leads_first first);
       opened = λ honest start nested. refl;
       went = went_none files a x;
       fits = fit_none files a x;

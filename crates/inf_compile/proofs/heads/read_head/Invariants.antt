@@ -1,7 +1,6 @@
 use Rattle.std.proofs.Common.{◌≡◌, ◌+◌, ◌-◌, ◌<◌, ◌≤◌, false, length}
 use Rattle.inf_lexer.specs.Heads.{is_behind, is_word}
-use Rattle.inf_sources.specs.Calls.{Honestly, StaysFit, Went}
-use Rattle.inf_sources.specs.Open.{nesting, opened_since}
+use Rattle.inf_sources.specs.{Calls.Honestly, Calls.StaysFit, Calls.Went, Open.nesting, Open.opened_since}
 use Rattle.inf_compile.proofs.Heading.{Leads}
 use Rattle.inf_compile.proofs.heads.read_head.Given as goal
 

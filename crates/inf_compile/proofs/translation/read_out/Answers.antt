@@ -2,15 +2,13 @@ use Rattle.std.proofs.Common.{[], IfOk, OnErr, refl, ap, subst, sym}
 use Rattle.inf_opcode.proofs.Growing.{on_err}
 use Rattle.inf_sources.specs.Open.{Open, opened_since}
 use Rattle.inf_sources.proofs.Calls.{went_as}
-use Rattle.inf_session.specs.Choices.{Choices, chosen}
+use Rattle.inf_session.specs.{Choices.Choices, Choices.chosen, Standing.state}
 use Rattle.inf_ending.specs.Delivered.{SucceedsClean, story_in}
 use Rattle.inf_compile.specs.Comes.{BreaksOff, Concludes, Ends, Stops}
-use Rattle.inf_session.specs.Standing.{state}
 use Rattle.inf_compile.proofs.Concluding.{breaks_off_at, concludes, ends_at, if_ok_always, if_read_none, on_err_leads, stops_ending}
 use Rattle.inf_compile.proofs.Concluding.{stops_reading}
-use Rattle.inf_ending.proofs.Delivering.{ends_behind, if_ok_more}
+use Rattle.inf_ending.proofs.{Delivering.ends_behind, Delivering.if_ok_more, Quiet.hides_then}
 use Rattle.inf_session.proofs.Leadings.{opened_behind}
-use Rattle.inf_ending.proofs.Quiet.{hides_then}
 use Rattle.inf_compile.proofs.translation.read_out.Goals as goal
 
 pub returns-in-Ok-clause-concludes : goal.returns-in-Ok-clause-concludes

@@ -1,13 +1,11 @@
 use Rattle.std.proofs.Common.{◌≡◌}
 use Rattle.inf_compilation.specs.Works.{work as work_of}
 use Rattle.inf_session.specs.Choices.{chosen}
+use Rattle.inf_ending.specs.{Ending.finished, declared.compiled.Status.Status}
 use Rattle.inf_ending.specs.Delivered.{Delivers, EndsCleanOf, SucceedsClean, TakesFront, story_in}
-use Rattle.inf_ending.specs.Ending.{finished}
-use Rattle.inf_ending.specs.declared.compiled.Status.TheVariants as status
-use Rattle.inf_ending.proofs.Delivering.{ends_behind, if_ok_more}
+use Rattle.inf_ending.proofs.{Delivering.ends_behind, Delivering.if_ok_more, Quiet.hides_then}
 use Rattle.inf_compile.specs.Comes.{BreaksOffAll, EndsAll}
 use Rattle.inf_compile.proofs.Concluding.{breaks_off_all, breaks_off_part, ends_all, on_err_leads}
-use Rattle.inf_ending.proofs.Quiet.{hides_then}
 use Rattle.inf_compile.proofs.translation.supply_out.Goals as goal
 
 pub returns-in-Ok-clause-ok : goal.returns-in-Ok-clause-ok
@@ -47,7 +45,7 @@ returns-in-Ok-clause-clean g c =
     let new = c.finish.new.messages in
     let now = c.supply_all.new.session in
     let serial = c.args.serial.now in
-    if_ok_more c.finish.result.1 (λ x. x.status ≡ status.Success → EndsCleanOf g.B.Bounds.most serial now.open_files.nest.names
+    if_ok_more c.finish.result.1 (λ x. x.status ≡ Status.Success → EndsCleanOf g.B.Bounds.most serial now.open_files.nest.names
     (work_of now.progress.work) (story_in x) (m.taken mid) (m.taken new))
     (λ x. SucceedsClean serial x (m.taken old) (m.taken new))
     (λ x p is. ends_behind m old mid new serial (story_in x) c.supply_all.ensures.wrote.0

@@ -3,23 +3,17 @@ use Rattle.std.proofs.Common.{◌∙◌}
 use Rattle.std.proofs.lemmas.Result.{on_err_weaker}
 use Rattle.inf_devices.specs.Files.{Rose, Sources, last_count}
 use Rattle.inf_lexer.proofs.Candidates.{rose_earlier}
-use Rattle.inf_sources.specs.Calls.{IsUnreadable, StaysFit}
-use Rattle.inf_sources.specs.Inclusions.{Nesting, main_opened}
+use Rattle.inf_sources.specs.{Calls.IsUnreadable, Calls.StaysFit, Inclusions.Nesting, Inclusions.main_opened}
 use Rattle.inf_sources.specs.Open.{AllGiven, Each, Fits, nesting, opened_since}
-use Rattle.inf_ending.specs.Delivered.{TakesFront}
-use Rattle.inf_ending.specs.Ending.{Outcome, missing, seen}
-use Rattle.inf_ending.specs.Faults.{IfRead}
-use Rattle.inf_session.specs.Leading.{OpensAll}
-use Rattle.inf_session.specs.Session.{run, start}
-use Rattle.inf_ending.proofs.Delivering.{if_ok_more}
+use Rattle.inf_ending.specs.{Delivered.TakesFront, Ending.Outcome, Ending.missing, Ending.seen, Faults.IfRead, declared.faults.Fault.Fault}
+use Rattle.inf_session.specs.{Leading.OpensAll, Session.run, Session.start}
+use Rattle.inf_ending.proofs.{Delivering.if_ok_more, Quiet.hides_none}
 use Rattle.inf_session.proofs.Standings.{if_caused_more, read_caused}
 use Rattle.inf_settings.specs.Bounds.{limits_of}
 use Rattle.inf_compile.specs.Chosen.{begun_at, chosen_at, chosen_for}
 use Rattle.inf_compile.specs.Comes.{Begins, Comes, Concludes, GivenUpFrom, Heard, IsUnread, Stops}
 use Rattle.inf_compile.proofs.Concluding.{begins_missing, begins_none, begins_of, comes_of, if_ok_both, on_err_leads}
 use Rattle.inf_compile.proofs.GivingUp.{counted_at_front, given_up_from_between, heard_from, heard_none, opened_some, unread_by}
-use Rattle.inf_ending.specs.declared.faults.Fault.{Fault}
-use Rattle.inf_ending.proofs.Quiet.{hides_none}
 use Rattle.inf_compile.proofs.translation.translate.Goals as goal
 
 pub returns-clause-comes : goal.returns-clause-comes

@@ -2,27 +2,18 @@ use Rattle.std.proofs.Common.{◌≡◌, [], ℕ, zero, Result, Err, inl, inr, I
 use Rattle.std.proofs.lemmas.Result.{on_err_weaker}
 use Rattle.inf_devices.specs.Files.{Rose, Sources}
 use Rattle.inf_lexer.proofs.Candidates.{rose_earlier}
-use Rattle.inf_sources.specs.Calls.{IsUnreadable, StaysFit}
-use Rattle.inf_sources.specs.Inclusions.{Nesting}
-use Rattle.inf_sources.specs.Open.{Open, nesting, opened_since}
+use Rattle.inf_sources.specs.{Calls.IsUnreadable, Calls.StaysFit, Inclusions.Nesting, Open.Open, Open.nesting, Open.opened_since}
 use Rattle.inf_sources.proofs.Calls.{fit_then, unreadable_then, went_then}
 use Rattle.inf_letters.specs.Letters.{set_of}
-use Rattle.inf_session.specs.Choices.{Choices, most_quoted}
-use Rattle.inf_ending.specs.Faults.{IfRead}
-use Rattle.inf_session.specs.Leading.{GivenUp, OpensAll}
-use Rattle.inf_session.specs.Session.{first_state, run}
-use Rattle.inf_ending.proofs.Delivering.{if_ok_more}
+use Rattle.inf_session.specs.{Choices.Choices, Choices.most_quoted, Leading.GivenUp, Leading.OpensAll, Session.first_state, Session.run}
+use Rattle.inf_ending.specs.{Faults.IfRead, declared.faults.Fault.Fault}
+use Rattle.inf_ending.proofs.{Delivering.if_ok_more, Quiet.hides_none}
 use Rattle.inf_session.proofs.Standings.{caused_more, if_caused_more, if_read_more, read_caused}
 use Rattle.inf_settings.specs.Bounds.{limits_of}
-use Rattle.inf_command.specs.Directories.{directories_of}
-use Rattle.inf_command.specs.Spoken.{settings_of}
-use Rattle.inf_compile.specs.Chosen.{begun_at, chosen_at, read_as}
-use Rattle.inf_compile.specs.Comes.{Concludes, GivenUpFrom, Stops}
-use Rattle.inf_compile.proofs.Concluding.{stops_none}
-use Rattle.inf_compile.proofs.GivingUp.{given_up_between}
+use Rattle.inf_command.specs.{Directories.directories_of, Spoken.settings_of}
+use Rattle.inf_compile.specs.{Chosen.begun_at, Chosen.chosen_at, Chosen.read_as, Comes.Concludes, Comes.GivenUpFrom, Comes.Stops}
+use Rattle.inf_compile.proofs.{Concluding.stops_none, GivingUp.given_up_between}
 use Rattle.inf_compile.proofs.Heading.{chosen_is, chosen_over_is, given_up_there, made, read_as_is, unread_there, went_chosen}
-use Rattle.inf_ending.specs.declared.faults.Fault.{Fault}
-use Rattle.inf_ending.proofs.Quiet.{hides_none}
 use Rattle.inf_compile.proofs.translation.translate_opened.Goals as goal
 
 pub returns-clause-concludes : goal.returns-clause-concludes

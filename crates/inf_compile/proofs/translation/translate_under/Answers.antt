@@ -1,15 +1,11 @@
 use Rattle.std.proofs.Common.{IfErr, IfOk, [], ℕ, zero, List, refl, ap, subst, sym}
 use Rattle.std.proofs.lemmas.Result.{on_err_weaker}
 use Rattle.inf_devices.specs.Files.{Rose}
-use Rattle.inf_sources.specs.Calls.{IsUnreadable, StaysFit, Went}
-use Rattle.inf_sources.specs.Open.{IsNested, Open, nesting, opened_since}
+use Rattle.inf_sources.specs.{Calls.IsUnreadable, Calls.StaysFit, Calls.Went, Open.IsNested, Open.Open, Open.nesting, Open.opened_since}
 use Rattle.inf_sources.proofs.Calls.{went_as, went_none}
-use Rattle.inf_session.specs.Choices.{chosen}
+use Rattle.inf_session.specs.{Choices.chosen, Leading.GivenUp, Leading.OpensAll, Session.State, Session.run, Standing.state}
+use Rattle.inf_session.specs.{declared.setup.Setup.Setup}
 use Rattle.inf_ending.specs.Faults.{Caused, IfRead}
-use Rattle.inf_session.specs.Leading.{GivenUp, OpensAll}
-use Rattle.inf_session.specs.Session.{State, run}
-use Rattle.inf_session.specs.Standing.{state}
-use Rattle.inf_session.specs.declared.setup.Setup.{Setup}
 use Rattle.inf_settings.specs.Bounds.{Limits, limits_of}
 use Rattle.inf_compile.specs.Comes.{Concludes, Stops}
 use Rattle.inf_compile.proofs.Concluding.{begun_is, stops_none}

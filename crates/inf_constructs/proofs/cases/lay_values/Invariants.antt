@@ -1,6 +1,5 @@
 use Rattle.std.proofs.Common.{◌≡◌, [], length}
-use Rattle.inf_constructs.specs.Cases.{grouped}
-use Rattle.inf_constructs.specs.Roots.{trees_from}
+use Rattle.inf_constructs.specs.{Cases.grouped, Roots.trees_from}
 use Rattle.inf_constructs.proofs.cases.lay_values.Given as goal
 
 -- the values that are left lead from the output so far to the output of all

@@ -1,6 +1,5 @@
 use Rattle.std.proofs.Common.{◌≡◌, OnOk, ap, subst, ◌∙◌}
-use Rattle.inf_compilation.specs.Context.{handed}
-use Rattle.inf_compilation.specs.Works.{work}
+use Rattle.inf_compilation.specs.{Context.handed, Works.work}
 use Rattle.inf_declarations.specs.Arrays.{entry_finding, entry_judged, entry_with, one_more}
 use Rattle.inf_declarations.proofs.Staying.{more_found}
 use Rattle.inf_declarations.proofs.arrays.judge_several.Goals as goal

@@ -1,7 +1,6 @@
 use Rattle.std.proofs.Common.{◌≤◌, length, take, drop, sym, ◌∙◌, ap, arith, rules, refl, length-take, length-drop}
-use Rattle.std.specs.Option.{is_some}
-use Rattle.std.specs.String.{string_bytes}
 use Rattle.std.proofs.Math.Seq.{take-length}
+use Rattle.std.specs.{Option.is_some, String.string_bytes}
 use Rattle.inf_devices.proofs.OpeningLemmas.{source_got, source_taken}
 use Rattle.inf_devices.proofs.memory_files.rest_of.Goals as goal
 

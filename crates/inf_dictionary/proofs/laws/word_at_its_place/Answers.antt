@@ -1,10 +1,8 @@
 use Rattle.std.proofs.Common.{[], ◌∙◌, arith, length, ◌<◌, ◌*◌}
 use Rattle.std.proofs.lemmas.List.{length-map}
-use Rattle.std.specs.Cmp.{nat_cmp_total}
-use Rattle.std.specs.Cmp.Lexicographic.{lists_total}
+use Rattle.std.specs.{Cmp.Lexicographic.lists_total, Cmp.nat_cmp_total}
 use Rattle.inf_dictionary.specs.Texts.{texts_of}
-use Rattle.inf_dictionary.proofs.Ranks.{any_default, rank_at}
-use Rattle.inf_dictionary.proofs.Wholes.{text_at, behind_head}
+use Rattle.inf_dictionary.proofs.{Ranks.any_default, Ranks.rank_at, Wholes.behind_head, Wholes.text_at}
 use Rattle.inf_dictionary.proofs.laws.word_at_its_place.Goals as goal
 
 pub returns-clause-rank : goal.returns-clause-rank

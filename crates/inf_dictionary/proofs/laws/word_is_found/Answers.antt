@@ -1,12 +1,8 @@
 use Rattle.std.proofs.Common.{◌≡◌, ◌∙◌, ◌<◌, ◌*◌, ℕ, [], arith, length, slice_index_or}
 use Rattle.std.proofs.lemmas.List.{length-map}
-use Rattle.std.specs.Cmp.{nat_cmp_total}
-use Rattle.std.specs.Cmp.Lexicographic.{lists_total}
-use Rattle.inf_dictionary.specs.Lookup.{text_written}
-use Rattle.inf_dictionary.specs.Texts.{texts_of}
-use Rattle.inf_dictionary.specs.Words.{dictionary_bytes}
-use Rattle.inf_dictionary.proofs.Halves.{found_where_it_stands, none_found, other_at}
-use Rattle.inf_dictionary.proofs.Wholes.{text_at, behind_head}
+use Rattle.std.specs.{Cmp.Lexicographic.lists_total, Cmp.nat_cmp_total}
+use Rattle.inf_dictionary.specs.{Lookup.text_written, Texts.texts_of, Words.dictionary_bytes}
+use Rattle.inf_dictionary.proofs.{Halves.found_where_it_stands, Halves.none_found, Halves.other_at, Wholes.behind_head, Wholes.text_at}
 use Rattle.inf_dictionary.proofs.laws.word_is_found.Goals as goal
 
 pub returns-clause-found : goal.returns-clause-found

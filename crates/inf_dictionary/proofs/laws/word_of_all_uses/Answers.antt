@@ -1,5 +1,4 @@
-use Rattle.std.specs.Cmp.{nat_cmp_total}
-use Rattle.std.specs.Cmp.Lexicographic.{lists_total}
+use Rattle.std.specs.{Cmp.Lexicographic.lists_total, Cmp.nat_cmp_total}
 use Rattle.inf_dictionary.proofs.Known.{known_by_all}
 use Rattle.inf_dictionary.proofs.laws.word_of_all_uses.Goals as goal
 

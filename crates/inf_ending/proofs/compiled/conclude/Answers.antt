@@ -1,18 +1,14 @@
 use Rattle.std.proofs.Common.{◌≡◌, IfErr, IfOk, IsErrOf, None, Result, Ok, Err, subst}
 use Rattle.inf_opcode.proofs.Growing.{on_err}
 use Rattle.inf_compilation.specs.Works.{work as work_of}
+use Rattle.inf_ending.specs.{Ending.Outcome, Ending.finished, declared.compiled.Status.Status, declared.faults.Fault.Fault}
 use Rattle.inf_ending.specs.Delivered.{Delivers, EndsCleanOf, story_in}
-use Rattle.inf_ending.specs.Ending.{Outcome, finished}
-use Rattle.inf_ending.specs.declared.compiled.Status.TheVariants as status
-use Rattle.inf_ending.specs.declared.faults.Fault.{Fault}
-use Rattle.inf_ending.specs.declared.faults.Fault.TheVariants as fault
+use Rattle.inf_ending.proofs.{Endings.errors_none, Quiet.hides_none}
 use Rattle.inf_ending.proofs.Delivering.{appends_none, ends_clean, has_none, if_ok_more, takes_no_front}
-use Rattle.inf_ending.proofs.Endings.{errors_none}
-use Rattle.inf_ending.proofs.Quiet.{hides_none}
 use Rattle.inf_ending.proofs.compiled.conclude.Goals as goal
 
 -- where messages are the only fault, want of memory is none
-never_memory : {A : Type 0} (r : Result A Fault) → IfErr r (λ f. f ≡ fault.Messages) → IsErrOf r fault.Memory → ⊥
+never_memory : {A : Type 0} (r : Result A Fault) → IfErr r (λ f. f ≡ Fault.Messages) → IsErrOf r Fault.Memory → ⊥
 never_memory (Ok x) only is = cc
 never_memory (Err f) only is = cc
 
@@ -30,7 +26,7 @@ returns-clause-clean g c =
     let serial = c.args.serial.now in
     let e = finished g.B.Bounds.most serial names (work_of c.args.work) in
     if_ok_more c.written.result (λ x. Delivers e x old new)
-    (λ x. x.status ≡ status.Success → EndsCleanOf g.B.Bounds.most serial names (work_of c.args.work) (story_in x) old new)
+    (λ x. x.status ≡ Status.Success → EndsCleanOf g.B.Bounds.most serial names (work_of c.args.work) (story_in x) old new)
     (λ x d. ends_clean g.B.Bounds.most serial names (work_of c.args.work) x old new d)
     (subst (λ (t : Outcome). IfOk c.written.result (λ x. Delivers t x old new)) c.in_ok-ending.ensures c.written.ensures.ok)
 
@@ -41,7 +37,7 @@ returns-clause-errors g c =
     let names = c.args.names.now.names in
     let serial = c.args.serial.now in
     let e = finished g.B.Bounds.most serial names (work_of c.args.work) in
-    if_ok_more c.written.result (λ x. Delivers e x old new) (λ x. x.status ≡ status.Errors → x.story ≡ None)
+    if_ok_more c.written.result (λ x. Delivers e x old new) (λ x. x.status ≡ Status.Errors → x.story ≡ None)
     (λ x d. has_none e x old new (errors_none g.B.Bounds.most serial names (work_of c.args.work)) d)
     (subst (λ (t : Outcome). IfOk c.written.result (λ x. Delivers t x old new)) c.in_ok-ending.ensures c.written.ensures.ok)
 

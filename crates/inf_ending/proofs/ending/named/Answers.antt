@@ -1,5 +1,4 @@
-use Rattle.std.specs.Prelude.{option_map}
-use Rattle.std.proofs.Common.{◌≡◌, IfOk, List, Option, ap, subst, sym}
+use Rattle.std.proofs.Common.{option_map, ◌≡◌, IfOk, List, Option, ap, subst, sym}
 use Rattle.inf_area.specs.declared.targets.Value.{Value}
 use Rattle.inf_ending.specs.Ending.{named, seen}
 use Rattle.inf_ending.proofs.ending.named.Goals as goal

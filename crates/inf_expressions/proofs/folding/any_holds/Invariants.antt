@@ -1,6 +1,5 @@
 use Rattle.std.proofs.Common.{◌≡◌, Some, false}
-use Rattle.inf_expressions.specs.Nodes.{tree_at}
-use Rattle.inf_expressions.specs.Folding.{any_holds}
+use Rattle.inf_expressions.specs.{Folding.any_holds, Nodes.tree_at}
 use Rattle.inf_expressions.proofs.folding.any_holds.Given as goal
 
 abbrev pub invariant-loop-b : goal.invariant-loop-b

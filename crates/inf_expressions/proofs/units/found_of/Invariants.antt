@@ -1,7 +1,5 @@
 use Rattle.std.proofs.Common.{◌≡◌, drop, map}
-use Rattle.inf_expressions.specs.Forests.{trees_in}
-use Rattle.inf_expressions.specs.Nodes.{rooted_at}
-use Rattle.inf_expressions.specs.Units.{roots_finding}
+use Rattle.inf_expressions.specs.{Forests.trees_in, Nodes.rooted_at, Units.roots_finding}
 use Rattle.inf_expressions.proofs.units.found_of.Given as goal
 
 abbrev pub invariant-loop-root : goal.invariant-loop-root

@@ -1,6 +1,5 @@
+use Rattle.std.proofs.{lemmas.List.Edits.map_over_more, lemmas.List.drop_all, lemmas.List.get_or_default, lemmas.List.take_all}
 use Rattle.std.proofs.Common.{rules}
-use Rattle.std.proofs.lemmas.List.{drop_all, get_or_default, take_all}
-use Rattle.std.proofs.lemmas.List.Edits.{map_over_more}
 use Rattle.inf_gathering.specs.Gatherings.{action_leaf}
 use Rattle.inf_gathering.proofs.gathering.name_all.Goals as goal
 

@@ -1,9 +1,8 @@
 use Rattle.std.proofs.Common.{◌∙◌, ap, sym, arith}
 use Rattle.inf_machine.specs.Grammar.{has}
-use Rattle.inf_grammar.specs.Tables.{set_number}
+use Rattle.inf_grammar.specs.{Evaluated.begins_past, Tables.set_number}
 use Rattle.inf_machine.proofs.Sets.{has_zero}
 use Rattle.inf_grammar.proofs.CodeTables.{rule_is, rules_length}
-use Rattle.inf_grammar.specs.Evaluated.{begins_past}
 use Rattle.inf_grammar.proofs.rules.begins.Goals as goal
 
 pub returns-in-Some : goal.returns-in-Some

@@ -1,7 +1,6 @@
 -- By evaluation.
 use Rattle.std.proofs.Common.{refl}
-use Rattle.inf_grammar.specs.Tables.{all_classes}
-use Rattle.inf_grammar.specs.Language.{grammar, known}
+use Rattle.inf_grammar.specs.{Language.grammar, Language.known, Tables.all_classes}
 use Rattle.inf_grammar.proofs.rules.classes.Goals as goal
 
 pub returns : goal.returns

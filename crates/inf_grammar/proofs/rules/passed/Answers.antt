@@ -1,8 +1,7 @@
 use Rattle.std.proofs.Common.{◌∙◌, ap, sym, subst, arith, reverse}
 use Rattle.inf_machine.specs.Machine.{passed_row}
-use Rattle.inf_grammar.specs.Language.{grammar, known}
+use Rattle.inf_grammar.specs.{Evaluated.rows_past, Language.grammar, Language.known}
 use Rattle.inf_grammar.proofs.CodeTables.{IsRule, only_acts, rule_is, rules_length}
-use Rattle.inf_grammar.specs.Evaluated.{rows_past}
 use Rattle.inf_grammar.proofs.rules.passed.Goals as goal
 
 pub returns-in-Some-clause-row : goal.returns-in-Some-clause-row

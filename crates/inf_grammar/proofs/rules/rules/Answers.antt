@@ -1,7 +1,6 @@
 -- By evaluation.
 use Rattle.std.proofs.Common.{refl}
-use Rattle.inf_grammar.specs.Tables.{all_rules}
-use Rattle.inf_grammar.specs.Language.{grammar, known}
+use Rattle.inf_grammar.specs.{Language.grammar, Language.known, Tables.all_rules}
 use Rattle.inf_grammar.proofs.rules.rules.Goals as goal
 
 pub returns : goal.returns

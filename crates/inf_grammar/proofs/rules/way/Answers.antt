@@ -1,9 +1,7 @@
 use Rattle.std.proofs.Common.{◌∙◌, ap, sym, subst, arith, reverse}
 use Rattle.inf_machine.specs.Machine.{row_for, passed_row}
-use Rattle.inf_grammar.specs.Language.{grammar, known}
-use Rattle.inf_grammar.specs.Tables.{all_parts, cut}
+use Rattle.inf_grammar.specs.{Evaluated.rows_past, Language.grammar, Language.known, Tables.all_parts, Tables.cut}
 use Rattle.inf_grammar.proofs.CodeTables.{IsRule, rule_is, rules_length, span_is_way}
-use Rattle.inf_grammar.specs.Evaluated.{rows_past}
 use Rattle.inf_grammar.proofs.rules.way.Goals as goal
 
 pub returns-in-Some : goal.returns-in-Some

@@ -1,5 +1,4 @@
-use Rattle.inf_laws.proofs.KeptTokens.{kept_tokens_are_read, tokens_are_handed_on}
-use Rattle.inf_laws.proofs.KeptTurns.{turns_read_pieces}
+use Rattle.inf_laws.proofs.{KeptTokens.kept_tokens_are_read, KeptTokens.tokens_are_handed_on, KeptTurns.turns_read_pieces}
 use Rattle.inf_laws.proofs.laws.kept_tokens_are_read.Goals as goal
 
 pub returns : goal.returns

@@ -1,7 +1,6 @@
+use Rattle.std.proofs.{lemmas.Bool.and_from, lemmas.Bool.cond-true, lemmas.Str.IsUtf8-from_ascii}
 use Rattle.std.proofs.Common.{◌≡◌, ◌==◌, length, nat_lt, true, false, not, Some, None, sym, ap, ◌∙◌}
 use Rattle.std.specs.List.{list_all}
-use Rattle.std.proofs.lemmas.Bool.{and_from, cond-true}
-use Rattle.std.proofs.lemmas.Str.{IsUtf8-from_ascii}
 use Rattle.inf_lexer.specs.Names.{is_fit}
 use Rattle.inf_lexer.proofs.FileNames.{all_ascii}
 use Rattle.inf_lexer.proofs.include_names.fit_name.Goals as goal

@@ -1,12 +1,10 @@
 use Rattle.std.proofs.Common.{◌++◌, Bool, IsTrue, subst, ℕ, List, drop, length, refl, sym, ap, ◌∙◌, arith, length-drop}
 use Rattle.inf_lexer.specs.Unread.{behind_view}
-use Rattle.inf_lexer.proofs.Counting.{counts_then, counts_then_as}
+use Rattle.inf_lexer.proofs.{Counting.counts_then, Counting.counts_then_as, Unfinished.stays_unfinished}
 use Rattle.inf_lexer.proofs.Hearing.{ends_on, ends_taken, heard_on, heard_source, heard_taken, still_taken}
-use Rattle.inf_lexer.proofs.Unfinished.{stays_unfinished}
 use Rattle.inf_lexer.proofs.Scanned.{find_end, none_left, some_left}
+use Rattle.inf_scanner.specs.{declared.scanner.State.State, declared.scanner.Turn.Turn}
 use Rattle.inf_scanner.specs.Scanning.{Found, begun, find, found_after, is_on, is_open, is_quoted, sight}
-use Rattle.inf_scanner.specs.declared.scanner.State.TheVariants as state
-use Rattle.inf_scanner.specs.declared.scanner.Turn.{Turn}
 use Rattle.inf_lexer.proofs.lexer.scan.Goals as goal
 
 -- the bytes that were heard up to a full window
@@ -21,12 +19,12 @@ windows-preserved g c =
           (files.openings c.refill.new.files) c.args.window.now c.refill.new.self c.pass.new.self
           (find c.args.set c.args.limit c.windows.state (sight c.windows.seen))
           (find c.args.set c.args.limit c.in-On.next (sight c.take_all.new.self))
-          (find c.args.set c.args.limit state.Gap (begun c.args.seen.now.lines))
+          (find c.args.set c.args.limit State.Gap (begun c.args.seen.now.lines))
           (heard_on Found (files.is_honest c.args.files.now) (files.is_honest c.windows.files) (files.sources c.args.files.now)
           (files.sources c.windows.files) (files.openings c.args.files.now) (files.openings c.windows.files)
           (files.openings c.refill.new.files) c.args.window.now c.windows.window c.refill.new.self
           (find c.args.set c.args.limit c.windows.state (sight c.windows.seen))
-          (find c.args.set c.args.limit state.Gap (begun c.args.seen.now.lines)) inv.heard inv.honesty inv.sources filled.reads)
+          (find c.args.set c.args.limit State.Gap (begun c.args.seen.now.lines)) inv.heard inv.honesty inv.sources filled.reads)
           c.pass.ensures.given c.pass.ensures.over
           (λ rest may. ap (λ (l : List ℕ). find c.args.set c.args.limit c.in-On.next (sight c.take_all.new.self) (l ++ rest))
           c.pass.ensures.left
@@ -105,12 +103,12 @@ returns-then-is_empty-clause-heard g c =
     (files.openings c.refill.new.files) c.args.window.now c.refill.new.self c.refill.new.self
     (find c.args.set c.args.limit c.windows.state (sight c.windows.seen))
     (λ rest. record { ending = c.at_end.result; seen = sight c.mark.new.self; rest = rest })
-    (find c.args.set c.args.limit state.Gap (begun c.args.seen.now.lines))
+    (find c.args.set c.args.limit State.Gap (begun c.args.seen.now.lines))
     (heard_on Found (files.is_honest c.args.files.now) (files.is_honest c.windows.files) (files.sources c.args.files.now)
     (files.sources c.windows.files) (files.openings c.args.files.now) (files.openings c.windows.files)
     (files.openings c.refill.new.files) c.args.window.now c.windows.window c.refill.new.self
     (find c.args.set c.args.limit c.windows.state (sight c.windows.seen))
-    (find c.args.set c.args.limit state.Gap (begun c.args.seen.now.lines)) inv.heard inv.honesty inv.sources filled.reads) refl refl
+    (find c.args.set c.args.limit State.Gap (begun c.args.seen.now.lines)) inv.heard inv.honesty inv.sources filled.reads) refl refl
     (λ rest may. ap (λ e. record { ending = e; seen = sight c.mark.new.self; rest = c.refill.new.self.left ++ rest }) c.at_end.ensures
     ∙ find_end c.args.set c.args.limit c.windows.state (sight c.windows.seen) (sight c.mark.new.self) c.refill.new.self.left rest
     empty (may (filled.over empty)) c.mark.ensures)
@@ -125,12 +123,12 @@ returns-in-Last-clause-heard g c =
     (files.openings c.refill.new.files) c.args.window.now c.refill.new.self c.pass.new.self
     (find c.args.set c.args.limit c.windows.state (sight c.windows.seen))
     (λ rest. record { ending = c.in-Last.ending; seen = sight c.take_all.new.self; rest = rest })
-    (find c.args.set c.args.limit state.Gap (begun c.args.seen.now.lines))
+    (find c.args.set c.args.limit State.Gap (begun c.args.seen.now.lines))
     (heard_on Found (files.is_honest c.args.files.now) (files.is_honest c.windows.files) (files.sources c.args.files.now)
     (files.sources c.windows.files) (files.openings c.args.files.now) (files.openings c.windows.files)
     (files.openings c.refill.new.files) c.args.window.now c.windows.window c.refill.new.self
     (find c.args.set c.args.limit c.windows.state (sight c.windows.seen))
-    (find c.args.set c.args.limit state.Gap (begun c.args.seen.now.lines)) inv.heard inv.honesty inv.sources filled.reads)
+    (find c.args.set c.args.limit State.Gap (begun c.args.seen.now.lines)) inv.heard inv.honesty inv.sources filled.reads)
     c.pass.ensures.given c.pass.ensures.over
     (λ rest may. ap (λ (l : List ℕ). record { ending = c.in-Last.ending; seen = sight c.take_all.new.self; rest = l ++ rest })
     c.pass.ensures.left
@@ -151,12 +149,12 @@ returns-in-Behind-clause-heard g c =
     (files.openings c.refill.new.files) c.args.window.now c.refill.new.self c.pass.new.self
     (find c.args.set c.args.limit c.windows.state (sight c.windows.seen))
     (λ rest. record { ending = c.in-Behind.ending; seen = sight c.take_all.new.self; rest = rest })
-    (find c.args.set c.args.limit state.Gap (begun c.args.seen.now.lines))
+    (find c.args.set c.args.limit State.Gap (begun c.args.seen.now.lines))
     (heard_on Found (files.is_honest c.args.files.now) (files.is_honest c.windows.files) (files.sources c.args.files.now)
     (files.sources c.windows.files) (files.openings c.args.files.now) (files.openings c.windows.files)
     (files.openings c.refill.new.files) c.args.window.now c.windows.window c.refill.new.self
     (find c.args.set c.args.limit c.windows.state (sight c.windows.seen))
-    (find c.args.set c.args.limit state.Gap (begun c.args.seen.now.lines)) inv.heard inv.honesty inv.sources filled.reads)
+    (find c.args.set c.args.limit State.Gap (begun c.args.seen.now.lines)) inv.heard inv.honesty inv.sources filled.reads)
     c.pass.ensures.given c.pass.ensures.over
     (λ rest may. ap (λ (l : List ℕ). record { ending = c.in-Behind.ending; seen = sight c.take_all.new.self; rest = l ++ rest })
     c.pass.ensures.left
@@ -179,12 +177,12 @@ returns-in_err-taken-clause-memory g c = λ memory honest.
     let openings = files.openings c.refill.new.files in
     let same = heard_source Found (files.is_honest c.args.files.now) sources (files.openings c.args.files.now) openings c.args.window.now
     c.refill.new.self (find c.args.set c.args.limit c.windows.state (sight c.windows.seen))
-    (find c.args.set c.args.limit state.Gap (begun c.args.seen.now.lines))
+    (find c.args.set c.args.limit State.Gap (begun c.args.seen.now.lines))
     (heard_on Found (files.is_honest c.args.files.now) (files.is_honest c.windows.files) (files.sources c.args.files.now)
     (files.sources c.windows.files) (files.openings c.args.files.now) (files.openings c.windows.files)
     (files.openings c.refill.new.files) c.args.window.now c.windows.window c.refill.new.self
     (find c.args.set c.args.limit c.windows.state (sight c.windows.seen))
-    (find c.args.set c.args.limit state.Gap (begun c.args.seen.now.lines)) inv.heard inv.honesty inv.sources filled.reads) honest
+    (find c.args.set c.args.limit State.Gap (begun c.args.seen.now.lines)) inv.heard inv.honesty inv.sources filled.reads) honest
     (ends_on (files.is_honest c.args.files.now) (files.is_honest c.windows.files) (files.sources c.args.files.now)
     (files.sources c.windows.files) (files.openings c.args.files.now) (files.openings c.windows.files)
     (files.openings c.refill.new.files) c.args.window.now c.windows.window c.refill.new.self inv.end inv.honesty inv.sources filled.end

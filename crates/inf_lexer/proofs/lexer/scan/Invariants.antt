@@ -1,8 +1,6 @@
 use Rattle.std.proofs.Common.{◌≡◌, ◌+◌, ◌-◌, ◌≤◌, true, length, IsTrue}
-use Rattle.inf_lexer.specs.Counted.{CountsOn}
-use Rattle.inf_lexer.specs.Unread.{Ends, Heard, StillGives}
-use Rattle.inf_scanner.specs.Scanning.{Found, begun, find, goes_on, sight}
-use Rattle.inf_scanner.specs.declared.scanner.State.TheVariants as state
+use Rattle.inf_lexer.specs.{Counted.CountsOn, Unread.Ends, Unread.Heard, Unread.StillGives}
+use Rattle.inf_scanner.specs.{Scanning.Found, Scanning.begun, Scanning.find, Scanning.goes_on, Scanning.sight, declared.scanner.State.State}
 use Rattle.inf_lexer.proofs.lexer.scan.Given as goal
 
 -- the token that is read from here is the token from the start, and the bytes that were given since are in view or were taken
@@ -12,7 +10,7 @@ invariant-windows g l =
     let sources = files.sources l.fn.files in
     record {
       heard : Heard Found (files.is_honest l.fn.files) sources (files.openings l.fn.files) (files.openings l.files) l.fn.window l.window
-          (find l.set l.limit l.state (sight l.seen)) (find l.set l.limit state.Gap (begun l.fn.seen.lines));
+          (find l.set l.limit l.state (sight l.seen)) (find l.set l.limit State.Gap (begun l.fn.seen.lines));
       end : IsTrue (files.is_honest l.fn.files) → Ends sources (files.openings l.fn.files) l.fn.window →
           Ends sources (files.openings l.files) l.window;
       still : IsTrue (files.is_honest l.fn.files) → StillGives (files.openings l.fn.files) l.fn.window →

@@ -1,10 +1,9 @@
 use Rattle.std.proofs.Common.{◌++◌, Bool, IsTrue, subst, ℕ, List, drop, length, refl, sym, ap, ◌∙◌, arith, length-drop}
 use Rattle.inf_lexer.specs.Heads.{HeadFound, head_after, head_found, is_behind, is_head_on, turn_place}
 use Rattle.inf_lexer.specs.declared.head.HeadTurn.{HeadTurn}
-use Rattle.inf_lexer.proofs.Heading.{head_end, head_stays_open}
-use Rattle.inf_lexer.proofs.Counting.{counts_then, counts_then_as}
+use Rattle.inf_lexer.proofs.{Counting.counts_then, Counting.counts_then_as, Heading.head_end, Heading.head_stays_open, Scanned.none_left}
+use Rattle.inf_lexer.proofs.{Scanned.some_left}
 use Rattle.inf_lexer.proofs.Hearing.{ends_on, ends_taken, heard_on, heard_taken, still_taken}
-use Rattle.inf_lexer.proofs.Scanned.{none_left, some_left}
 use Rattle.inf_lexer.proofs.lexer.scan_head.Goals as goal
 
 -- the bytes that were heard up to a full window

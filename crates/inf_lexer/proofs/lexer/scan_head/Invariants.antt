@@ -1,7 +1,6 @@
 use Rattle.std.proofs.Common.{◌≡◌, ◌+◌, ◌-◌, ◌≤◌, false, length, IsTrue}
-use Rattle.inf_lexer.specs.Counted.{CountsOn}
-use Rattle.inf_lexer.specs.Heads.{HeadFound, head_found, is_behind}
-use Rattle.inf_lexer.specs.Unread.{Ends, Heard, StillGives}
+use Rattle.inf_lexer.specs.{Counted.CountsOn, Heads.HeadFound, Heads.head_found, Heads.is_behind, Unread.Ends, Unread.Heard}
+use Rattle.inf_lexer.specs.{Unread.StillGives}
 use Rattle.inf_lexer.proofs.lexer.scan_head.Given as goal
 
 -- the head that is read from here is the head from the start, and the bytes that were given since are in view or were taken

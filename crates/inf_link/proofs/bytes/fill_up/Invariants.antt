@@ -1,5 +1,4 @@
-use Rattle.std.proofs.Common.{◌≡◌, ◌++◌}
-use Rattle.std.proofs.Common.{replicate}
+use Rattle.std.proofs.Common.{◌≡◌, ◌++◌, replicate}
 use Rattle.inf_link.proofs.bytes.fill_up.Given as goal
 
 abbrev pub invariant-loop : goal.invariant-loop

@@ -1,5 +1,4 @@
-use Rattle.std.proofs.Common.{◌≡◌, ◌++◌, take}
-use Rattle.std.specs.List.{flat_map}
+use Rattle.std.proofs.Common.{◌≡◌, ◌++◌, take, flat_map}
 use Rattle.inf_link.specs.Header.{number_bytes}
 use Rattle.inf_link.proofs.header.append_numbers.Given as goal
 

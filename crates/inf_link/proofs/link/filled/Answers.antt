@@ -1,11 +1,7 @@
 -- The order of the words does not matter.
 use Rattle.std.proofs.Common.{◌∙◌, ap, refl}
-use Rattle.inf_link.specs.Areas.{contents}
-use Rattle.inf_link.specs.Filling.{filled}
-use Rattle.inf_link.specs.Targets.{lookup, number_of}
-use Rattle.inf_link.proofs.Fillings.{filled-same}
-use Rattle.inf_link.proofs.Looking.{AreAlike, number_alike}
-use Rattle.inf_link.proofs.Ranks.{rank_of-permutation}
+use Rattle.inf_link.specs.{Areas.contents, Filling.filled, Targets.lookup, Targets.number_of}
+use Rattle.inf_link.proofs.{Fillings.filled-same, Looking.AreAlike, Looking.number_alike, Ranks.rank_of-permutation}
 use Rattle.inf_link.proofs.link.filled.Goals as goal
 
 pub returns : goal.returns

@@ -1,19 +1,16 @@
 -- The walk passes a rule that can be empty, and ends at one that the token begins.
 use Rattle.std.proofs.Common.{◌≡◌, ℕ, ◌-◌, ◌<◌, ◌≤◌, List, ◌∷◌, ◌++◌, ◌∙◌, ap, sym, subst, arith, true, length, reverse, take, get_or}
 use Rattle.std.proofs.lemmas.List.{reverse-append}
-use Rattle.inf_machine.specs.declared.symbols.Symbol.{Symbol}
-use Rattle.inf_machine.specs.declared.symbols.Symbol.TheVariants.{Rule}
-use Rattle.inf_machine.specs.Grammar.{Grammar, has}
-use Rattle.inf_machine.specs.Laws.{IsDecided}
+use Rattle.inf_machine.specs.{Grammar.Grammar, Grammar.has, Laws.IsDecided, declared.symbols.Symbol.Symbol}
 use Rattle.inf_machine.specs.Machine.{Known, acts_of, opened}
 use Rattle.inf_machine.proofs.Reaching.{IsOn, Ends, on_passed, at_rule, top_is, take_on}
 use Rattle.inf_machine.proofs.machine.reach.Goals as goal
 
 -- a rule at hand, with the symbols behind it
 rule_is : {A : Type 0} (all now : List (Symbol A)) (below rule : ℕ) (x : Symbol A) → 0 < below → below ≤ length now → now ≡ all →
-    x ≡ get_or now (below - 1) x → x ≡ Rule rule → reverse (take below all) ≡ Rule rule ∷ reverse (take (below - 1) all)
+    x ≡ get_or now (below - 1) x → x ≡ Symbol.Rule rule → reverse (take below all) ≡ Symbol.Rule rule ∷ reverse (take (below - 1) all)
 rule_is all now below rule x p l same at is =
-    subst (λ s. reverse (take below s) ≡ Rule rule ∷ reverse (take (below - 1) s)) same
+    subst (λ s. reverse (take below s) ≡ Symbol.Rule rule ∷ reverse (take (below - 1) s)) same
     (top_is now below x p l at ∙ ap (λ s. s ∷ reverse (take (below - 1) now)) is)
 
 pub loop-below-preserved : goal.loop-below-preserved
@@ -40,7 +37,7 @@ loop-below-preserved g c =
 -- the opening of the rule leads where the token does
 ends : {A : Type 0} (g : Grammar A) (k : Known) → IsDecided g k →
     (atom rule below : ℕ) (all now : List (Symbol A)) (x : Symbol A) (first acts : List A) (o : ℕ × ℕ) → 0 < below → below ≤ length now →
-    now ≡ all → x ≡ get_or now (below - 1) x → x ≡ Rule rule → has (k.begins rule) atom ≡ true → o ≡ (rule, atom) →
+    now ≡ all → x ≡ get_or now (below - 1) x → x ≡ Symbol.Rule rule → has (k.begins rule) atom ≡ true → o ≡ (rule, atom) →
     IsOn g k atom (reverse all) (reverse (take below all)) first acts →
     Ends g k atom (reverse all) ((opened g k o.0 o.1).left ++ reverse (take (below - 1) all)) first (acts ++ (opened g k o.0 o.1).actions)
 ends g k d atom rule below all now x first acts o p l same at is h e on =

@@ -1,6 +1,5 @@
 -- The symbols put so far come behind those that stay, and there is room for the rest.
-use Rattle.std.proofs.Common.{◌≡◌, ◌≤◌, ◌+◌, ◌++◌, length, take}
-use Rattle.std.specs.Vec.{vec_capacity}
+use Rattle.std.proofs.Common.{◌≡◌, ◌≤◌, ◌+◌, ◌++◌, length, take, vec_capacity}
 use Rattle.inf_machine.proofs.machine.replace.Given as goal
 
 abbrev pub invariant-loop-other : goal.invariant-loop-other

@@ -1,7 +1,7 @@
 -- Names differ where their lengths or their last letters differ.
 use Rattle.std.proofs.Common.{nat_eq, sym, ◌∙◌, arith}
-use Rattle.std.specs.Str.{str_eq_ignore_ascii_case}
 use Rattle.std.proofs.lemmas.Bool.{eqb-true, false_from_ne_true}
+use Rattle.std.specs.Str.{str_eq_ignore_ascii_case}
 use Rattle.inf_names.proofs.SameNames.{same_length, same_letter}
 use Rattle.inf_names.proofs.locals.is_same_name.Goals as goal
 

@@ -1,6 +1,5 @@
 -- Lemmas are the answers.
-use Rattle.inf_number_laws.proofs.Untold.{sources_keep, untold_is_sound}
-use Rattle.inf_number_laws.proofs.Whole.{trees_keep}
+use Rattle.inf_number_laws.proofs.{Untold.sources_keep, Untold.untold_is_sound, Whole.trees_keep}
 use Rattle.inf_number_laws.proofs.laws.trees_keep_their_meaning.Goals as goal
 
 pub returns : goal.returns

@@ -1,6 +1,5 @@
-use Rattle.std.proofs.Common.{length-set, Bool, false, None, sym, ap, ◌∙◌, arith}
+use Rattle.std.proofs.Common.{length-set, Bool, false, None, sym, ap, ◌∙◌, arith, slice_set, ◌+◌}
 use Rattle.inf_objects.specs.Attributes.{said_or}
-use Rattle.std.specs.Prelude.{slice_set, ◌+◌}
 use Rattle.inf_objects.proofs.Merging.{merged_end, merged_from, merged_next}
 use Rattle.inf_objects.proofs.attributes.attributes_by.Goals as goal
 

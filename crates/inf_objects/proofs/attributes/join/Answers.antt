@@ -1,5 +1,4 @@
-use Rattle.std.proofs.Common.{length-set, Bool, false, sym, ◌∙◌, arith}
-use Rattle.std.specs.Prelude.{◌||◌}
+use Rattle.std.proofs.Common.{length-set, Bool, false, sym, ◌∙◌, arith, ◌||◌}
 use Rattle.inf_objects.proofs.Merging.{merged_end, merged_next}
 use Rattle.inf_objects.proofs.attributes.join.Goals as goal
 

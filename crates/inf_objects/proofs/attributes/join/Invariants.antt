@@ -1,5 +1,4 @@
-use Rattle.std.proofs.Common.{◌≡◌, length}
-use Rattle.std.specs.Prelude.{◌||◌}
+use Rattle.std.proofs.Common.{◌≡◌, length, ◌||◌}
 use Rattle.inf_objects.specs.Attributes.{together}
 use Rattle.inf_objects.proofs.Merging.{merged_from}
 use Rattle.inf_objects.proofs.attributes.join.Given as goal

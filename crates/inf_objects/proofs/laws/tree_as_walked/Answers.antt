@@ -1,5 +1,4 @@
-use Rattle.std.proofs.Common.{◌≡◌, ◌+◌, ◌==◌, ap, ◌∙◌, arith}
-use Rattle.std.specs.Prelude.{count_by}
+use Rattle.std.proofs.Common.{◌≡◌, ◌+◌, ◌==◌, ap, ◌∙◌, arith, count_by}
 use Rattle.inf_objects.specs.Tree.{children_of}
 use Rattle.inf_objects.proofs.Walking.{children_rise, count_once, walk_children}
 use Rattle.inf_objects.proofs.laws.tree_as_walked.Goals as goal

@@ -1,10 +1,7 @@
 use Rattle.std.proofs.Common.{◌≡◌, length, sym, subst}
 use Rattle.inf_area.specs.Cells.{bytes_of, later_count}
-use Rattle.inf_objects.specs.Measures.{CountedBy}
-use Rattle.inf_objects.specs.Tables.{individual_table_cells, table_cells}
-use Rattle.inf_objects.specs.declared.sizes.Measure.{Measure}
-use Rattle.inf_objects.proofs.Counted.{counted}
-use Rattle.inf_objects.proofs.Written.{individual_table_measured, table_measured}
+use Rattle.inf_objects.specs.{Measures.CountedBy, Tables.individual_table_cells, Tables.table_cells, declared.sizes.Measure.Measure}
+use Rattle.inf_objects.proofs.{Counted.counted, Written.individual_table_measured, Written.table_measured}
 use Rattle.inf_objects.proofs.sizes.measured.Goals as goal
 
 pub returns-clause-table : goal.returns-clause-table

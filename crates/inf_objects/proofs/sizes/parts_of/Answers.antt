@@ -1,7 +1,6 @@
 use Rattle.std.proofs.Common.{ap, arith}
 use Rattle.inf_properties.proofs.Steps.{short_step, sum_step}
-use Rattle.inf_objects.specs.Measures.{kind_part}
-use Rattle.inf_objects.specs.declared.sizes.Part.{Part}
+use Rattle.inf_objects.specs.{Measures.kind_part, declared.sizes.Part.Part}
 use Rattle.inf_objects.proofs.Measuring.{kind_within, parts_within}
 use Rattle.inf_objects.proofs.sizes.parts_of.Goals as goal
 

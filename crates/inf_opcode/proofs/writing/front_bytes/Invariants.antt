@@ -1,8 +1,5 @@
-use Rattle.std.proofs.Common.{◌≡◌, ◌≤◌, ◌+◌, ◌*◌, ◌++◌, take, length}
-use Rattle.std.specs.List.{flat_map}
-use Rattle.inf_opcode.specs.Cells.{long_bytes}
-use Rattle.inf_opcode.specs.Opcodes.{row_of}
-use Rattle.inf_opcode.specs.Instructions.{heading, operand_cells}
+use Rattle.std.proofs.Common.{◌≡◌, ◌≤◌, ◌+◌, ◌*◌, ◌++◌, take, length, flat_map}
+use Rattle.inf_opcode.specs.{Cells.long_bytes, Instructions.heading, Instructions.operand_cells, Opcodes.row_of}
 use Rattle.inf_opcode.proofs.writing.front_bytes.Given as goal
 
 -- the operands so far are written behind the heading

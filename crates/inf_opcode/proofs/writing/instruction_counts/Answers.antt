@@ -1,12 +1,7 @@
 -- The parts are counted one by one.
-use Rattle.std.proofs.Common.{◌≡◌, ℕ, ◌+◌, ◌*◌, ◌++◌, ◌∙◌, ap, length, arith}
-use Rattle.std.specs.List.{flat_map}
-use Rattle.inf_opcode.specs.declared.writing.Counts.{Counts}
-use Rattle.inf_opcode.specs.Cells.{plain}
-use Rattle.inf_opcode.specs.Counts.{counts_of}
-use Rattle.inf_opcode.specs.Opcodes.{row_of}
+use Rattle.std.proofs.Common.{◌≡◌, ℕ, ◌+◌, ◌*◌, ◌++◌, ◌∙◌, ap, length, arith, flat_map}
+use Rattle.inf_opcode.specs.{Cells.plain, Counts.counts_of, Opcodes.row_of, PartsOf.parts_of, declared.writing.Counts.Counts}
 use Rattle.inf_opcode.specs.Instructions.{heading, operand_cells, store_cells, branch_cells, front_cells}
-use Rattle.inf_opcode.specs.PartsOf.{parts_of}
 use Rattle.inf_opcode.proofs.Growing.{long-plain}
 use Rattle.inf_opcode.proofs.Counting.{length-long, labels-append, fixups-append, labels-plain, fixups-plain}
 use Rattle.inf_opcode.proofs.writing.instruction_counts.Goals as goal

@@ -1,14 +1,9 @@
 -- The operands are kept, and then the branch.
-use Rattle.std.proofs.Common.{◌≡◌, ℕ, ◌+◌, ◌-◌, [], ◌∷◌, ◌++◌, length, Option, sym, ◌∙◌, ap, append-nil, append_assoc, arith}
-use Rattle.std.specs.List.{flat_map}
-use Rattle.inf_opcode.specs.declared.cells.Kept.{Kept}
-use Rattle.inf_opcode.specs.declared.cells.Special.TheVariants.{Branches}
-use Rattle.inf_opcode.specs.declared.instructions.Branch.{Branch}
+use Rattle.std.proofs.Common.{◌≡◌, ℕ, ◌+◌, ◌-◌, [], ◌∷◌, ◌++◌, length, Option, sym, ◌∙◌, ap, append-nil, append_assoc, arith, flat_map}
+use Rattle.inf_opcode.specs.{Opcodes.row_of, declared.cells.Kept.Kept, declared.cells.Special.Special, declared.instructions.Branch.Branch}
 use Rattle.inf_opcode.specs.Cells.{plain, long_bytes, kept_from}
-use Rattle.inf_opcode.specs.Opcodes.{row_of}
 use Rattle.inf_opcode.specs.Instructions.{heading, operand_cells, store_cells, branch_cells}
-use Rattle.inf_opcode.proofs.Counting.{length-long}
-use Rattle.inf_opcode.proofs.Fronts.{kept-front, size-front}
+use Rattle.inf_opcode.proofs.{Counting.length-long, Fronts.kept-front, Fronts.size-front}
 use Rattle.inf_opcode.proofs.writing.keep_front.Goals as goal
 
 pub overflow_add-first : goal.overflow_add-first
@@ -65,7 +60,7 @@ returns-in_ok-push-clause-ok c =
     ap (λ n. c.args.start + n) (c.heading_len.ensures.value ∙ ap (λ row. length (heading row operands)) c.row.ensures.exact) in
     let kept = c.args.kept.now.items in
     let given = kept_from (c.args.start + length head) cells in
-    let Entry : ℕ → Kept = λ n. record { place = n; what = Branches branch } in
+    let Entry : ℕ → Kept = λ n. record { place = n; what = Special.Branches branch } in
     let size : length (long_bytes (branch_cells instruction.branch)) ≡ 2 =
     ap (λ (b : Option Branch). length (long_bytes (branch_cells b))) c.in-Some.is in
     let place : c.args.end - 2 ≡ c.args.start + length (long_bytes front) =

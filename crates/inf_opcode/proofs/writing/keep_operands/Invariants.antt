@@ -1,7 +1,5 @@
-use Rattle.std.proofs.Common.{◌≡◌, ◌+◌, ◌++◌, take, length}
-use Rattle.std.specs.List.{flat_map}
-use Rattle.inf_opcode.specs.Cells.{long_bytes, kept_from}
-use Rattle.inf_opcode.specs.Instructions.{operand_cells}
+use Rattle.std.proofs.Common.{◌≡◌, ◌+◌, ◌++◌, take, length, flat_map}
+use Rattle.inf_opcode.specs.{Cells.kept_from, Cells.long_bytes, Instructions.operand_cells}
 use Rattle.inf_opcode.proofs.writing.keep_operands.Given as goal
 
 -- the operands so far are kept

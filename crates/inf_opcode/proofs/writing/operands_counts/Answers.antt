@@ -1,9 +1,7 @@
 -- One more operand is counted.
-use Rattle.std.proofs.Common.{ap, get_or, take, length, arith}
-use Rattle.std.specs.List.{flat_map}
-use Rattle.inf_opcode.specs.declared.instructions.Operand.TheVariants.{Large}
+use Rattle.std.proofs.Common.{ap, get_or, take, length, arith, flat_map}
+use Rattle.inf_opcode.specs.{Instructions.operand_cells, declared.instructions.Operand.Operand}
 use Rattle.inf_opcode.specs.Cells.{long_bytes, label_count, fixup_count}
-use Rattle.inf_opcode.specs.Instructions.{operand_cells}
 use Rattle.inf_opcode.proofs.Counting.{length-long, labels-append, fixups-append, operands_more}
 use Rattle.inf_opcode.proofs.writing.operands_counts.Goals as goal
 
@@ -11,9 +9,9 @@ pub loop-operand-preserved : goal.loop-operand-preserved
 loop-operand-preserved c =
     let operands = c.args.operands.now in
     let i = c.loop-operand.operand-index in
-    let more = operands_more operands i (Large 0) c.loop-operand-test.true in
+    let more = operands_more operands i (Operand.Large 0) c.loop-operand-test.true in
     let before = flat_map operand_cells (take i operands) in
-    let here = operand_cells (get_or operands i (Large 0)) in
+    let here = operand_cells (get_or operands i (Operand.Large 0)) in
     let now = c.loop-operand.invariant in
     let one = c.operand_counts-one.ensures in
     record {

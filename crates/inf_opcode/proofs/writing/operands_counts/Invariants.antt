@@ -1,7 +1,5 @@
-use Rattle.std.proofs.Common.{◌≡◌, ◌≤◌, ◌*◌, take}
-use Rattle.std.specs.List.{flat_map}
-use Rattle.inf_opcode.specs.Counts.{counts_of}
-use Rattle.inf_opcode.specs.Instructions.{operand_cells}
+use Rattle.std.proofs.Common.{◌≡◌, ◌≤◌, ◌*◌, take, flat_map}
+use Rattle.inf_opcode.specs.{Counts.counts_of, Instructions.operand_cells}
 use Rattle.inf_opcode.proofs.writing.operands_counts.Given as goal
 
 -- the operands so far are counted

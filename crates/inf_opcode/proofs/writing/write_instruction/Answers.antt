@@ -1,9 +1,6 @@
 -- The bytes are written behind those before, and then the special parts are kept.
 use Rattle.std.proofs.Common.{◌+◌, [], ◌++◌, length, sym, ◌∙◌, ap, append-nil, length-append}
-use Rattle.inf_opcode.specs.Cells.{long_bytes, kept_from}
-use Rattle.inf_opcode.specs.Grown.{Grew}
-use Rattle.inf_opcode.specs.Instructions.{front_cells}
-use Rattle.inf_opcode.specs.PartsOf.{parts_of}
+use Rattle.inf_opcode.specs.{Cells.kept_from, Cells.long_bytes, Grown.Grew, Instructions.front_cells, PartsOf.parts_of}
 use Rattle.inf_opcode.proofs.Growing.{grew_then, grew_plain, longer_by, on_err}
 use Rattle.inf_opcode.proofs.writing.write_instruction.Goals as goal
 

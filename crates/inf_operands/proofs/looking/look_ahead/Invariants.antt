@@ -1,6 +1,5 @@
 use Rattle.std.proofs.Common.{◌≡◌, drop, false}
-use Rattle.inf_names.specs.Symbols.{no_names}
-use Rattle.inf_names.specs.LocalList.{listed}
+use Rattle.inf_names.specs.{LocalList.listed, Symbols.no_names}
 use Rattle.inf_operands.specs.Operands.{looked_from}
 use Rattle.inf_operands.proofs.looking.look_ahead.Given as goal
 

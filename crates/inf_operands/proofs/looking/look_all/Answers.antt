@@ -2,10 +2,8 @@ use Rattle.std.proofs.Common.{◌≡◌, List, [], ◌∷◌, ◌++◌, false, s
 use Rattle.std.proofs.lemmas.Bool.{and_parts}
 use Rattle.inf_expressions.specs.declared.operators.Operand.{Operand}
 use Rattle.inf_gathering.specs.declared.gathering.Leaf.{Leaf}
-use Rattle.inf_names.specs.LocalList.{listed}
-use Rattle.inf_names.specs.Symbols.{no_names}
-use Rattle.inf_operands.proofs.Noting.{alike_self, looked_on}
-use Rattle.inf_operands.proofs.Staying.{leaf_on}
+use Rattle.inf_names.specs.{LocalList.listed, Symbols.no_names}
+use Rattle.inf_operands.proofs.{Noting.alike_self, Noting.looked_on, Staying.leaf_on}
 use Rattle.inf_operands.specs.Operands.{looked_from, settled}
 use Rattle.inf_operands.proofs.looking.look_all.Goals as goal
 

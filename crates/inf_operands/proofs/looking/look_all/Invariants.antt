@@ -1,7 +1,6 @@
 use Rattle.std.proofs.Common.{◌≡◌, [], false, length, true}
 use Rattle.inf_characters.specs.declared.characters.CharSet.{CharSet}
-use Rattle.inf_names.specs.Symbols.{no_names}
-use Rattle.inf_names.specs.LocalList.{listed}
+use Rattle.inf_names.specs.{LocalList.listed, Symbols.no_names}
 use Rattle.inf_settings.specs.Bounds.{Limits}
 use Rattle.inf_operands.specs.Operands.{looked_from, settled}
 use Rattle.inf_operands.proofs.looking.look_all.Given as goal

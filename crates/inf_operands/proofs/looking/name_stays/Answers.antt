@@ -1,6 +1,4 @@
-use Rattle.std.proofs.Common.{◌≡◌, Bool, true, Option, Some, None, sym, ap, ◌∙◌}
-use Rattle.std.specs.Option.{option_map}
-use Rattle.std.specs.Prelude.{is_some}
+use Rattle.std.proofs.Common.{◌≡◌, Bool, true, Option, Some, None, sym, ap, ◌∙◌, option_map, is_some}
 use Rattle.inf_unit.specs.NameTokens.{named}
 use Rattle.inf_operands.proofs.Staying.{alone_stays}
 use Rattle.inf_operands.proofs.looking.name_stays.Goals as goal

@@ -2,11 +2,8 @@ use Rattle.std.proofs.Common.{◌≡◌, List, [], ◌∷◌, ◌++◌, None, fa
 use Rattle.std.proofs.lemmas.Bool.{and_parts}
 use Rattle.inf_expressions.specs.declared.operators.Operand.{Operand}
 use Rattle.inf_gathering.specs.declared.gathering.Leaf.{Leaf}
-use Rattle.inf_names.specs.LocalList.{listed}
-use Rattle.inf_names.specs.Locals.{Local}
-use Rattle.inf_names.specs.Symbols.{no_names}
-use Rattle.inf_operands.proofs.Noting.{alike_on, all_looked_ahead, leaf_looked, looked_on}
-use Rattle.inf_operands.proofs.Staying.{leaf_on}
+use Rattle.inf_names.specs.{LocalList.listed, Locals.Local, Symbols.no_names}
+use Rattle.inf_operands.proofs.{Noting.alike_on, Noting.all_looked_ahead, Noting.leaf_looked, Noting.looked_on, Staying.leaf_on}
 use Rattle.inf_operands.specs.Operands.{leaves_named, looked_from, settled}
 use Rattle.inf_operands.proofs.naming.note_all.Goals as goal
 

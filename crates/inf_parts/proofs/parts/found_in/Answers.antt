@@ -1,10 +1,7 @@
 use Rattle.std.proofs.Common.{◌≡◌, subst, sym, ap, ◌∙◌}
-use Rattle.inf_compilation.specs.Context.{handed}
-use Rattle.inf_expressions.specs.Findings.{least_of_both}
-use Rattle.inf_expressions.specs.Forests.{trees_in as rooted_in}
+use Rattle.inf_compilation.specs.{Actions.finding_at, Actions.operands_of, Actions.trees_at, Context.handed, Works.work}
+use Rattle.inf_expressions.specs.{Findings.least_of_both, Forests.trees_in as rooted_in}
 use Rattle.inf_parts.specs.Parts.{order_of, own_finding, wanted_of}
-use Rattle.inf_compilation.specs.Actions.{finding_at, operands_of, trees_at}
-use Rattle.inf_compilation.specs.Works.{work}
 use Rattle.inf_parts.proofs.Noting.{own_noted, trees_noted}
 use Rattle.inf_parts.proofs.parts.found_in.Goals as goal
 

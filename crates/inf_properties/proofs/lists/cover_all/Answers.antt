@@ -1,5 +1,4 @@
-use Rattle.inf_properties.proofs.Finding.{KeepsPlaces-then}
-use Rattle.inf_properties.proofs.Steps.{covered_step}
+use Rattle.inf_properties.proofs.{Finding.KeepsPlaces-then, Steps.covered_step}
 use Rattle.inf_properties.proofs.lists.cover_all.Goals as goal
 
 pub loop-property-preserved : goal.loop-property-preserved

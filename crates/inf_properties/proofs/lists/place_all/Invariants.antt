@@ -1,6 +1,5 @@
 use Rattle.std.proofs.Common.{take, drop}
-use Rattle.inf_properties.specs.Places.{AreAt, AreCovered}
-use Rattle.inf_properties.specs.Properties.{AreNew}
+use Rattle.inf_properties.specs.{Places.AreAt, Places.AreCovered, Properties.AreNew}
 use Rattle.inf_properties.proofs.lists.place_all.Given as goal
 
 abbrev pub invariant-loop-place : goal.invariant-loop-place

@@ -1,8 +1,6 @@
 use Rattle.std.proofs.Common.{ap, arith}
-use Rattle.inf_properties.specs.declared.sizes.Size.{Size}
-use Rattle.inf_properties.specs.Sizes.{size_of}
-use Rattle.inf_properties.proofs.Steps.{short_step, sum_step}
-use Rattle.inf_properties.proofs.Sums.{few_here}
+use Rattle.inf_properties.specs.{Sizes.size_of, declared.sizes.Size.Size}
+use Rattle.inf_properties.proofs.{Steps.short_step, Steps.sum_step, Sums.few_here}
 use Rattle.inf_properties.proofs.lists.total_within.Goals as goal
 
 pub loop-property-preserved : goal.loop-property-preserved

@@ -1,5 +1,4 @@
-use Rattle.std.proofs.Common.{◌≡◌, length, sym, subst, arith}
-use Rattle.std.specs.Prelude.{slice_set}
+use Rattle.std.proofs.Common.{◌≡◌, length, sym, subst, arith, slice_set}
 use Rattle.inf_properties.specs.Places.{AreAt}
 use Rattle.inf_properties.proofs.Finding.{AreAt-kept, AreAt-push}
 use Rattle.inf_properties.proofs.open.add_last.Goals as goal

@@ -1,5 +1,4 @@
-use Rattle.std.proofs.Common.{◌≡◌, ◌+◌, ◌-◌, List, length, ap, ◌∙◌, arith}
-use Rattle.std.specs.Prelude.{slice_set}
+use Rattle.std.proofs.Common.{◌≡◌, ◌+◌, ◌-◌, List, length, ap, ◌∙◌, arith, slice_set}
 use Rattle.inf_area.specs.declared.targets.Value.{Value}
 use Rattle.inf_properties.proofs.Opening.{set_last}
 use Rattle.inf_properties.proofs.open.push_value.Goals as goal

@@ -1,7 +1,6 @@
 use Rattle.std.proofs.Common.{◌≡◌, ◌∷◌, ◌++◌, [], ◌+◌, length, length-append, refl, sym, ap, ◌∙◌, arith}
 use Rattle.inf_properties.specs.Sizes.{later_count}
-use Rattle.inf_properties.proofs.Fitting.{sized_by}
-use Rattle.inf_properties.proofs.Sums.{later_count_push, size-joined}
+use Rattle.inf_properties.proofs.{Fitting.sized_by, Sums.later_count_push, Sums.size-joined}
 use Rattle.inf_properties.proofs.open.value_sizes.Goals as goal
 
 pub returns-clause-before : goal.returns-clause-before

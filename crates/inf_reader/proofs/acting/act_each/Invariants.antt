@@ -1,7 +1,6 @@
 use Rattle.std.proofs.Common.{◌≡◌, drop}
-use Rattle.inf_compilation.specs.Context.{handed}
+use Rattle.inf_compilation.specs.{Context.handed, Works.work}
 use Rattle.inf_reader.specs.Acting.{acted}
-use Rattle.inf_compilation.specs.Works.{work}
 use Rattle.inf_reader.proofs.acting.act_each.Given as goal
 
 -- the actions that are left lead from here to where all lead

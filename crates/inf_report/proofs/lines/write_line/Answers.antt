@@ -1,6 +1,5 @@
 use Rattle.std.proofs.Common.{◌++◌, codes}
-use Rattle.inf_report.specs.Meant.{meant}
-use Rattle.inf_report.specs.Messages.{place, severity, text}
+use Rattle.inf_report.specs.{Meant.meant, Messages.place, Messages.severity, Messages.text}
 use Rattle.inf_report.proofs.Writings.{both_whole, failed, goes_on, stops, with_more}
 use Rattle.inf_report.proofs.lines.write_line.Goals as goal
 

@@ -1,6 +1,5 @@
 use Rattle.std.proofs.Common.{codes}
-use Rattle.inf_report.specs.Meant.{worded}
-use Rattle.inf_report.specs.OwnWords.{shown}
+use Rattle.inf_report.specs.{Meant.worded, OwnWords.shown}
 use Rattle.inf_report.proofs.Writings.{goes_on, stops}
 use Rattle.inf_report.proofs.lines.write_plain.Goals as goal
 

@@ -1,6 +1,5 @@
 -- The table has the test of each byte.
-use Rattle.std.proofs.Common.{◌∙◌, ap, false}
-use Rattle.std.specs.Prelude.{slice_index_or}
+use Rattle.std.proofs.Common.{◌∙◌, ap, false, slice_index_or}
 use Rattle.inf_scanner.proofs.NameBytes.{name_byte}
 use Rattle.inf_scanner.proofs.scanner.is_name_byte.Goals as goal
 

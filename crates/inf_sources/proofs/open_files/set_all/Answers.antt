@@ -1,9 +1,7 @@
+use Rattle.std.proofs.{lemmas.List.Edits.map_over_more, lemmas.List.drop_all, lemmas.List.take_all}
 use Rattle.std.proofs.Common.{rules, get_or, slice_index_or, slice_set, ap, ◌∙◌}
-use Rattle.std.proofs.lemmas.List.{drop_all, take_all}
-use Rattle.std.proofs.lemmas.List.Edits.{map_over_more}
 use Rattle.inf_lexer.specs.Readers.{Reader}
-use Rattle.inf_sources.specs.Choosing.{file_with}
-use Rattle.inf_sources.specs.declared.open_file.OpenFile.{OpenFile}
+use Rattle.inf_sources.specs.{Choosing.file_with, declared.open_file.OpenFile.OpenFile}
 use Rattle.inf_sources.proofs.open_files.set_all.Goals as goal
 
 pub loop-at-preserved : goal.loop-at-preserved

@@ -1,5 +1,4 @@
-use Rattle.std.proofs.Common.{refl, sym, ap, ◌∙◌}
-use Rattle.std.specs.Prelude.{is_some}
+use Rattle.std.proofs.Common.{refl, sym, ap, ◌∙◌, is_some}
 use Rattle.inf_opcode.specs.declared.opcodes.OpcodeRow.{OpcodeRow}
 use Rattle.inf_statements.specs.Assembly.{first_variable}
 use Rattle.inf_constructs.specs.Roots.{trees_from}

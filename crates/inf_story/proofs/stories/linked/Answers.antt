@@ -1,12 +1,7 @@
 -- The story of the areas and targets that were made.
-use Rattle.std.specs.Prelude.{IfOk, MatchResult}
-use Rattle.std.proofs.Common.{◌≡◌, ◌⊎◌, ◌∙◌, Option, Some, None, ap, subst}
-use Rattle.inf_link.specs.declared.link.LinkFault.{LinkFault}
-use Rattle.inf_link.specs.declared.link.LinkFault.TheVariants.{Memory}
-use Rattle.inf_link.specs.Areas.{contents, lengths}
-use Rattle.inf_link.specs.MemoryMaps.{too_long as too_long_by}
-use Rattle.inf_link.specs.Stories.{sizes, story as linked}
-use Rattle.inf_link.specs.Targets.{lookup}
+use Rattle.std.proofs.Common.{IfOk, MatchResult, ◌≡◌, ◌⊎◌, ◌∙◌, Option, Some, None, ap, subst}
+use Rattle.inf_link.specs.{Areas.contents, Areas.lengths, MemoryMaps.too_long as too_long_by, Stories.sizes, Stories.story as linked}
+use Rattle.inf_link.specs.{Targets.lookup, declared.link.LinkFault.LinkFault}
 use Rattle.inf_story.proofs.Linked.{if_ok_more, is_sized, is_story, is_too_long, told}
 use Rattle.inf_story.proofs.stories.linked.Goals as goal
 
@@ -31,5 +26,5 @@ returns-clause-fault g c =
     let same = ap (λ l. too_long_by (lengths (contents (λ area. area) l.areas)) l.fields.scale) c.new.ensures
     ∙ is_too_long c.args.fields c.args.main c.args.code.finished c.args.strings c.args.tables.now _ c.in_ok-areas.ensures.bytes in
     let Tells : Option LinkFault → Type 0 =
-    λ long. MatchResult c.link.result (λ _. long ≡ None) (λ fault. (fault ≡ Memory) ⊎ (long ≡ Some fault)) in
+    λ long. MatchResult c.link.result (λ _. long ≡ None) (λ fault. (fault ≡ LinkFault.Memory) ⊎ (long ≡ Some fault)) in
     subst Tells same (told c.link.result _ c.link.ensures.fault)

@@ -1,5 +1,4 @@
-use Rattle.std.proofs.Common.{ap, arith, length}
-use Rattle.std.specs.Prelude.{sum_by}
+use Rattle.std.proofs.Common.{ap, arith, length, sum_by}
 use Rattle.inf_area.specs.Cells.{bytes_of, later_count}
 use Rattle.inf_objects.specs.Objects.{object_bytes, object_fixups}
 use Rattle.inf_tables.specs.Areas.{all_objects, held_bytes, individual_tables, parents_of, tables_from}

@@ -1,8 +1,6 @@
-use Rattle.std.proofs.Common.{◌≡◌, ◌+◌, ◌++◌, ◌≤◌, drop}
-use Rattle.std.specs.Prelude.{sum_by}
+use Rattle.std.proofs.Common.{◌≡◌, ◌+◌, ◌++◌, ◌≤◌, drop, sum_by}
 use Rattle.inf_objects.specs.Objects.{object_bytes}
-use Rattle.inf_tables.specs.Areas.{all_objects, individual_places_from}
-use Rattle.inf_tables.specs.World.{AreHung}
+use Rattle.inf_tables.specs.{Areas.all_objects, Areas.individual_places_from, World.AreHung}
 use Rattle.inf_tables.proofs.totals.individual_places.Given as goal
 
 abbrev pub invariant-loop-object : goal.invariant-loop-object

@@ -1,6 +1,5 @@
 use Rattle.std.proofs.Common.{◌≡◌}
-use Rattle.inf_templates.specs.Tasks.{tasks_code}
-use Rattle.inf_templates.specs.Weights.{weights}
+use Rattle.inf_templates.specs.{Tasks.tasks_code, Weights.weights}
 use Rattle.inf_templates.proofs.laying.lay_all.Given as goal
 
 -- the tasks that are left lead from the output so far to the output of all

@@ -1,8 +1,6 @@
 use Rattle.std.proofs.Common.{◌≡◌, ◌++◌, length}
 use Rattle.inf_settings.specs.Bounds.{Limits}
-use Rattle.inf_templates.specs.Parts.{operands}
-use Rattle.inf_templates.specs.Meaning.{parts}
-use Rattle.inf_templates.specs.Tasks.{at}
+use Rattle.inf_templates.specs.{Meaning.parts, Parts.operands, Tasks.at}
 use Rattle.inf_templates.proofs.laying.with_list.Given as goal
 
 abbrev pub invariant-loop : goal.invariant-loop

@@ -1,7 +1,6 @@
 use Rattle.std.proofs.Common.{◌≡◌, ◌+◌, length}
 use Rattle.inf_settings.specs.Bounds.{Limits}
-use Rattle.inf_templates.specs.Meaning.{parts}
-use Rattle.inf_templates.specs.Tasks.{at}
+use Rattle.inf_templates.specs.{Meaning.parts, Tasks.at}
 use Rattle.inf_templates.proofs.reading.has_more.Given as goal
 
 abbrev pub invariant-loop : goal.invariant-loop

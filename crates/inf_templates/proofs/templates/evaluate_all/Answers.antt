@@ -1,7 +1,6 @@
 -- The last part is worked out first.
 use Rattle.std.proofs.Common.{◌∙◌, ap, sym}
-use Rattle.inf_templates.specs.Parts.{evaluated}
-use Rattle.inf_templates.specs.Tasks.{parts_of}
+use Rattle.inf_templates.specs.{Parts.evaluated, Tasks.parts_of}
 use Rattle.inf_templates.proofs.Given.{evaluated_last}
 use Rattle.inf_templates.proofs.templates.evaluate_all.Goals as goal
 

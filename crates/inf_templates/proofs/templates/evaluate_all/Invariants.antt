@@ -1,6 +1,5 @@
 use Rattle.std.proofs.Common.{◌≡◌, length}
-use Rattle.inf_templates.specs.Parts.{evaluated}
-use Rattle.inf_templates.specs.Tasks.{parts_of}
+use Rattle.inf_templates.specs.{Parts.evaluated, Tasks.parts_of}
 use Rattle.inf_templates.proofs.templates.evaluate_all.Given as goal
 
 -- the arguments that are left lead from the output so far to the output of all

@@ -1,11 +1,8 @@
 -- There are as many operands as the opcode takes.
-use Rattle.std.specs.Prelude.{is_some, OnOk}
-use Rattle.std.proofs.Common.{◌≡◌, ◌∙◌, ◌≤◌, List, ap, sym, subst, length, arith}
+use Rattle.std.proofs.Common.{is_some, OnOk, ◌≡◌, ◌∙◌, ◌≤◌, List, ap, sym, subst, length, arith}
 use Rattle.inf_opcode.specs.declared.opcodes.OpcodeRow.{OpcodeRow}
-use Rattle.inf_output.specs.declared.operands.Simple.{Simple}
-use Rattle.inf_output.specs.Output.{Out, Takes, instruction}
-use Rattle.inf_templates.specs.Parts.{operands}
-use Rattle.inf_templates.specs.Tasks.{parts_of}
+use Rattle.inf_output.specs.{Output.Out, Output.Takes, Output.instruction, declared.operands.Simple.Simple}
+use Rattle.inf_templates.specs.{Parts.operands, Tasks.parts_of}
 use Rattle.inf_templates.proofs.Given.{operands_all, operands_len}
 use Rattle.inf_templates.proofs.templates.lay_instruction.Goals as goal
 

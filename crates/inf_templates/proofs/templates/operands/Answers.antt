@@ -1,7 +1,6 @@
 -- The operands of the first parts are the first operands.
 use Rattle.std.proofs.Common.{◌∙◌, ap, arith}
-use Rattle.inf_templates.specs.Parts.{operands}
-use Rattle.inf_templates.specs.Tasks.{parts_of}
+use Rattle.inf_templates.specs.{Parts.operands, Tasks.parts_of}
 use Rattle.inf_templates.proofs.Given.{all_found, operands_front}
 use Rattle.inf_templates.proofs.templates.operands.Goals as goal
 

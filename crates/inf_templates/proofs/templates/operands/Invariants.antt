@@ -1,6 +1,5 @@
 use Rattle.std.proofs.Common.{◌≡◌, ◌+◌, ◌-◌, ◌≤◌, ◌++◌, length, drop}
-use Rattle.inf_templates.specs.Parts.{operands}
-use Rattle.inf_templates.specs.Tasks.{parts_of}
+use Rattle.inf_templates.specs.{Parts.operands, Tasks.parts_of}
 use Rattle.inf_templates.proofs.templates.operands.Given as goal
 
 -- the operands so far, with those of the arguments that are left, are those of all arguments

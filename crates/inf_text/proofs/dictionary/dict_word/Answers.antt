@@ -1,8 +1,7 @@
 use Rattle.std.proofs.Common.{◌≡◌, ◌≤◌, ◌+◌, ◌++◌, ◌∙◌, ap, sym, [], ◌∷◌, length, drop, take, replicate, arith}
 use Rattle.std.proofs.lemmas.List.{drop_more, drop_all}
-use Rattle.inf_characters.specs.Items.{lowered}
+use Rattle.inf_characters.specs.{Items.lowered, declared.texts.TextItem.TextItem}
 use Rattle.inf_text.specs.Packing.{dictionary_bytes, dictionary_zs, item_zs, words, zs_list}
-use Rattle.inf_characters.specs.declared.texts.TextItem.{TextItem}
 use Rattle.inf_text.proofs.Fronts.{Gives-more}
 use Rattle.inf_text.proofs.dictionary.dict_word.Goals as goal
 

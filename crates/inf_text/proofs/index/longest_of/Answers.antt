@@ -1,11 +1,10 @@
 use Rattle.std.proofs.Common.{◌≡◌, ◌+◌, ◌∙◌, None, drop, get_or, ap, sym, arith, ℕ}
 use Rattle.std.proofs.lemmas.List.{drop_more}
-use Rattle.inf_text.specs.Searching.{best_of, common, first_code, text_at}
-use Rattle.inf_text.specs.declared.index.Link.{Link}
+use Rattle.inf_text.specs.{Searching.best_of, Searching.common, Searching.first_code, Searching.text_at, declared.index.Link.Link}
 use Rattle.inf_text.proofs.Linking.{Searches-more, Searches-next, common-fits_left, fits_next, goes_on, going_on, not_going_on, shorter}
 use Rattle.inf_text.proofs.Linking.{taken_is, text_is}
-use Rattle.inf_text.proofs.index.longest_of.Goals as goal
 use Rattle.inf_text.proofs.index.longest_of.Goals.{then-may_go_on, else-may_go_on+then-link-matched, else-may_go_on+else-link-matched}
+use Rattle.inf_text.proofs.index.longest_of.Goals as goal
 
 pub code_behind-code-requires-then-link-matched : goal.code_behind-code-requires-then-link-matched
 code_behind-code-requires-then-link-matched c =

@@ -1,10 +1,8 @@
 use Rattle.std.proofs.Common.{◌≡◌, ◌<◌, ◌+◌, ◌∙◌, ap, inl, inr, set, get_or, arith}
-use Rattle.inf_text.specs.Searching.{first_code}
-use Rattle.inf_text.specs.declared.index.Ranges.{Ranges}
-use Rattle.inf_text.proofs.Linking.{text_is}
+use Rattle.inf_text.specs.{Searching.first_code, declared.index.Ranges.Ranges}
+use Rattle.inf_text.proofs.{Linking.text_is, index.ranges_of.Goals.else-ranges-code-eq0, index.ranges_of.Goals.then-ranges-code-eq0}
 use Rattle.inf_text.proofs.Ranging.{AreRangesTo-more, AreRangesTo-none, code_at}
 use Rattle.inf_text.proofs.index.ranges_of.Goals as goal
-use Rattle.inf_text.proofs.index.ranges_of.Goals.{then-ranges-code-eq0, else-ranges-code-eq0}
 
 pub loop-place-init : goal.loop-place-init
 loop-place-init c = AreRangesTo-none c.args.texts.now c.args.order.now _ c.no_ranges-ranges.ensures

@@ -1,6 +1,5 @@
-use Rattle.std.proofs.Common.{◌-◌, length, drop, sym, arith}
+use Rattle.std.proofs.Common.{◌-◌, length, drop, sym, arith, option_copied}
 use Rattle.std.proofs.lemmas.List.{take_all, length-drop}
-use Rattle.std.specs.Option.{option_copied}
 use Rattle.inf_text.specs.Packing.{in_use}
 use Rattle.inf_text.proofs.Stepping.{Steps-found}
 use Rattle.inf_text.proofs.packing.next_zs.Goals as goal

@@ -1,14 +1,8 @@
-use Rattle.std.proofs.Common.{◌≡◌, []}
-use Rattle.std.specs.Prelude.{IsTrue}
-use Rattle.std.specs.Option.{option_copied}
+use Rattle.std.proofs.Common.{◌≡◌, [], IsTrue, option_copied}
 use Rattle.std.proofs.lemmas.Result.{IfOk-weaker}
-use Rattle.inf_text.specs.Packer.{completed}
+use Rattle.inf_text.specs.{Packer.completed, Parts.AreAbbreviations, Unpacking.UnpacksTo, Words.are_words}
 use Rattle.inf_text.specs.Packing.{packed, words, zs_from, in_use}
-use Rattle.inf_text.specs.Parts.{AreAbbreviations}
-use Rattle.inf_text.specs.Unpacking.{UnpacksTo}
-use Rattle.inf_text.specs.Words.{are_words}
-use Rattle.inf_text.proofs.Marked.{are_words-packed}
-use Rattle.inf_text.proofs.Unpacks.{unpacks}
+use Rattle.inf_text.proofs.{Marked.are_words-packed, Unpacks.unpacks}
 use Rattle.inf_text.proofs.packing.pack.Goals as goal
 
 pub returns-clause-bytes : goal.returns-clause-bytes

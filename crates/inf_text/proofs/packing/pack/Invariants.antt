@@ -1,9 +1,6 @@
-use Rattle.std.proofs.Common.{◌≡◌, length, ℕ, List}
-use Rattle.inf_characters.specs.declared.texts.TextItem.{TextItem}
-use Rattle.inf_characters.specs.Items.{IsText}
-use Rattle.inf_text.specs.Packer.{completed}
-use Rattle.std.specs.Option.{option_copied}
-use Rattle.inf_text.specs.Packing.{in_use, words, zs_from}
+use Rattle.std.proofs.Common.{◌≡◌, length, ℕ, List, option_copied}
+use Rattle.inf_characters.specs.{Items.IsText, declared.texts.TextItem.TextItem}
+use Rattle.inf_text.specs.{Packer.completed, Packing.in_use, Packing.words, Packing.zs_from}
 use Rattle.inf_text.proofs.packing.pack.Given as goal
 
 -- The words written and the items left give the whole text.

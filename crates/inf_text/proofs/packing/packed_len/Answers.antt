@@ -1,6 +1,5 @@
-use Rattle.std.proofs.Common.{◌≡◌, [], length, arith, refl}
+use Rattle.std.proofs.Common.{◌≡◌, [], length, arith, refl, option_copied}
 use Rattle.std.proofs.lemmas.List.{nil_from_length}
-use Rattle.std.specs.Option.{option_copied}
 use Rattle.inf_text.specs.Packing.{in_use, packed, zs_from}
 use Rattle.inf_text.proofs.Lengths.{length-words}
 use Rattle.inf_text.proofs.packing.packed_len.Goals as goal

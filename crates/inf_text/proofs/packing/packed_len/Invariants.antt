@@ -1,8 +1,6 @@
-use Rattle.std.proofs.Common.{◌≡◌, ◌≤◌, ◌+◌, ◌*◌, length, ℕ, List}
-use Rattle.inf_characters.specs.Items.{IsText}
-use Rattle.std.specs.Option.{option_copied}
+use Rattle.std.proofs.Common.{◌≡◌, ◌≤◌, ◌+◌, ◌*◌, length, ℕ, List, option_copied}
+use Rattle.inf_characters.specs.{Items.IsText, declared.texts.TextItem.TextItem}
 use Rattle.inf_text.specs.Packing.{in_use, zs_from}
-use Rattle.inf_characters.specs.declared.texts.TextItem.{TextItem}
 use Rattle.inf_text.proofs.packing.packed_len.Given as goal
 
 -- The Z-characters counted and those of the items left are those of the whole text, at most four for each item.

@@ -1,14 +1,12 @@
 -- One name more is told, or none.
-use Rattle.std.specs.Prelude.{Option}
-use Rattle.std.proofs.Common.{◌≡◌, ◌<◌, ◌+◌, ℕ, List, drop, length, sym, ap, ◌∙◌, arith}
+use Rattle.std.proofs.Common.{Option, ◌≡◌, ◌<◌, ◌+◌, ℕ, List, drop, length, sym, ap, ◌∙◌, arith}
 use Rattle.inf_scanner.specs.declared.tokens.Place.{Place}
 use Rattle.inf_names.specs.Symbols.{standing_at, use_in}
 use Rattle.inf_report.specs.Messages.{Location, Undeclared}
-use Rattle.inf_unit.specs.Messages.{with_error}
-use Rattle.inf_unit.specs.Names.{with_all_undeclared}
+use Rattle.inf_unit.specs.{Messages.with_error, Names.with_all_undeclared}
 use Rattle.inf_unit.proofs.NameSteps.{told_of, told_step}
-use Rattle.inf_unit.proofs.names.tell_undeclared.Goals as goal
 use Rattle.inf_unit.proofs.names.tell_undeclared.Goals.{in-Some+in_ok-error, in_default}
+use Rattle.inf_unit.proofs.names.tell_undeclared.Goals as goal
 
 pub loop-number-preserved : goal.loop-number-preserved
 loop-number-preserved g c =

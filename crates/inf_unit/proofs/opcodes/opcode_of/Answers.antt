@@ -1,7 +1,6 @@
+use Rattle.std.proofs.{lemmas.Bool.false_from_ne_true, lemmas.Str.IsUtf8-from_ascii}
 use Rattle.std.proofs.Common.{◌≡◌, None, false, sym, ap, ◌∙◌, cond, nat_lt}
 use Rattle.std.specs.List.{list_all}
-use Rattle.std.proofs.lemmas.Bool.{false_from_ne_true}
-use Rattle.std.proofs.lemmas.Str.{IsUtf8-from_ascii}
 use Rattle.inf_opcode.specs.Names.{opcode_named}
 use Rattle.inf_unit.specs.Opcodes.{opcode_of}
 use Rattle.inf_unit.proofs.OpcodeNames.{any_name, is_ascii}

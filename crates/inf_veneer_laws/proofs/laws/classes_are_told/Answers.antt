@@ -1,7 +1,5 @@
 -- Lemmas are the answers.
-use Rattle.inf_veneer_laws.proofs.Classes.{classes_are_told}
-use Rattle.inf_veneer_laws.proofs.Comparing.{numbers_are_compared}
-use Rattle.inf_veneer_laws.proofs.Regions.{regions_are_told}
+use Rattle.inf_veneer_laws.proofs.{Classes.classes_are_told, Comparing.numbers_are_compared, Regions.regions_are_told}
 use Rattle.inf_veneer_laws.proofs.laws.classes_are_told.Goals as goal
 
 pub returns-clause-compared : goal.returns-clause-compared

@@ -1,6 +1,5 @@
 -- Lemmas are the answers.
-use Rattle.inf_veneer_laws.proofs.Reading.{properties_are_read}
-use Rattle.inf_veneer_laws.proofs.Writing.{properties_are_provided, properties_are_written}
+use Rattle.inf_veneer_laws.proofs.{Reading.properties_are_read, Writing.properties_are_provided, Writing.properties_are_written}
 use Rattle.inf_veneer_laws.proofs.laws.properties_meet_their_contracts.Goals as goal
 
 pub returns-clause-written : goal.returns-clause-written

@@ -1,7 +1,5 @@
 -- Lemmas are the answers.
-use Rattle.inf_world_laws.proofs.Lists.{properties_agree}
-use Rattle.inf_world_laws.proofs.Order.{order_agrees}
-use Rattle.inf_world_laws.proofs.Properties.{values_agree}
+use Rattle.inf_world_laws.proofs.{Lists.properties_agree, Order.order_agrees, Properties.values_agree}
 use Rattle.inf_world_laws.proofs.laws.properties_agree.Goals as goal
 
 pub returns : goal.returns

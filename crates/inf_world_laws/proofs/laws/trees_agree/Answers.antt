@@ -1,6 +1,5 @@
 -- Lemmas are the answers.
-use Rattle.inf_world_laws.proofs.Siblings.{sibling_agrees}
-use Rattle.inf_world_laws.proofs.Tree.{child_agrees, children_agree, latest_agree}
+use Rattle.inf_world_laws.proofs.{Siblings.sibling_agrees, Tree.child_agrees, Tree.children_agree, Tree.latest_agree}
 use Rattle.inf_world_laws.proofs.laws.trees_agree.Goals as goal
 
 pub returns : goal.returns

@@ -1,8 +1,7 @@
 -- The bytes behind the cut move to the front, and the end is given up.
 use Rattle.std.proofs.Common.{◌≡◌, ℕ, List, ◌≤◌, ◌+◌, ◌-◌, ◌∙◌, ap, length, take, sym, arith, length-take}
 use Rattle.std.proofs.lemmas.List.{take-take}
-use Rattle.inf_area.specs.Moves.{moved}
-use Rattle.inf_area.specs.Pages.{page_bytes}
+use Rattle.inf_area.specs.{Moves.moved, Pages.page_bytes}
 use Rattle.inf_area.proofs.Moving.{take_moved, moved_length}
 use Rattle.inf_area.proofs.pages.PagedAreaArea.cut.Goals as goal
 

@@ -1,7 +1,6 @@
 use Rattle.std.proofs.Common.{◌≡◌, ◌≤◌, ◌+◌, ◌*◌, rules, map, subst, sym, Some, ◌∙◌, arith, length, option_map}
 use Rattle.inf_arrays.proofs.Sizes.{grown_stands}
 use Rattle.inf_arrays.specs.Arrays.{HasRoom, RoomIn, all_of, arrays_laters, arrays_size}
-use Rattle.inf_settings.specs.declared.setting.Setting.TheVariants as setting
 use Rattle.inf_arrays.specs.Listing.{listed, seen}
 use Rattle.inf_arrays.proofs.arrays.Arrays.append.Goals as goal
 

@@ -1,15 +1,11 @@
 -- The counts are those of the bytes that are written.
 use Rattle.std.proofs.Common.{◌+◌, ◌∙◌, length, take, ap, sym, subst, refl, arith}
 use Rattle.std.proofs.lemmas.Result.{err_from_is_err_and}
-use Rattle.inf_opcode.specs.declared.opcodes.OpcodeRow.{OpcodeRow}
-use Rattle.inf_opcode.specs.Grown.{Grew}
-use Rattle.inf_opcode.specs.Instructions.{instruction_cells}
-use Rattle.inf_opcode.specs.Opcodes.{row_of}
-use Rattle.inf_opcode.specs.PartsOf.{parts_of}
+use Rattle.inf_opcode.specs.{Grown.Grew, Instructions.instruction_cells, Opcodes.row_of, PartsOf.parts_of}
+use Rattle.inf_opcode.specs.{declared.opcodes.OpcodeRow.OpcodeRow}
 use Rattle.inf_assembler.specs.Routines.{State, contents_of, refusal}
+use Rattle.inf_assembler.proofs.{Finishing.none_of, Opened.holds, Opened.stands_more}
 use Rattle.inf_assembler.proofs.Filling.{full_is, labels_is, fixups_are}
-use Rattle.inf_assembler.proofs.Finishing.{none_of}
-use Rattle.inf_assembler.proofs.Opened.{stands_more, holds}
 use Rattle.inf_assembler.proofs.routines.Routine.emit.Goals as goal
 
 pub returns-in-Some-clause-fault : goal.returns-in-Some-clause-fault

@@ -3,13 +3,11 @@ use Rattle.std.proofs.Common.{◌≡◌, ◌+◌, [], ◌∷◌, ◌++◌, lengt
 use Rattle.std.proofs.Common.{append_assoc, length-append}
 use Rattle.std.proofs.lemmas.List.{take-append-le, take-take}
 use Rattle.inf_area.specs.Fixups.{with_fixups}
-use Rattle.inf_assembler.specs.declared.routines.CloseFault.{CloseFault}
-use Rattle.inf_assembler.specs.declared.routines.CloseFault.TheVariants as close_fault
-use Rattle.inf_opcode.specs.Cells.{fixup_count, kept_from}
-use Rattle.inf_assembler.specs.Places.{with_some, missing, twice_behind}
+use Rattle.inf_assembler.specs.{Places.missing, Places.twice_behind, Places.with_some, declared.routines.CloseFault.CloseFault}
 use Rattle.inf_assembler.specs.Closing.{found, kept_place, kept_missing, kept_fixups, squeezed}
 use Rattle.inf_assembler.specs.Routines.{State, contents_of, long_places, body_bytes, closing_bytes, routine_fixups, end_fault, full_fault}
 use Rattle.inf_assembler.specs.Routines.{body_fault, fault_of}
+use Rattle.inf_opcode.specs.Cells.{fixup_count, kept_from}
 use Rattle.inf_assembler.proofs.Finishing.{none_of, long_is, places_is, missing_is, twice_is, fixups_is, order_is, squeezed_is}
 use Rattle.inf_assembler.proofs.Finishing.{fault_missing, fault_twice, fault_body, with_none, with_some_of, length-fixups, both_ok}
 use Rattle.inf_assembler.proofs.routines.Routine.finish.Goals as goal
@@ -158,7 +156,7 @@ returns-clause-fault g c =
     ∙ ap (λ k. end_fault state.is_final state.limits k c.args.refs.now (fixup_count contents.cells)) long_body
     ∙ ap (end_fault state.is_final state.limits (length squeezed_bytes) c.args.refs.now) counted in
     let P : Option CloseFault → Type 0 =
-    λ f. MatchResult c.finish_end.result (λ _. f ≡ None) (λ refused. (refused ≡ close_fault.Memory) ⊎ (f ≡ Some refused)) in
+    λ f. MatchResult c.finish_end.result (λ _. f ≡ None) (λ refused. (refused ≡ CloseFault.Memory) ⊎ (f ≡ Some refused)) in
     subst P (sym all) c.finish_end.ensures.fault
 
 pub returns-clause-ok : goal.returns-clause-ok

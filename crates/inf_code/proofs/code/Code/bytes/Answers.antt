@@ -1,6 +1,5 @@
 -- An open routine follows the finished ones, up to the end of the area.
-use Rattle.std.specs.Prelude.{Bool}
-use Rattle.std.proofs.Common.{◌≡◌, Option, Some, false, sym, ◌∙◌, ap, subst}
+use Rattle.std.proofs.Common.{Bool, ◌≡◌, Option, Some, false, sym, ◌∙◌, ap, subst}
 use Rattle.inf_assembler.specs.Routines.{State}
 use Rattle.inf_code.specs.Code.{Routines, IsCode, bytes_of_code, open_in, source_cells}
 use Rattle.inf_code.proofs.Full.{bytes_are}

@@ -1,14 +1,11 @@
 -- The closed routine and its padding follow the finished routines; a lost routine adds nothing.
 use Rattle.std.specs.Prelude.{MatchResult, Bool}
 use Rattle.std.proofs.Common.{◌≡◌, ◌≤◌, ◌+◌, ◌-◌, ◌⊎◌, false, true, refl, arith, List, ◌++◌, length, Option, Some, None, sym, ◌∙◌, ap, subst}
-use Rattle.inf_assembler.specs.declared.routines.CloseFault.{CloseFault}
-use Rattle.inf_assembler.specs.declared.routines.CloseFault.TheVariants as close_fault
-use Rattle.inf_assembler.specs.Routines.{State, contents_of}
+use Rattle.inf_assembler.specs.{Routines.State, Routines.contents_of, declared.routines.CloseFault.CloseFault}
 use Rattle.inf_area.specs.declared.cells.Cell.{Cell as CodeCell}
 use Rattle.inf_code.specs.declared.code.CodeLimits.{CodeLimits}
 use Rattle.inf_code.specs.Code.{Routines, IsCode, open_in, closed_cells, closed_count, place_behind, source_cells, with_closed}
-use Rattle.inf_code.specs.Code.{fault_closed}
-use Rattle.inf_code.specs.Code.{fault_behind, fault_end, fault_of_full}
+use Rattle.inf_code.specs.Code.{fault_closed, fault_behind, fault_end, fault_of_full}
 use Rattle.inf_code.proofs.CodeSteps.{closed_size, code_after, counted_closed, finished_closed, size_finished}
 use Rattle.inf_code.proofs.Ends.{full_is, is_first, later_told, listed_are, told_first, told_lost}
 use Rattle.inf_code.proofs.Full.{first_none}
@@ -35,7 +32,7 @@ returns-then-self-clause-fault g c =
           b r;
     } in
     let Tells : Option CloseFault → Type 0 =
-    λ wrong. MatchResult c.close_lost.result (λ _. wrong ≡ None) (λ fault. (fault ≡ close_fault.Memory) ⊎ (wrong ≡ Some fault)) in
+    λ wrong. MatchResult c.close_lost.result (λ _. wrong ≡ None) (λ fault. (fault ≡ CloseFault.Memory) ⊎ (wrong ≡ Some fault)) in
     let start = is.behind.start ∙ sym (size_finished inside.limits inside.finished inside.refs inside.area (Some routine) is) in
     let told = subst (λ n. Tells (fault_behind n 0 (contents_of routine inside.area))) start c.close_lost.ensures.fault in
     subst Tells (ap (λ r. Closed inside.limits (With true r)) (sym some)
@@ -63,7 +60,7 @@ returns-in-Err-clause-fault g c =
       opened = open_in inside.area
           b r;
     } in
-    let Tells : Option CloseFault → Type 0 = λ wrong. (c.in-Err.fault ≡ close_fault.Memory) ⊎ (wrong ≡ Some c.in-Err.fault) in
+    let Tells : Option CloseFault → Type 0 = λ wrong. (c.in-Err.fault ≡ CloseFault.Memory) ⊎ (wrong ≡ Some c.in-Err.fault) in
     let first = is_first inside.limits inside.finished inside.refs inside.spare inside.area false routine kind is c.self.invariant.1.1.0
     inside.refs refl in
     subst Tells (ap (λ r. Closed inside.limits (With false r)) (sym some)
@@ -159,7 +156,7 @@ returns-in-Err-fill_up-clause-fault g c =
     let first = is_first inside.limits inside.finished inside.refs inside.spare inside.area false routine kind is c.self.invariant.1.1.0
     inside.refs refl in
     let Tells : Option CloseFault → Type 0 =
-    λ wrong. (c.in-Err-fill_up.fault ≡ close_fault.Memory) ⊎ (wrong ≡ Some c.in-Err-fill_up.fault) in
+    λ wrong. (c.in-Err-fill_up.fault ≡ CloseFault.Memory) ⊎ (wrong ≡ Some c.in-Err-fill_up.fault) in
     subst Tells (ap (λ r. Closed inside.limits (With false r)) (sym some)
     ∙ ap (λ b. Closed inside.limits (With b inside.routine)) (sym kept)
     ∙ ap (λ l. Closed l (With inside.is_lost inside.routine)) inside.is_most ∙ ap (fault_closed g.B.Bounds.most kind) c.self.view_is)

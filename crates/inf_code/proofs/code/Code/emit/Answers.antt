@@ -1,13 +1,9 @@
 -- The open routine follows the finished ones.
-use Rattle.std.specs.Prelude.{MatchResult}
-use Rattle.std.proofs.Common.{◌≡◌, Option, Some, None, sym, ◌∙◌, ap, subst}
-use Rattle.inf_opcode.specs.Instructions.{instruction_cells}
-use Rattle.inf_opcode.specs.PartsOf.{parts_of}
-use Rattle.inf_assembler.specs.Routines.{State, contents_of, refusal}
-use Rattle.inf_assembler.specs.declared.routines.Limit.{Limit}
+use Rattle.std.proofs.Common.{MatchResult, ◌≡◌, Option, Some, None, sym, ◌∙◌, ap, subst}
+use Rattle.inf_opcode.specs.{Instructions.instruction_cells, PartsOf.parts_of}
+use Rattle.inf_assembler.specs.{Routines.State, Routines.contents_of, Routines.refusal, declared.routines.Limit.Limit}
 use Rattle.inf_code.specs.Code.{Routines, IsCode, open_in, full_with, source_cells, with_instruction}
-use Rattle.inf_code.proofs.CodeSteps.{code_or_same}
-use Rattle.inf_code.proofs.Full.{full_is, lists}
+use Rattle.inf_code.proofs.{CodeSteps.code_or_same, Full.full_is, Full.lists}
 use Rattle.inf_code.proofs.code.Code.emit.Goals as goal
 
 pub invariant_of-self-2 : goal.invariant_of-self-2

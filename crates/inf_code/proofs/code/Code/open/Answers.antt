@@ -1,13 +1,9 @@
 -- The bytes of the finished routines are those before the next one.
-use Rattle.std.proofs.Common.{◌≡◌, ℕ, ◌+◌, ◌∙◌, Option, Some, None, cond, length, ap, sym}
+use Rattle.std.proofs.Common.{◌≡◌, ℕ, ◌+◌, ◌∙◌, Option, Some, None, cond, length, ap, sym, nat_lt}
 use Rattle.std.proofs.lemmas.Result.{err_from_is_err_and}
-use Rattle.std.specs.Prelude.{nat_lt}
-use Rattle.inf_assembler.specs.declared.routines.Limit.{Limit}
-use Rattle.inf_assembler.specs.declared.routines.Limit.TheVariants as setting
-use Rattle.inf_assembler.specs.Routines.{refusal}
+use Rattle.inf_assembler.specs.{Routines.refusal, declared.routines.Limit.Limit}
 use Rattle.inf_code.specs.Code.{full_behind_bytes, full_opened, full_before, place_behind, source_cells, unlimited}
-use Rattle.inf_code.proofs.CodeSteps.{length_finished, size_finished}
-use Rattle.inf_code.proofs.Full.{code_is_free}
+use Rattle.inf_code.proofs.{CodeSteps.length_finished, CodeSteps.size_finished, Full.code_is_free}
 use Rattle.inf_code.proofs.code.Code.open.Goals as goal
 
 pub returns-in-Some-clause-fault : goal.returns-in-Some-clause-fault
@@ -35,7 +31,7 @@ returns-in_err-routine-clause-fault g c =
     sym c.full_opened.ensures ∙ c.in_default.is in
     let cut =
     ap length c.cut_back.ensures ∙ length_finished bound inside.finished inside.refs inside.area inside.routine c.self.invariant.0 in
-    let Full : ℕ → Option Limit = λ n. cond (nat_lt unlimited (n + 1)) (Some setting.Code) None in
+    let Full : ℕ → Option Limit = λ n. cond (nat_lt unlimited (n + 1)) (Some Limit.Code) None in
     let free : Full inside.finished ≡ None =
     code_is_free (nat_lt unlimited (inside.finished + 1)) (full_before c.args.is_lost inside.has_begun inside.limits) none in
     let p = err_from_is_err_and c.from_residual.result c.from_residual.ensures.1 in

@@ -1,5 +1,4 @@
-use Rattle.std.proofs.Common.{◌≡◌, length}
-use Rattle.std.specs.Prelude.{reverse}
+use Rattle.std.proofs.Common.{◌≡◌, length, reverse}
 use Rattle.inf_constructs.specs.Constructs.{left_to}
 use Rattle.inf_constructs.proofs.constructs.Constructs.left_to.Given as goal
 

@@ -2,8 +2,7 @@ use Rattle.std.proofs.Common.{◌≡◌, List, None, sym, ◌∙◌, ap, map}
 use Rattle.std.proofs.lemmas.Result.{MatchResult-from_err}
 use Rattle.std.specs.Prelude.{⊤, option_map}
 use Rattle.inf_names.specs.Symbols.{folded}
-use Rattle.inf_constructs.specs.Entries.{as_named, known}
-use Rattle.inf_constructs.specs.Labels.{Known, NamedLabel, known_of, put}
+use Rattle.inf_constructs.specs.{Entries.as_named, Entries.known, Labels.Known, Labels.NamedLabel, Labels.known_of, Labels.put}
 use Rattle.inf_constructs.proofs.Named.{known_of-lookup, put-insert}
 use Rattle.inf_constructs.proofs.labels.Labels.add.Goals as goal
 

@@ -1,8 +1,6 @@
 -- The code finds the label that the definition finds.
-use Rattle.std.proofs.Common.{List, sym, ◌∙◌, ap}
-use Rattle.std.specs.Prelude.{option_map}
-use Rattle.inf_constructs.specs.Entries.{known}
-use Rattle.inf_constructs.specs.Labels.{NamedLabel, known_of}
+use Rattle.std.proofs.Common.{List, sym, ◌∙◌, ap, option_map}
+use Rattle.inf_constructs.specs.{Entries.known, Labels.NamedLabel, Labels.known_of}
 use Rattle.inf_constructs.proofs.Named.{known-copied, known_of-lookup}
 use Rattle.inf_constructs.proofs.labels.Labels.entry.Goals as goal
 

@@ -1,8 +1,6 @@
 -- The code has the entries in the order of the labels.
-use Rattle.std.proofs.Common.{List, sym, ◌∙◌, ap}
-use Rattle.std.specs.Prelude.{option_map}
-use Rattle.inf_constructs.specs.Entries.{known}
-use Rattle.inf_constructs.specs.Labels.{NamedLabel, known_at}
+use Rattle.std.proofs.Common.{List, sym, ◌∙◌, ap, option_map}
+use Rattle.inf_constructs.specs.{Entries.known, Labels.NamedLabel, Labels.known_at}
 use Rattle.inf_constructs.proofs.Named.{known_at-get}
 use Rattle.inf_constructs.proofs.labels.Labels.entry_at.Goals as goal
 

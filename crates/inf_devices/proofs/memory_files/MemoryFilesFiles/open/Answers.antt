@@ -1,6 +1,5 @@
 use Rattle.std.proofs.Common.{[], map, sym, ◌∙◌, ap, arith, refl}
-use Rattle.std.specs.Option.{is_some}
-use Rattle.std.specs.String.{string_bytes}
+use Rattle.std.specs.{Option.is_some, String.string_bytes}
 use Rattle.inf_devices.specs.Files.{Openings, names_from, opened}
 use Rattle.inf_devices.specs.MemoryFiles.{sources_of, kept_in, opening_of, MemoryState}
 use Rattle.inf_devices.proofs.NamesOpened.{names_behind}

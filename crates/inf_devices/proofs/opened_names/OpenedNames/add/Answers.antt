@@ -1,5 +1,4 @@
-use Rattle.std.proofs.Common.{map, sym, ap, ◌∙◌, arith}
-use Rattle.std.specs.String.{string_bytes, string_eq}
+use Rattle.std.proofs.Common.{map, sym, ap, ◌∙◌, arith, string_bytes, string_eq}
 use Rattle.indexmap.specs.IndexSet.{insert_key}
 use Rattle.inf_devices.specs.Files.{with_name}
 use Rattle.inf_devices.proofs.NamesOpened.{added_to, of_ok}

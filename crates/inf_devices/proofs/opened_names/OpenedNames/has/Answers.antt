@@ -1,6 +1,5 @@
 use Rattle.std.proofs.Common.{List, ℕ, ap, ◌∙◌}
-use Rattle.std.specs.List.{list_any}
-use Rattle.std.specs.Str.{bytes_eq}
+use Rattle.std.specs.{List.list_any, Str.bytes_eq}
 use Rattle.inf_devices.proofs.NamesOpened.{any_in}
 use Rattle.inf_devices.proofs.opened_names.OpenedNames.has.Goals as goal
 

@@ -1,7 +1,6 @@
 use Rattle.std.proofs.Common.{rules, of_calls, sym, subst, ◌∙◌}
 use Rattle.std.proofs.lemmas.Fn.{always_returns_same}
-use Rattle.std.specs.Cmp.{nat_cmp_total}
-use Rattle.std.specs.Cmp.Lexicographic.{lists_total}
+use Rattle.std.specs.{Cmp.Lexicographic.lists_total, Cmp.nat_cmp_total}
 use Rattle.inf_dictionary.specs.Texts.{AreRising, is_below}
 use Rattle.inf_dictionary.proofs.Ranks.{parted, rank_is}
 use Rattle.inf_dictionary.proofs.places.Places.rank.Goals as goal

@@ -1,6 +1,5 @@
 use Rattle.std.proofs.Common.{ℕ, List, None, Result, Ok, Err, refl}
-use Rattle.inf_devices.specs.Sinks.{Writes}
-use Rattle.inf_devices.specs.declared.sinks.SinkFault.{SinkFault}
+use Rattle.inf_devices.specs.{Sinks.Writes, declared.sinks.SinkFault.SinkFault}
 use Rattle.inf_disk.proofs.disk.StorySinkSink.TheImpl.Goals as goal
 
 -- a file of the system states none of the bytes that it took

@@ -1,6 +1,5 @@
 -- The file is made where there is none yet, and all bytes go to it.
-use Rattle.std.proofs.Common.{◌≡◌, ℕ, List, Option, Some, None, Result, Ok, Err, IsErr, refl, sym, ◌∙◌, subst}
-use Rattle.std.specs.Prelude.{IsSome}
+use Rattle.std.proofs.Common.{◌≡◌, ℕ, List, Option, Some, None, Result, Ok, Err, IsErr, refl, sym, ◌∙◌, subst, IsSome}
 use Rattle.std.specs.Io.KnownBytes.{WriteAppends}
 use Rattle.inf_disk.specs.Disk.{WritesMade}
 use Rattle.inf_disk.proofs.disk.StorySinkSink.write.Goals as goal

@@ -1,10 +1,8 @@
 use Rattle.std.proofs.Common.{◌≡◌, refl, sym, ap, subst, ◌∙◌, true}
-use Rattle.inf_lexer.specs.Readers.{Reader, Took}
-use Rattle.inf_lexer.specs.Unread.{to_come}
-use Rattle.inf_lexer.proofs.Hearing.{heard_source}
-use Rattle.inf_lexer.proofs.Taken.{heard_token, took_of}
+use Rattle.inf_lexer.specs.{Readers.Reader, Readers.Took, Unread.to_come}
+use Rattle.inf_lexer.proofs.{Hearing.heard_source, Taken.heard_token, Taken.took_of}
 use Rattle.inf_scanner.specs.Scanning.{Found, begun, find, is_quoted, sight}
-use Rattle.inf_scanner.specs.declared.scanner.State.TheVariants as state
+use Rattle.inf_scanner.specs.declared.scanner.State.{State}
 use Rattle.inf_lexer.proofs.lexer.Lexer.next.Goals as goal
 
 pub returns-in_err-kind-clause-memory : goal.returns-in_err-kind-clause-memory
@@ -17,8 +15,8 @@ returns-in_err-kind-clause-memory g c = λ memory honest.
     let scanned = c.in_ok-ending.ensures in
     let same = heard_source Found (files.is_honest c.args.files.now) sources old new lexer.window c.scan.new.window
     (λ rest. record { ending = c.in_ok-ending.ending; seen = sight c.scan.new.seen; rest = rest })
-    (find lexer.set lexer.limit state.Gap (begun lexer.seen.lines)) scanned.heard honest (scanned.end honest) in
-    subst (λ (r : Reader). is_quoted (find r.set r.limit state.Gap (begun r.lines) (to_come sources old r.window)).ending ≡ true)
+    (find lexer.set lexer.limit State.Gap (begun lexer.seen.lines)) scanned.heard honest (scanned.end honest) in
+    subst (λ (r : Reader). is_quoted (find r.set r.limit State.Gap (begun r.lines) (to_come sources old r.window)).ending ≡ true)
     c.self.view_is
     (ap (λ (f : Found). is_quoted f.ending) (sym same) ∙ c.in_err-kind.ensures.memory refl)
 

@@ -1,7 +1,6 @@
 use Rattle.std.proofs.Common.{◌-◌, Bool, ℕ, List, refl, subst, sym}
-use Rattle.inf_lexer.specs.Heads.{head_found, is_word}
+use Rattle.inf_lexer.specs.{Heads.head_found, Heads.is_word, Unread.to_come, Unread.unread}
 use Rattle.inf_lexer.specs.Readers.{HeadStaysOpen, Reader, StaysOpen, TookWord}
-use Rattle.inf_lexer.specs.Unread.{to_come, unread}
 use Rattle.inf_lexer.proofs.Heading.{took_word}
 use Rattle.inf_lexer.proofs.lexer.Lexer.next_head_word.Goals as goal
 

@@ -1,8 +1,7 @@
 use Rattle.std.proofs.Common.{◌≡◌, ◌⊎◌, List, ℕ, map, IfOk, sym, subst, ◌∙◌}
 use Rattle.inf_devices.specs.Files.{Rose}
-use Rattle.inf_lexer.specs.Entering.{Enters, Leaves, WasTooMany}
-use Rattle.inf_lexer.specs.Names.{candidates, innermost_name, name_in}
-use Rattle.inf_lexer.specs.Readers.{Reader}
+use Rattle.inf_lexer.specs.{Entering.Enters, Entering.Leaves, Entering.WasTooMany, Names.candidates, Names.innermost_name, Names.name_in}
+use Rattle.inf_lexer.specs.{Readers.Reader}
 use Rattle.inf_lexer.proofs.Candidates.{fit_is, names_listed}
 use Rattle.inf_lexer.proofs.stack.Stack.enter.Goals as goal
 

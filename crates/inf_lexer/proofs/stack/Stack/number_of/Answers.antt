@@ -1,5 +1,4 @@
-use Rattle.std.proofs.Common.{◌≡◌, length, unwrap_or, ap, ◌∙◌}
-use Rattle.std.specs.Str.{bytes_eq}
+use Rattle.std.proofs.Common.{◌≡◌, length, unwrap_or, ap, ◌∙◌, bytes_eq}
 use Rattle.inf_lexer.specs.Names.{Nest, number_of}
 use Rattle.inf_lexer.proofs.NameLists.{place_in}
 use Rattle.inf_lexer.proofs.stack.Stack.number_of.Goals as goal

@@ -1,9 +1,7 @@
-use Rattle.std.proofs.Common.{◌⊎◌, ◌≤◌, inl, inr, List, ℕ, [], ◌∷◌, Bool, Bor, Some, IsTrue, arith, map, sym, ap, subst, ◌∙◌}
-use Rattle.std.specs.String.{string_bytes}
+use Rattle.std.proofs.Common.{◌⊎◌, ◌≤◌, inl, inr, List, ℕ, [], ◌∷◌, Bool, Bor, Some, IsTrue, arith, map, sym, ap, subst, ◌∙◌, string_bytes}
 use Rattle.inf_devices.specs.Files.{Sources, Rose}
+use Rattle.inf_lexer.specs.{Names.Nest, Names.name_in, Names.number_of, Readers.Reader}
 use Rattle.inf_lexer.specs.Entering.{ClosedAgain, Enters, WasTooMany, has_one_too_many}
-use Rattle.inf_lexer.specs.Names.{Nest, name_in, number_of}
-use Rattle.inf_lexer.specs.Readers.{Reader}
 use Rattle.inf_lexer.proofs.Candidates.{at_place, closed_in, enters_in, of_each, rose_earlier, too_many_in}
 use Rattle.inf_lexer.proofs.Opened.{opens_then}
 use Rattle.inf_lexer.proofs.stack.Stack.open_first.Goals as goal

@@ -1,6 +1,5 @@
 use Rattle.std.proofs.Common.{◌≡◌, map, drop, IsTrue}
-use Rattle.inf_lexer.specs.Entering.{OpensOn, first_there}
-use Rattle.inf_lexer.specs.Names.{name_in}
+use Rattle.inf_lexer.specs.{Entering.OpensOn, Entering.first_there, Names.name_in}
 use Rattle.inf_lexer.proofs.stack.Stack.open_first.Given as goal
 
 -- none of the names so far is there, and nothing changed

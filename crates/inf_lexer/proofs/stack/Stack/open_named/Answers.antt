@@ -1,15 +1,11 @@
 use Rattle.std.proofs.Common.{◌≡◌, inr, Bool, IsTrue, List, ℕ, ◌++◌, [], ◌∷◌, map, refl, sym, ap, subst, ◌∙◌, arith}
+use Rattle.std.specs.{List.list_any, Str.bytes_eq, String.string_bytes, String.string_eq}
 use Rattle.std.specs.Prelude.{IsSome}
-use Rattle.std.specs.List.{list_any}
-use Rattle.std.specs.Str.{bytes_eq}
-use Rattle.std.specs.String.{string_bytes, string_eq}
 use Rattle.indexmap.specs.IndexSet.{insert_key}
-use Rattle.inf_lexer.specs.Entering.{IsEntered, with_opened}
-use Rattle.inf_lexer.specs.Names.{Nest, number_of, with_name}
-use Rattle.inf_lexer.specs.Readers.{at_front}
+use Rattle.inf_lexer.specs.{Entering.IsEntered, Entering.with_opened, Names.Nest, Names.number_of, Names.with_name, Readers.at_front}
 use Rattle.inf_lexer.proofs.Candidates.{closes_opened, there_alone, too_many_alone}
-use Rattle.inf_devices.proofs.NamesOpened.{added_to, of_ok}
 use Rattle.inf_lexer.proofs.Opened.{in_with, opens_one_is, opens_with_is}
+use Rattle.inf_devices.proofs.NamesOpened.{added_to, of_ok}
 use Rattle.inf_lexer.proofs.stack.Stack.open_named.Goals as goal
 
 pub returns-clause-ok : goal.returns-clause-ok

@@ -1,7 +1,5 @@
 use Rattle.std.proofs.Common.{◌≡◌, drop}
-use Rattle.inf_link.specs.Areas.{contents}
-use Rattle.inf_link.specs.Targets.{lookup, number_of}
-use Rattle.inf_link.specs.Filling.{filled}
+use Rattle.inf_link.specs.{Areas.contents, Filling.filled, Targets.lookup, Targets.number_of}
 use Rattle.inf_link.proofs.areas.Areas.fill_all.Given as goal
 
 -- the areas that are filled so far lead, with the fixups that are left, to those where all are filled

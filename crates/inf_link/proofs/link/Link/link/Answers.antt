@@ -1,8 +1,6 @@
 -- The story of its parts, and their numbers of bytes.
 use Rattle.std.proofs.Common.{◌∙◌, ◌++◌, ap}
-use Rattle.inf_link.specs.Areas.{contents}
-use Rattle.inf_link.specs.Header.{header}
-use Rattle.inf_link.specs.Targets.{lookup}
+use Rattle.inf_link.specs.{Areas.contents, Header.header, Targets.lookup}
 use Rattle.inf_link.proofs.Linking.{filled-map, sizes-parts, story-parts}
 use Rattle.inf_link.proofs.link.Link.link.Goals as goal
 

@@ -1,5 +1,4 @@
-use Rattle.std.proofs.Common.{◌≡◌, ◌++◌, ◌∙◌, ap, arith, drop, length, map}
-use Rattle.std.specs.Prelude.{replicate}
+use Rattle.std.proofs.Common.{◌≡◌, ◌++◌, ◌∙◌, ap, arith, drop, length, map, replicate}
 use Rattle.std.specs.Char.{to_ascii_lowercase}
 use Rattle.inf_names.proofs.KeyBytes.{all_folded, name_before, zeros_behind}
 use Rattle.inf_names.proofs.keys.Key.of.Goals as goal

@@ -1,5 +1,4 @@
-use Rattle.std.proofs.Common.{◌∙◌, ap, take}
-use Rattle.std.specs.Str.{bytes_eq}
+use Rattle.std.proofs.Common.{◌∙◌, ap, take, bytes_eq}
 use Rattle.inf_names.proofs.KeyBytes.{eq_items}
 use Rattle.inf_names.proofs.keys.KeyPartialEq.eq.Goals as goal
 

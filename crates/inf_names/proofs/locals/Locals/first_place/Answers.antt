@@ -1,10 +1,7 @@
-use Rattle.std.proofs.Common.{◌≡◌, ◌<◌, List, Option, Some, get_or, ap, sym, ◌∙◌, length, arith}
-use Rattle.std.specs.Prelude.{option_map}
+use Rattle.std.proofs.Common.{◌≡◌, ◌<◌, List, Option, Some, get_or, ap, sym, ◌∙◌, length, arith, option_map}
 use Rattle.std.specs.List.{position_or_len}
-use Rattle.inf_names.specs.Locals.{Local}
-use Rattle.inf_names.specs.declared.locals.Local.{Local as CodeLocal}
-use Rattle.inf_names.proofs.LocalLemmas.{has, local_of-absent, local_of-found}
-use Rattle.inf_names.proofs.Places.{found_place, no_place}
+use Rattle.inf_names.specs.{Locals.Local, declared.locals.Local.Local as CodeLocal}
+use Rattle.inf_names.proofs.{LocalLemmas.has, LocalLemmas.local_of-absent, LocalLemmas.local_of-found, Places.found_place, Places.no_place}
 use Rattle.inf_names.proofs.locals.Locals.first_place.Goals as goal
 
 pub returns-in_err-place : goal.returns-in_err-place

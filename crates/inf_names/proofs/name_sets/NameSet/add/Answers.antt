@@ -1,9 +1,8 @@
 -- The key of a name comes behind the others, unless it is one of them.
 use Rattle.std.proofs.Common.{◌≡◌, ℕ, List, [], ◌∷◌, ◌++◌, false, cond, ◌∙◌, sym, ap}
 use Rattle.std.proofs.lemmas.Result.{MatchResult-from_err}
+use Rattle.std.specs.{List.list_any, Str.bytes_eq}
 use Rattle.std.specs.Prelude.{⊤}
-use Rattle.std.specs.List.{list_any}
-use Rattle.std.specs.Str.{bytes_eq}
 use Rattle.inf_names.specs.NameSets.{is_among, with_name}
 use Rattle.inf_names.proofs.NameLists.{any-spelled, spelled, spelled-insert}
 use Rattle.inf_names.proofs.name_sets.NameSet.add.Goals as goal

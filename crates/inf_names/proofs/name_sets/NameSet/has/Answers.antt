@@ -1,7 +1,6 @@
 -- The keys of the set are the list of names.
 use Rattle.std.proofs.Common.{◌∙◌, ap}
-use Rattle.std.specs.List.{list_any}
-use Rattle.std.specs.Str.{bytes_eq}
+use Rattle.std.specs.{List.list_any, Str.bytes_eq}
 use Rattle.inf_names.specs.NameSets.{is_among}
 use Rattle.inf_names.proofs.NameLists.{any-spelled, spelled}
 use Rattle.inf_names.proofs.name_sets.NameSet.has.Goals as goal

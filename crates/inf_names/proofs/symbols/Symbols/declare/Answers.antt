@@ -1,15 +1,11 @@
 -- A name is declared in its place or behind the others, and one more name is declared then.
+use Rattle.std.proofs.{lemmas.List.length-map, lemmas.Result.MatchResult-from_err}
 use Rattle.std.proofs.Common.{◌≡◌, ◌+◌, cond, List, sym, ◌∙◌, ap, arith, false, length, map, None, Some}
-use Rattle.std.proofs.lemmas.List.{length-map}
-use Rattle.std.proofs.lemmas.Result.{MatchResult-from_err}
 use Rattle.std.specs.Prelude.{⊤, is_some, nat_le}
-use Rattle.inf_names.specs.Entries.{as_named}
-use Rattle.inf_names.specs.SystemNames.{system_meaning}
-use Rattle.inf_settings.specs.declared.setting.Setting.TheVariants as setting
-use Rattle.inf_names.specs.Symbols.{Named, IsDeclared, Table, declarations, declare_fault, folded, found_in, is_full, put, standing_of}
-use Rattle.inf_names.specs.Symbols.{with_declared}
-use Rattle.inf_names.specs.declared.symbols.DeclareFault.TheVariants as declaring
-use Rattle.inf_names.specs.declared.symbols.Found.TheVariants as found
+use Rattle.inf_names.specs.{Entries.as_named, Symbols.IsDeclared, Symbols.Named, Symbols.Table, Symbols.declarations, Symbols.declare_fault}
+use Rattle.inf_names.specs.{Symbols.folded, Symbols.found_in, Symbols.is_full, Symbols.put, Symbols.standing_of, Symbols.with_declared}
+use Rattle.inf_names.specs.{SystemNames.system_meaning, declared.symbols.DeclareFault.DeclareFault, declared.symbols.Found.Found}
+use Rattle.inf_settings.specs.declared.setting.Setting.{Setting}
 use Rattle.inf_names.proofs.Putting.{declarations-declared, declarations-few, fits_behind, length-put, open_where_fit, put-insert}
 use Rattle.inf_names.proofs.Putting.{absent_key, never_lacks, room_where_fit, unknown_where_fit}
 use Rattle.inf_names.proofs.symbols.Symbols.declare.Goals as goal
@@ -35,7 +31,7 @@ invariant_of-self-2 g c =
     let key = folded c.args.name.now in
     let known = standing_of key names in
     let system = system_meaning inside.is_debugging c.args.name.now in
-    let full = nat_le (g.B.Bounds.most setting.Symbols) (length names) in
+    let full = nat_le (g.B.Bounds.most Setting.Symbols) (length names) in
     let put_in = IsDeclared inside.declared c.args.meaning c.args.place in
     let fit : declare_fault g.B.Bounds.most c.args.name.now (record {
       names = names;
@@ -88,8 +84,8 @@ returns-in_err-insert-clause-memory g c =
     let absent : is_some (standing_of key t.names) ≡ false =
     ap (λ (t : Table _). is_some (standing_of key t.names)) (sym c.self.view_is)
     ∙ ap (λ k. is_some (standing_of k (map as_named c.self.inside.entries.entries))) (sym c.of.ensures) ∙ gone in
-    let unknown : found_in c.args.name.now t ≡ found.Unknown =
+    let unknown : found_in c.args.name.now t ≡ Found.Unknown =
     unknown_where_fit (system_meaning t.is_debugging c.args.name.now) (standing_of key t.names) (is_full g.B.Bounds.most t)
     (sym c.in_default.ensures) absent in
-    MatchResult-from_err c.from_residual.result (λ _. ⊤) (λ f. f ≡ declaring.Memory → found_in c.args.name.now t ≡ found.Unknown)
+    MatchResult-from_err c.from_residual.result (λ _. ⊤) (λ f. f ≡ DeclareFault.Memory → found_in c.args.name.now t ≡ Found.Unknown)
     c.from_residual.ensures.0 (λ f memory. unknown)

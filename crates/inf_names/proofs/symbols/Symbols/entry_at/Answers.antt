@@ -1,8 +1,6 @@
 -- The code has the entries in the order of the names.
-use Rattle.std.proofs.Common.{sym, ◌∙◌, ap}
-use Rattle.std.specs.Prelude.{option_map}
-use Rattle.inf_names.specs.Entries.{standing}
-use Rattle.inf_names.specs.Symbols.{Table, standing_at}
+use Rattle.std.proofs.Common.{sym, ◌∙◌, ap, option_map}
+use Rattle.inf_names.specs.{Entries.standing, Symbols.Table, Symbols.standing_at}
 use Rattle.inf_names.proofs.Putting.{standing_at-get}
 use Rattle.inf_names.proofs.symbols.Symbols.entry_at.Goals as goal
 

@@ -1,8 +1,6 @@
 -- The code finds what the definition finds.
-use Rattle.std.proofs.Common.{sym, ◌∙◌, ap}
-use Rattle.std.specs.Prelude.{option_map}
-use Rattle.inf_names.specs.Entries.{standing}
-use Rattle.inf_names.specs.Symbols.{Table, standing_of}
+use Rattle.std.proofs.Common.{sym, ◌∙◌, ap, option_map}
+use Rattle.inf_names.specs.{Entries.standing, Symbols.Table, Symbols.standing_of}
 use Rattle.inf_names.proofs.Putting.{standing-copied, standing_of-lookup}
 use Rattle.inf_names.proofs.symbols.Symbols.entry_of.Goals as goal
 

@@ -1,15 +1,11 @@
 -- A new name is used behind the others.
+use Rattle.std.proofs.{lemmas.List.length-map, lemmas.Result.MatchResult-from_err}
 use Rattle.std.proofs.Common.{◌≡◌, ◌+◌, cond, List, sym, ◌∙◌, ap, false, length, map, Some}
-use Rattle.std.proofs.lemmas.List.{length-map}
-use Rattle.std.proofs.lemmas.Result.{MatchResult-from_err}
 use Rattle.std.specs.Prelude.{⊤, is_some, nat_le}
-use Rattle.inf_names.specs.Entries.{as_named}
-use Rattle.inf_names.specs.SystemNames.{system_meaning}
+use Rattle.inf_names.specs.{Entries.as_named, SystemNames.system_meaning, declared.symbols.Found.Found}
+use Rattle.inf_names.specs.{declared.symbols.ReferFault.ReferFault}
 use Rattle.inf_names.specs.Symbols.{Named, Table, IsUsed, declarations, folded, found_in, is_full, number_among, number_of, put}
-use Rattle.inf_names.specs.Symbols.{standing_of}
-use Rattle.inf_names.specs.Symbols.{with_used}
-use Rattle.inf_names.specs.declared.symbols.Found.TheVariants as found
-use Rattle.inf_names.specs.declared.symbols.ReferFault.TheVariants as referring
+use Rattle.inf_names.specs.Symbols.{standing_of, with_used}
 use Rattle.inf_names.proofs.Putting.{declarations-used, fits_behind, found_at_number, index_of-absent, length-put, new_number, new_used}
 use Rattle.inf_names.proofs.Putting.{not_numbered, put-insert, unknown_where}
 use Rattle.inf_names.proofs.symbols.Symbols.find_and_refer.Goals as goal
@@ -75,9 +71,9 @@ returns-in_err-insert-clause-memory g c =
     let free : is_some (system_meaning t.is_debugging c.args.name.now) ≡ false =
     ap (λ (t : Table _). is_some (system_meaning t.is_debugging c.args.name.now)) (sym c.self.view_is)
     ∙ ap is_some (sym c.in_default-system_meaning.ensures) in
-    let unknown : found_in c.args.name.now t ≡ found.Unknown =
+    let unknown : found_in c.args.name.now t ≡ Found.Unknown =
     unknown_where (system_meaning t.is_debugging c.args.name.now) (standing_of key t.names) free absent in
-    MatchResult-from_err c.from_residual.result (λ _. ⊤) (λ f. f ≡ referring.Memory → found_in c.args.name.now t ≡ found.Unknown)
+    MatchResult-from_err c.from_residual.result (λ _. ⊤) (λ f. f ≡ ReferFault.Memory → found_in c.args.name.now t ≡ Found.Unknown)
     c.from_residual.ensures.0 (λ f memory. unknown)
 
 pub returns-clause-number : goal.returns-clause-number

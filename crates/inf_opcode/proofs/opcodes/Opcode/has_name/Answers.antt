@@ -1,9 +1,7 @@
 -- The test of the library finds bytes that are equal in any case.
+use Rattle.std.proofs.{lemmas.Bool.Decides.same_from_decides, lemmas.Slice.Eq.bytes_eq-Decides}
 use Rattle.std.proofs.Common.{◌∙◌, ap, map}
-use Rattle.std.specs.Char.{to_ascii_lowercase}
-use Rattle.std.specs.Str.{bytes_eq, str_eq_ignore_ascii_case}
-use Rattle.std.proofs.lemmas.Bool.Decides.{same_from_decides}
-use Rattle.std.proofs.lemmas.Slice.Eq.{bytes_eq-Decides}
+use Rattle.std.specs.{Char.to_ascii_lowercase, Str.bytes_eq, Str.str_eq_ignore_ascii_case}
 use Rattle.inf_opcode.proofs.opcodes.Opcode.has_name.Goals as goal
 
 pub returns : goal.returns

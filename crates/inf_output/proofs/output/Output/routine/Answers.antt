@@ -2,8 +2,7 @@
 use Rattle.std.proofs.Common.{◌≡◌, List, ℕ, sym, ◌∙◌, ap}
 use Rattle.inf_names.specs.Symbols.{found_in, is_full, refer_fault}
 use Rattle.inf_names.proofs.Putting.{used_where_memory}
-use Rattle.inf_output.specs.Output.{Out}
-use Rattle.inf_output.specs.Veneer.{name_of}
+use Rattle.inf_output.specs.{Output.Out, Veneer.name_of}
 use Rattle.inf_output.proofs.output.Output.routine.Goals as goal
 
 pub returns-in-Err-Memory-clause-memory : goal.returns-in-Err-Memory-clause-memory

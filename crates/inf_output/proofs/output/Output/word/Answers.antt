@@ -2,8 +2,7 @@
 use Rattle.std.proofs.Common.{sym, ◌∙◌, ap}
 use Rattle.inf_dictionary.specs.Words.{add_fault, word_of}
 use Rattle.inf_dictionary.proofs.Faults.{fit_where_memory}
-use Rattle.inf_output.specs.Output.{Out}
-use Rattle.inf_output.specs.declared.output.Output.TheInside.{Inside}
+use Rattle.inf_output.specs.{Output.Out, declared.output.Output.TheInside.Inside}
 use Rattle.inf_output.proofs.output.Output.word.Goals as goal
 
 pub returns-in-Err-Memory-clause-memory : goal.returns-in-Err-Memory-clause-memory

@@ -1,6 +1,5 @@
 use Rattle.std.proofs.Common.{◌≡◌, false, Some, sym, ap, ◌∙◌}
-use Rattle.inf_properties.specs.Open.{Open}
-use Rattle.inf_properties.specs.Properties.{found, has}
+use Rattle.inf_properties.specs.{Open.Open, Properties.found, Properties.has}
 use Rattle.inf_properties.proofs.Short.{short_found, short_parts}
 use Rattle.inf_properties.proofs.open.OpenProperties.above_of.Goals as goal
 

@@ -1,9 +1,6 @@
 use Rattle.std.proofs.Common.{◌≡◌, ◌<◌, ◌^◌, true, refl, sym, ap, subst, ◌∙◌, arith}
+use Rattle.inf_properties.specs.{Properties.inherited, Sizes.total, Values.with_last_value, declared.sizes.Size.Size}
 use Rattle.inf_properties.specs.Open.{IsOpen, Open, is_last_short}
-use Rattle.inf_properties.specs.Properties.{inherited}
-use Rattle.inf_properties.specs.Sizes.{total}
-use Rattle.inf_properties.specs.Values.{with_last_value}
-use Rattle.inf_properties.specs.declared.sizes.Size.{Size}
 use Rattle.inf_properties.proofs.Opening.{bytes_within, opens_valued}
 use Rattle.inf_properties.proofs.open.OpenProperties.add_value.Goals as goal
 

@@ -1,5 +1,4 @@
-use Rattle.inf_properties.proofs.Having.{AreFree-inherited}
-use Rattle.inf_properties.proofs.Inheriting.{AreNew-inherited}
+use Rattle.inf_properties.proofs.{Having.AreFree-inherited, Inheriting.AreNew-inherited}
 use Rattle.inf_properties.proofs.open.OpenProperties.complete.Goals as goal
 
 pub from_list-requires-clause-once : goal.from_list-requires-clause-once

@@ -1,10 +1,7 @@
 use Rattle.std.proofs.Common.{◌≡◌, ◌<◌, ◌^◌, ◌∷◌, ◌++◌, [], false, true, refl, sym, ap, subst, ◌∙◌, arith, List}
 use Rattle.inf_area.specs.declared.targets.Value.{Value}
-use Rattle.inf_properties.specs.Open.{IsOpen, Open, given_first}
-use Rattle.inf_properties.specs.Places.{AreAt}
-use Rattle.inf_properties.specs.Properties.{has, inherited, joined}
-use Rattle.inf_properties.specs.Sizes.{is_short, total}
-use Rattle.inf_properties.specs.declared.sizes.Size.{Size}
+use Rattle.inf_properties.specs.{Open.IsOpen, Open.Open, Open.given_first, Places.AreAt, Properties.has, Properties.inherited}
+use Rattle.inf_properties.specs.{Properties.joined, Sizes.is_short, Sizes.total, declared.sizes.Size.Size}
 use Rattle.inf_properties.proofs.Opening.{bytes_within, opens_given}
 use Rattle.inf_properties.proofs.open.OpenProperties.give.Goals as goal
 

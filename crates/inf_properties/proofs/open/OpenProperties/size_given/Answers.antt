@@ -1,9 +1,6 @@
-use Rattle.std.proofs.Common.{ap, ◌∙◌}
-use Rattle.std.specs.Prelude.{option_to_list}
-use Rattle.inf_properties.specs.Open.{Open}
-use Rattle.inf_properties.specs.Properties.{found, values_in}
-use Rattle.inf_properties.proofs.Fitting.{given_fits, sized_by}
-use Rattle.inf_properties.proofs.Sums.{changed_is}
+use Rattle.std.proofs.Common.{ap, ◌∙◌, option_to_list}
+use Rattle.inf_properties.specs.{Open.Open, Properties.found, Properties.values_in}
+use Rattle.inf_properties.proofs.{Fitting.given_fits, Fitting.sized_by, Sums.changed_is}
 use Rattle.inf_properties.proofs.open.OpenProperties.size_given.Goals as goal
 
 pub changed-requires-clause-bytes : goal.changed-requires-clause-bytes

@@ -1,13 +1,10 @@
 use Rattle.std.proofs.Common.{◌≤◌, ◌<◌, ◌∷◌, ◌++◌, [], ℕ, List, length, refl, sym, ap, ◌∙◌, arith}
 use Rattle.std.proofs.lemmas.Bool.{le-leb, lt-leb}
 use Rattle.inf_area.specs.declared.targets.Value.{Value}
-use Rattle.inf_properties.specs.declared.values.Property.{Property}
-use Rattle.inf_properties.specs.Open.{Open}
+use Rattle.inf_properties.specs.{Open.Open, Sizes.are_short, declared.values.Property.Property}
 use Rattle.inf_properties.specs.Properties.{inherited, joined_values, values_of}
-use Rattle.inf_properties.specs.Sizes.{are_short}
+use Rattle.inf_properties.proofs.{Short.own_length, Short.short_last, Sums.changed_is}
 use Rattle.inf_properties.proofs.Fitting.{last_short_is, sized_as, valued_fits}
-use Rattle.inf_properties.proofs.Short.{own_length, short_last}
-use Rattle.inf_properties.proofs.Sums.{changed_is}
 use Rattle.inf_properties.proofs.open.OpenProperties.size_with.Goals as goal
 
 pub value_sizes-requires : goal.value_sizes-requires

@@ -1,11 +1,8 @@
 use Rattle.std.proofs.Common.{◌++◌, ℕ, take, drop, false, sym, ap, ◌∙◌}
-use Rattle.inf_scanner.specs.Kept.{Kept}
-use Rattle.inf_scanner.specs.Runs.{with_bytes}
-use Rattle.inf_scanner.specs.Scanning.{Sight, find, sight}
-use Rattle.inf_scanner.specs.declared.scanner.Seen.{Seen}
+use Rattle.inf_scanner.specs.{Kept.Kept, Runs.with_bytes, Scanning.Sight, Scanning.find, Scanning.sight, declared.scanner.Seen.Seen}
 use Rattle.inf_scanner.proofs.Runs.{found_kept, found_skipped}
-use Rattle.inf_scanner.proofs.scanner.Seen.pass_run.Goals as goal
 use Rattle.inf_scanner.proofs.scanner.Seen.pass_run.Goals.{then-not-is_gap+in_ok-extend, else-not-is_gap}
+use Rattle.inf_scanner.proofs.scanner.Seen.pass_run.Goals as goal
 
 -- the part of a token that was seen, behind bytes that end no line
 abbrev calmed : Seen → Kept → Sight

@@ -1,10 +1,7 @@
+use Rattle.std.proofs.{lemmas.List.drop-drop, lemmas.Slice.between_to_end}
 use Rattle.std.proofs.Common.{◌++◌, ◌+◌, ℕ, List, length, drop, refl, sym, ap, ◌∙◌, arith}
-use Rattle.std.proofs.lemmas.List.{drop-drop}
-use Rattle.std.proofs.lemmas.Slice.{between_to_end}
-use Rattle.inf_scanner.specs.Scanning.{find, sight, turn}
-use Rattle.inf_scanner.specs.declared.scanner.Turn.{Turn}
-use Rattle.inf_scanner.proofs.Quoted.{quoted_from, quoted_in}
-use Rattle.inf_scanner.proofs.Taking.{found_on}
+use Rattle.inf_scanner.specs.{Scanning.find, Scanning.sight, Scanning.turn, declared.scanner.Turn.Turn}
+use Rattle.inf_scanner.proofs.{Quoted.quoted_from, Quoted.quoted_in, Taking.found_on}
 use Rattle.inf_scanner.proofs.scanner.Seen.take_all.Goals as goal
 
 pub returns-in_err-len-clause-memory : goal.returns-in_err-len-clause-memory

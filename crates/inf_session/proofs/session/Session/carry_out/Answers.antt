@@ -2,20 +2,14 @@ use Rattle.std.proofs.Common.{◌≡◌, inr, List, ℕ, ap, false, subst, sym, 
 use Rattle.std.proofs.lemmas.Result.{on_err_weaker, on_ok_weaker}
 use Rattle.inf_reader.specs.Reading.{is_mode_ended}
 use Rattle.inf_devices.specs.Files.{Rose}
-use Rattle.inf_sources.specs.Inclusions.{Nesting}
-use Rattle.inf_sources.specs.Open.{Open, nesting, opened_since}
+use Rattle.inf_sources.specs.{Inclusions.Nesting, Open.Open, Open.nesting, Open.opened_since}
 use Rattle.inf_sources.proofs.Calls.{fit_none}
 use Rattle.inf_unit.specs.Directives.{Include}
 use Rattle.inf_compilation.specs.Actions.{Compilation}
-use Rattle.inf_session.specs.Choices.{chosen}
-use Rattle.inf_session.specs.Leading.{NotTried, StopsAtInclusion}
-use Rattle.inf_session.specs.Session.{asked_nothing, included}
-use Rattle.inf_session.specs.Standing.{state}
-use Rattle.inf_session.specs.Weights.{Turns}
-use Rattle.inf_session.proofs.Opening.{carried_out_within, heeds, not_ended, turns}
-use Rattle.inf_session.proofs.Turning.{turned_went}
-use Rattle.inf_session.proofs.Standings.{if_halt_read}
-use Rattle.inf_session.proofs.session.Session.carry_out.Goals.{in-Ended, in_default}
+use Rattle.inf_session.specs.{Choices.chosen, Leading.NotTried, Leading.StopsAtInclusion, Session.asked_nothing, Session.included}
+use Rattle.inf_session.specs.{Standing.state, Weights.Turns}
+use Rattle.inf_session.proofs.{Opening.carried_out_within, Opening.heeds, Opening.not_ended, Opening.turns, Standings.if_halt_read}
+use Rattle.inf_session.proofs.{Turning.turned_went, session.Session.carry_out.Goals.in-Ended, session.Session.carry_out.Goals.in_default}
 use Rattle.inf_session.proofs.session.Session.carry_out.Goals as goal
 
 pub returns-in-Include-clause-carried_out : goal.returns-in-Include-clause-carried_out

@@ -1,9 +1,8 @@
 use Rattle.std.proofs.Common.{◌≡◌, IfOk, OnErr, ap, subst}
 use Rattle.inf_unit.specs.Messages.{FileNames}
 use Rattle.inf_compilation.specs.Works.{work as work_of}
+use Rattle.inf_ending.specs.{Ending.finished, declared.compiled.Status.Status}
 use Rattle.inf_ending.specs.Delivered.{Delivers, EndsCleanOf, TakesFront, story_in}
-use Rattle.inf_ending.specs.Ending.{finished}
-use Rattle.inf_ending.specs.declared.compiled.Status.TheVariants as status
 use Rattle.inf_session.proofs.session.Session.finish.Goals as goal
 
 pub returns-clause-ok : goal.returns-clause-ok
@@ -18,7 +17,7 @@ pub returns-clause-clean : goal.returns-clause-clean
 returns-clause-clean g c =
     let old = g.M.Sink.taken c.args.messages.now in
     let new = g.M.Sink.taken c.conclude-compiled.new.messages in
-    subst (λ (n : FileNames). IfOk c.conclude-compiled.result (λ compiled. compiled.status ≡ status.Success →
+    subst (λ (n : FileNames). IfOk c.conclude-compiled.result (λ compiled. compiled.status ≡ Status.Success →
     EndsCleanOf g.B.Bounds.most c.args.serial.now n (work_of c.args.self.progress.work) (story_in compiled) old new))
     (ap (λ s. s.names) c.names.ensures) c.conclude-compiled.ensures.clean
 

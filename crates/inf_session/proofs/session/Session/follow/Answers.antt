@@ -1,10 +1,7 @@
 use Rattle.std.proofs.Common.{inl, inr, ap, subst, sym}
 use Rattle.inf_opcode.proofs.Growing.{on_err}
-use Rattle.inf_session.specs.Choices.{chosen}
-use Rattle.inf_session.specs.Session.{State}
-use Rattle.inf_session.specs.Standing.{state}
+use Rattle.inf_session.specs.{Choices.chosen, Session.State, Standing.state, Weights.GoesOn}
 use Rattle.inf_session.proofs.Opening.{followed_within}
-use Rattle.inf_session.specs.Weights.{GoesOn}
 use Rattle.inf_reader.specs.Reading.{is_mode_ended}
 use Rattle.inf_sources.specs.Open.{Open, opened_since}
 use Rattle.inf_sources.proofs.Calls.{went_as}

@@ -1,13 +1,10 @@
 use Rattle.std.proofs.Common.{◌≡◌, ◌⊎◌, inl, inr, Err, ap, subst, ◌∙◌}
+use Rattle.inf_sources.specs.{Calls.IsUnreadable, Open.nesting, Open.opened_since}
 use Rattle.inf_sources.specs.Inclusions.{OpenedInVain, OpensTooMany, inclusion}
-use Rattle.inf_sources.specs.Open.{nesting, opened_since}
-use Rattle.inf_session.specs.Choices.{chosen}
-use Rattle.inf_session.proofs.Opening.{in_vain}
+use Rattle.inf_session.specs.{Choices.chosen, Leading.NotTried}
+use Rattle.inf_session.proofs.{Opening.in_vain, Standings.caused_more, Standings.read_caused}
 use Rattle.inf_devices.specs.Files.{Rose}
-use Rattle.inf_sources.specs.Calls.{IsUnreadable}
 use Rattle.inf_ending.specs.Faults.{fault_of}
-use Rattle.inf_session.specs.Leading.{NotTried}
-use Rattle.inf_session.proofs.Standings.{caused_more, read_caused}
 use Rattle.inf_session.proofs.session.Session.include.Goals as goal
 
 pub returns-in-Err-Device-clause-fault : goal.returns-in-Err-Device-clause-fault

@@ -2,18 +2,14 @@ use Rattle.std.proofs.Common.{rules, ◌≡◌, ℕ, List, ◌+◌, IfErr, IsTru
 use Rattle.inf_opcode.proofs.Growing.{on_err}
 use Rattle.inf_devices.specs.Files.{Rose, Sources}
 use Rattle.inf_lexer.proofs.Candidates.{rose_earlier}
-use Rattle.inf_sources.specs.Open.{opened_since}
-use Rattle.inf_sources.specs.Calls.{IsUnreadable}
+use Rattle.inf_sources.specs.{Calls.IsUnreadable, Open.opened_since}
 use Rattle.inf_sources.proofs.Calls.{fit_none, fit_then, unreadable_then, went_none, went_then}
-use Rattle.inf_session.specs.Choices.{Choices, chosen}
-use Rattle.inf_ending.specs.Faults.{Caused, IfRead, UnlessMessages}
+use Rattle.inf_session.specs.{Choices.Choices, Choices.chosen, Session.run, Standing.state}
 use Rattle.inf_session.specs.Leading.{CutsShort, GivenUp, OpensAll, Writes}
-use Rattle.inf_session.specs.Session.{run}
-use Rattle.inf_session.specs.Standing.{state}
-use Rattle.inf_ending.proofs.Delivering.{appends_none, appends_then}
+use Rattle.inf_ending.specs.Faults.{Caused, IfRead, UnlessMessages}
+use Rattle.inf_ending.proofs.{Delivering.appends_none, Delivering.appends_then, Quiet.hides_behind}
 use Rattle.inf_session.proofs.Leadings.{cuts_on, given_up_on, opened_on, run_sum, writes_none, writes_on}
 use Rattle.inf_session.proofs.Standings.{if_caused_more, if_read_more}
-use Rattle.inf_ending.proofs.Quiet.{hides_behind}
 use Rattle.inf_session.proofs.session.Session.read.Goals as goal
 
 pub loop-self-init : goal.loop-self-init

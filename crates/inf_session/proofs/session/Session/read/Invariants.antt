@@ -1,11 +1,7 @@
 use Rattle.std.proofs.Common.{◌≡◌, ℕ, ◌<◌, false, length, cond, suc}
 use Rattle.inf_sources.specs.Calls.{Honestly, StaysFit, Went}
-use Rattle.inf_session.specs.Choices.{chosen}
+use Rattle.inf_session.specs.{Choices.chosen, Leading.Writes, Session.run, Standing.IsSet, Standing.ended, Standing.state, Weights.weight}
 use Rattle.inf_ending.specs.Delivered.{Appends}
-use Rattle.inf_session.specs.Leading.{Writes}
-use Rattle.inf_session.specs.Session.{run}
-use Rattle.inf_session.specs.Standing.{IsSet, ended, state}
-use Rattle.inf_session.specs.Weights.{weight}
 use Rattle.inf_session.proofs.session.Session.read.Given as goal
 
 -- some turns led here from the start

@@ -1,24 +1,17 @@
 use Rattle.std.proofs.Common.{◌≡◌, ℕ, ◌≤◌, List, suc, zero, [], false, true, IsTrue, ap, refl, sym, subst, ◌∙◌}
 use Rattle.inf_devices.specs.Files.{Rose, Sources}
 use Rattle.inf_lexer.proofs.Candidates.{rose_earlier}
-use Rattle.inf_sources.specs.Open.{opened_since}
-use Rattle.inf_sources.specs.Calls.{IsUnreadable}
+use Rattle.inf_sources.specs.{Calls.IsUnreadable, Open.opened_since}
 use Rattle.inf_sources.proofs.Calls.{fit_then, unreadable_then, went_then}
-use Rattle.inf_session.specs.Choices.{Choices, chosen, most_quoted}
-use Rattle.inf_ending.specs.Faults.{Caused, IfRead, UnlessMessages}
+use Rattle.inf_session.specs.{Choices.Choices, Choices.chosen, Choices.most_quoted, Session.has_ended, Session.turn, Standing.came_to}
+use Rattle.inf_session.specs.{Standing.ended, Standing.parted, Standing.state, Weights.weight, declared.setup.Setup.Setup}
 use Rattle.inf_session.specs.Leading.{CutsShort, GivenUp, OpensWithin, StopsFor, Writes}
-use Rattle.inf_session.specs.Session.{has_ended, turn}
-use Rattle.inf_session.specs.Standing.{came_to, ended, parted, state}
-use Rattle.inf_ending.proofs.Delivering.{appends_then}
+use Rattle.inf_ending.specs.{Faults.Caused, Faults.IfRead, Faults.UnlessMessages, declared.faults.Fault.Fault}
+use Rattle.inf_ending.proofs.{Delivering.appends_then, Quiet.unless_more}
+use Rattle.inf_session.proofs.{Bounds.bounded_still, Standings.caused_more, Standings.read_both, Weighing.ends_or_falls}
+use Rattle.inf_session.proofs.{Weighing.falls_then}
 use Rattle.inf_session.proofs.Leadings.{cuts_then, given_up, opened_then, part_first, part_none, part_then, still_going, stops_more}
 use Rattle.inf_session.proofs.Leadings.{writes_none, writes_then}
-use Rattle.inf_ending.specs.declared.faults.Fault.{Fault}
-use Rattle.inf_session.specs.declared.setup.Setup.{Setup}
-use Rattle.inf_session.proofs.Bounds.{bounded_still}
-use Rattle.inf_session.proofs.Standings.{caused_more, read_both}
-use Rattle.inf_session.proofs.Weighing.{ends_or_falls, falls_then}
-use Rattle.inf_session.specs.Weights.{weight}
-use Rattle.inf_ending.proofs.Quiet.{unless_more}
 use Rattle.inf_session.proofs.session.Session.read_part.Goals as goal
 
 pub loop-self-init : goal.loop-self-init

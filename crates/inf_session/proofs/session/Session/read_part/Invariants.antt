@@ -1,11 +1,8 @@
 use Rattle.std.proofs.Common.{◌≡◌, ℕ, ◌<◌, ◌≤◌, ◌⊎◌, true, false, length, cond, suc}
 use Rattle.inf_sources.specs.Calls.{Honestly, StaysFit, Went}
-use Rattle.inf_session.specs.Choices.{chosen, most_quoted}
-use Rattle.inf_ending.specs.Delivered.{Appends}
-use Rattle.inf_session.specs.Leading.{Writes}
-use Rattle.inf_session.specs.Session.{part, run}
+use Rattle.inf_session.specs.{Choices.chosen, Choices.most_quoted, Leading.Writes, Session.part, Session.run, Weights.weight}
 use Rattle.inf_session.specs.Standing.{IsSet, ended, state}
-use Rattle.inf_session.specs.Weights.{weight}
+use Rattle.inf_ending.specs.Delivered.{Appends}
 use Rattle.inf_session.proofs.session.Session.read_part.Given as goal
 
 -- some turns of a part led here from the start

@@ -2,13 +2,10 @@ use Rattle.std.proofs.Common.{◌≡◌, ℕ, List, true, suc, length, refl, ap,
 use Rattle.inf_opcode.proofs.Growing.{on_err}
 use Rattle.inf_sources.specs.Open.{Open, nesting}
 use Rattle.inf_unit.specs.Messages.{Reported}
-use Rattle.inf_session.specs.Choices.{chosen}
-use Rattle.inf_session.specs.Standing.{state}
+use Rattle.inf_session.specs.{Choices.chosen, Standing.state}
 use Rattle.inf_session.specs.Veneer.{in_text, text_front, text_read, text_turns, veneer_text}
-use Rattle.inf_session.proofs.Supplying.{cut_nothing, text_begins, text_cut, text_front_is, text_leads, text_turned_is}
-use Rattle.inf_session.proofs.Supplying.{text_writes}
-use Rattle.inf_ending.proofs.Delivering.{appends_none}
-use Rattle.inf_ending.proofs.Quiet.{hides_none, hides_told}
+use Rattle.inf_session.proofs.Supplying.{cut_nothing, text_begins, text_cut, text_front_is, text_leads, text_turned_is, text_writes}
+use Rattle.inf_ending.proofs.{Delivering.appends_none, Quiet.hides_none, Quiet.hides_told}
 use Rattle.inf_session.proofs.session.Session.read_text.Goals as goal
 
 pub new-requires : goal.new-requires

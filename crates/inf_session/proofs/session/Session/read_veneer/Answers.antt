@@ -1,8 +1,6 @@
 use Rattle.std.proofs.Common.{rules, ◌≡◌, IfErr, refl, ap}
 use Rattle.inf_opcode.proofs.Growing.{on_err}
-use Rattle.inf_session.specs.Choices.{chosen}
-use Rattle.inf_session.specs.Standing.{state}
-use Rattle.inf_session.specs.Veneer.{next_supplied, supplied_at, text_read}
+use Rattle.inf_session.specs.{Choices.chosen, Standing.state, Veneer.next_supplied, Veneer.supplied_at, Veneer.text_read}
 use Rattle.inf_session.proofs.Supplying.{cuts_as, writes_as}
 use Rattle.inf_ending.specs.Faults.{UnlessMessages}
 use Rattle.inf_ending.proofs.Quiet.{hides_behind}

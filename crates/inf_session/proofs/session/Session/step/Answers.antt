@@ -1,16 +1,12 @@
-use Rattle.std.proofs.Common.{◌≡◌, ◌⊎◌, ◌<◌, ◌≤◌, true, false, IfOk, refl, sym, ap, subst, ◌∙◌}
-use Rattle.std.specs.Prelude.{◌||◌, ◌&&◌, is_none}
+use Rattle.std.proofs.Common.{◌≡◌, ◌⊎◌, ◌<◌, ◌≤◌, true, false, IfOk, refl, sym, ap, subst, ◌∙◌, ◌||◌, ◌&&◌, is_none}
 use Rattle.std.proofs.lemmas.Result.{on_ok_weaker}
 use Rattle.inf_devices.specs.Files.{Rose}
 use Rattle.inf_sources.specs.Calls.{IsUnreadable}
 use Rattle.inf_sources.proofs.Calls.{fit_none, went_as, went_none}
 use Rattle.inf_conditionals.specs.Judging.{may_part}
-use Rattle.inf_reader.specs.Handing.{is_between}
-use Rattle.inf_reader.specs.Standing.{reading}
+use Rattle.inf_reader.specs.{Handing.is_between, Standing.reading}
+use Rattle.inf_session.specs.{Veneer.most_texts, Weights.steps_left, declared.session.Step.Step}
 use Rattle.inf_session.specs.Standing.{came_to, ended, is_done, next_of}
-use Rattle.inf_session.specs.Veneer.{most_texts}
-use Rattle.inf_session.specs.Weights.{steps_left}
-use Rattle.inf_session.specs.declared.session.Step.TheVariants as step
 use Rattle.inf_session.proofs.Parting.{done_by, done_is, going_is, if_ok_two, part_ends, part_falls, veneer_bounded, veneer_falls}
 use Rattle.inf_session.proofs.Standings.{if_caused_more}
 use Rattle.inf_session.proofs.session.Session.step.Goals as goal
@@ -42,8 +38,8 @@ returns-then-has_ended-clause-came g c =
 pub returns-then-has_ended-clause-ends : goal.returns-then-has_ended-clause-ends
 returns-then-has_ended-clause-ends g c =
     let t = c.step_veneer.new.self in
-    if_ok_two c.step_veneer.result (λ x. (x ≡ step.More → ⊥) → is_none (next_of t) ≡ true) (λ x. ended t ≡ true)
-    (λ x. (x ≡ step.More → ⊥) → is_done t ≡ true) (λ x ends over more. done_by t over (ends more)) c.step_veneer.ensures.ends
+    if_ok_two c.step_veneer.result (λ x. (x ≡ Step.More → ⊥) → is_none (next_of t) ≡ true) (λ x. ended t ≡ true)
+    (λ x. (x ≡ Step.More → ⊥) → is_done t ≡ true) (λ x ends over more. done_by t over (ends more)) c.step_veneer.ensures.ends
     (c.step_veneer.ensures.ended (sym c.has_ended.ensures ∙ c.if-has_ended.true))
 
 pub returns-then-has_ended-clause-again : goal.returns-then-has_ended-clause-again
@@ -87,8 +83,8 @@ returns-clause-ends g c =
     let s = c.args.self.now in
     let t = c.read_part.new.self in
     let going : ended s ≡ false = sym c.has_ended.ensures ∙ c.if-has_ended.false in
-    if_ok_two c.read_part.result (λ x. x ≡ came_to (ended s) t) (λ x. (x ≡ step.More → ⊥) → ended t ≡ true)
-    (λ x. (x ≡ step.More → ⊥) → is_done t ≡ true)
+    if_ok_two c.read_part.result (λ x. x ≡ came_to (ended s) t) (λ x. (x ≡ Step.More → ⊥) → ended t ≡ true)
+    (λ x. (x ≡ Step.More → ⊥) → is_done t ≡ true)
     (λ x came ends more. part_ends t x (came ∙ ap (λ b. came_to b t) going) more (ends more)) c.read_part.ensures.came
     c.read_part.ensures.ends
 

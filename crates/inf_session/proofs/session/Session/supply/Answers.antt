@@ -1,17 +1,13 @@
-use Rattle.std.proofs.Common.{◌≡◌, true, false, IfErr, rules, refl, sym, ap, subst, ◌∙◌}
-use Rattle.std.specs.Prelude.{is_some}
+use Rattle.std.proofs.Common.{◌≡◌, true, false, IfErr, rules, refl, sym, ap, subst, ◌∙◌, is_some}
 use Rattle.inf_opcode.proofs.Growing.{on_err}
 use Rattle.inf_devices.specs.Files.{Rose}
 use Rattle.inf_lexer.proofs.Candidates.{rose_earlier}
-use Rattle.inf_session.specs.Choices.{Choices, chosen}
+use Rattle.inf_session.specs.{Choices.Choices, Choices.chosen, Leading.CutsShort, Leading.Writes, Standing.next_of, Standing.state}
+use Rattle.inf_session.specs.{Veneer.next_supplied, Veneer.supplied}
 use Rattle.inf_ending.specs.Faults.{Caused, UnlessMessages}
-use Rattle.inf_session.specs.Leading.{CutsShort, Writes}
-use Rattle.inf_session.specs.Standing.{next_of, state}
-use Rattle.inf_session.specs.Veneer.{next_supplied, supplied}
-use Rattle.inf_ending.proofs.Delivering.{appends_none, appends_then}
+use Rattle.inf_ending.proofs.{Delivering.appends_none, Delivering.appends_then, Quiet.hides_behind}
 use Rattle.inf_session.proofs.Standings.{if_caused_more}
 use Rattle.inf_session.proofs.Supplying.{leads_all, leads_cut, leads_none, leads_then, left_less, none_is}
-use Rattle.inf_ending.proofs.Quiet.{hides_behind}
 use Rattle.inf_session.proofs.session.Session.supply.Goals as goal
 
 pub loop-was_read-init : goal.loop-was_read-init

@@ -1,10 +1,7 @@
-use Rattle.std.proofs.Common.{◌≡◌, ◌-◌, suc, false, cond}
-use Rattle.std.specs.Prelude.{is_some}
+use Rattle.std.proofs.Common.{◌≡◌, ◌-◌, suc, false, cond, is_some}
 use Rattle.inf_devices.specs.Files.{Openings, Sources}
-use Rattle.inf_session.specs.Choices.{chosen}
+use Rattle.inf_session.specs.{Choices.chosen, Standing.next_of, Standing.state, Veneer.most_texts, Veneer.supplied}
 use Rattle.inf_ending.specs.Delivered.{Appends}
-use Rattle.inf_session.specs.Standing.{next_of, state}
-use Rattle.inf_session.specs.Veneer.{most_texts, supplied}
 use Rattle.inf_session.proofs.Supplying.{LeadsOn}
 use Rattle.inf_session.proofs.session.Session.supply.Given as goal
 

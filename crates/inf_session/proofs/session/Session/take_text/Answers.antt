@@ -1,8 +1,5 @@
 use Rattle.std.proofs.Common.{◌≡◌, ◌≤◌, ◌<◌, sym, ap, subst, ◌∙◌, arith}
-use Rattle.inf_session.specs.Choices.{Choices, chosen}
-use Rattle.inf_session.specs.Session.{rested, stepped}
-use Rattle.inf_session.specs.Standing.{state}
-use Rattle.inf_session.specs.Veneer.{in_text}
+use Rattle.inf_session.specs.{Choices.Choices, Choices.chosen, Session.rested, Session.stepped, Standing.state, Veneer.in_text}
 use Rattle.inf_sources.specs.Open.{Open}
 use Rattle.inf_session.proofs.TextTurns.{text_ended, text_next}
 use Rattle.inf_session.proofs.session.Session.take_text.Goals as goal

@@ -1,8 +1,6 @@
 use Rattle.std.proofs.Common.{◌≡◌, ◌≤◌, List, ℕ}
 use Rattle.inf_devices.specs.Files.{Openings, Sources}
-use Rattle.inf_session.specs.Choices.{chosen}
-use Rattle.inf_session.specs.Standing.{state}
-use Rattle.inf_session.specs.Veneer.{in_text, text_turns}
+use Rattle.inf_session.specs.{Choices.chosen, Standing.state, Veneer.in_text, Veneer.text_turns}
 use Rattle.inf_session.proofs.session.Session.take_text.Given as goal
 
 -- the turns that are left lead from here to the state to which all lead from the start

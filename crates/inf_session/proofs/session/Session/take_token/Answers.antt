@@ -2,26 +2,18 @@ use Rattle.std.proofs.Common.{◌≡◌, true, Err, ℕ, List, [], ◌∷◌, �
 use Rattle.std.specs.Prelude.{slice_get}
 use Rattle.inf_devices.specs.Files.{Rose}
 use Rattle.inf_characters.specs.declared.characters.CharSet.{CharSet}
-use Rattle.inf_sources.specs.Inclusions.{Nesting}
+use Rattle.inf_sources.specs.{Inclusions.Nesting, Quoted.is_quoted_kind, declared.open_file.OpenFile.OpenFile}
 use Rattle.inf_sources.specs.Open.{files_of, lexers_of, nesting}
-use Rattle.inf_sources.specs.Quoted.{is_quoted_kind}
-use Rattle.inf_sources.specs.declared.open_file.OpenFile.{OpenFile}
 use Rattle.inf_sources.proofs.Places.{files_are}
 use Rattle.inf_lexer.specs.Names.{Nest}
 use Rattle.inf_unit.specs.Messages.{FileNames}
 use Rattle.inf_compilation.specs.Context.{Context}
-use Rattle.inf_reader.specs.Handing.{is_between}
-use Rattle.inf_reader.specs.Reading.{is_mode_ended}
-use Rattle.inf_reader.specs.Standing.{standing}
-use Rattle.inf_session.specs.Choices.{chosen}
+use Rattle.inf_reader.specs.{Handing.is_between, Reading.is_mode_ended, Standing.standing}
+use Rattle.inf_session.specs.{Choices.chosen, Leading.StopsInToken, Session.State, Session.context_of, Standing.state, Taking.Taken}
+use Rattle.inf_session.specs.{Taking.token_at}
 use Rattle.inf_ending.specs.Faults.{fault_of}
-use Rattle.inf_session.specs.Leading.{StopsInToken}
-use Rattle.inf_session.specs.Session.{State, context_of}
-use Rattle.inf_session.specs.Standing.{state}
-use Rattle.inf_session.specs.Taking.{Taken, token_at}
-use Rattle.inf_session.proofs.Standings.{read_caused}
+use Rattle.inf_session.proofs.{Standings.read_caused, Weighing.room_less}
 use Rattle.inf_session.proofs.Taking.{step_is, taken_as, taken_ends, taken_within, token_is}
-use Rattle.inf_session.proofs.Weighing.{room_less}
 use Rattle.inf_session.proofs.session.Session.take_token.Goals as goal
 
 pub returns-clause-moves : goal.returns-clause-moves

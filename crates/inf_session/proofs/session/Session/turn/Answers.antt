@@ -2,22 +2,16 @@ use Rattle.std.proofs.Common.{rules, arith, List, ℕ, ◌≤◌, IfErr, inl, in
 use Rattle.inf_opcode.proofs.Growing.{on_err}
 use Rattle.inf_devices.specs.Files.{Rose, Sources}
 use Rattle.inf_lexer.proofs.Candidates.{rose_earlier}
-use Rattle.inf_sources.specs.Open.{opened_since}
-use Rattle.inf_sources.specs.Calls.{IsUnreadable}
+use Rattle.inf_sources.specs.{Calls.IsUnreadable, Open.opened_since}
 use Rattle.inf_sources.proofs.Calls.{fit_then, unreadable_then, went_then}
 use Rattle.inf_unit.specs.Messages.{Reported}
 use Rattle.inf_reader.specs.Reading.{is_mode_ended}
-use Rattle.inf_session.specs.Choices.{Choices, chosen, most_quoted}
+use Rattle.inf_session.specs.{Choices.Choices, Choices.chosen, Choices.most_quoted, Leading.OpensWithin, Leading.StopsAtInclusion}
+use Rattle.inf_session.specs.{Leading.StopsFor, Leading.StopsInToken, Session.State, Session.followed, Session.stepped, Standing.state}
 use Rattle.inf_ending.specs.Faults.{Caused, IfRead, fault_of}
-use Rattle.inf_session.specs.Leading.{OpensWithin, StopsFor, StopsAtInclusion, StopsInToken}
-use Rattle.inf_session.specs.Session.{State, followed, stepped}
-use Rattle.inf_session.proofs.Opening.{turned_within}
-use Rattle.inf_session.specs.Standing.{state}
-use Rattle.inf_ending.proofs.Delivering.{appends_none}
-use Rattle.inf_session.proofs.Leadings.{cut_at_once, stops_at_more}
+use Rattle.inf_session.proofs.{Leadings.cut_at_once, Leadings.stops_at_more, Opening.turned_within, Weighing.falls}
 use Rattle.inf_session.proofs.Standings.{as_before, if_halt_caused, if_halt_read, turn_cut, turn_writes}
-use Rattle.inf_session.proofs.Weighing.{falls}
-use Rattle.inf_ending.proofs.Quiet.{halt_hides_none, halt_hides_told}
+use Rattle.inf_ending.proofs.{Delivering.appends_none, Quiet.halt_hides_none, Quiet.halt_hides_told}
 use Rattle.inf_session.proofs.session.Session.turn.Goals as goal
 
 pub returns-in_err-take_token-clause-cut : goal.returns-in_err-take_token-clause-cut

@@ -2,18 +2,12 @@ use Rattle.std.proofs.Common.{◌≡◌, ◌≤◌, true, length, refl, sym, ap,
 use Rattle.std.proofs.lemmas.Result.{on_ok_weaker}
 use Rattle.inf_lexer.specs.Names.{Nest}
 use Rattle.inf_characters.specs.declared.characters.CharSet.{CharSet}
-use Rattle.inf_unit.specs.Atoms.{is_short}
-use Rattle.inf_unit.specs.Messages.{FileNames}
-use Rattle.inf_compilation.specs.Context.{Context}
-use Rattle.inf_compilation.specs.Works.{work}
-use Rattle.inf_reader.specs.Handing.{is_between}
-use Rattle.inf_reader.specs.Standing.{reading, standing}
+use Rattle.inf_unit.specs.{Atoms.is_short, Messages.FileNames}
+use Rattle.inf_compilation.specs.{Context.Context, Works.work}
+use Rattle.inf_reader.specs.{Handing.is_between, Standing.reading, Standing.standing}
 use Rattle.inf_sources.specs.Quoted.{is_quoted_kind}
-use Rattle.inf_session.specs.Choices.{chosen}
-use Rattle.inf_session.specs.Session.{State, context_of}
-use Rattle.inf_session.specs.Standing.{state}
-use Rattle.inf_session.specs.Taking.{Taken, token_at}
-use Rattle.inf_session.specs.Veneer.{in_text}
+use Rattle.inf_session.specs.{Choices.chosen, Session.State, Session.context_of, Standing.state, Taking.Taken, Taking.token_at}
+use Rattle.inf_session.specs.{Veneer.in_text}
 use Rattle.inf_session.proofs.Taking.{taken_as, taken_within, with_taken}
 use Rattle.inf_session.proofs.TextTurns.{text_few, text_short, text_turned}
 use Rattle.inf_session.proofs.session.Session.turn_text.Goals as goal

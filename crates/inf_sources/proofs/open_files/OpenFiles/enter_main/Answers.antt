@@ -1,6 +1,5 @@
 use Rattle.std.proofs.Common.{sym, subst}
-use Rattle.inf_lexer.specs.Entering.{AreOpened}
-use Rattle.inf_lexer.specs.Names.{Nest}
+use Rattle.inf_lexer.specs.{Entering.AreOpened, Names.Nest}
 use Rattle.inf_lexer.proofs.Opened.{none_opened}
 use Rattle.inf_sources.proofs.Openings.{main_nested_of, main_of, only_name}
 use Rattle.inf_sources.proofs.open_files.OpenFiles.enter_main.Goals as goal

@@ -2,21 +2,16 @@ use Rattle.std.proofs.Common.{◌≡◌, ◌≤◌, ◌⊎◌, IsTrue, inl, inr,
 use Rattle.std.proofs.Common.{ap, subst, ◌∙◌}
 use Rattle.inf_characters.specs.declared.characters.CharSet.{CharSet}
 use Rattle.inf_devices.specs.Files.{Openings, Rose}
-use Rattle.inf_lexer.specs.Entering.{Leaves}
+use Rattle.inf_lexer.specs.{Entering.Leaves, Readers.Reader, declared.enter_faults.EnterFault.EnterFault}
 use Rattle.inf_lexer.specs.Names.{Nest, can_name, candidates, innermost_name}
-use Rattle.inf_lexer.specs.Readers.{Reader}
-use Rattle.inf_lexer.specs.declared.enter_faults.EnterFault.TheVariants as fault
+use Rattle.inf_sources.specs.declared.{faults.IncludeFault.IncludeFault, open_file.OpenFile.OpenFile, open_files.Included.Included}
 use Rattle.inf_sources.specs.Calls.{AskedTooMany, Honestly, Went}
 use Rattle.inf_sources.specs.Inclusions.{OpenedInVain, Opens, OpensTooMany, answer_of, inclusion, nested_by}
-use Rattle.inf_sources.specs.declared.faults.IncludeFault.TheVariants as vain
 use Rattle.inf_sources.specs.Open.{Each, Fits, IsNested, Open, nesting, opened_since, waits}
-use Rattle.inf_sources.specs.declared.open_file.OpenFile.{OpenFile}
-use Rattle.inf_sources.specs.declared.open_files.Included.TheVariants as included
+use Rattle.inf_sources.proofs.{Calls.asked_too_many, Calls.went_by, Calls.went_in, Openings.failed_nested}
 use Rattle.inf_sources.proofs.Answering.{is_true, deep_is, entered_fits, entered_is, entered_nested_of, first_is, opened_in_vain}
 use Rattle.inf_sources.proofs.Answering.{opens_too_many}
-use Rattle.inf_sources.proofs.Calls.{asked_too_many, went_by, went_in}
 use Rattle.inf_sources.proofs.Fronts.{entered_given, failed_fit, failed_given, fit_more}
-use Rattle.inf_sources.proofs.Openings.{failed_nested}
 use Rattle.inf_sources.proofs.open_files.OpenFiles.include.Goals as goal
 
 pub invariant_of-self-in-Ok : goal.invariant_of-self-in-Ok
@@ -47,7 +42,7 @@ returns-in-Ok-clause-answer g c = λ honest start nested.
     let fit : can_name text ≡ false → ⊥ = λ h. let never = (c.in-Ok.ensures.bad_name h).0 in cc in
     let flat : 16 ≤ length before.nest.open_files → ⊥ =
     λ h. let never = (c.in-Ok.ensures.too_deep (is_true (can_name text) fit) h).0 in cc in
-    subst (λ (o : Open). IsNested start old o → included.Entered ≡ answer_of (inclusion s directories text (nesting s start old o)))
+    subst (λ (o : Open). IsNested start old o → Included.Entered ≡ answer_of (inclusion s directories text (nesting s start old o)))
     c.self.view_is
     (λ n. sym (ap answer_of (first_is s directories text start old before (Some e.name) n c.self.invariant.0 fit flat (e.is_first honest))))
     nested
@@ -124,10 +119,10 @@ returns-in-Err-Absent-clause-answer g c = λ honest start nested.
     let flat : 16 ≤ length before.nest.open_files → ⊥ =
     λ h. let never = (c.in-Err-Absent.ensures.too_deep (is_true (can_name text) fit) h).0 in cc in
     let left : Leaves s before.nest.names (candidates directories (innermost_name before.nest) text) old (files.openings c.enter.new.files)
-    (Err fault.Absent) =
+    (Err EnterFault.Absent) =
     subst (λ f. Leaves s before.nest.names (candidates directories (innermost_name before.nest) text) old (files.openings c.enter.new.files)
     (Err f)) c.in-Err-Absent.field-0-is (c.in-Err-Absent.ensures.leaves honest) in
-    subst (λ (o : Open). IsNested start old o → included.NotThere ≡ answer_of (inclusion s directories text (nesting s start old o)))
+    subst (λ (o : Open). IsNested start old o → Included.NotThere ≡ answer_of (inclusion s directories text (nesting s start old o)))
     c.self.view_is
     (λ n. sym (ap answer_of (first_is s directories text start old before None n c.self.invariant.0 fit flat left.0))) nested
 
@@ -143,7 +138,7 @@ returns-in-Err-Absent-clause-nesting g c = λ honest start nested.
     let flat : 16 ≤ length before.nest.open_files → ⊥ =
     λ h. let never = (c.in-Err-Absent.ensures.too_deep (is_true (can_name text) fit) h).0 in cc in
     let left : Leaves s before.nest.names (candidates directories (innermost_name before.nest) text) old (files.openings c.enter.new.files)
-    (Err fault.Absent) =
+    (Err EnterFault.Absent) =
     subst (λ f. Leaves s before.nest.names (candidates directories (innermost_name before.nest) text) old (files.openings c.enter.new.files)
     (Err f)) c.in-Err-Absent.field-0-is (c.in-Err-Absent.ensures.leaves honest) in
     subst (λ (o : Open). IsNested start old o → nesting s start (files.openings c.enter.new.files)
@@ -170,7 +165,7 @@ returns-in-Err-TooDeep-clause-answer g c = λ honest start nested.
     let before : Open = record { nest = c.self.inside.names; lexer = c.self.inside.lexer; outer = c.self.inside.outer.items } in
     let fit : can_name text ≡ false → ⊥ = λ h. let never = (c.in-Err-TooDeep.ensures.bad_name h).0 in cc in
     let full = c.in-Err-TooDeep.ensures.full (ap (λ f. Err f) c.in-Err-TooDeep.field-0-is) in
-    subst (λ (o : Open). IsNested start old o → included.TooDeep ≡ answer_of (inclusion s directories text (nesting s start old o)))
+    subst (λ (o : Open). IsNested start old o → Included.TooDeep ≡ answer_of (inclusion s directories text (nesting s start old o)))
     c.self.view_is
     (λ n. sym (ap answer_of (deep_is s directories text start old before n c.self.invariant.0 fit full))) nested
 
@@ -215,7 +210,7 @@ returns-in-Err-Device-clause-went g c =
     let before : Open = record { nest = c.self.inside.names; lexer = c.self.inside.lexer; outer = c.self.inside.outer.items } in
     let after : Open = record { nest = c.enter.new.self; lexer = c.self.inside.lexer; outer = c.reserve.new.self.items } in
     let names = candidates (map (λ d. d.now) c.args.directories.now) (innermost_name before.nest) c.args.text.now in
-    let left : IsTrue (files.is_honest c.args.files.now) → Leaves s before.nest.names names old new (Err fault.Device) = λ honest.
+    let left : IsTrue (files.is_honest c.args.files.now) → Leaves s before.nest.names names old new (Err EnterFault.Device) = λ honest.
     subst (λ f. Leaves s before.nest.names names old new (Err f)) c.in-Err-Device.field-0-is (enter.leaves honest) in
     let same : after ≡ before =
     ap (λ (n : Nest). record { nest = n; lexer = c.self.inside.lexer; outer = c.reserve.new.self.items }) enter.err
@@ -235,7 +230,7 @@ returns-in-Err-Device-clause-fits g c = λ honest start nested given fit.
     let new = files.openings c.enter.new.files in
     let before : Open = record { nest = c.self.inside.names; lexer = c.self.inside.lexer; outer = c.self.inside.outer.items } in
     let names = candidates (map (λ d. d.now) c.args.directories.now) (innermost_name before.nest) c.args.text.now in
-    let left : Leaves s before.nest.names names old new (Err fault.Device) =
+    let left : Leaves s before.nest.names names old new (Err EnterFault.Device) =
     subst (λ f. Leaves s before.nest.names names old new (Err f)) c.in-Err-Device.field-0-is (c.in-Err-Device.ensures.leaves honest) in
     failed_fit s before.nest.names names (length start.all) old new left fit
 
@@ -252,9 +247,9 @@ returns-in-Err-Device-clause-in_vain g c = λ honest start nested.
     let fit : can_name text ≡ false → ⊥ = λ h. let never = (c.in-Err-Device.ensures.bad_name h).0 in cc in
     let flat : 16 ≤ length before.nest.open_files → ⊥ =
     λ h. let never = (c.in-Err-Device.ensures.too_deep (is_true (can_name text) fit) h).0 in cc in
-    let left : Leaves s before.nest.names names old new (Err fault.Device) =
+    let left : Leaves s before.nest.names names old new (Err EnterFault.Device) =
     subst (λ f. Leaves s before.nest.names names old new (Err f)) c.in-Err-Device.field-0-is (c.in-Err-Device.ensures.leaves honest) in
-    subst (λ (o : Open). IsNested start old o → OpenedInVain vain.Device (inclusion s directories text (nesting s start old o))
+    subst (λ (o : Open). IsNested start old o → OpenedInVain IncludeFault.Device (inclusion s directories text (nesting s start old o))
     (nesting s start old o) (opened_since start new)) c.self.view_is
     (λ n. opened_in_vain s directories text start old new before n c.self.invariant.0 fit flat left) nested
 

@@ -1,5 +1,4 @@
-use Rattle.std.proofs.Common.{◌≡◌, [], unwrap_or, subst, ◌∙◌}
-use Rattle.std.specs.Prelude.{slice_get}
+use Rattle.std.proofs.Common.{◌≡◌, [], unwrap_or, subst, ◌∙◌, slice_get}
 use Rattle.inf_sources.specs.Open.{Open}
 use Rattle.inf_sources.proofs.Answering.{same_name}
 use Rattle.inf_sources.proofs.open_files.OpenFiles.innermost.Goals as goal

@@ -1,13 +1,10 @@
 use Rattle.std.proofs.Common.{◌≡◌, List, [], ◌∷◌, ◌++◌, length, arith, ap, subst, sym, ◌∙◌}
 use Rattle.inf_devices.specs.Files.{Opening}
-use Rattle.inf_sources.specs.Inclusions.{closed}
-use Rattle.inf_lexer.specs.Names.{Nest}
-use Rattle.inf_lexer.specs.Readers.{Reader}
-use Rattle.inf_sources.specs.Calls.{Went}
-use Rattle.inf_sources.proofs.Calls.{went_out}
+use Rattle.inf_sources.specs.{Calls.Went, Inclusions.closed}
 use Rattle.inf_sources.specs.Open.{AllWait, Each, Fits, IsNested, Open, lexers_of, nesting, waits}
+use Rattle.inf_lexer.specs.{Names.Nest, Readers.Reader}
+use Rattle.inf_sources.proofs.{Calls.went_out, Nestings.left_nesting}
 use Rattle.inf_sources.proofs.Entered.{Fits as FitsAhead, left_fits, left_none, lexers_more, waits_last}
-use Rattle.inf_sources.proofs.Nestings.{left_nesting}
 use Rattle.inf_sources.proofs.open_files.OpenFiles.leave.Goals as goal
 
 pub returns-in_err-lexer-clause-nesting : goal.returns-in_err-lexer-clause-nesting

@@ -1,9 +1,6 @@
 use Rattle.std.proofs.Common.{refl, ap, ◌∙◌, subst}
-use Rattle.inf_sources.specs.Calls.{StaysFit, Went}
-use Rattle.inf_sources.proofs.Calls.{fit_read, went_read}
-use Rattle.inf_sources.specs.Open.{IsNested, Open, Reads, nesting}
-use Rattle.inf_sources.proofs.Quoted.{heard_few}
-use Rattle.inf_sources.proofs.Nestings.{opened_as_before, reads_on}
+use Rattle.inf_sources.specs.{Calls.StaysFit, Calls.Went, Open.IsNested, Open.Open, Open.Reads, Open.nesting}
+use Rattle.inf_sources.proofs.{Calls.fit_read, Calls.went_read, Nestings.opened_as_before, Nestings.reads_on, Quoted.heard_few}
 use Rattle.inf_sources.proofs.open_files.OpenFiles.next.Goals as goal
 
 pub returns-clause-token : goal.returns-clause-token

@@ -1,9 +1,6 @@
 use Rattle.std.proofs.Common.{refl, subst}
-use Rattle.inf_sources.specs.Calls.{StaysFit, Went}
-use Rattle.inf_sources.specs.Heading.{ReadsHead}
-use Rattle.inf_sources.specs.Open.{IsNested, Open, nesting}
-use Rattle.inf_sources.proofs.Calls.{fit_read, went_read}
-use Rattle.inf_sources.proofs.Nestings.{opened_as_before, reads_head_on}
+use Rattle.inf_sources.specs.{Calls.StaysFit, Calls.Went, Heading.ReadsHead, Open.IsNested, Open.Open, Open.nesting}
+use Rattle.inf_sources.proofs.{Calls.fit_read, Calls.went_read, Nestings.opened_as_before, Nestings.reads_head_on}
 use Rattle.inf_sources.proofs.open_files.OpenFiles.next_head_word.Goals as goal
 
 pub returns-clause-word : goal.returns-clause-word

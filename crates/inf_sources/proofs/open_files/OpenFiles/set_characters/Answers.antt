@@ -1,12 +1,9 @@
 use Rattle.std.proofs.Common.{◌≡◌, List, ◌++◌, [], ◌∷◌, map, refl, sym, ap, subst, ◌∙◌}
-use Rattle.std.specs.Vec.{with_items}
 use Rattle.std.proofs.lemmas.List.{with_items_is}
-use Rattle.inf_lexer.specs.Names.{Nest}
-use Rattle.inf_lexer.specs.Readers.{Reader}
-use Rattle.inf_sources.specs.Calls.{given_each}
-use Rattle.inf_sources.specs.Choosing.{file_with, open_with}
+use Rattle.std.specs.Vec.{with_items}
+use Rattle.inf_lexer.specs.{Names.Nest, Readers.Reader}
+use Rattle.inf_sources.specs.{Calls.given_each, Choosing.file_with, Choosing.open_with, declared.open_file.OpenFile.OpenFile}
 use Rattle.inf_sources.specs.Open.{AllGiven, AllWait, IsNested, Open, files_of, lexers_of, nesting}
-use Rattle.inf_sources.specs.declared.open_file.OpenFile.{OpenFile}
 use Rattle.inf_sources.proofs.Choosing.{all_given_with, all_wait_with, given_each_with, is_nested_with, nesting_is_with, numbers_with}
 use Rattle.inf_sources.proofs.open_files.OpenFiles.set_characters.Goals as goal
 

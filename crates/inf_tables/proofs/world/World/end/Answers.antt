@@ -1,12 +1,8 @@
-use Rattle.std.proofs.Common.{◌≡◌, ◌+◌, ◌++◌, ◌∷◌, [], ℕ, List, length, false, sym, ap, subst, ◌∙◌, arith}
-use Rattle.std.specs.Prelude.{slice_get}
+use Rattle.std.proofs.Common.{◌≡◌, ◌+◌, ◌++◌, ◌∷◌, [], ℕ, List, length, false, sym, ap, subst, ◌∙◌, arith, slice_get}
+use Rattle.inf_objects.specs.{declared.body.Body.Body, declared.objects.Object.Object}
 use Rattle.inf_objects.specs.Objects.{ended, is_lost, object_bytes, object_fixups}
-use Rattle.inf_objects.specs.declared.body.Body.{Body}
-use Rattle.inf_objects.specs.declared.objects.Object.{Object}
-use Rattle.inf_tables.specs.Objects.{or_latest}
-use Rattle.inf_tables.specs.World.{IsWorld, WorldOf}
-use Rattle.inf_tables.proofs.Counting.{ends}
-use Rattle.inf_tables.proofs.Latest.{told}
+use Rattle.inf_tables.specs.{Objects.or_latest, World.IsWorld, World.WorldOf}
+use Rattle.inf_tables.proofs.{Counting.ends, Latest.told}
 use Rattle.inf_tables.proofs.world.World.end.Goals as goal
 
 pub invariant_of-self-2 : goal.invariant_of-self-2

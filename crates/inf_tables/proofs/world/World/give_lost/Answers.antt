@@ -1,6 +1,5 @@
 use Rattle.std.proofs.Common.{◌≡◌, false, ap, ◌∙◌}
-use Rattle.inf_properties.specs.declared.sizes.Owner.TheVariants as owner
-use Rattle.inf_properties.specs.Open.{Open}
+use Rattle.inf_properties.specs.{Open.Open, declared.sizes.Owner.Owner}
 use Rattle.inf_tables.specs.World.{WorldOf}
 use Rattle.inf_tables.proofs.Counting.{lost_stays}
 use Rattle.inf_tables.proofs.world.World.give_lost.Goals as goal
@@ -16,7 +15,7 @@ invariant_of-self-2 g c =
       is_open = i.is_open;
       body = i.body;
     } in
-    let nothing : i.body.properties.owner ≡ owner.Nothing =
+    let nothing : i.body.properties.owner ≡ Owner.Nothing =
     ap (λ (v : WorldOf). v.body.properties.owner) c.self.view_is ∙ c.requires.owner in
     let same : c.lose.new.self.owner ≡ i.body.properties.owner =
     ap (λ (o : Open). o.owner) (c.lose.ensures ∙ ap (λ (o : Open). record o { takes_values = false }) c.in_ok-give.ensures.ok) in (

@@ -1,12 +1,8 @@
-use Rattle.std.proofs.Common.{◌≡◌, sym, ap, subst, ◌∙◌, None, Some, Result, Ok, Err, IfErr, true, false}
-use Rattle.std.specs.Prelude.{is_some, option_map}
+use Rattle.std.proofs.Common.{◌≡◌, sym, ap, subst, ◌∙◌, None, Some, Result, Ok, Err, IfErr, true, false, is_some, option_map}
 use Rattle.inf_properties.specs.Open.{class_refused}
 use Rattle.inf_objects.specs.Objects.{is_passed, join_fault}
-use Rattle.inf_tables.specs.Faults.{given_fault}
-use Rattle.inf_tables.specs.Objects.{class_at}
+use Rattle.inf_tables.specs.{Faults.given_fault, Objects.class_at, declared.faults.WorldFault.WorldFault}
 use Rattle.inf_tables.specs.World.{IsRefused, WorldOf, class_of_fault, ended_bytes, room_beside}
-use Rattle.inf_tables.specs.declared.faults.WorldFault.{WorldFault}
-use Rattle.inf_tables.specs.declared.faults.WorldFault.TheVariants as world_fault
 use Rattle.inf_tables.proofs.Counting.{class_fault_is, refused_as, told_by}
 use Rattle.inf_tables.proofs.world.World.join_class.Goals as goal
 
@@ -53,7 +49,7 @@ returns-in_err-name_class-clause-memory g c =
     let now = c.args.self.now in
     let is : class_at number c.self.inside.objects.items ≡ Some c.in-Some.class.now =
     ap (class_at number) (sym c.deref.ensures.value) ∙ sym c.class_of.ensures ∙ ap (option_map (λ o. o.now)) c.in-Some.is in
-    of_each_fault c.from_residual.result (λ refused. refused ≡ world_fault.Memory
+    of_each_fault c.from_residual.result (λ refused. refused ≡ WorldFault.Memory
     → (now.is_open ≡ true) × (is_some (class_at number now.objects) ≡ true) × (is_passed number now.body ≡ false))
     (λ refused memory. (
       ap (λ (w : WorldOf). w.is_open) (sym c.self.view_is) ∙ c.if-not-self.false,

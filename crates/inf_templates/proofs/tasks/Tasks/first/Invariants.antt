@@ -1,5 +1,4 @@
-use Rattle.std.proofs.Common.{◌≡◌, ◌++◌, length}
-use Rattle.std.specs.Prelude.{reverse}
+use Rattle.std.proofs.Common.{◌≡◌, ◌++◌, length, reverse}
 use Rattle.inf_templates.proofs.tasks.Tasks.first.Given as goal
 
 abbrev pub invariant-loop-last : goal.invariant-loop-last

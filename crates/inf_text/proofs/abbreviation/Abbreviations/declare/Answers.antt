@@ -1,6 +1,5 @@
+use Rattle.std.proofs.{lemmas.Grind.common_steps, lemmas.Result.err_from_is_err_and}
 use Rattle.std.proofs.Common.{arith}
-use Rattle.std.proofs.lemmas.Grind.{common_steps}
-use Rattle.std.proofs.lemmas.Result.{err_from_is_err_and}
 use Rattle.inf_text.proofs.Cutting.{AreAbbreviations-push}
 use Rattle.inf_text.proofs.abbreviation.Abbreviations.declare.Goals as goal
 

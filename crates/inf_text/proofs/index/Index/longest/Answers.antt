@@ -1,7 +1,6 @@
 use Rattle.std.proofs.Common.{rules, ◌≡◌, ◌≤◌, ◌∙◌, length}
 use Rattle.inf_text.specs.Searching.{first_code}
-use Rattle.inf_text.proofs.Linking.{HaveLinks-part, length-linked}
-use Rattle.inf_text.proofs.Ranging.{best_of-part}
+use Rattle.inf_text.proofs.{Linking.HaveLinks-part, Linking.length-linked, Ranging.best_of-part}
 use Rattle.inf_text.proofs.index.Index.longest.Goals as goal
 
 pub slice_bounds-longest_of-end : goal.slice_bounds-longest_of-end

@@ -1,7 +1,6 @@
 use Rattle.std.proofs.Common.{◌≡◌, [], drop, map}
 use Rattle.inf_names.specs.Spellings.{as_name}
-use Rattle.inf_unit.specs.Kept.{as_spelled}
-use Rattle.inf_unit.specs.Units.{names_from}
+use Rattle.inf_unit.specs.{Kept.as_spelled, Units.names_from}
 use Rattle.inf_unit.proofs.unit_tokens.UnitTokens.names.Given as goal
 
 -- the names so far, and then those of the tokens that are left, are those of all

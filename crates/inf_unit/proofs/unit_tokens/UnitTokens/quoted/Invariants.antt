@@ -1,6 +1,5 @@
 use Rattle.std.proofs.Common.{◌≡◌, drop, map}
-use Rattle.inf_unit.specs.Kept.{as_spelled}
-use Rattle.inf_unit.specs.Units.{quoted_in}
+use Rattle.inf_unit.specs.{Kept.as_spelled, Units.quoted_in}
 use Rattle.inf_unit.proofs.unit_tokens.UnitTokens.quoted.Given as goal
 
 -- the first text of the tokens that are left is that of all

@@ -1,7 +1,6 @@
 use Rattle.std.proofs.Common.{◌<◌, ◌+◌, ◌*◌, length, subst, sym, ap, ◌∙◌, arith}
 use Rattle.inf_verbs.proofs.Sizes.{bytes_fit, few_laters, laters_fit, line_stands}
-use Rattle.inf_verbs.specs.Lines.{LineOf, line_size, prepositions}
-use Rattle.inf_verbs.specs.Verbs.{AllVerbs}
+use Rattle.inf_verbs.specs.{Lines.LineOf, Lines.line_size, Lines.prepositions, Verbs.AllVerbs}
 use Rattle.inf_verbs.proofs.verbs.Verbs.add_line.Goals as goal
 
 pub add-requires-clause-bytes : goal.add-requires-clause-bytes
