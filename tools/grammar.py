@@ -455,7 +455,7 @@ class Tables:
                 + static("RULES", "Each rule.", "Rule", rules))
 
     def starts_code(self):
-        listed = "".join(f"\n/// {means}\npub const {rule.upper()}: u8 = {self.rule_numbers[rule]};\n" for rule, means in STARTS.items())
+        listed = "".join(f"\n/// {means}\npub const {rule_name(rule).upper()}: u8 = {self.rule_numbers[rule]};\n" for rule, means in STARTS.items())
         return "//! The rules that reading may start with. Made from docs/grammar.txt.\n" + listed
 
     def actions_code(self):
@@ -473,6 +473,11 @@ STARTS = {
     "expression": "An expression, with commas.",
     "assign": "An expression without commas outside brackets.",
     "logic": "A condition.",
+    "alone-expression": "An expression with commas, and the semicolon that ends it.",
+    "alone-constant": "An expression without commas outside brackets, and the semicolon that ends it.",
+    "alone-line": "A line of assembly with its semicolon.",
+    "alone-header": "The header of a routine with its semicolon.",
+    "alone-close": "The bracket that ends a routine, with its semicolon.",
 }
 
 

@@ -18,18 +18,18 @@ end_classes : agree_below (λ class. has (grammar.atoms_of class) end_atom) neve
 unfolding grammar
 end_classes = refl
 
-bad_rules : agree_below (λ rule. has (known.begins rule) bad_atom) never 251 ≡ true
+bad_rules : agree_below (λ rule. has (known.begins rule) bad_atom) never 256 ≡ true
 unfolding known
 bad_rules = refl
 
-end_rules : agree_below (λ rule. has (known.begins rule) end_atom) never 251 ≡ true
+end_rules : agree_below (λ rule. has (known.begins rule) end_atom) never 256 ≡ true
 unfolding known
 end_rules = refl
 
 classes_length : length classes ≤ 128
 classes_length = lit≤ tt
 
-beginnings_length : length beginnings ≤ 251
+beginnings_length : length beginnings ≤ 256
 beginnings_length = lit≤ tt
 
 -- behind the last class and the last rule there is nothing
@@ -37,7 +37,7 @@ classes_past : (class : ℕ) → 128 ≤ class → grammar.atoms_of class ≡ 0
 unfolding grammar
 classes_past class l = get_or_past classes class 0 (omega (arith, classes_length))
 
-rules_past : (rule : ℕ) → 251 ≤ rule → known.begins rule ≡ 0
+rules_past : (rule : ℕ) → 256 ≤ rule → known.begins rule ≡ 0
 unfolding known
 rules_past rule l = get_or_past beginnings rule 0 (omega (arith, beginnings_length))
 
@@ -47,14 +47,14 @@ record IsOut (atom : ℕ) : Type 0 where
   rules : (rule : ℕ) → has (known.begins rule) atom ≡ false
 
 out : (atom : ℕ) → agree_below (λ class. has (grammar.atoms_of class) atom) never 128 ≡ true →
-    agree_below (λ rule. has (known.begins rule) atom) never 251 ≡ true → has 0 atom ≡ false → IsOut atom
+    agree_below (λ rule. has (known.begins rule) atom) never 256 ≡ true → has 0 atom ≡ false → IsOut atom
 out atom c r z = record {
   classes = λ class. elim (cases_lt class 128) [
     | inl l ↦ agree_below_at (λ n. has (grammar.atoms_of n) atom) never 128 class c l
     | inr l ↦ ap (λ set. has set atom) (classes_past class l) ∙ z
   ];
-  rules = λ rule. elim (cases_lt rule 251) [
-    | inl l ↦ agree_below_at (λ n. has (known.begins n) atom) never 251 rule r l
+  rules = λ rule. elim (cases_lt rule 256) [
+    | inl l ↦ agree_below_at (λ n. has (known.begins n) atom) never 256 rule r l
     | inr l ↦ ap (λ set. has set atom) (rules_past rule l) ∙ z
   ];
 }

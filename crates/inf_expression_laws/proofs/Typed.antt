@@ -337,14 +337,14 @@ abbrev rows_fit : Option Change → List (Row Action) → Bool
 rows_fit None rows = true
 rows_fit (Some c) rows = all_rows (row_fits c) rows
 
-all_typed : agree_below (λ rule. rows_fit (rule_change rule) (grammar.rows_of rule)) (λ rule. true) 251 ≡ true
+all_typed : agree_below (λ rule. rows_fit (rule_change rule) (grammar.rows_of rule)) (λ rule. true) 256 ≡ true
 unfolding grammar
 all_typed = refl
 
 typed_rule : (r : ℕ) → rows_fit (rule_change r) (grammar.rows_of r) ≡ true
 typed_rule r =
-    elim (cases_lt r 251) [
-      | inl l ↦ agree_below_at (λ rule. rows_fit (rule_change rule) (grammar.rows_of rule)) (λ rule. true) 251 r all_typed l
+    elim (cases_lt r 256) [
+      | inl l ↦ agree_below_at (λ rule. rows_fit (rule_change rule) (grammar.rows_of rule)) (λ rule. true) 256 r all_typed l
       | inr l ↦ past (rule_change r) (grammar.rows_of r) (rows_past r l)
     ]
   where

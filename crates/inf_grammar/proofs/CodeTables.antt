@@ -115,7 +115,7 @@ rule_is at d l =
     let r = rule_at all_rules rules beginnings empties rules_same at d l in
     record { begins = r.begins; empty = r.empty; rows = r.same_rows; other = r.other }
 
-pub rules_length : length all_rules ≡ 251
+pub rules_length : length all_rules ≡ 256
 unfolding grammar known all_rules
 rules_length = refl
 

@@ -43,11 +43,11 @@ are_plain rules (Symbol.Rule rule ∷ symbols) = rules rule && are_plain rules s
 
 -- the rules between the brackets of a routine: those of its names, and those of statements and expressions
 abbrev inner : ℕ → Bool
-inner rule = (rule == 3) || (rule == 4) || (rule == 49) || (rule == 50) || nat_le 59 rule
+inner rule = (rule == 3) || (rule == 4) || (rule == 49) || (rule == 50) || (nat_le 59 rule && nat_le rule 250)
 
 -- the rules of all pieces but arrays
 abbrev pub outer : ℕ → Bool
-outer rule = nat_le 3 rule && not (rule == 7)
+outer rule = nat_le 3 rule && (nat_le rule 250 && not (rule == 7))
 
 -- Tells whether `symbols` begin with the bracket that closes a routine, which is no longer open.
 abbrev are_closing : List (Symbol Action) → Bool
@@ -77,7 +77,7 @@ stands false symbols = are_plain outer symbols
 
 -- Arrays: the rules that have no end of a routine
 abbrev calm : ℕ → Bool
-calm rule = (rule == 6) || (rule == 7) || (nat_le 25 rule && nat_le rule 32) || nat_le 59 rule
+calm rule = (rule == 6) || (rule == 7) || (nat_le 25 rule && nat_le rule 32) || (nat_le 59 rule && nat_le rule 250)
 
 abbrev pub are_calm : List (Symbol Action) → Bool
 are_calm [] = true
@@ -100,19 +100,19 @@ is_directive_row parts =
 abbrev keeps : (ℕ → Bool) → (List (Symbol Action) → Bool) → ℕ → Bool
 keeps rules test rule = not (rules rule) || all_rows test (grammar.rows_of rule)
 
-inner_keep : agree_below (keeps inner (are_plain inner)) (λ rule. true) 251 ≡ true
+inner_keep : agree_below (keeps inner (are_plain inner)) (λ rule. true) 256 ≡ true
 unfolding grammar
 inner_keep = refl
 
-outer_keep : agree_below (keeps outer are_outer) (λ rule. true) 251 ≡ true
+outer_keep : agree_below (keeps outer are_outer) (λ rule. true) 256 ≡ true
 unfolding grammar
 outer_keep = refl
 
-calm_keep : agree_below (keeps calm are_calm) (λ rule. true) 251 ≡ true
+calm_keep : agree_below (keeps calm are_calm) (λ rule. true) 256 ≡ true
 unfolding grammar
 calm_keep = refl
 
-pub directive_keeps : agree_below (keeps (λ rule. rule == 2) is_directive_row) (λ rule. true) 251 ≡ true
+pub directive_keeps : agree_below (keeps (λ rule. rule == 2) is_directive_row) (λ rule. true) 256 ≡ true
 unfolding grammar known
 directive_keeps = refl
 
@@ -139,14 +139,14 @@ row_of_all test (r ∷ rows) r' first h = (and_parts (test r.parts) (all_rows te
 row_of_all test (y ∷ rows) r (later m) h = row_of_all test rows r m (and_parts (test y.parts) (all_rows test rows) h).1
 
 -- a row of a rule of the set passes the test
-passes : (rules : ℕ → Bool) (test : List (Symbol Action) → Bool) → agree_below (keeps rules test) (λ rule. true) 251 ≡ true
+passes : (rules : ℕ → Bool) (test : List (Symbol Action) → Bool) → agree_below (keeps rules test) (λ rule. true) 256 ≡ true
     → (rule : ℕ) → rules rule ≡ true → (r : Row Action) → IsOneOf r (grammar.rows_of rule) → test r.parts ≡ true
 passes rules test all rule is r m = row_of_all test (grammar.rows_of rule) r m (in_rules (rules rule) is kept)
   where
     kept : keeps rules test rule ≡ true
     kept =
-        elim (cases_lt rule 251) [
-          | inl l ↦ agree_below_at (keeps rules test) (λ r. true) 251 rule all l
+        elim (cases_lt rule 256) [
+          | inl l ↦ agree_below_at (keeps rules test) (λ r. true) 256 rule all l
           | inr l ↦ past_keeps (rules rule) test (grammar.rows_of rule) (rows_past rule l)
         ]
 
@@ -287,7 +287,7 @@ tells false symbols h = plain_is_out symbols h
 
 -- One token
 
-pub chosen_passes : (rules : ℕ → Bool) (test : List (Symbol Action) → Bool) → agree_below (keeps rules test) (λ rule. true) 251 ≡ true
+pub chosen_passes : (rules : ℕ → Bool) (test : List (Symbol Action) → Bool) → agree_below (keeps rules test) (λ rule. true) 256 ≡ true
     → (atom rule : ℕ) (symbols : List (Symbol Action)) → rules rule ≡ true → fits grammar known atom (Symbol.Rule rule ∷ symbols)
     ≡ true → test
     (chosen grammar known atom rule) ≡ true

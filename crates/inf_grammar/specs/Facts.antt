@@ -66,7 +66,8 @@ beginnings =
     ∷ 0x3ffffffdcdff7e7ffffffffffee6ffbf3fffff300d00602c ∷ 0x3ffffffffffffffffffffffffffffffffffff0005000000 ∷ 0x800000000000000000400000000000000000005000000 ∷ 0x800000000000000000400000000000000000005000000
     ∷ 0x80002120081800000040001090040c000000e0f3f9fff ∷ 0x80002120081800000040001090040c0000000073f9fd7 ∷ 0x80002120081800000040001090040c000000e093f9fff ∷ 0x80002120081800000040001090040c0000000013f9fd7
     ∷ 0x3ff7fffdcdff7e7ffffffbfffee6ffbf3fffff300800602c ∷ 0x3ff7fffdcdff7e7ffffffbfffee6ffbf3fffff300800002c ∷ 0x2c ∷ 0x80002120081800000040001090040c000000e0f3f9fff
-    ∷ 0x80002120081800000040001090040c000000e0f3f9fff ∷ 0x80002120081800000040001090040c0000000073f9fd7 ∷ 0x7000000
+    ∷ 0x80002120081800000040001090040c000000e0f3f9fff ∷ 0x80002120081800000040001090040c0000000073f9fd7 ∷ 0x7000000 ∷ 0x3ff7fffdcdff7e7ffffffbfffee6ffbf3fffff300800602c
+    ∷ 0x3ff7fffdcdff7e7ffffffbfffee6ffbf3fffff300800602c ∷ 0x8000000000 ∷ 0x20000000 ∷ 0x40000000
     ∷ []
 
 -- the atoms that may stand behind it
@@ -134,7 +135,8 @@ followers =
     ∷ 0x3ff7fffdcdff7e7ffffffbfffee6ffbf3fffffb38a50602c ∷ 0x3ff7fffdcdff7e7ffffffbfffee6ffbf3fffffb38a50602c ∷ 0x3ff7fffdcdff7e7ffffffbfffee6ffbf3fffffb38a50602c ∷ 0x3ff7fffdcdff7e7ffffffbfffee6ffbf3fffffb38a50602c
     ∷ 0x3ff7fffdcdff7e7ffffffbfffee6ffbf3fffffb38a50602c ∷ 0x3ff7fffdcdff7e7ffffffbfffee6ffbf3fffffb38a50602c ∷ 0x3ff7fffdcdff7e7ffffffbfffee6ffbf3fffffb38a50602c ∷ 0x3ff7fffdcdff7e7ffffffbfffee6ffbf3fffffb38a50602c
     ∷ 0x3ff7fffdcdff7e7ffffffbfffee6ffbf3fffffb38a50602c ∷ 0x3ff7fffdcdff7e7ffffffbfffee6ffbf3fffffb38a50602c ∷ 0x2120081800000000001090040c0000000033f9fd7 ∷ 0x3ff7fffdcdff7e7ffffffbfffee6ffbf3fffffb38a50602c
-    ∷ 0x3ff7fffdcdff7e7ffffffbfffee6ffbf3fffffb38a50602c ∷ 0x3ff7fffdcdff7e7ffffffbfffee6ffbf3fffffb38a50602c ∷ 0x3ff7fffdcdff7e7ffffffbfffee6ffbf3fffffb38a50602c
+    ∷ 0x3ff7fffdcdff7e7ffffffbfffee6ffbf3fffffb38a50602c ∷ 0x3ff7fffdcdff7e7ffffffbfffee6ffbf3fffffb38a50602c ∷ 0x3ff7fffdcdff7e7ffffffbfffee6ffbf3fffffb38a50602c ∷ 0x0
+    ∷ 0x0 ∷ 0x0 ∷ 0x0 ∷ 0x0
     ∷ []
 
 -- whether it can be empty
@@ -202,7 +204,8 @@ empties =
     ∷ false ∷ false ∷ false ∷ false
     ∷ false ∷ false ∷ false ∷ false
     ∷ false ∷ false ∷ false ∷ false
-    ∷ false ∷ false ∷ false
+    ∷ false ∷ false ∷ false ∷ false
+    ∷ false ∷ false ∷ false ∷ false
     ∷ []
 
 -- more than the steps through it to a token
@@ -270,5 +273,6 @@ step_bounds =
     ∷ 11 ∷ 11 ∷ 10 ∷ 7
     ∷ 7 ∷ 5 ∷ 5 ∷ 4
     ∷ 5 ∷ 5 ∷ 3 ∷ 8
-    ∷ 7 ∷ 6 ∷ 4
+    ∷ 7 ∷ 6 ∷ 4 ∷ 9
+    ∷ 8 ∷ 3 ∷ 3 ∷ 3
     ∷ []

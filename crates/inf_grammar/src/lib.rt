@@ -19,4 +19,7 @@ pub use inf_machine::{Symbol, bad_tokens, pieces, sources, texts};
 pub use inf_syntax::{Action, Mark, Token, atom_of};
 pub use laws::{language, routines_are_bracketed, source_pieces};
 pub use machine::Machine;
-pub use starts::{ASSIGN, EXPRESSION, FILE, LOGIC, PIECE};
+pub use starts::{
+    ALONE_CLOSE, ALONE_CONSTANT, ALONE_EXPRESSION, ALONE_HEADER, ALONE_LINE, ASSIGN, EXPRESSION,
+    FILE, LOGIC, PIECE,
+};

@@ -14,3 +14,18 @@ pub const ASSIGN: u8 = 61;
 
 /// A condition.
 pub const LOGIC: u8 = 66;
+
+/// An expression with commas, and the semicolon that ends it.
+pub const ALONE_EXPRESSION: u8 = 251;
+
+/// An expression without commas outside brackets, and the semicolon that ends it.
+pub const ALONE_CONSTANT: u8 = 252;
+
+/// A line of assembly with its semicolon.
+pub const ALONE_LINE: u8 = 253;
+
+/// The header of a routine with its semicolon.
+pub const ALONE_HEADER: u8 = 254;
+
+/// The bracket that ends a routine, with its semicolon.
+pub const ALONE_CLOSE: u8 = 255;

@@ -134,7 +134,7 @@ pub(crate) static CLASSES: [Set; 124] = [
 
 /// The parts of all rows, row by row, the last part of a row first.
 #[rattlefmt::skip]
-pub(crate) static PARTS: [Symbol<Do>; 1354] = [
+pub(crate) static PARTS: [Symbol<Do>; 1378] = [
     Text(0), Text(1), Token(0), Text(2), Token(1), Text(2), Token(0), Token(4),
     Act(Do::EndRoutine), Text(4), Token(0), Act(Do::EndLocals), Text(3), Token(3), Token(2), Act(Do::Routine),
     Token(0), Text(5), Act(Do::EndText), Token(6), Act(Do::EndHeader), Token(5), Token(0), Text(7),
@@ -304,12 +304,15 @@ pub(crate) static PARTS: [Symbol<Do>; 1354] = [
     Token(53), Text(86), Text(116), Act(Do::Comma), Text(102), Act(Do::Negate), Text(105), Text(249),
     Act(Do::Negate), Text(116), Act(Do::Comma), Text(102), Text(105), Text(249), Text(116), Act(Do::Comma),
     Text(107), Text(206), Act(Do::Comma), Text(210), Text(250), Act(Do::Comma), Text(190), Text(244),
-    Token(50), Text(115),
+    Token(50), Text(115), Token(0), Act(Do::Hold), Text(59), Act(Do::Outer), Act(Do::Begin), Token(0),
+    Act(Do::Hold), Text(61), Act(Do::Outer), Act(Do::Begin), Text(115), Text(149), Token(3), Token(114),
+    Act(Do::Begin), Token(0), Act(Do::EndLocals), Text(3), Token(3), Token(2), Act(Do::Routine), Token(0),
+    Token(4), Act(Do::EndRoutine),
 ];
 
 /// All rows, rule by rule.
 #[rattlefmt::skip]
-pub(crate) static ROWS: [Row; 609] = [
+pub(crate) static ROWS: [Row; 614] = [
     Row { begins: Set([0x2192d91022000000, 0xbffe119214824ca4, 0x3ffffffffffcbff, 0x0]), parts: Span { start: 0, end: 2 } },
     Row { begins: Set([0x0, 0x0, 0x0, 0x0]), parts: Span { start: 2, end: 2 } },
     Row { begins: Set([0x2000000, 0x0, 0x0, 0x0]), parts: Span { start: 2, end: 3 } },
@@ -919,11 +922,16 @@ pub(crate) static ROWS: [Row; 609] = [
     Row { begins: Set([0x4000000, 0x0, 0x0, 0x0]), parts: Span { start: 1350, end: 1351 } },
     Row { begins: Set([0x1000000, 0x0, 0x0, 0x0]), parts: Span { start: 1351, end: 1353 } },
     Row { begins: Set([0x2000000, 0x0, 0x0, 0x0]), parts: Span { start: 1353, end: 1354 } },
+    Row { begins: Set([0x3fffff300800602c, 0xfffffbfffee6ffbf, 0x3ff7fffdcdff7e7f, 0x0]), parts: Span { start: 1354, end: 1359 } },
+    Row { begins: Set([0x3fffff300800602c, 0xfffffbfffee6ffbf, 0x3ff7fffdcdff7e7f, 0x0]), parts: Span { start: 1359, end: 1364 } },
+    Row { begins: Set([0x8000000000, 0x0, 0x0, 0x0]), parts: Span { start: 1364, end: 1369 } },
+    Row { begins: Set([0x20000000, 0x0, 0x0, 0x0]), parts: Span { start: 1369, end: 1375 } },
+    Row { begins: Set([0x40000000, 0x0, 0x0, 0x0]), parts: Span { start: 1375, end: 1378 } },
 ];
 
 /// Each rule.
 #[rattlefmt::skip]
-pub(crate) static RULES: [Rule; 251] = [
+pub(crate) static RULES: [Rule; 256] = [
     Rule { begins: Set([0x2192d91022000000, 0xbffe119214824ca4, 0x3ffffffffffcbff, 0x0]), is_empty: true, rows: Span { start: 0, end: 2 }, other: Span { start: 0, end: 0 } },
     Rule { begins: Set([0x2192d91022000000, 0xbffe119214824ca4, 0x3ffffffffffcbff, 0x0]), is_empty: false, rows: Span { start: 2, end: 5 }, other: Span { start: 0, end: 0 } },
     Rule { begins: Set([0x2192d90020000000, 0xbffe119214824ca4, 0x3ffffffffffcbff, 0x0]), is_empty: false, rows: Span { start: 5, end: 15 }, other: Span { start: 0, end: 0 } },
@@ -1175,4 +1183,9 @@ pub(crate) static RULES: [Rule; 251] = [
     Rule { begins: Set([0xc000000e0f3f9fff, 0x40001090040, 0x8000212008180, 0x0]), is_empty: false, rows: Span { start: 601, end: 603 }, other: Span { start: 0, end: 0 } },
     Rule { begins: Set([0xc0000000073f9fd7, 0x40001090040, 0x8000212008180, 0x0]), is_empty: false, rows: Span { start: 603, end: 606 }, other: Span { start: 0, end: 0 } },
     Rule { begins: Set([0x7000000, 0x0, 0x0, 0x0]), is_empty: false, rows: Span { start: 606, end: 609 }, other: Span { start: 0, end: 0 } },
+    Rule { begins: Set([0x3fffff300800602c, 0xfffffbfffee6ffbf, 0x3ff7fffdcdff7e7f, 0x0]), is_empty: false, rows: Span { start: 609, end: 610 }, other: Span { start: 0, end: 0 } },
+    Rule { begins: Set([0x3fffff300800602c, 0xfffffbfffee6ffbf, 0x3ff7fffdcdff7e7f, 0x0]), is_empty: false, rows: Span { start: 610, end: 611 }, other: Span { start: 0, end: 0 } },
+    Rule { begins: Set([0x8000000000, 0x0, 0x0, 0x0]), is_empty: false, rows: Span { start: 611, end: 612 }, other: Span { start: 0, end: 0 } },
+    Rule { begins: Set([0x20000000, 0x0, 0x0, 0x0]), is_empty: false, rows: Span { start: 612, end: 613 }, other: Span { start: 0, end: 0 } },
+    Rule { begins: Set([0x40000000, 0x0, 0x0, 0x0]), is_empty: false, rows: Span { start: 613, end: 614 }, other: Span { start: 0, end: 0 } },
 ];

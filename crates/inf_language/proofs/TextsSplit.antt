@@ -117,7 +117,7 @@ all_steps (Symbol.Rule rule ∷ symbols) = is_rule rule && all_steps symbols
 abbrev keeps : ℕ → Bool
 keeps rule = not (is_rule rule) || all_rows all_steps (grammar.rows_of rule)
 
-all_keep : agree_below keeps (λ rule. true) 251 ≡ true
+all_keep : agree_below keeps (λ rule. true) 256 ≡ true
 unfolding grammar is_rule
 all_keep = refl
 
@@ -127,8 +127,8 @@ none_keep false rows none = refl
 
 keeps_at : (rule : ℕ) → keeps rule ≡ true
 keeps_at rule =
-    elim (cases_lt rule 251) [
-      | inl below ↦ agree_below_at keeps (λ r. true) 251 rule all_keep below
+    elim (cases_lt rule 256) [
+      | inl below ↦ agree_below_at keeps (λ r. true) 256 rule all_keep below
       | inr past ↦ none_keep (is_rule rule) (grammar.rows_of rule) (rows_past rule past)
     ]
 

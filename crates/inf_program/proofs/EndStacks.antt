@@ -57,11 +57,11 @@ inner_clear rule = outer rule || all_rows are_clear (grammar.rows_of rule)
 abbrev pieces_last : ℕ → Bool
 pieces_last rule = not (nat_le 1 rule && outer rule) || all_rows ends_last (grammar.rows_of rule)
 
-inner_are_clear : agree_below inner_clear (λ rule. true) 251 ≡ true
+inner_are_clear : agree_below inner_clear (λ rule. true) 256 ≡ true
 unfolding grammar
 inner_are_clear = refl
 
-pieces_are_last : agree_below pieces_last (λ rule. true) 251 ≡ true
+pieces_are_last : agree_below pieces_last (λ rule. true) 256 ≡ true
 unfolding grammar
 pieces_are_last = refl
 
@@ -91,8 +91,8 @@ clear_row rule r m inner =
   where
     kept : inner_clear rule ≡ true
     kept =
-        elim (cases_lt rule 251) [
-          | inl l ↦ agree_below_at inner_clear (λ r. true) 251 rule inner_are_clear l
+        elim (cases_lt rule 256) [
+          | inl l ↦ agree_below_at inner_clear (λ r. true) 256 rule inner_are_clear l
           | inr l ↦ either_past (outer rule) are_clear (grammar.rows_of rule) (rows_past rule l)
         ]
 
@@ -104,8 +104,8 @@ last_row rule r m piece =
   where
     kept : pieces_last rule ≡ true
     kept =
-        elim (cases_lt rule 251) [
-          | inl l ↦ agree_below_at pieces_last (λ r. true) 251 rule pieces_are_last l
+        elim (cases_lt rule 256) [
+          | inl l ↦ agree_below_at pieces_last (λ r. true) 256 rule pieces_are_last l
           | inr l ↦ either_past (not (nat_le 1 rule && outer rule)) ends_last (grammar.rows_of rule) (rows_past rule l)
         ]
 

@@ -64,11 +64,11 @@ end_so b (Symbol.Token class ∷ symbols) = end_so true symbols
 end_so b (Symbol.Act a ∷ symbols) = end_so (b && is_close a) symbols
 end_so b (Symbol.Rule rule ∷ symbols) = end_so (ends rule || (b && goes_on rule)) symbols
 
-rows_end : agree_below (keeps ends (end_so false)) (λ rule. true) 251 ≡ true
+rows_end : agree_below (keeps ends (end_so false)) (λ rule. true) 256 ≡ true
 unfolding grammar ends goes_on
 rows_end = refl
 
-rows_go_on : agree_below (keeps goes_on (end_so true)) (λ rule. true) 251 ≡ true
+rows_go_on : agree_below (keeps goes_on (end_so true)) (λ rule. true) 256 ≡ true
 unfolding grammar ends goes_on
 rows_go_on = refl
 

@@ -73,19 +73,19 @@ all_quiet (Symbol.Rule rule ∷ symbols) = is_quiet_rule rule && all_quiet symbo
 abbrev keeps : (ℕ → Bool) → (List (Symbol Action) → Bool) → ℕ → Bool
 keeps rules test rule = not (rules rule) || all_rows test (grammar.rows_of rule)
 
-quiet_keep : agree_below (keeps is_quiet_rule all_quiet) (λ rule. true) 251 ≡ true
+quiet_keep : agree_below (keeps is_quiet_rule all_quiet) (λ rule. true) 256 ≡ true
 unfolding grammar is_quiet_rule
 quiet_keep = refl
 
-holding_keep : agree_below (keeps is_holding (all_may false)) (λ rule. true) 251 ≡ true
+holding_keep : agree_below (keeps is_holding (all_may false)) (λ rule. true) 256 ≡ true
 unfolding grammar is_quiet_rule is_holding is_case_rule
 holding_keep = refl
 
-holding_keep_in : agree_below (keeps is_holding (all_may true)) (λ rule. true) 251 ≡ true
+holding_keep_in : agree_below (keeps is_holding (all_may true)) (λ rule. true) 256 ≡ true
 unfolding grammar is_quiet_rule is_holding is_case_rule
 holding_keep_in = refl
 
-cases_keep : agree_below (keeps is_case_rule (all_may true)) (λ rule. true) 251 ≡ true
+cases_keep : agree_below (keeps is_case_rule (all_may true)) (λ rule. true) 256 ≡ true
 unfolding grammar is_quiet_rule is_holding is_case_rule
 cases_keep = refl
 
@@ -100,14 +100,14 @@ row_of_all test (r ∷ rows) r' first h = (and_parts (test r.parts) (all_rows te
 row_of_all test (y ∷ rows) r (later m) h = row_of_all test rows r m (and_parts (test y.parts) (all_rows test rows) h).1
 
 -- a row of a rule of a set passes the test
-passes : (rules : ℕ → Bool) (test : List (Symbol Action) → Bool) → agree_below (keeps rules test) (λ rule. true) 251 ≡ true
+passes : (rules : ℕ → Bool) (test : List (Symbol Action) → Bool) → agree_below (keeps rules test) (λ rule. true) 256 ≡ true
     → (rule : ℕ) → rules rule ≡ true → (r : Row Action) → IsOneOf r (grammar.rows_of rule) → test r.parts ≡ true
 passes rules test all rule is r m = row_of_all test (grammar.rows_of rule) r m (in_rules (rules rule) is kept)
   where
     kept : keeps rules test rule ≡ true
     kept =
-        elim (cases_lt rule 251) [
-          | inl l ↦ agree_below_at (keeps rules test) (λ r. true) 251 rule all l
+        elim (cases_lt rule 256) [
+          | inl l ↦ agree_below_at (keeps rules test) (λ r. true) 256 rule all l
           | inr l ↦ past_keeps (rules rule) test (grammar.rows_of rule) (rows_past rule l)
         ]
 

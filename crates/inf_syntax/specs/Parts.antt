@@ -1456,3 +1456,18 @@ outer_following = Rule 249
 
 abbrev pub outer_following_1 : Symbol Action
 outer_following_1 = Rule 250
+
+abbrev pub alone_expression : Symbol Action
+alone_expression = Rule 251
+
+abbrev pub alone_constant : Symbol Action
+alone_constant = Rule 252
+
+abbrev pub alone_line : Symbol Action
+alone_line = Rule 253
+
+abbrev pub alone_header : Symbol Action
+alone_header = Rule 254
+
+abbrev pub alone_close : Symbol Action
+alone_close = Rule 255

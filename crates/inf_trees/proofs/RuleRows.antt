@@ -51,14 +51,14 @@ rows_pass : (b : Bool) (test : List (Symbol Action) → Bool) (rows : List (Row 
 rows_pass true test rows is all = all
 rows_pass false test rows is all = cc
 
-pub passes : (rules : ℕ → Bool) (test : List (Symbol Action) → Bool) → agree_below (keeps rules test) (λ rule. true) 251 ≡ true
+pub passes : (rules : ℕ → Bool) (test : List (Symbol Action) → Bool) → agree_below (keeps rules test) (λ rule. true) 256 ≡ true
     → (rule : ℕ) → rules rule ≡ true → (r : Row Action) → IsOneOf r (grammar.rows_of rule) → test r.parts ≡ true
 passes rules test all rule is r m =
     row_passes test (grammar.rows_of rule) r m (rows_pass (rules rule) test (grammar.rows_of rule) is kept)
   where
     kept : keeps rules test rule ≡ true
     kept =
-        elim (cases_lt rule 251) [
-          | inl below ↦ agree_below_at (keeps rules test) (λ r. true) 251 rule all below
+        elim (cases_lt rule 256) [
+          | inl below ↦ agree_below_at (keeps rules test) (λ r. true) 256 rule all below
           | inr past ↦ past_keeps (rules rule) test (grammar.rows_of rule) (rows_past rule past)
         ]

@@ -32,7 +32,7 @@ have_steps (Symbol.Token class ∷ symbols) = have_steps symbols
 have_steps (Symbol.Act a ∷ symbols) = is_step a && have_steps symbols
 have_steps (Symbol.Rule rule ∷ symbols) = is_step_rule rule && have_steps symbols
 
-rows_have : agree_below (keeps is_step_rule have_steps) (λ rule. true) 251 ≡ true
+rows_have : agree_below (keeps is_step_rule have_steps) (λ rule. true) 256 ≡ true
 unfolding grammar is_step_rule
 rows_have = refl
 

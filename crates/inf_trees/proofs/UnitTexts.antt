@@ -86,15 +86,15 @@ is_flat notes true (Symbol.Act a ∷ symbols) = false
 is_flat notes false (Symbol.Rule rule ∷ symbols) = is_unit notes rule && is_flat notes false symbols
 is_flat notes true (Symbol.Rule rule ∷ symbols) = is_value rule && is_flat notes false symbols
 
-directives_keep : agree_below (keeps (is_unit NoNotes) (is_flat NoNotes false)) (λ rule. true) 251 ≡ true
+directives_keep : agree_below (keeps (is_unit NoNotes) (is_flat NoNotes false)) (λ rule. true) 256 ≡ true
 unfolding grammar is_unit is_value
 directives_keep = refl
 
-statements_keep : agree_below (keeps (is_unit OperandEnds) (is_flat OperandEnds false)) (λ rule. true) 251 ≡ true
+statements_keep : agree_below (keeps (is_unit OperandEnds) (is_flat OperandEnds false)) (λ rule. true) 256 ≡ true
 unfolding grammar is_unit is_value
 statements_keep = refl
 
-any_keep : agree_below (keeps (is_unit AnyNotes) (is_flat AnyNotes false)) (λ rule. true) 251 ≡ true
+any_keep : agree_below (keeps (is_unit AnyNotes) (is_flat AnyNotes false)) (λ rule. true) 256 ≡ true
 unfolding grammar is_unit is_value
 any_keep = refl
 

@@ -46,7 +46,7 @@ are_open (Symbol.Token class ∷ symbols) = are_open symbols
 are_open (Symbol.Act a ∷ symbols) = not (is_close a) && are_open symbols
 are_open (Symbol.Rule rule ∷ symbols) = is_open_rule rule && are_open symbols
 
-rows_open : agree_below (keeps is_open_rule are_open) (λ rule. true) 251 ≡ true
+rows_open : agree_below (keeps is_open_rule are_open) (λ rule. true) 256 ≡ true
 unfolding grammar is_open_rule
 rows_open = refl
 
