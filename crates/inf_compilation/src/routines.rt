@@ -204,7 +204,7 @@ impl<B: Bounds> Compilation<B> {
         tell_fault(fault, &self.labels, context, place, &mut self.report)?;
         tell_unused(&self.locals, context, place, &mut self.report)?;
         self.is_embedded = false;
-        self.locals = Locals::new();
+        self.locals.list.clear();
         self.end_unit(context, place, true, &Findings::none())
     }
 }

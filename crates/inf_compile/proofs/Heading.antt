@@ -175,7 +175,7 @@ pub given_up_there : (failed : Type 0) (s : Sources) (start old now : Openings) 
     → StopsInHead (head_front (nesting s start old before).cursor) (after.lexer.window.given - 16777216) (unread_now s now)
     → after.lexer.window.is_over ≡ false → opened_since start now ≡ opened_since start old
     → (after.nest ≡ before.nest) × ((after.outer ≡ before.outer) × (after.lexer.file ≡ before.lexer.file))
-    → name ≡ unwrap_or (slice_get after.nest.names after.lexer.file) []
+    → name ≡ unwrap_or (slice_get before.nest.names before.lexer.file) []
     → GivenUpInHead failed s (nesting s start old before) told told start now after name
 given_up_there failed s start old now before after told name nested cause not_ended on opened same named = record {
   takes = takes_none told;
@@ -186,8 +186,7 @@ given_up_there failed s start old now before after told name nested cause not_en
   names = ap (λ (n : Nest). n.names) same.0;
   numbers = ap (λ (fs : List OpenFile). after.lexer.file ∷ files_of (lexers_of (reverse fs))) same.1.0
       ∙ ap (λ (i : ℕ). i ∷ files_of (lexers_of (reverse before.outer))) same.1.1 ∙ sym (files_are s start old before nested);
-  name_is = named ∙ ap (λ (n : Nest). unwrap_or (slice_get n.names after.lexer.file) []) same.0
-      ∙ ap (λ (i : ℕ). unwrap_or (slice_get before.nest.names i) []) same.1.1;
+  name_is = named;
 }
 
 -- the files were not read for a known reason

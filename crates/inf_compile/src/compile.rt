@@ -5,7 +5,7 @@ ghost use Rattle.inf_compile.specs.Comes.{Begins, Heard, IsUnread, OpenedBy, Ope
 ghost use Rattle.inf_compile.specs.Compiling.{Compiles, DeliversPart, HasCause, OnlyStory, TakesClean, TakesPart, TakesStory};
 ghost use Rattle.inf_compile.specs.Compiling.{chosen_by, named_by};
 ghost use Rattle.inf_ending.specs.{Delivered.TakesFront, Delivered.story_in, Ending.missing};
-ghost use Rattle.inf_ending.specs.Faults.{HidesNoFailure, IfRead, IfStory, UnlessStory};
+ghost use Rattle.inf_ending.specs.Faults.{HidesNoFailure, IfRead, IfStory, TellsEachRead, UnlessStory};
 
 use crate::translation::translate;
 use inf_command::command_line::{Options, source_name};
@@ -60,6 +60,7 @@ fn compile_named<F: Files, M: Sink, S: Sink>(
         (F.sources files.old) (chosen_by (F.sources files.old) options.now) name (F.openings files.old) (F.openings files.new)
         (M.taken messages.old) (M.taken messages.new) told)) }
     ensures depth { F.depth files.new ≡ F.depth files.old }
+    ensures seen { TellsEachRead result (F.faults files.old) (F.faults files.new) }
     ensures errors { result ≡ Ok Status.Errors → S.taken story.new ≡ S.taken story.old }
     ensures clean { MatchResult result
         (λ status. status ≡ Status.Success → TakesClean date (λ bytes. Takes (S.taken story.old) (S.taken story.new) bytes)
@@ -167,7 +168,8 @@ pub fn compile<F: Files, M: Sink, S: Sink>(
         (λ fault. IfStory fault (λ n. TakesClean date (λ bytes. TakesPart (Some bytes) n (S.taken story.old) (S.taken story.new))
         (M.taken messages.old) (M.taken messages.new))) }
 
-    // With any reader a fault has its cause.
+    // With any reader a fault has its cause, and a failure to open or to read a source is told.
+    ensures seen { TellsEachRead result (F.faults files.old) (F.faults files.new) }
     ensures fault { IfErr result (λ fault. HasCause fault (λ name. IsUnread F.Files files.old files.new)
         (Rose (M.failures messages.old) (M.failures messages.new)) (λ n. Rose (S.failures story.old) (S.failures story.new))) }
 

@@ -40,6 +40,7 @@ pub fn read_head<F: Files>(open_files: &mut OpenFiles, files: &mut F) -> Result<
     ensures same { (open_files.new.nest ≡ open_files.old.nest) × ((open_files.new.outer ≡ open_files.old.outer)
         × (open_files.new.lexer.file ≡ open_files.old.lexer.file)) }
     ensures window { length open_files.old.lexer.window.left ≤ 4096 → length open_files.new.lexer.window.left ≤ 4096 }
+    ensures seen { OnOk result (F.faults files.new ≡ F.faults files.old) }
     ensures on { IsErr result → open_files.new.lexer.window.is_over ≡ false }
     ensures cause { IsErr result → IsErrOf result LexFault.Read × (Rose (F.faults files.old) (F.faults files.new)
         ⊎ (16777216 < open_files.new.lexer.window.given)) }

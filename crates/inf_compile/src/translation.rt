@@ -5,7 +5,8 @@ ghost use Rattle.inf_sources.specs.Calls.{Honestly, IsUnreadable, Kept, StaysFit
 ghost use Rattle.inf_sources.specs.Open.{nesting, opened_since};
 ghost use Rattle.inf_session.specs.{Choices.chosen, Choices.most_quoted, Leading.GivenUp, Leading.OpensAll, Session.first_state};
 ghost use Rattle.inf_session.specs.{Session.run, Standing.IsSet, Standing.state};
-ghost use Rattle.inf_ending.specs.{Delivered.Appends, Delivered.SucceedsClean, Faults.Caused, Faults.HidesNoFailure, Faults.IfRead};
+ghost use Rattle.inf_ending.specs.Delivered.{Appends, SucceedsClean};
+ghost use Rattle.inf_ending.specs.Faults.{Caused, HidesNoFailure, IfRead, TellsEachRead};
 ghost use Rattle.inf_settings.specs.Bounds.{limits_of};
 ghost use Rattle.inf_compile.specs.Chosen.{begun_at, chosen_at, chosen_for};
 ghost use Rattle.inf_compile.specs.Comes.{Begins, BreaksOffAll, Comes, Concludes, EndsAll, GivenUpFrom, Heard, IsUnread, OpenedPart, Stops};
@@ -17,7 +18,7 @@ use inf_devices::files::Files;
 use inf_devices::sinks::Sink;
 use inf_ending::compiled::{Compiled, Status, written};
 use inf_ending::ending::no_file;
-use inf_ending::faults::{Fault, unread};
+use inf_ending::faults::Fault;
 use inf_lexer::EnterFault;
 use inf_names::hashing::NameHashing;
 use inf_session::session::Session;
@@ -63,6 +64,7 @@ pub fn translate<F: Files, M: Sink>(
 
     // With any reader nothing is left open, no story comes with an error, and a fault has its cause.
     ensures kept { Kept F.Files files.old files.new }
+    ensures seen { TellsEachRead result (F.faults files.old) (F.faults files.new) }
     ensures depth { F.depth files.new ≡ F.depth files.old }
     ensures errors { IfOk result (λ compiled. compiled.status ≡ Status.Errors → compiled.story ≡ None) }
     ensures clean { IfOk result (λ compiled. SucceedsClean serial.now compiled (M.taken messages.old) (M.taken messages.new)) }
@@ -70,13 +72,14 @@ pub fn translate<F: Files, M: Sink>(
         (Rose (M.failures messages.old) (M.failures messages.new))) }
     ensures quiet { HidesNoFailure result (M.failures messages.old) (M.failures messages.new) }
 {
+    let told = String::from_str(alloc, name)?;
     let limit = options.settings().of(Setting::QuotedText);
     let open_files = match OpenFiles::enter_main(alloc, options.set(), limit, files, name) {
         Ok(open_files) => open_files,
         Err(EnterFault::Absent) => return written(no_file(alloc, name.as_bytes())?, messages),
         Err(EnterFault::Memory) => return Err(Fault::Memory),
         Err(EnterFault::BadName | EnterFault::TooDeep | EnterFault::Device) => {
-            return Err(unread(alloc, name));
+            return Err(Fault::Read(told));
         }
     };
     let (open_files, compiled) = translate_opened(
@@ -120,6 +123,7 @@ fn translate_opened<F: Files, M: Sink>(
         (begun_at was options.now) (opened_since start (F.openings files.new)))) }
     ensures fits { IfOk result.1 (λ compiled. StaysFit F.Files files.old files.new open_files) }
     ensures went { Went F.Files files.old files.new open_files result.0 }
+    ensures seen { TellsEachRead result.1 (F.faults files.old) (F.faults files.new) }
     ensures errors { IfOk result.1 (λ compiled. compiled.status ≡ Status.Errors → compiled.story ≡ None) }
     ensures clean { IfOk result.1 (λ compiled. SucceedsClean serial.now compiled (M.taken messages.old) (M.taken messages.new)) }
     ensures fault { IfErr result.1 (λ fault. Caused fault (λ name. IsUnreadable F.Files files.old files.new open_files result.0)
@@ -127,12 +131,12 @@ fn translate_opened<F: Files, M: Sink>(
     ensures quiet { HidesNoFailure result.1 (M.failures messages.old) (M.failures messages.new) }
     ensures is_open { length result.0.outer < F.depth files.new }
 {
+    let Ok(told) = String::from_str(alloc, open_files.innermost()) else {
+        return (open_files, Err(Fault::Memory));
+    };
     let head = match read_head(&mut open_files, files) {
         Ok(head) => head,
-        Err(_) => {
-            let fault = unread(alloc, open_files.innermost());
-            return (open_files, Err(fault));
-        }
+        Err(_) => return (open_files, Err(Fault::Read(told))),
     };
     let options = options.with_head(&head);
     let settings = options.settings();
@@ -182,6 +186,7 @@ fn translate_under<F: Files, M: Sink, B: Bounds>(
         (opened_since start (F.openings files.new)))) }
     ensures fits { IfOk result.1 (λ compiled. StaysFit F.Files files.old files.new open_files) }
     ensures went { Went F.Files files.old files.new open_files result.0 }
+    ensures seen { TellsEachRead result.1 (F.faults files.old) (F.faults files.new) }
     ensures errors { IfOk result.1 (λ compiled. compiled.status ≡ Status.Errors → compiled.story ≡ None) }
     ensures clean { IfOk result.1 (λ compiled. SucceedsClean serial.now compiled (M.taken messages.old) (M.taken messages.new)) }
     ensures fault { IfErr result.1 (λ fault. Caused fault (λ name. IsUnreadable F.Files files.old files.new open_files result.0)
@@ -223,6 +228,7 @@ fn read_out<F: Files, M: Sink, B: Bounds>(
         (state (F.sources files.old) start (F.openings files.old) session.entry) (opened_since start (F.openings files.new)))) }
     ensures fits { IfOk result.1 (λ compiled. StaysFit F.Files files.old files.new session.entry.open_files) }
     ensures went { Went F.Files files.old files.new session.entry.open_files result.0 }
+    ensures seen { TellsEachRead result.1 (F.faults files.old) (F.faults files.new) }
     ensures errors { IfOk result.1 (λ compiled. compiled.status ≡ Status.Errors → compiled.story ≡ None) }
     ensures clean { IfOk result.1 (λ compiled. SucceedsClean serial.now compiled (M.taken messages.old) (M.taken messages.new)) }
     ensures fault { IfErr result.1 (λ fault. Caused fault (λ name. IsUnreadable F.Files files.old files.new session.entry.open_files

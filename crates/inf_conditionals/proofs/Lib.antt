@@ -1,3 +1,5 @@
 pub mod Ending
 pub mod Lasts
 pub mod Misfits
+pub mod Waiting
+pub mod Skipping

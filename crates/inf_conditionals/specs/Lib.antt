@@ -1,5 +1,7 @@
 pub mod Operands
 pub mod Condition
+pub mod ReadAgain
+pub mod Waiting
 pub mod Said
 pub mod Meant
 pub mod Words

@@ -23,7 +23,7 @@ fn hash(place: Place) -> SourceToken<'static>
 }
 
 impl Conditionals {
-    ghost use Rattle.inf_conditionals.specs.{Condition.verdict_of, Meant.condition as condition_of, Meant.said_of, Said.told_by};
+    ghost use Rattle.inf_conditionals.specs.{Condition.verdict_of, Meant.said_of, Said.told_by};
     ghost use Rattle.inf_conditionals.specs.Judging.{asked, asked_first, asked_on, asking, decided, saying, sign_asked, tokens_counted};
 
     /// Begins a conditional directive with a condition, by its word.
@@ -40,7 +40,7 @@ impl Conditionals {
             None => Condition::new(self.alloc),
         };
         condition.begin()?;
-        if !condition.take(word)? {
+        if !condition.take(&mut self.steps, word)? {
             return Ok(self.give_up());
         }
         self.ask(word.place, is_inner, wanted, condition)?;
@@ -59,10 +59,10 @@ impl Conditionals {
         ensures { IfOk result (λ j. record { now = self.new; judged = j } ≡
             asked self.old.conditions wanted site out.now (spelled token.now) directive self.old) }
     {
-        let Some(mut condition) = self.conditions.pop() else {
+        let Some(mut condition) = self.conditions.pop(&mut self.spare, &mut self.steps)? else {
             return Ok(self.give_up());
         };
-        if !condition.take(token)? {
+        if !condition.take(&mut self.steps, token)? {
             return Ok(self.give_up());
         }
         if condition.is_whole() {
@@ -82,11 +82,11 @@ impl Conditionals {
         ensures { IfOk result (λ j. record { now = self.new; judged = j } ≡
             sign_asked self.old.conditions wanted place site directive self.old) }
     {
-        let Some(mut condition) = self.conditions.pop() else {
+        let Some(mut condition) = self.conditions.pop(&mut self.spare, &mut self.steps)? else {
             return Ok(self.give_up());
         };
         let sign = hash(place);
-        if !condition.take(&sign)? {
+        if !condition.take(&mut self.steps, &sign)? {
             return Ok(self.give_up());
         }
         self.ask_on(wanted, directive, site, &sign, condition)
@@ -101,8 +101,8 @@ impl Conditionals {
         token: &SourceToken<'_>,
         condition: Condition,
     ) -> Result<Filtered, AllocError>
-        ensures { let k = condition_of condition in IfOk result (λ j. record { now = self.new; judged = j } ≡
-            asked_on wanted site (spelled token.now) k directive self.old) }
+        ensures { IfOk result (λ j. record { now = self.new; judged = j } ≡
+            asked_on wanted site (spelled token.now) condition directive self.old) }
     {
         self.count_tokens(site.is_quiet, &condition);
         self.say(too_much(site.is_quiet, site.longest, token, &condition));
@@ -112,10 +112,10 @@ impl Conditionals {
 
     /// Counts the tokens of a condition so far, unless it is passed over.
     fn count_tokens(&mut self, is_quiet: bool, condition: &Condition)
-        ensures { self.new ≡ tokens_counted is_quiet (condition_of condition.now) self.old }
+        ensures { self.new ≡ tokens_counted is_quiet condition.now self.old }
     {
         if !is_quiet {
-            self.most_tokens = self.most_tokens.max(condition.unit.outer_tokens());
+            self.most_tokens = self.most_tokens.max(condition.unit().outer_tokens());
         }
     }
 
@@ -128,8 +128,8 @@ impl Conditionals {
         out: &Output<B>,
         condition: Condition,
     ) -> Result<Filtered, AllocError>
-        ensures { let k = condition_of condition in IfOk result (λ j. record { now = self.new; judged = j } ≡
-            decided (verdict_of self.old.declared out.now k) wanted is_quiet k directive self.old) }
+        ensures { IfOk result (λ j. record { now = self.new; judged = j } ≡
+            decided (verdict_of self.old.declared out.now condition) wanted is_quiet condition directive self.old) }
     {
         let verdict = condition.judge(self.declared, out)?;
         self.found(is_quiet, directive.place, condition, verdict.finding);
@@ -146,7 +146,7 @@ impl Conditionals {
         condition: Condition,
         finding: Option<Finding>,
     )
-        ensures { self.new ≡ saying is_quiet (told_by directive (condition_of condition) finding) self.old }
+        ensures { self.new ≡ saying is_quiet (told_by directive condition finding) self.old }
     {
         if is_quiet {
             self.say(None);
@@ -174,9 +174,9 @@ impl Conditionals {
         wanted: bool,
         condition: Condition,
     ) -> Result<(), AllocError>
-        ensures { OnOk result (self.new ≡ asking place is_inner wanted (condition_of condition) self.old) }
+        ensures { OnOk result (self.new ≡ asking place is_inner wanted condition self.old) }
     {
-        self.conditions.push(condition)?;
+        self.conditions.push(condition, &mut self.spare)?;
         self.wait(place, is_inner, Awaits::Condition(wanted))
     }
 }

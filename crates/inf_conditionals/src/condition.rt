@@ -1,8 +1,8 @@
 //! The condition of a conditional directive.
-ghost use Rattle.std.specs.Prelude.{◌≡◌, IfOk, OnOk, map, true};
+ghost use Rattle.std.specs.Prelude.{◌≡◌, IfOk, IfSome, OnOk, drop, map, true};
 ghost use Rattle.inf_conditionals.specs.Condition.{all_acted, condition_begun, condition_took, finding_by, is_true_by, is_whole, number_of};
 ghost use Rattle.inf_conditionals.specs.Condition.{tree_in, verdict_of};
-ghost use Rattle.inf_conditionals.specs.Meant.{condition};
+ghost use Rattle.inf_conditionals.specs.ReadAgain.{IsReadBy, all_fit, all_taken};
 ghost use Rattle.inf_expressions.specs.Forests.{trees_in};
 ghost use Rattle.inf_grammar.specs.Language.{grammar, known};
 ghost use Rattle.inf_machine.specs.Machine.{fits};
@@ -11,22 +11,59 @@ ghost use Rattle.inf_unit.specs.{AtHand.unit as unit_of, Spelled.spelled, Tokens
 use crate::operands::operands_of;
 use inf_area::Value;
 use inf_expressions::{Finding, Forest, Wanted, build, constant, judge};
-use inf_grammar::{Action, Machine, PIECE};
+use inf_grammar::{Action, Openings, PIECE, Rest};
 use inf_output::Output;
 use inf_settings::bounds::Bounds;
 use inf_unit::tokens::SourceToken;
 use inf_unit::unit::Unit;
+use inf_unit::unit_tokens::UnitTokens;
 use std::alloc::{AllocError, Global};
+use std::marker::Model;
+use std::mem;
+
+/// The most tokens of a condition that is kept by its tokens alone while one inside of it is read.
+const FEW: usize = 8;
+
+/// All that conditions share, of which one at a time is read.
+#[derive(Drop)]
+pub(crate) struct Steps {
+    openings: Openings,
+    /// The actions on the way to the token at hand.
+    actions: Vec<Action>,
+}
+
+impl Steps {
+    pub(crate) fn new(alloc: Global) -> Steps {
+        Steps {
+            openings: Openings::new(alloc),
+            actions: Vec::new(alloc),
+        }
+    }
+}
 
 /// A conditional directive with a condition that is being read: by the grammar, as any other directive.
 #[derive(Drop)]
 pub struct Condition {
     alloc: Global,
     /// The rest of the directive that is still to be read.
-    machine: Machine,
-    pub(crate) unit: Unit,
-    /// The actions on the way to the token at hand.
-    actions: Vec<Action>,
+    rest: Rest,
+    unit: Unit,
+    /// The first tokens that were taken.
+    tokens: UnitTokens,
+    /// Tells whether those are all that were taken.
+    is_short: bool,
+}
+
+impl Model for Condition {
+    ghost use Rattle.std.specs.Prelude.{◌≡◌, true};
+    ghost use Rattle.inf_unit.specs.AtHand.{unit as unit_of};
+    ghost use Rattle.inf_conditionals.specs.{Condition.Condition, ReadAgain.IsReadBy, ReadAgain.condition_at};
+
+    ghost Value = { Condition };
+
+    ghost view = { λ k. condition_at k.rest (unit_of k.unit) };
+
+    ghost invariant = { λ k. k.is_short ≡ true → IsReadBy k.tokens (condition_at k.rest (unit_of k.unit)) };
 }
 
 /// The result of a condition.
@@ -43,41 +80,97 @@ impl Condition {
     pub(crate) fn new(alloc: Global) -> Condition {
         Condition {
             alloc,
-            machine: Machine::new(alloc),
+            rest: Rest::new(alloc),
             unit: Unit::new(alloc),
-            actions: Vec::new(alloc),
+            tokens: UnitTokens::new(alloc),
+            is_short: false,
         }
     }
 
     /// Begins the condition, before the word of its directive.
     pub(crate) fn begin(&mut self) -> Result<(), AllocError>
-        ensures { OnOk result (condition self.new ≡ condition_begun) }
+        ensures { OnOk result (self.new ≡ condition_begun) }
     {
+        self.is_short = false;
+        self.tokens.clear();
         self.unit.clear();
-        self.machine.clear();
-        self.machine.start(PIECE)
+        self.rest.clear();
+        self.rest.start(PIECE)?;
+        self.is_short = true;
+        Ok(())
     }
 
     /// Takes the next token of the directive, if it fits, and returns whether it does.
-    pub(crate) fn take(&mut self, token: &SourceToken<'_>) -> Result<bool, AllocError>
-        ensures fits { IfOk result (λ is_taken. is_taken ≡ fits grammar known (atom_of (spelled token.now)) (condition self.old).stack) }
-        ensures taken { IfOk result (λ is_taken. is_taken ≡ true → condition self.new ≡ condition_took (spelled token.now)
-            (condition self.old)) }
+    pub(crate) fn take(
+        &mut self,
+        steps: &mut Steps,
+        token: &SourceToken<'_>,
+    ) -> Result<bool, AllocError>
+        ensures fits { IfOk result (λ is_taken. is_taken ≡ fits grammar known (atom_of (spelled token.now)) self.old.stack) }
+        ensures taken { IfOk result (λ is_taken. is_taken ≡ true → self.new ≡ condition_took (spelled token.now) self.old) }
     {
-        self.actions.clear();
-        if !self.machine.read(token.atom(), &mut self.actions)? {
+        let was_short = mem::replace(&mut self.is_short, false);
+        steps.actions.clear();
+        if !self
+            .rest
+            .read(&mut steps.openings, token.atom(), &mut steps.actions)?
+        {
             return Ok(false);
         }
-        act_all(self.actions.as_slice(), &mut self.unit)?;
+        act_all(steps.actions.as_slice(), &mut self.unit)?;
         self.unit.take(token)?;
+        if !was_short || self.tokens.len() >= FEW {
+            return Ok(true);
+        }
+        self.tokens.add(token)?;
+        self.is_short = true;
         Ok(true)
+    }
+
+    /// Takes the tokens of `tokens` from place `first` on, which fit one behind the other.
+    pub(crate) fn take_from(
+        &mut self,
+        steps: &mut Steps,
+        tokens: &UnitTokens,
+        first: usize,
+    ) -> Result<(), AllocError>
+        requires { all_fit (drop first tokens.now) self.old ≡ true }
+        ensures { OnOk result (self.new ≡ all_taken (drop first tokens.now) self.old) }
+    {
+        for at in first..tokens.len() {
+            let Some(token) = tokens.get(at) else {
+                unreachable!();
+            };
+            if !self.take(steps, &token)? {
+                unreachable!();
+            }
+        }
+        Ok(())
+    }
+
+    /// Returns the unit of the tokens that were taken.
+    pub(crate) fn unit(&self) -> &Unit
+        ensures { unit_of result.now ≡ self.now.unit }
+    {
+        &self.unit
+    }
+
+    /// Returns all tokens that were taken, where they are few.
+    pub(crate) fn few_tokens(&self) -> Option<&UnitTokens>
+        ensures { IfSome result (λ tokens. IsReadBy tokens.now self.now) }
+    {
+        if self.is_short {
+            Some(&self.tokens)
+        } else {
+            None
+        }
     }
 
     /// Returns whether the directive is whole.
     pub(crate) fn is_whole(&self) -> bool
-        ensures { result ≡ is_whole (condition self.now) }
+        ensures { result ≡ is_whole self.now }
     {
-        self.machine.is_done()
+        self.rest.is_done()
     }
 
     /// Returns the verdict on this condition, where `declared` names were declared by the directives before.
@@ -86,7 +179,7 @@ impl Condition {
         declared: usize,
         out: &Output<B>,
     ) -> Result<Verdict, AllocError>
-        ensures { IfOk result (λ v. v ≡ verdict_of declared out.now (condition self.now)) }
+        ensures { IfOk result (λ v. v ≡ verdict_of declared out.now self.now) }
     {
         let symbols = self.unit.gathering.symbols();
         let operands = operands_of(

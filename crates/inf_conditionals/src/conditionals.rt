@@ -1,15 +1,17 @@
 //! The conditionals of the file that is read.
-ghost use Rattle.std.specs.Prelude.{◌≡◌, ◌≤◌, [], length, IfOk, OnOk, IsErr, IsSome, is_none, reverse, true};
+ghost use Rattle.std.specs.Prelude.{◌≡◌, ◌≤◌, [], length, Bool, IfOk, OnOk, IsErr, IsSome, None, false, is_none, reverse, true};
 ghost use Rattle.inf_conditionals.specs.{Judging.sign_handed, Words.word_of};
-ghost use Rattle.inf_unit.specs.{Spelled.spelled, Tokens.keyword};
+ghost use Rattle.inf_scanner.specs.declared.tokens.Mark.{Mark};
+ghost use Rattle.inf_unit.specs.{Atoms.keyword_of_kind, Spelled.spelled, Tokens.is_end, Tokens.is_mark, Tokens.keyword};
 
-use crate::condition::Condition;
+use crate::condition::{Condition, Steps};
 use crate::ends::tell_all;
 use crate::filtered::{Filtered, Forwarded, KEPT, NONE, Sign, Site};
 use crate::open::LeftOut;
+use crate::open_conditions::OpenConditions;
 use crate::pending::{Awaits, Effect, Pending};
 use crate::said::Said;
-use crate::words::{ConditionalWord, ends_side, levels_behind, word_of};
+use crate::words::{ConditionalWord, ends_side, levels_behind, may_be_word, word_of};
 use inf_lexer::Stack;
 use inf_output::Output;
 use inf_scanner::{Mark, Place, TokenKind};
@@ -33,7 +35,7 @@ pub struct Conditionals {
     /// The conditional directives that are being read, the inner ones last.
     pending: Vec<Pending>,
     /// The conditions of the directives that have one.
-    pub(crate) conditions: Vec<Condition>,
+    pub(crate) conditions: OpenConditions,
     /// The side that is left out.
     pub(crate) left_out: Option<LeftOut>,
     /// A `#` that is held back until the token behind it is known.
@@ -46,11 +48,13 @@ pub struct Conditionals {
     pub(crate) said: Option<Said>,
     /// A condition that was read, whose memory the next one has.
     pub(crate) spare: Option<Condition>,
+    /// All that conditions share.
+    pub(crate) steps: Steps,
 }
 
 impl Model for Conditionals {
-    ghost use Rattle.std.specs.Prelude.{map, option_map, reverse};
-    ghost use Rattle.inf_conditionals.specs.{Meant.condition, Meant.said_of, Open.Conditions};
+    ghost use Rattle.std.specs.Prelude.{option_map, reverse};
+    ghost use Rattle.inf_conditionals.specs.{Meant.said_of, Open.Conditions};
 
     ghost Value = { Conditions };
 
@@ -58,7 +62,7 @@ impl Model for Conditionals {
       among = reverse c.among.items;
       inner = reverse c.inner.items;
       pending = reverse c.pending.items;
-      conditions = reverse (map condition c.conditions.items);
+      conditions = c.conditions;
       left_out = c.left_out;
       sign = c.sign;
       declared = c.declared;
@@ -77,10 +81,29 @@ fn sign_handed(place: Place, handed: Option<Forwarded>) -> Option<Sign>
     }
 }
 
+/// Returns whether a token of `kind` with `bytes` may do something in a side that is left out: the end does, a `#`, and a word of a
+/// conditional. Of a name only its length and its first letter are looked at.
+#[inline(always)]
+fn may_act(kind: TokenKind, bytes: &[u8]) -> bool
+    ensures { result ≡ false →
+        (is_end kind ≡ false) × (is_mark Mark.Hash kind ≡ false) × (word_of (keyword_of_kind kind bytes.now) ≡ None) }
+{
+    match kind {
+        TokenKind::Name => may_be_word(bytes),
+        TokenKind::Mark(_) => is_mark(kind, Mark::Hash),
+        TokenKind::End => true,
+        TokenKind::Number(_)
+        | TokenKind::Char(_)
+        | TokenKind::Word(_)
+        | TokenKind::Text
+        | TokenKind::Bad(_) => false,
+    }
+}
+
 impl Conditionals {
     ghost use Rattle.inf_conditionals.specs.Ends.{file_ended, file_told, piece_ended, piece_told, with_among};
     ghost use Rattle.inf_conditionals.specs.Judging.{awaited, awaiting, begun, behind_front, behind_sign, held, in_side, is_behind_side};
-    ghost use Rattle.inf_conditionals.specs.Judging.{is_none_pending, judged, kept, may_part, offered, sign_offered, unfit, word_passed};
+    ghost use Rattle.inf_conditionals.specs.Judging.{is_none_pending, judged, kept, may_part, offered, passed, sign_offered, unfit, word_passed};
     ghost use Rattle.inf_output.specs.Output.{Out};
     ghost use Rattle.inf_conditionals.specs.{Open.no_conditions, Open.silent, Said.with_right, Said.with_said};
 
@@ -93,13 +116,14 @@ impl Conditionals {
             among: Vec::new(alloc),
             inner: Vec::new(alloc),
             pending: Vec::new(alloc),
-            conditions: Vec::new(alloc),
+            conditions: OpenConditions::new(alloc),
             left_out: None,
             sign: None,
             declared: 0,
             most_tokens: 0,
             said: None,
             spare: None,
+            steps: Steps::new(alloc),
         }
     }
 
@@ -121,6 +145,22 @@ impl Conditionals {
         ensures silent { result ≡ true → self.now.said ≡ None }
     {
         self.keeps(site, token) && self.said.is_none()
+    }
+
+    /// Passes a token of `kind` with `bytes` where a first look shows that it does nothing, as most tokens of a side that is left out. A `#`
+    /// that was held back before it is forgotten. Returns whether it was passed; where it was not, it is still to be taken.
+    #[inline(always)]
+    pub fn skips(&mut self, kind: TokenKind, bytes: &[u8]) -> bool
+        ensures passes { result ≡ true → (site : Site) (o : Out) (place : Place) (is_class : Bool) → judged site o
+            (record { kind = kind; bytes = bytes.now; place = place; is_class = is_class }) self.old ≡ passed self.new }
+        ensures silent { result ≡ true → self.new.said ≡ None }
+        ensures kept { result ≡ false → self.new ≡ self.old }
+    {
+        if self.left_out.is_some() && self.said.is_none() && !may_act(kind, bytes) {
+            self.sign = None;
+            return true;
+        }
+        false
     }
 
     /// Takes the next token of the innermost file, and returns its result.

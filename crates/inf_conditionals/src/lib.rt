@@ -12,6 +12,7 @@ mod effects;
 pub mod ends;
 pub mod filtered;
 pub mod open;
+mod open_conditions;
 mod operands;
 pub mod pending;
 pub mod said;

@@ -1,8 +1,7 @@
 //! The messages about a condition.
 ghost use Rattle.std.specs.Prelude.{◌≡◌, OnOk, None, Some, if◌then◌else◌, option_map};
 ghost use Rattle.inf_unit.specs.{Diagnostics.blamed, Spelled.spelled};
-ghost use Rattle.inf_conditionals.specs.Meant.{condition as condition_of, said_of};
-ghost use Rattle.inf_conditionals.specs.Said.{blame_of, too_deep, too_much, with_right, with_said};
+ghost use Rattle.inf_conditionals.specs.{Meant.said_of, Said.blame_of, Said.too_deep, Said.too_much, Said.with_right, Said.with_said};
 
 use crate::condition::Condition;
 use crate::operands::add_actions;
@@ -59,7 +58,7 @@ impl Said {
     {
         match self {
             Said::Right(condition) => {
-                let unit = &condition.unit;
+                let unit = condition.unit();
                 add_actions(&unit.tokens, unit.gathering.leaves(), out)
             }
             Said::Wrong(..) | Said::Long(_) | Said::Deep(_) => Ok(()),
@@ -83,15 +82,15 @@ pub(crate) fn too_much(
     token: &SourceToken<'_>,
     condition: &Condition,
 ) -> Option<Said>
-    ensures { option_map said_of result ≡ (if is_quiet then None else too_much longest (spelled token.now) (condition_of condition.now)) }
+    ensures { option_map said_of result ≡ (if is_quiet then None else too_much longest (spelled token.now) condition.now) }
 {
     if is_quiet {
         return None;
     }
-    if let Some(place) = condition.unit.long_at(longest) {
+    if let Some(place) = condition.unit().long_at(longest) {
         return Some(Said::Long(place));
     }
-    if is_mark(token.kind, Mark::OpenParenthesis) && condition.unit.depth > MOST_NESTED {
+    if is_mark(token.kind, Mark::OpenParenthesis) && condition.unit().depth > MOST_NESTED {
         return Some(Said::Deep(token.place));
     }
     None
@@ -100,9 +99,9 @@ pub(crate) fn too_much(
 /// Returns the message and the place by which `finding`, about `condition`, is reported. Its directive begins at
 /// `directive`.
 fn blame_of<'t>(directive: Place, condition: &'t Condition, finding: Finding) -> Diagnostic<'t>
-    ensures { blamed result ≡ blame_of directive (condition_of condition.now) finding }
+    ensures { blamed result ≡ blame_of directive condition.now finding }
 {
-    match condition.unit.tokens.get(finding.order as usize) {
+    match condition.unit().tokens.get(finding.order as usize) {
         Some(token) => Diagnostic {
             place: token.place,
             message: message_of(finding.error, token.told(), token.bytes),

@@ -1,6 +1,7 @@
 //! The words of conditional directives.
-ghost use Rattle.std.specs.Prelude.{◌≡◌};
+ghost use Rattle.std.specs.Prelude.{◌≡◌, None, false};
 ghost use Rattle.inf_conditionals.specs.{Open.ends_at, Open.levels_behind, Words.awaits_of, Words.word_of};
+ghost use Rattle.inf_syntax.specs.Atoms.{keyword_of};
 
 use crate::pending::{Awaits, Effect};
 use inf_syntax::Keyword;
@@ -29,6 +30,18 @@ pub fn word_of(keyword: Option<Keyword>) -> Option<ConditionalWord>
         Keyword::Endif => Some(ConditionalWord::Endif),
         _ => None,
     }
+}
+
+/// Returns whether a name of these bytes may be the word of a conditional directive, by its length and its first letter.
+#[inline(always)]
+pub(crate) fn may_be_word(bytes: &[u8]) -> bool
+    ensures { result ≡ false → word_of (keyword_of bytes.now) ≡ None }
+{
+    if bytes.len() < 5 || bytes.len() > 7 {
+        return false;
+    }
+    let first = bytes[0].to_ascii_lowercase();
+    first == b'e' || first == b'i'
 }
 
 impl ConditionalWord {

@@ -38,6 +38,16 @@ UnlessMessages (Fault.Story n) P = P
 abbrev pub HidesNoFailure : {T : Type 0} → Result T Fault → ℕ → ℕ → Type 0
 HidesNoFailure answer before now = OnOk answer (now ≡ before) × IfErr answer (λ fault. UnlessMessages fault (now ≡ before))
 
+abbrev pub UnlessRead : Fault → Type 0 → Type 0
+UnlessRead (Fault.Read name) P = Unit {0}
+UnlessRead Fault.Memory P = P
+UnlessRead Fault.Messages P = P
+UnlessRead (Fault.Story n) P = P
+
+-- Only a call that answers that a source could not be read counts a failure to open or to read one.
+abbrev pub TellsEachRead : {T : Type 0} → Result T Fault → ℕ → ℕ → Type 0
+TellsEachRead answer before now = OnOk answer (now ≡ before) × IfErr answer (λ fault. UnlessRead fault (now ≡ before))
+
 -- the fault that is told for a turn that was given up, where this one was put aside
 abbrev pub fault_of : Halt → Option Fault → Fault
 fault_of Halt.Memory lost = Fault.Memory
@@ -48,3 +58,8 @@ fault_of Halt.Messages lost = Fault.Messages
 abbrev pub HaltHidesNone : {T : Type 0} → Result T Halt → Option Fault → ℕ → ℕ → Type 0
 HaltHidesNone answer lost before now =
     OnOk answer (now ≡ before) × IfErr answer (λ halt. UnlessMessages (fault_of halt lost) (now ≡ before))
+
+-- A turn that was given up counts a failure to open or to read a source only where it tells of one.
+abbrev pub HaltTellsEachRead : {T : Type 0} → Result T Halt → Option Fault → ℕ → ℕ → Type 0
+HaltTellsEachRead answer lost before now =
+    OnOk answer (now ≡ before) × IfErr answer (λ halt. UnlessRead (fault_of halt lost) (now ≡ before))

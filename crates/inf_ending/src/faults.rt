@@ -1,9 +1,9 @@
 //! Why a compilation was given up.
 ghost use Rattle.std.specs.Prelude.{◌≡◌};
-ghost use Rattle.inf_ending.specs.Faults.{Caused, fault_of};
+ghost use Rattle.inf_ending.specs.Faults.{fault_of};
 
 use inf_report::report::ReportFault;
-use std::alloc::{AllocError, Global};
+use std::alloc::AllocError;
 use thiserror::Error;
 
 /// Why a compilation was given up.
@@ -90,21 +90,9 @@ pub fn fault_of(halt: Halt, lost: Option<Fault>) -> Fault
 /// Puts the fault that the source with the name `name` could not be read aside in `lost`, and returns why the turn is given up.
 #[cold]
 #[inline(never)]
-pub fn lose(alloc: Global, name: &str, lost: &mut Option<Fault>) -> Halt
-    ensures { Caused (fault_of result lost.new) (λ told. told ≡ name.now) ⊥ }
+pub fn lose(name: String, lost: &mut Option<Fault>) -> Halt
+    ensures { fault_of result lost.new ≡ Fault.Read name }
 {
-    *lost = Some(unread(alloc, name));
+    *lost = Some(Fault::Read(name));
     Halt::Read
-}
-
-/// Makes the fault that the source with the name `name` could not be read.
-#[cold]
-#[inline(never)]
-pub fn unread(alloc: Global, name: &str) -> Fault
-    ensures { Caused result (λ told. told ≡ name.now) ⊥ }
-{
-    match String::from_str(alloc, name) {
-        Ok(name) => Fault::Read(name),
-        Err(_) => Fault::Memory,
-    }
 }

@@ -11,6 +11,7 @@
 mod grammar_table;
 mod laws;
 mod machine;
+mod rest;
 mod rules;
 mod starts;
 mod table;
@@ -19,6 +20,7 @@ pub use inf_machine::{Symbol, bad_tokens, pieces, sources, texts};
 pub use inf_syntax::{Action, Mark, Token, atom_of};
 pub use laws::{language, routines_are_bracketed, source_pieces};
 pub use machine::Machine;
+pub use rest::{Openings, Rest};
 pub use starts::{
     ALONE_CLOSE, ALONE_CONSTANT, ALONE_EXPRESSION, ALONE_HEADER, ALONE_LINE, ASSIGN, EXPRESSION,
     FILE, LOGIC, PIECE,

@@ -117,6 +117,7 @@ fn scan_head<F: Files>(
     ensures depth { F.depth files.new ≡ F.depth files.old }
     ensures opened { F.opened files.new ≡ F.opened files.old }
     ensures faults { F.faults files.old ≤ F.faults files.new }
+    ensures seen { OnOk result (F.faults files.new ≡ F.faults files.old) }
     ensures sources { F.sources files.new ≡ F.sources files.old }
     ensures honesty { F.is_honest files.new ≡ F.is_honest files.old }
 {
@@ -343,6 +344,7 @@ impl Lexer {
         ensures depth { F.depth files.new ≡ F.depth files.old }
         ensures opened { F.opened files.new ≡ F.opened files.old }
         ensures faults { F.faults files.old ≤ F.faults files.new }
+        ensures seen { OnOk result (F.faults files.new ≡ F.faults files.old) }
         ensures sources { F.sources files.new ≡ F.sources files.old }
         ensures honesty { F.is_honest files.new ≡ F.is_honest files.old }
     {

@@ -9,3 +9,4 @@ pub mod ReadOn
 pub mod Ending
 pub mod SourcePieces
 pub mod Reaching
+pub mod Stepping

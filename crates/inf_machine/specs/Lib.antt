@@ -3,3 +3,4 @@ pub mod Grammar
 pub mod Laws
 pub mod Machine
 pub mod Pieces
+pub mod Steps

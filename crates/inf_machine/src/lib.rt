@@ -2,8 +2,9 @@
 //!
 //! `specs/` has a grammar as a table of rows and its texts (`Grammar`), the machine as functions on lists (`Machine`), the
 //! property of a table by which one token decides (`Decided`), and the laws that follow from it (`Laws`). The code has the parts
-//! of rows (`Symbol`), the machine with its stack of symbols that are still to be read (`Machine`), the table that it reads by
-//! (`Table`), and the laws as functions. A crate with a table has the machine that reads by it.
+//! of rows (`Symbol`), the stack of symbols that are still to be read (`Rest`), what was met of the rules so far (`Openings`), a
+//! machine that has both (`Machine`), the table that it reads by (`Table`), and the laws as functions. A crate with a table has
+//! the machine that reads by it.
 #![tactic(auto)]
 
 mod laws;
@@ -11,11 +12,15 @@ mod machine;
 mod opening;
 mod openings;
 mod reading;
+mod rest;
 mod stack;
+mod steps;
 mod symbols;
 mod table;
 
 pub use laws::{bad_tokens, pieces, sources, texts};
 pub use machine::Machine;
+pub use openings::Openings;
+pub use rest::Rest;
 pub use symbols::Symbol;
 pub use table::Table;

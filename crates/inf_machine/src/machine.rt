@@ -1,9 +1,10 @@
 //! The machine that reads tokens by a grammar.
-ghost use Rattle.std.specs.Prelude.{◌≡◌, [], ◌∷◌, ◌++◌, ◌↔◌, IsTrue, IfOk, OnOk, OnErr, take, vec_len, true, false, reverse};
-ghost use Rattle.inf_machine.specs.Machine.{acts_of, fits, can_end, taken};
+ghost use Rattle.std.specs.Prelude.{◌≡◌, [], ◌∷◌, ◌++◌, ◌↔◌, IsTrue, IfOk, OnOk, OnErr, true, false, reverse};
+ghost use Rattle.inf_machine.specs.Machine.{fits, can_end, taken};
 
 use crate::openings::Openings;
 use crate::reading;
+use crate::rest::Rest;
 use crate::symbols::Symbol;
 use crate::table::Table;
 use std::alloc::{AllocError, Global};
@@ -12,18 +13,17 @@ use std::marker::Model;
 /// A machine with the symbols that are still to be read: in contracts a list, the symbol at hand first.
 #[derive(Drop)]
 pub struct Machine<T: Table> {
-    /// The symbols that are still to be read, the one at hand last.
-    symbols: Vec<Symbol<T::Action>>,
+    rest: Rest<T>,
     openings: Openings<T>,
 }
 
 impl<T: Table> Model for Machine<T> {
-    ghost use Rattle.std.specs.Prelude.{List, reverse};
+    ghost use Rattle.std.specs.Prelude.{List};
     ghost use Rattle.inf_machine.specs.declared.symbols.Symbol.{Symbol};
 
     ghost Value = { List (Symbol T.Action) };
 
-    ghost view = { λ m. reverse m.symbols.items };
+    ghost view = { λ m. m.rest };
 }
 
 impl<T: Table> Machine<T> {
@@ -32,7 +32,7 @@ impl<T: Table> Machine<T> {
         ensures { result ≡ [] }
     {
         Machine {
-            symbols: Vec::new(alloc),
+            rest: Rest::new(alloc),
             openings: Openings::new(alloc),
         }
     }
@@ -42,43 +42,42 @@ impl<T: Table> Machine<T> {
         ensures ok { OnOk result (self.new ≡ Symbol.Rule rule ∷ self.old) }
         ensures err { OnErr result (self.new ≡ self.old) }
     {
-        self.symbols.push(Symbol::Rule(rule))?;
-        Ok(())
+        self.rest.start(rule)
     }
 
     /// Returns whether nothing is to be read.
     pub fn is_done(&self) -> bool
         ensures { IsTrue result ↔ (self.now ≡ []) }
     {
-        self.symbols.is_empty()
+        self.rest.is_done()
     }
 
     /// Returns whether the symbols that are to be read can be empty: whether the source may end here.
     pub fn can_end(&self) -> bool
         ensures { result ≡ can_end T.known self.now }
     {
-        reading::can_end::<T>(&self.symbols)
+        reading::can_end::<T>(self.symbols())
     }
 
     /// Returns the symbols that are to be read, the one at hand last.
     pub fn symbols(&self) -> &[Symbol<T::Action>]
         ensures { reverse result.now ≡ self.now }
     {
-        &self.symbols
+        self.rest.symbols()
     }
 
     /// Gives up the symbols that are to be read.
     pub fn clear(&mut self)
         ensures { self.new ≡ [] }
     {
-        self.symbols.clear();
+        self.rest.clear();
     }
 
     /// Returns whether a token fits: whether it begins the symbols that are to be read.
     pub fn fits(&self, atom: u8) -> bool
         ensures { result ≡ fits T.grammar T.known atom self.now }
     {
-        reading::fits::<T>(&self.symbols, atom)
+        reading::fits::<T>(self.symbols(), atom)
     }
 
     /// Takes a token that fits. The actions on the way to it are appended to `actions`, in order; the token is taken behind them.
@@ -108,96 +107,6 @@ impl<T: Table> Machine<T> {
         ensures err { OnErr result (self.new ≡ self.old) }
         ensures err_actions { OnErr result (actions.new.items ≡ actions.old.items) }
     {
-        let before = actions.len();
-        let read = reach(&mut self.symbols, &mut self.openings, atom, actions);
-        if !matches!(read, Ok(true)) {
-            actions.truncate(before);
-        }
-        read
+        self.rest.read(&mut self.openings, atom, actions)
     }
-}
-
-/// Walks down the stack to a token that fits and takes it, appending the actions on the way; returns whether it fits. Until that
-/// is known no symbol is taken off. Where the token does not fit actions may have been appended.
-fn reach<T: Table>(
-    symbols: &mut Vec<Symbol<T::Action>>,
-    openings: &mut Openings<T>,
-    atom: u8,
-    actions: &mut Vec<T::Action>,
-) -> Result<bool, AllocError>
-    ensures fits { IfOk result (λ fits_now. fits_now ≡ fits T.grammar T.known atom (reverse symbols.old.items)) }
-    ensures left { IfOk result (λ fits_now. fits_now ≡ true → reverse symbols.new.items ≡
-        (taken T.grammar T.known atom (reverse symbols.old.items)).left) }
-    ensures actions { IfOk result (λ fits_now. fits_now ≡ true → actions.new.items ≡ actions.old.items ++
-        (taken T.grammar T.known atom (reverse symbols.old.items)).actions) }
-    ensures same { IfOk result (λ fits_now. fits_now ≡ false → symbols.new.items ≡ symbols.old.items) }
-    ensures err { OnErr result (symbols.new.items ≡ symbols.old.items) }
-    ensures before { take (vec_len actions.old) actions.new.items ≡ actions.old.items }
-{
-    let mut below = symbols.len();
-    while below > 0 {
-        below -= 1;
-        match symbols[below] {
-            Symbol::Token(class) => {
-                let fits = T::is_of(class, atom);
-                if fits {
-                    symbols.truncate(below);
-                }
-                return Ok(fits);
-            }
-            Symbol::Act(action) => actions.push(action)?,
-            Symbol::Rule(rule) if T::begins(rule, atom) => {
-                let opening = openings.find(rule, atom)?;
-                add_all(actions, opening.actions())?;
-                replace(symbols, below, opening.left())?;
-                return Ok(true);
-            }
-            Symbol::Rule(rule) if T::can_be_empty(rule) => act(T::passed(rule), actions)?,
-            Symbol::Rule(_) => return Ok(false),
-        }
-    }
-    Ok(false)
-}
-
-/// Appends actions to others, one by one, since they are few.
-fn add_all<A: Copy>(actions: &mut Vec<A>, others: &[A]) -> Result<(), AllocError>
-    ensures ok { OnOk result (actions.new.items ≡ actions.old.items ++ others.now) }
-    ensures before { take (vec_len actions.old) actions.new.items ≡ actions.old.items }
-{
-    for other in others {
-        actions.push(*other)?;
-    }
-    Ok(())
-}
-
-/// Replaces the symbols from place `below` on by others, which are put there one by one, since they are few.
-fn replace<A: Copy>(
-    symbols: &mut Vec<Symbol<A>>,
-    below: usize,
-    others: &[Symbol<A>],
-) -> Result<(), AllocError>
-    ensures ok { OnOk result (symbols.new.items ≡ take below symbols.old.items ++ others.now) }
-    ensures err { OnErr result (symbols.new.items ≡ symbols.old.items) }
-{
-    symbols.reserve(others.len())?;
-    symbols.truncate(below);
-    for other in others {
-        symbols.push_reserved(*other);
-    }
-    Ok(())
-}
-
-/// Appends the actions of a row to others. The row is given with its last part first.
-fn act<A: Copy>(row: &[Symbol<A>], actions: &mut Vec<A>) -> Result<(), AllocError>
-    ensures actions { OnOk result (actions.new.items ≡ actions.old.items ++ acts_of (reverse row.now)) }
-    ensures before { take (vec_len actions.old) actions.new.items ≡ actions.old.items }
-{
-    let mut left = row;
-    while let Some((part, before)) = left.split_last() {
-        if let Symbol::Act(action) = *part {
-            actions.push(action)?;
-        }
-        left = before;
-    }
-    Ok(())
 }

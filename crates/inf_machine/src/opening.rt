@@ -1,5 +1,5 @@
 //! The openings of rules by the atoms that begin them.
-ghost use Rattle.std.specs.Prelude.{◌≡◌, [], ◌∷◌, ◌↔◌, ◌++◌, IsTrue, IfOk, OnOk, reverse, true};
+ghost use Rattle.std.specs.Prelude.{◌≡◌, [], ◌∷◌, ◌++◌, IfOk, OnOk, reverse, true};
 ghost use Rattle.inf_machine.specs.{Grammar.has, Machine.fits, Machine.opened, Machine.taken};
 
 use crate::stack::Stack;
@@ -47,13 +47,6 @@ impl<T: Table> Opening<T> {
             actions,
             left: stack.into_symbols(),
         })
-    }
-
-    /// Returns whether this is the opening of `rule` by `atom`.
-    pub(crate) fn is_of(&self, rule: u8, atom: u8) -> bool
-        ensures { IsTrue result ↔ (self.now ≡ (rule, atom)) }
-    {
-        self.rule == rule && self.atom == atom
     }
 
     /// Returns the actions on the way to the token.

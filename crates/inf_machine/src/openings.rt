@@ -1,86 +1,112 @@
 //! The openings that were met so far.
-ghost use Rattle.std.specs.Prelude.{◌≡◌, ◌<◌, IfOk, OnOk, Some, vec_len, true};
-ghost use Rattle.inf_machine.specs.Grammar.{has};
+ghost use Rattle.std.specs.Prelude.{◌≡◌, ◌<◌, [], ℕ, List, IfOk, Some, length, slice_get, true, false};
+ghost use Rattle.inf_machine.specs.{Grammar.has, Steps.Means};
 
 use crate::opening::Opening;
+use crate::steps::{Step, Steps};
 use crate::table::Table;
 use std::alloc::{AllocError, Global};
+use std::marker::Model;
 
-/// The greatest number of openings that are kept.
-const PLACES: usize = 4096;
-
-/// The openings that were met, each at the place of its rule and atom. A new one replaces another at its place.
+/// The steps of rules with atoms that were met so far. Contracts see the rule and the atom of each opening that was made.
 #[derive(Drop)]
-pub(crate) struct Openings<T: Table> {
+pub struct Openings<T: Table> {
     alloc: Global,
-    places: Vec<Option<Opening<T>>>,
+    steps: Steps,
+    made: Vec<Opening<T>>,
 }
 
-/// Returns the place of an opening. Openings that come often in a source have places of their own.
-fn place_of(rule: u8, atom: u8) -> usize {
-    (rule as usize * 211 + atom as usize) % PLACES
+impl<T: Table> Model for Openings<T> {
+    ghost use Rattle.std.specs.Prelude.{List, ℕ};
+    ghost use Rattle.inf_machine.specs.Steps.{AllMean};
+
+    ghost Value = { List (ℕ × ℕ) };
+
+    ghost view = { λ o. o.made.items };
+
+    ghost invariant = { λ o. AllMean T.grammar T.known o.made.items o.steps };
 }
 
 impl<T: Table> Openings<T> {
     /// Returns the list of no openings, which takes no memory until one is met.
-    pub(crate) fn new(alloc: Global) -> Openings<T> {
+    pub fn new(alloc: Global) -> Openings<T>
+        ensures { result ≡ [] }
+    {
         Openings {
             alloc,
-            places: Vec::new(alloc),
+            steps: Steps::new(alloc),
+            made: Vec::new(alloc),
         }
     }
 
-    /// Returns the opening of `rule` by `atom`, which begins it; it is made where it is not kept yet.
-    pub(crate) fn find(&mut self, rule: u8, atom: u8) -> Result<&Opening<T>, AllocError>
-        requires { has (T.known.begins rule) atom ≡ true }
-        ensures { IfOk result (λ opening. opening.now ≡ (rule, atom)) }
+    /// Returns the step of `rule` with `atom`, which is kept from then on.
+    #[inline(always)]
+    pub(crate) fn find(&mut self, rule: u8, atom: u8) -> Result<Step, AllocError>
+        ensures { IfOk result (λ step. Means T.grammar T.known self.new rule atom step) }
     {
-        let place = place_of(rule, atom);
-        if self.places.len() <= place {
-            make_places(&mut self.places, place)?;
+        let step = self.steps.at(rule, atom);
+        if step.is_kept() {
+            Ok(step)
+        } else {
+            self.learn(rule, atom)
         }
-        let kept = &mut self.places[place];
-        let is_kept = match kept {
-            Some(opening) => opening.is_of(rule, atom),
-            None => false,
-        };
-        if !is_kept {
-            fill(kept, self.alloc, rule, atom)?;
+    }
+
+    /// Returns the opening at a place.
+    #[inline(always)]
+    pub(crate) fn opening(&self, place: u16) -> &Opening<T>
+        requires { place < length self.now }
+        ensures { slice_get self.now place ≡ Some result.now }
+    {
+        &self.made[place as usize]
+    }
+
+    /// Finds the step of `rule` with `atom`, and keeps it.
+    #[cold]
+    #[inline(never)]
+    fn learn(&mut self, rule: u8, atom: u8) -> Result<Step, AllocError>
+        ensures { IfOk result (λ step. Means T.grammar T.known self.new rule atom step) }
+    {
+        let step = self.found(rule, atom)?;
+        self.steps.put(rule, atom, step)?;
+        Ok(step)
+    }
+
+    /// Returns the step of `rule` with `atom`. Where the atom begins the rule, its opening is made.
+    fn found(&mut self, rule: u8, atom: u8) -> Result<Step, AllocError>
+        ensures { IfOk result (λ step. Means T.grammar T.known self.new rule atom step) }
+    {
+        if T::begins(rule, atom) {
+            self.open(rule, atom)
+        } else {
+            Ok(step_past::<T>(rule))
         }
-        match kept {
-            Some(opening) => Ok(opening),
-            None => unreachable!(),
+    }
+
+    /// Makes the opening of `rule` by `atom`, which begins it, and returns its step.
+    fn open(&mut self, rule: u8, atom: u8) -> Result<Step, AllocError>
+        requires { has (T.known.begins rule) atom ≡ true }
+        ensures { IfOk result (λ step. Means T.grammar T.known self.new rule atom step) }
+    {
+        let place = self.made.len();
+        // There are 65,536 pairs of a rule and an atom, each of which is opened once, so its place fits.
+        if place > u16::MAX as usize {
+            return Err(AllocError);
         }
+        self.made.push(Opening::of(self.alloc, rule, atom)?)?;
+        Ok(Step::Opened(place as u16))
     }
 }
 
-/// Makes all places up to `place`.
-#[cold]
-#[inline(never)]
-fn make_places<T: Table>(
-    places: &mut Vec<Option<Opening<T>>>,
-    place: usize,
-) -> Result<(), AllocError>
-    ensures { OnOk result (place < vec_len places.new) }
+/// Returns the step of a rule with an atom that does not begin it.
+fn step_past<T: Table>(rule: u8) -> Step
+    ensures { (made : List (ℕ × ℕ)) (atom : ℕ) → has (T.known.begins rule) atom ≡ false → Means T.grammar T.known made rule atom result }
 {
-    while places.len() <= place {
-        places.push(None)?;
+    if !T::can_be_empty(rule) {
+        Step::Refused
+    } else if T::passed(rule).is_empty() {
+        Step::Silent
+    } else {
+        Step::Passed
     }
-    Ok(())
-}
-
-/// Makes the opening of `rule` by `atom` and puts it in a place.
-#[cold]
-#[inline(never)]
-fn fill<T: Table>(
-    kept: &mut Option<Opening<T>>,
-    alloc: Global,
-    rule: u8,
-    atom: u8,
-) -> Result<(), AllocError>
-    requires { has (T.known.begins rule) atom ≡ true }
-    ensures { OnOk result (kept.new ≡ Some (rule, atom)) }
-{
-    *kept = Some(Opening::of(alloc, rule, atom)?);
-    Ok(())
 }

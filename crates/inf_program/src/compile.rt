@@ -1,7 +1,7 @@
 ghost use Rattle.std.specs.Prelude.{◌≡◌, IsTrue, IfOk, IfErr, MatchResult, Ok, OnOk, OnErr, Some};
 ghost use Rattle.inf_devices.specs.{Files.Rose, Sinks.Takes};
 ghost use Rattle.inf_command.specs.FileNames.{source_name};
-ghost use Rattle.inf_ending.specs.Faults.{HidesNoFailure, IfRead, IfStory, UnlessStory};
+ghost use Rattle.inf_ending.specs.Faults.{HidesNoFailure, IfRead, IfStory, TellsEachRead, UnlessStory};
 ghost use Rattle.inf_compile.specs.Comes.{Heard, IsUnread, OpenedBy, OpenedPart};
 ghost use Rattle.inf_compile.specs.Compiling.{HasCause, TakesClean, TakesPart, chosen_by, named_by};
 ghost use Rattle.inf_program.specs.Compiling.{Begins, Compiles, DeliversPart};
@@ -78,7 +78,8 @@ pub fn compile<F: Files, M: Sink, S: Sink>(
         (λ fault. IfStory fault (λ n. TakesClean date (λ bytes. TakesPart (Some bytes) n (S.taken story.old) (S.taken story.new))
         (M.taken messages.old) (M.taken messages.new))) }
 
-    // With any reader a fault has its cause.
+    // With any reader a fault has its cause, and a failure to open or to read a source is told.
+    ensures seen { TellsEachRead result (F.faults files.old) (F.faults files.new) }
     ensures fault { IfErr result (λ fault. HasCause fault (λ name. IsUnread F.Files files.old files.new)
         (Rose (M.failures messages.old) (M.failures messages.new)) (λ n. Rose (S.failures story.old) (S.failures story.new))) }
 

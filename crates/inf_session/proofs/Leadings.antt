@@ -221,6 +221,15 @@ cut_at_once limits sources o was old new told_is e = record {
       (turn_begins limits sources o (was told));
 }
 
+-- no turn was made
+pub cut_none : (limits : Limits) (sources : Sources) (o : Choices) (was : List ℕ → State) (old : Option (List ℕ)) →
+    ((told : List ℕ) → (was told).told ≡ told) → CutsShort (run limits sources o zero) was old old
+cut_none limits sources o was old told_is = record {
+  front = [];
+  takes = takes_none old;
+  begins = λ told. record { rest = []; is_cut = told_is told ∙ sym (append-nil told) ∙ sym (append-nil (told ++ [])) };
+}
+
 -- One step of reading behind another
 
 pub writes_on : (f g step : State → State) (was mid now : List ℕ → State) (old between new : Option (List ℕ)) →

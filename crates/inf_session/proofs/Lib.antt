@@ -11,3 +11,4 @@ pub mod Supplying
 pub mod TextTurns
 pub mod Parting
 pub mod Passing
+pub mod Telling

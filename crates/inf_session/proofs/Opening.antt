@@ -1,5 +1,5 @@
 -- The sources that have been opened where a turn was given up.
-use Rattle.std.proofs.Common.{◌≡◌, inl, inr, ℕ, List, Bool, false, cond, refl, sym, ap, ◌∙◌}
+use Rattle.std.proofs.Common.{◌≡◌, inl, inr, ℕ, List, Bool, false, cond, IfOk, Ok, OnOk, Result, refl, subst, sym, ap, ◌∙◌}
 use Rattle.inf_settings.specs.Bounds.{Limits}
 use Rattle.inf_devices.specs.Files.{Openings, Sources}
 use Rattle.inf_characters.specs.declared.characters.CharSet.{CharSet}
@@ -8,7 +8,9 @@ use Rattle.inf_unit.proofs.Cases.{of_both}
 use Rattle.inf_unit.specs.Directives.{Request, Characters, Include}
 use Rattle.inf_reader.specs.{Reading.is_mode_ended, declared.recovery.Recovery.Recovery}
 use Rattle.inf_sources.specs.declared.{faults.IncludeFault.IncludeFault, open_file.Conditional.Conditional, open_files.Included.Included}
-use Rattle.inf_sources.specs.Inclusions.{Inclusion, Nesting, OpenedInVain, Opens, OpensNone, inclusion, nested_by}
+use Rattle.inf_conditionals.specs.Open.{Conditions}
+use Rattle.inf_unit.specs.Messages.{Reported}
+use Rattle.inf_sources.specs.Inclusions.{Inclusion, Nesting, OpenedInVain, Opens, OpensNone, answer_of, inclusion, nested_by}
 use Rattle.inf_sources.specs.Open.{Open, nesting, opened_since}
 use Rattle.inf_session.specs.{Choices.Choices, Leading.OpensWithin, Standing.state, declared.session.Session.Session}
 use Rattle.inf_session.specs.Session.{State, answered, asked_nothing, followed, has_ended, carried_out, included, included_by, is_resting}
@@ -42,6 +44,55 @@ tried sources o unit text set limit conditionals is_system start old new before 
     ∙ included_opens sources o unit text set limit conditionals is_system
     (inclusion sources o.directories text (nesting sources start old before.open_files))
     (state sources start old before told))
+
+-- what holds of a result that is known
+
+pub at_ok : (T E : Type 0) (r : Result T E) (P : T → Type 0) (x : T) → r ≡ Ok x → IfOk r P → P x
+at_ok T E r P x is holds = subst (λ (y : Result T E). IfOk y P) is holds
+
+pub on_ok_at : (T E : Type 0) (r : Result T E) (A : Type 0) (x : T) → r ≡ Ok x → OnOk r A → A
+on_ok_at T E r A x is holds = subst (λ (y : Result T E). OnOk y A) is holds
+
+-- no file was entered, for this reason
+
+none_by : (sources : Sources) (o : Choices) (unit : Place) (text : List ℕ) (i : Inclusion) (why : Included) (s : State) → why ≡ answer_of i
+    → (why ≡ Included.Entered → ⊥) → none_included unit text why s ≡ included_by sources o unit text i s
+none_by sources o unit text (Opens name) why s is never = absurd (never is)
+none_by sources o unit text (OpensNone other) why s is never = ap (λ (w : Included). none_included unit text w s) is
+
+none_kept : (set : CharSet) (limit : ℕ) (sources : Sources) (conditionals : List Conditional) (is_system : Bool) (i : Inclusion)
+    (n : Nesting) (why : Included)
+    → why ≡ answer_of i → (why ≡ Included.Entered → ⊥) → nested_by set limit sources conditionals is_system i n ≡ n
+none_kept set limit sources conditionals is_system (Opens name) n why is never = absurd (never is)
+none_kept set limit sources conditionals is_system (OpensNone other) n why is never = refl
+
+none_is : (unit : Place) (text : List ℕ) (why : Included) (s : State)
+    → record s { work = record s.work { report = (none_included unit text why s).work.report } } ≡ none_included unit text why s
+none_is unit text Included.Entered s = refl
+none_is unit text Included.NotThere s = refl
+none_is unit text Included.TooDeep s = refl
+
+pub not_entered : {B : Type 0} (sources : Sources) (o : Choices) (unit : Place) (text : List ℕ) (set : CharSet) (limit : ℕ)
+    (conditionals : List Conditional) (was_system is_system : Bool) (start old new : Openings)
+    (before : Session B) (after : Open) (why : Included) (c : Conditions) (r : Reported) (told : List ℕ)
+    → let i = inclusion sources o.directories text (nesting sources start old before.open_files) in
+    let s = state sources start old before told in
+    why ≡ answer_of i → (why ≡ Included.Entered → ⊥)
+    → nesting sources start new after ≡ nested_by set limit sources conditionals was_system i (nesting sources start old before.open_files)
+    → c ≡ before.conditionals → is_system ≡ before.progress.work.is_system → r ≡ (none_included unit text why s).work.report
+    → record s { nesting = nesting sources start new after; conditions = c; work = record s.work { report = r; is_system = is_system } }
+    ≡ included sources o unit text s
+not_entered sources o unit text set limit conditionals was_system is_system start old new before after why c r told is never opened same
+    marked told_is =
+    let was = nesting sources start old before.open_files in
+    let i = inclusion sources o.directories text was in
+    let s : State = state sources start old before told in
+    ap (λ (n : Nesting). record s { nesting = n; conditions = c; work = record s.work { report = r; is_system = is_system } })
+    (opened ∙ none_kept set limit sources conditionals was_system i was why is never)
+    ∙ ap (λ (x : Conditions). record s { conditions = x; work = record s.work { report = r; is_system = is_system } }) same
+    ∙ ap (λ (x : Bool). record s { work = record s.work { report = r; is_system = x } }) marked
+    ∙ ap (λ (x : Reported). record s { work = record s.work { report = x } }) told_is
+    ∙ none_is unit text why s ∙ none_by sources o unit text i why s is never
 
 -- an inclusion could not be tried, or its file is one too many
 pub in_vain : {B : Type 0} (sources : Sources) (o : Choices) (unit : Place) (text : List ℕ) (start old : Openings) (before : Session B)

@@ -1,12 +1,13 @@
--- A token of which a first look shows that it is kept, with nothing else to come of it, is a step of the reader alone.
-use Rattle.std.proofs.Common.{◌≡◌, ℕ, Option, None, sym, ap, ◌∙◌}
+-- A token of which a first look shows that it is kept, with nothing else to come of it, is a step of the reader alone. One of which
+-- a first look shows that it only passes, in a side that is left out, is no step of the reader.
+use Rattle.std.proofs.Common.{◌≡◌, ◌||◌, ℕ, Bool, true, false, Option, None, cond, nat_lt, refl, sym, ap, ◌∙◌}
 use Rattle.inf_settings.specs.Bounds.{Limits}
 use Rattle.inf_unit.specs.Tokens.{SourceToken}
 use Rattle.inf_compilation.specs.Context.{Context}
 use Rattle.inf_conditionals.specs.{Open.Conditions, Open.silent, Said.Said, declared.filtered.Site.Site}
-use Rattle.inf_conditionals.specs.Judging.{Behind, judged, kept}
+use Rattle.inf_conditionals.specs.Judging.{Behind, judged, kept, none_handed, passed}
 use Rattle.inf_reader.specs.{Handing.judged_taken, Handing.said_told, Handing.site_of, Reading.ReaderState, Reading.step}
-use Rattle.inf_session.specs.Taking.{Taken, quoted_behind, token_taken}
+use Rattle.inf_session.specs.Taking.{Taken, quoted_behind, quoted_bytes, token_taken}
 
 -- the state behind a token whose result among conditionals is known
 abbrev behind : Limits → Context → Site → SourceToken → ReaderState → ℕ → Behind → Taken
@@ -44,3 +45,27 @@ passes_on limits context t c s quoted is none =
     let site : Site = site_of context.settings s.reading in
     ap (behind limits context site t s quoted) is ∙ ap (told limits context site t c s quoted) none
     ∙ ap (stepped limits context site t c s quoted) (sym none)
+
+-- the state where nothing is handed on, where this is the message about a condition
+abbrev left : Limits → Context → Conditions → ReaderState → ℕ → Option Said → Taken
+left limits context c s quoted said = record { conditions = record c { said = said }; stand = said_told limits None context s; quoted = quoted }
+
+-- a token that is not handed on counts for nothing, be it read in a quiet place or not
+uncounted : (is_quiet : Bool) (quoted other : ℕ) → cond (is_quiet || true) quoted other ≡ quoted
+uncounted true quoted other = refl
+uncounted false quoted other = refl
+
+pub passes_over : (limits : Limits) (context : Context) (t : SourceToken) (c d : Conditions) (s : ReaderState) (quoted : ℕ)
+    → judged (site_of context.settings s.reading) s.work.output t c ≡ passed d → d.said ≡ None
+    → token_taken limits context t c s quoted ≡ record { conditions = d; stand = s; quoted = quoted }
+passes_over limits context t c d s quoted is none =
+    let site : Site = site_of context.settings s.reading in
+    ap (behind limits context site t s quoted) is
+    ∙ ap (λ (said : Option Said). record {
+      conditions = silent d;
+      stand = said_told limits said context s;
+      quoted = quoted_behind site none_handed t quoted;
+    }) none
+    ∙ ap (λ (n : ℕ). left limits context d s n None)
+    (uncounted site.is_quiet quoted (cond (nat_lt quoted (quoted_bytes t)) (quoted_bytes t) quoted))
+    ∙ ap (left limits context d s quoted) (sym none)

@@ -120,13 +120,6 @@ pub if_read_more : {T : Type 0} (r : Result T Fault) (P Q : List ℕ → Type 0)
 if_read_more (Ok x) P Q h p = tt
 if_read_more (Err f) P Q h p = read_more f P Q h p
 
--- a fault of reading that has its cause
-pub read_caused : (f : Fault) (P Q : List ℕ → Type 0) (A : Type 0) → ((name : List ℕ) → P name → Q name) → Caused f P A → IfRead f Q
-read_caused Fault.Memory P Q A h p = tt
-read_caused (Fault.Read name) P Q A h p = h _ p
-read_caused Fault.Messages P Q A h p = tt
-read_caused (Fault.Story n) P Q A h p = tt
-
 -- the fault that is told for a turn that was given up
 
 pub if_halt_caused : {T : Type 0} (r : Result T Halt) (lost : Option Fault) (P Q : List ℕ → Type 0) (A B : Type 0)

@@ -1,9 +1,11 @@
 -- The state for which the code's session stands, with a reader that keeps to its sources.
-use Rattle.std.specs.Prelude.{◌≡◌, ℕ, ◌≤◌, List, Bool, false, ◌&&◌, ◌||◌, if◌then◌else◌, min, ◌∷◌, Option, is_none}
+use Rattle.std.specs.{String.string_capacity, declared.alloc.Global.Global}
+use Rattle.std.specs.Prelude.{◌≡◌, ℕ, ◌≤◌, List, Bool, false, ◌&&◌, ◌||◌, if◌then◌else◌, min, ◌∷◌, Option, is_none, length, String}
 use Rattle.inf_conditionals.specs.Judging.{is_none_pending, may_part}
 use Rattle.inf_reader.specs.{Handing.is_between, Reading.has_ended_at, Standing.reading, Standing.standing}
 use Rattle.inf_devices.specs.Files.{Openings, Sources}
-use Rattle.inf_sources.specs.Open.{nesting}
+use Rattle.inf_lexer.specs.Names.{innermost_name}
+use Rattle.inf_sources.specs.Open.{Open, nesting}
 use Rattle.inf_settings.specs.{declared.setting.Setting.Setting, declared.settings.Settings.Settings}
 use Rattle.inf_settings.specs.Settings.{all_settings, number_of}
 use Rattle.inf_compilation.specs.Works.{work as work_of}
@@ -31,6 +33,10 @@ ended s = s.is_over || has_ended_at (standing s.progress)
 -- quoted tokens of files that are opened may have as many bytes as was chosen
 abbrev pub IsSet : {B : Type 0} → Session B → Type 0
 IsSet s = s.open_files.nest.limit ≡ most_quoted (chosen s.setup)
+
+-- there is room for the name of the innermost file
+abbrev pub HasRoom : String Global → Open → Type 0
+HasRoom room files = length (innermost_name files.nest) ≤ string_capacity room
 
 -- a fatal message came
 abbrev pub is_fatal : {B : Type 0} → Session B → Bool

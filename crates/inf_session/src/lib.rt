@@ -1,6 +1,7 @@
 //! The reading of a source and of the files that it includes.
 #![tactic(auto)]
 
+mod rooms;
 pub mod session;
 pub mod setup;
 mod steps;

@@ -8,14 +8,16 @@ ghost use Rattle.inf_session.specs.{Choices.chosen, Choices.most_quoted, Weights
 ghost use Rattle.inf_session.specs.Leading.{CutsShort, GivenUp, NotTried, OpensAll, OpensWithin, StopsFor, StopsAtInclusion, StopsInToken};
 ghost use Rattle.inf_session.specs.Leading.{Writes};
 ghost use Rattle.inf_session.specs.Session.{begun_with, followed, carried_out, included, left, part, rested, run, stepped, turn};
-ghost use Rattle.inf_session.specs.Standing.{AreWithin, IsBounded, IsSet, came_to, ended, held, is_fatal, parted, resting, state, used_by};
-ghost use Rattle.inf_ending.specs.Faults.{Caused, HaltHidesNone, HidesNoFailure, IfRead, fault_of};
+ghost use Rattle.inf_session.specs.Standing.{AreWithin, HasRoom, IsBounded, IsSet, came_to, ended, held, is_fatal, parted, resting, state};
+ghost use Rattle.inf_session.specs.Standing.{used_by};
+ghost use Rattle.inf_ending.specs.Faults.{Caused, HaltHidesNone, HaltTellsEachRead, HidesNoFailure, IfRead, TellsEachRead, fault_of};
 ghost use Rattle.inf_ending.specs.Delivered.{Appends, Delivers, EndsCleanOf, TakesFront, story_in};
 ghost use Rattle.inf_ending.specs.Ending.{finished};
 ghost use Rattle.inf_settings.specs.{Bounds.AreSet, Settings.all_settings};
 ghost use Rattle.inf_compilation.specs.Works.{work as work_of};
 ghost use Rattle.inf_conditionals.specs.Open.{no_conditions};
 
+use crate::rooms::{give_room, make_room};
 use crate::setup::Setup;
 use crate::tokens::take;
 use inf_compilation::context::Context;
@@ -50,6 +52,8 @@ pub struct Session<'a, B: Bounds> {
     pub(crate) quoted: usize,
     /// The number of the last routine of the veneer that was read; 0 before the first.
     pub(crate) passed: usize,
+    /// Room for the name of the innermost file, which is asked for before the file is read.
+    pub(crate) room: String,
 }
 
 /// The result of a step of the reading.
@@ -95,6 +99,7 @@ impl<'a, B: Bounds> Session<'a, B> {
             is_over: false,
             quoted: 0,
             passed: 0,
+            room: String::new(alloc),
         })
     }
 
@@ -138,6 +143,7 @@ impl<'a, B: Bounds> Session<'a, B> {
             (chosen self.old.setup)
             (state (F.sources files.old) start (F.openings files.old) self.old) (M.taken messages.old) (M.taken messages.new)
             start (F.openings files.new) self.new.open_files name))) }
+        ensures seen { TellsEachRead result (F.faults files.old) (F.faults files.new) }
         ensures fits { OnOk result (StaysFit F.Files files.old files.new self.old.open_files) }
         ensures setup { self.new.setup ≡ self.old.setup }
         ensures wrote { Appends M.Sink messages.old messages.new
@@ -198,6 +204,7 @@ impl<'a, B: Bounds> Session<'a, B> {
             (chosen self.old.setup)
             (state (F.sources files.old) start (F.openings files.old) self.old) (M.taken messages.old) (M.taken messages.new)
             start (F.openings files.new) self.new.open_files name))) }
+        ensures seen { TellsEachRead result (F.faults files.old) (F.faults files.new) }
         ensures fits { OnOk result (StaysFit F.Files files.old files.new self.old.open_files) }
         ensures setup { self.new.setup ≡ self.old.setup }
         ensures wrote { Appends M.Sink messages.old messages.new
@@ -206,6 +213,7 @@ impl<'a, B: Bounds> Session<'a, B> {
         if self.has_ended() {
             return Ok(self.came_to(true));
         }
+        make_room(&mut self.room, &self.open_files)?;
         let mut lost = None;
         if let Err(halt) = self.turn(files, messages, &mut lost) {
             return Err(fault_of(halt, lost));
@@ -336,6 +344,7 @@ impl<'a, B: Bounds> Session<'a, B> {
         requires is_open { length self.old.open_files.outer < F.depth files.old }
         requires goes { self.old.open_files.lexer.has_failed ≡ false }
         requires set { IsSet self.old }
+        requires room { HasRoom self.old.room self.old.open_files }
         ensures turned { Honestly F.Files files.old self.old.open_files (λ start.
             OnOk result (Writes (turn B.most (F.sources files.old) (chosen self.old.setup))
             (state (F.sources files.old) start (F.openings files.old) self.old)
@@ -363,6 +372,8 @@ impl<'a, B: Bounds> Session<'a, B> {
             StopsFor B.most (Rose (F.faults files.old) (F.faults files.new)) (F.sources files.old) (chosen self.old.setup)
             (state (F.sources files.old) start (F.openings files.old) self.old told) start (F.openings files.new) self.new.open_files
             name))) }
+        ensures room { OnOk result (HasRoom self.new.room self.new.open_files) }
+        ensures seen { HaltTellsEachRead result lost.new (F.faults files.old) (F.faults files.new) }
         ensures fits { OnOk result (StaysFit F.Files files.old files.new self.old.open_files) }
         ensures wrote { Appends M.Sink messages.old messages.new
             × HaltHidesNone result lost.new (M.failures messages.old) (M.failures messages.new) }
@@ -377,6 +388,7 @@ impl<'a, B: Bounds> Session<'a, B> {
     fn take_token<F: Files>(&mut self, files: &mut F, lost: &mut Option<Fault>) -> Result<(), Halt>
         requires is_open { length self.old.open_files.outer < F.depth files.old }
         requires goes { self.old.open_files.lexer.has_failed ≡ false }
+        requires room { HasRoom self.old.room self.old.open_files }
         ensures stepped { Honestly F.Files files.old self.old.open_files (λ start.
             OnOk result ((told : List ℕ) → state (F.sources files.old) start (F.openings files.new) self.new told
             ≡ stepped B.most (chosen self.old.setup) (state (F.sources files.old) start (F.openings files.old) self.old told))) }
@@ -397,12 +409,17 @@ impl<'a, B: Bounds> Session<'a, B> {
             name))) }
         ensures fault { IfErr result (λ halt. Caused (fault_of halt lost.new)
             (λ name. IsUnreadable F.Files files.old files.new self.old.open_files self.new.open_files) ⊥) }
+        ensures room { OnOk result (HasRoom self.new.room self.new.open_files) }
+        ensures seen { HaltTellsEachRead result lost.new (F.faults files.old) (F.faults files.new) }
         ensures fits { OnOk result (StaysFit F.Files files.old files.new self.old.open_files) }
     {
         let token = match self.open_files.next(files) {
             Ok(token) => token,
             Err(LexFault::Memory) => return Err(Halt::Memory),
-            Err(LexFault::Read) => return Err(lose(self.alloc, self.open_files.innermost(), lost)),
+            Err(LexFault::Read) => {
+                let name = give_room(self.alloc, &mut self.room, &self.open_files);
+                return Err(lose(name, lost));
+            }
         };
         let context = Context {
             files: self.open_files.names(),
@@ -426,6 +443,7 @@ impl<'a, B: Bounds> Session<'a, B> {
         requires is_open { length self.old.open_files.outer < F.depth files.old }
         requires goes { self.old.open_files.lexer.has_failed ≡ false }
         requires set { IsSet self.old }
+        requires room { HasRoom self.old.room self.old.open_files }
         ensures followed { Honestly F.Files files.old self.old.open_files (λ start.
             OnOk result ((told : List ℕ) → state (F.sources files.old) start (F.openings files.new) self.new told
             ≡ followed (F.sources files.old) (chosen self.old.setup)
@@ -446,6 +464,8 @@ impl<'a, B: Bounds> Session<'a, B> {
             IfErr result (λ halt. IfRead (fault_of halt lost.new) (λ name. (told : List ℕ) →
             StopsAtInclusion (Rose (F.faults files.old) (F.faults files.new)) (F.sources files.old) (chosen self.old.setup)
             (state (F.sources files.old) start (F.openings files.old) self.old told) (opened_since start (F.openings files.new)) name))) }
+        ensures room { OnOk result (HasRoom self.new.room self.new.open_files) }
+        ensures seen { HaltTellsEachRead result lost.new (F.faults files.old) (F.faults files.new) }
         ensures fits { OnOk result (StaysFit F.Files files.old files.new self.old.open_files) }
     {
         self.carry_out(files, lost)?;
@@ -459,6 +479,7 @@ impl<'a, B: Bounds> Session<'a, B> {
         requires is_open { length self.old.open_files.outer < F.depth files.old }
         requires goes { self.old.open_files.lexer.has_failed ≡ false }
         requires set { IsSet self.old }
+        requires room { HasRoom self.old.room self.old.open_files }
         ensures carried_out { Honestly F.Files files.old self.old.open_files (λ start.
             OnOk result ((told : List ℕ) → state (F.sources files.old) start (F.openings files.new) self.new told
             ≡ carried_out (F.sources files.old) (chosen self.old.setup)
@@ -479,6 +500,8 @@ impl<'a, B: Bounds> Session<'a, B> {
             IfErr result (λ halt. IfRead (fault_of halt lost.new) (λ name. (told : List ℕ) →
             StopsAtInclusion (Rose (F.faults files.old) (F.faults files.new)) (F.sources files.old) (chosen self.old.setup)
             (state (F.sources files.old) start (F.openings files.old) self.old told) (opened_since start (F.openings files.new)) name))) }
+        ensures room { OnOk result (HasRoom self.new.room self.new.open_files) }
+        ensures seen { HaltTellsEachRead result lost.new (F.faults files.old) (F.faults files.new) }
         ensures fits { OnOk result (StaysFit F.Files files.old files.new self.old.open_files) }
     {
         if self.progress.work.report.is_over() {
@@ -510,6 +533,7 @@ impl<'a, B: Bounds> Session<'a, B> {
             OnOk result ((told : List ℕ) → state sources start now self.new told ≡ rested (state sources start now self.old told)) }
         ensures ends { ended self.old ≡ true → ended self.new ≡ true }
         ensures files { self.new.open_files ≡ self.old.open_files }
+        ensures room { self.new.room ≡ self.old.room }
         ensures setup { self.new.setup ≡ self.old.setup }
         ensures quoted { OnOk result (self.new.quoted ≡ self.old.quoted) }
     {
@@ -535,6 +559,7 @@ impl<'a, B: Bounds> Session<'a, B> {
     ) -> Result<(), Halt>
         requires goes { self.old.open_files.lexer.has_failed ≡ false }
         requires set { IsSet self.old }
+        requires room { HasRoom self.old.room self.old.open_files }
         ensures included { Honestly F.Files files.old self.old.open_files (λ start.
             OnOk result ((told : List ℕ) → state (F.sources files.old) start (F.openings files.new) self.new told
             ≡ included (F.sources files.old) (chosen self.old.setup) unit text.now
@@ -555,8 +580,11 @@ impl<'a, B: Bounds> Session<'a, B> {
             × NotTried (Rose (F.faults files.old) (F.faults files.new)) (F.sources files.old) (chosen self.old.setup).directories text.now
             (nesting (F.sources files.old) start (F.openings files.old) self.old.open_files)
             (opened_since start (F.openings files.new))))) }
+        ensures room { OnOk result (HasRoom self.new.room self.new.open_files) }
+        ensures seen { HaltTellsEachRead result lost.new (F.faults files.old) (F.faults files.new) }
         ensures fits { OnOk result (StaysFit F.Files files.old files.new self.old.open_files) }
     {
+        let told = String::from_str(self.alloc, shown(text))?;
         let mut conditionals = self.conditionals.take_among();
         let message = match self.open_files.include(
             files,
@@ -565,11 +593,14 @@ impl<'a, B: Bounds> Session<'a, B> {
             &mut conditionals,
             &mut self.progress.work.is_system,
         ) {
-            Ok(Included::Entered) => return Ok(()),
+            Ok(Included::Entered) => {
+                make_room(&mut self.room, &self.open_files)?;
+                return Ok(());
+            }
             Ok(Included::NotThere) => Message::NoInclude(text),
             Ok(Included::TooDeep) => Message::TooManyFiles,
             Err(IncludeFault::Memory) => return Err(Halt::Memory),
-            Err(IncludeFault::Device) => return Err(lose(self.alloc, shown(text), lost)),
+            Err(IncludeFault::Device) => return Err(lose(told, lost)),
         };
         self.conditionals.give_among(conditionals);
         let at = location(self.open_files.names(), unit);
@@ -583,6 +614,7 @@ impl<'a, B: Bounds> Session<'a, B> {
     fn leave<F: Files>(&mut self, files: &mut F) -> Result<(), Halt>
         requires is_open { length self.old.open_files.outer < F.depth files.old }
         requires set { IsSet self.old }
+        requires room { HasRoom self.old.room self.old.open_files }
         requires at_end { is_mode_ended self.old.progress.reader.mode ≡ true }
         ensures left { Honestly F.Files files.old self.old.open_files (λ start.
             OnOk result ((told : List ℕ) → state (F.sources files.old) start (F.openings files.new) self.new told
@@ -596,6 +628,8 @@ impl<'a, B: Bounds> Session<'a, B> {
         ensures setup { self.new.setup ≡ self.old.setup }
         ensures set { IsSet self.new }
         ensures quoted { OnOk result (self.new.quoted ≡ self.old.quoted) }
+        ensures room { OnOk result (HasRoom self.new.room self.new.open_files) }
+        ensures seen { F.faults files.new ≡ F.faults files.old }
         ensures fits { StaysFit F.Files files.old files.new self.old.open_files }
     {
         self.conditionals
@@ -606,6 +640,7 @@ impl<'a, B: Bounds> Session<'a, B> {
         self.conditionals.give_among(conditionals);
         self.progress.work.is_system = is_system;
         self.progress.reader.mode = Recovery::Reads;
+        make_room(&mut self.room, &self.open_files)?;
         Ok(())
     }
 }

@@ -5,7 +5,7 @@ ghost use Rattle.inf_sources.specs.{Calls.Honestly, Calls.IsUnreadable, Calls.St
 ghost use Rattle.inf_session.specs.{Choices.chosen, Session.part, Session.run, Veneer.next_supplied, Weights.steps_left};
 ghost use Rattle.inf_session.specs.Leading.{CutsShort, GivenUp, OpensAll, Writes};
 ghost use Rattle.inf_session.specs.Standing.{IsBounded, IsSet, came_to, ended, is_done, parted, state};
-ghost use Rattle.inf_ending.specs.{Delivered.Appends, Faults.Caused, Faults.HidesNoFailure, Faults.IfRead};
+ghost use Rattle.inf_ending.specs.{Delivered.Appends, Faults.Caused, Faults.HidesNoFailure, Faults.IfRead, Faults.TellsEachRead};
 
 use crate::session::{Session, Step};
 use inf_devices::files::Files;
@@ -76,6 +76,7 @@ impl<'a, B: Bounds> Session<'a, B> {
         ensures fault { IfErr result (λ fault. Caused fault (λ name. IsUnreadable F.Files files.old files.new self.old.open_files
             self.new.open_files)
             (Rose (M.failures messages.old) (M.failures messages.new))) }
+        ensures seen { TellsEachRead result (F.faults files.old) (F.faults files.new) }
         ensures fits { OnOk result (StaysFit F.Files files.old files.new self.old.open_files) }
         ensures setup { self.new.setup ≡ self.old.setup }
         ensures wrote { Appends M.Sink messages.old messages.new

@@ -20,7 +20,7 @@ use std::alloc::AllocError;
 /// Takes the token `token`, which was read with the bytes `bytes`. The conditionals say whether it is handed on and what there is
 /// to tell of a condition, and the reader takes the tokens that are handed on. Returns the number of bytes of the longest quoted
 /// token then, before which it was `quoted`.
-#[tactic(auto, using(crate::proofs::Passing::passes_on))]
+#[tactic(auto, using(crate::proofs::Passing::passes_on, crate::proofs::Passing::passes_over))]
 pub(crate) fn take<B: Bounds>(
     context: &Context<'_>,
     token: Token,
@@ -35,6 +35,9 @@ pub(crate) fn take<B: Bounds>(
         IfOk result (λ longest. record { conditions = conditionals.new; stand = standing progress.new; quoted = longest }
         ≡ token_taken B.most (handed context.now) spelled conditionals.old before quoted) }
 {
+    if conditionals.skips(token.kind, bytes) {
+        return Ok(quoted);
+    }
     let site = progress.site(context.settings);
     let spelled = token_at(site.is_between, token, bytes, &progress.work);
     if !conditionals.passes(site, &spelled) {

@@ -209,6 +209,7 @@ impl OpenFiles {
             × (IsErrOf result LexFault.Memory → F.faults files.new ≡ F.faults files.old)
             × (IsErrOf result LexFault.Memory → IsTrue (F.is_honest files.old) → comes_quoted self.old.lexer
             (to_come (F.sources files.old) (F.openings files.old) self.old.lexer.window) ≡ true) }
+        ensures seen { OnOk result (F.faults files.new ≡ F.faults files.old) }
     {
         let token = self.lexer.next(files)?;
         Ok(token)
@@ -246,6 +247,7 @@ impl OpenFiles {
         ensures few { OnOk result (self.new.lexer.window.given ≤ 16777216) }
         ensures on { IsErr result → self.new.lexer.window.is_over ≡ false }
         ensures unmoved { OnErr result (place.new ≡ place.old) }
+        ensures seen { OnOk result (F.faults files.new ≡ F.faults files.old) }
         ensures cause { IsErr result → IsErrOf result LexFault.Read × (Rose (F.faults files.old) (F.faults files.new)
             ⊎ (16777216 < self.new.lexer.window.given)) }
     {
@@ -308,6 +310,7 @@ impl OpenFiles {
             OpensTooMany (inclusion (F.sources files.old) (map (λ d. d.now) directories.now) text.now was) was
             (opened_since start (F.openings files.new)))))
             × (IsErrOf result IncludeFault.Memory → F.faults files.new ≡ F.faults files.old) }
+        ensures seen { OnOk result (F.faults files.new ≡ F.faults files.old) }
         ensures named { IsErrOf result IncludeFault.Device → can_name text.now ≡ true }
         ensures counts { F.counts files.new ≡ (if has_entered result then counts_opened (F.counts files.old) else F.counts files.old) }
     {

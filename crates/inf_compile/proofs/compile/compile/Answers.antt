@@ -8,6 +8,7 @@ use Rattle.inf_compile.specs.Compiling.{Compiles, DeliversPart, HasCause, chosen
 use Rattle.inf_ending.specs.{Ending.missing, Faults.IfRead, Faults.IfStory, declared.compiled.Status.Status}
 use Rattle.inf_compile.proofs.Delivering.{all_named, more_caused, none_clean, none_read, none_told, refused_begins, refused_compiles}
 use Rattle.inf_compile.proofs.Delivering.{refused_opens, unfailed_always}
+use Rattle.inf_session.proofs.Telling.{tells_none}
 use Rattle.inf_compile.proofs.compile.compile.Goals as goal
 
 pub returns-then-names_nothing-clause-headline : goal.returns-then-names_nothing-clause-headline
@@ -182,3 +183,8 @@ returns-clause-part g c = λ honest.
     all_named (λ (x : Sources). IfErr c.compile_named.result
     (λ fault. IfStory fault (λ n. DeliversPart x o date name n before after story_old story_new))) word s some
     (c.compile_named.ensures.part honest)
+
+pub returns-then-names_nothing-clause-seen : goal.returns-then-names_nothing-clause-seen
+returns-then-names_nothing-clause-seen g c =
+    let faults = g.F.Files.faults c.args.files.now in
+    tells_none c.refuse.result faults faults refl

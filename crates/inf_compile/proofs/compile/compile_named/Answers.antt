@@ -2,8 +2,9 @@ use Rattle.std.proofs.Common.{rules, ◌≡◌, ℕ, List, IfErr, refl, ap, ◌�
 use Rattle.inf_opcode.proofs.Growing.{on_err}
 use Rattle.inf_compile.specs.{Chosen.chosen_for, Compiling.chosen_by}
 use Rattle.inf_compile.proofs.Delivering.{begins_whole, clean_where_delivered, opened_whole}
-use Rattle.inf_ending.specs.Faults.{UnlessMessages}
+use Rattle.inf_ending.specs.Faults.{UnlessMessages, UnlessRead}
 use Rattle.inf_ending.proofs.Quiet.{hides_always, hides_behind, hides_none}
+use Rattle.inf_session.proofs.Telling.{tells_behind, tells_none}
 use Rattle.inf_compile.proofs.compile.compile_named.Goals as goal
 
 pub returns-clause-begins : goal.returns-clause-begins
@@ -53,3 +54,21 @@ pub returns-clause-quiet : goal.returns-clause-quiet
 returns-clause-quiet g c =
     hides_always c.deliver.result (g.M.Sink.failures c.args.messages.now) (g.M.Sink.failures c.translate.new.messages)
     c.in_ok-compiled.ensures.quiet.0
+
+pub returns-in_err-name-clause-seen : goal.returns-in_err-name-clause-seen
+returns-in_err-name-clause-seen g c =
+    let faults = g.F.Files.faults c.args.files.now in
+    tells_none c.from_residual.result faults faults refl
+
+pub returns-in_err-compiled-clause-seen : goal.returns-in_err-compiled-clause-seen
+returns-in_err-compiled-clause-seen g c =
+    let first = g.F.Files.faults c.args.files.now in
+    let now = g.F.Files.faults c.translate.new.files in
+    let told : IfErr c.translate.result (λ fault. UnlessRead fault (now ≡ first)) = c.translate.ensures.seen.1 in
+    let passed : IfErr c.from_residual-in_err-compiled.result (λ fault. UnlessRead fault (now ≡ first)) = search rules in
+    tells_behind c.from_residual-in_err-compiled.result first first now c.from_residual-in_err-compiled.ensures.0 refl passed
+
+pub returns-clause-seen : goal.returns-clause-seen
+returns-clause-seen g c =
+    tells_none c.deliver.result (g.F.Files.faults c.args.files.now) (g.F.Files.faults c.translate.new.files)
+    c.in_ok-compiled.ensures.seen.0

@@ -21,6 +21,7 @@ invariant-loop-head g l =
       goes : l.open_files.lexer.has_failed ≡ false;
       same : (l.open_files.nest ≡ l.fn.open_files.nest) × ((l.open_files.outer ≡ l.fn.open_files.outer)
           × (l.open_files.lexer.file ≡ l.fn.open_files.lexer.file));
+      seen : files.faults l.files ≡ files.faults l.fn.files;
       window : length l.fn.open_files.lexer.window.left ≤ 4096 → length l.open_files.lexer.window.left ≤ 4096;
       before : is_behind l.place ≡ false;
       none : is_word l.place ≡ false;

@@ -8,7 +8,7 @@ use Rattle.inf_compile.specs.Comes.{BreaksOff, Concludes, Ends, Stops}
 use Rattle.inf_compile.proofs.Concluding.{breaks_off_at, concludes, ends_at, if_ok_always, if_read_none, on_err_leads, stops_ending}
 use Rattle.inf_compile.proofs.Concluding.{stops_reading}
 use Rattle.inf_ending.proofs.{Delivering.ends_behind, Delivering.if_ok_more, Quiet.hides_then}
-use Rattle.inf_session.proofs.Leadings.{opened_behind}
+use Rattle.inf_session.proofs.{Leadings.opened_behind, Telling.tells_none}
 use Rattle.inf_compile.proofs.translation.read_out.Goals as goal
 
 pub returns-in-Ok-clause-concludes : goal.returns-in-Ok-clause-concludes
@@ -109,3 +109,8 @@ returns-in-Ok-clause-quiet g c =
     let m = g.M.Sink in
     hides_then c.supply_out.result.1 (m.failures c.args.messages.now) (m.failures c.read.new.messages)
     (m.failures c.supply_out.new.messages) c.in-Ok.ensures.wrote.1.0 c.supply_out.ensures.quiet
+
+pub returns-in-Ok-clause-seen : goal.returns-in-Ok-clause-seen
+returns-in-Ok-clause-seen g c =
+    let files = g.F.Files in
+    tells_none c.supply_out.result.1 (files.faults c.args.files.now) (files.faults c.read.new.files) c.in-Ok.ensures.seen.0

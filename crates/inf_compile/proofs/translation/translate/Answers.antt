@@ -1,14 +1,16 @@
-use Rattle.std.proofs.Common.{rules, ◌≡◌, ◌+◌, ◌≤◌, ℕ, List, [], Result, Err, inr, IsTrue, IfErr, IfOk, length, min, refl, ap, subst, sym}
-use Rattle.std.proofs.Common.{◌∙◌}
+use Rattle.std.proofs.Common.{rules, ◌≡◌, ◌+◌, ◌≤◌, ℕ, List, [], Result, Err, inl, inr, IsTrue, string_bytes, IfErr, IfOk, length}
+use Rattle.std.proofs.Common.{min, refl, ap, subst, sym, ◌∙◌}
 use Rattle.std.proofs.lemmas.Result.{on_err_weaker}
 use Rattle.inf_devices.specs.Files.{Rose, Sources, last_count}
 use Rattle.inf_lexer.proofs.Candidates.{rose_earlier}
 use Rattle.inf_sources.specs.{Calls.IsUnreadable, Calls.StaysFit, Inclusions.Nesting, Inclusions.main_opened}
 use Rattle.inf_sources.specs.Open.{AllGiven, Each, Fits, nesting, opened_since}
-use Rattle.inf_ending.specs.{Delivered.TakesFront, Ending.Outcome, Ending.missing, Ending.seen, Faults.IfRead, declared.faults.Fault.Fault}
+use Rattle.inf_ending.specs.{Delivered.TakesFront, Faults.IfRead, Faults.TellsEachRead, declared.faults.Fault.Fault}
+use Rattle.inf_ending.specs.Ending.{Outcome, missing, seen}
+use Rattle.inf_opcode.proofs.Growing.{on_err}
 use Rattle.inf_session.specs.{Leading.OpensAll, Session.run, Session.start}
 use Rattle.inf_ending.proofs.{Delivering.if_ok_more, Quiet.hides_none}
-use Rattle.inf_session.proofs.Standings.{if_caused_more, read_caused}
+use Rattle.inf_session.proofs.{Standings.if_caused_more, Telling.tells_none, Telling.tells_then}
 use Rattle.inf_settings.specs.Bounds.{limits_of}
 use Rattle.inf_compile.specs.Chosen.{begun_at, chosen_at, chosen_for}
 use Rattle.inf_compile.specs.Comes.{Begins, Comes, Concludes, GivenUpFrom, Heard, IsUnread, Stops}
@@ -207,17 +209,65 @@ returns-in-Err-BadName-clause-heard g c = λ honest.
     let taken = g.M.Sink.taken c.args.messages.now in
     let failed = Rose (files.faults c.args.files.now) (files.faults c.enter_main.new.files) in
     let rose : failed = search rules in
-    read_caused c.unread.result (λ told. told ≡ name) (λ told. Heard failed s o name old new taken taken told) ⊥
-    (λ told is. heard_none failed s o name old new taken taken told rose (c.in-Err-BadName.ensures.unopened honest) refl is)
-    c.unread.ensures
+    heard_none failed s o name old new taken taken (string_bytes c.in_ok-told.told) rose (c.in-Err-BadName.ensures.unopened honest) refl
+    c.in_ok-told.ensures.ok
 
 pub returns-clause-quiet : goal.returns-clause-quiet
 returns-clause-quiet g c = c.translate_opened-open_files.ensures.quiet
 
 pub returns-in-Err-BadName-clause-quiet : goal.returns-in-Err-BadName-clause-quiet
 returns-in-Err-BadName-clause-quiet g c =
-    let answer : Result ℕ Fault = Err c.unread.result in
+    let answer : Result ℕ Fault = Err (Fault.Read c.in_ok-told.told) in
     hides_none answer (g.M.Sink.failures c.args.messages.now)
 
 pub returns-in_err-no_file-in-Err-Absent-clause-quiet : goal.returns-in_err-no_file-in-Err-Absent-clause-quiet
-returns-in_err-no_file-in-Err-Absent-clause-quiet g c = hides_none c.from_residual.result (g.M.Sink.failures c.args.messages.now)
+returns-in_err-no_file-in-Err-Absent-clause-quiet g c =
+    hides_none c.from_residual-in_err-no_file-in-Err-Absent.result (g.M.Sink.failures c.args.messages.now)
+
+-- Failures to open or to read are told.
+
+pub returns-clause-seen : goal.returns-clause-seen
+returns-clause-seen g c =
+    let files = g.F.Files in
+    let r = c.translate_opened-open_files.result.1 in
+    let first = files.faults c.args.files.now in
+    let entered = files.faults c.enter_main.new.files in
+    let read = files.faults c.translate_opened-open_files.new.files in
+    subst (λ (n : ℕ). TellsEachRead r first n) (sym c.close.ensures.untouched.0)
+    (tells_then r first entered read (c.in-Ok.ensures.cause.1 refl) c.translate_opened-open_files.ensures.seen)
+
+pub returns-in-Err-Absent-clause-seen : goal.returns-in-Err-Absent-clause-seen
+returns-in-Err-Absent-clause-seen g c =
+    let files = g.F.Files in
+    let first = files.faults c.args.files.now in
+    let entered = files.faults c.enter_main.new.files in
+    let same : entered ≡ first = search rules in
+    tells_none c.written.result first entered same
+
+pub returns-in_err-no_file-in-Err-Absent-clause-seen : goal.returns-in_err-no_file-in-Err-Absent-clause-seen
+returns-in_err-no_file-in-Err-Absent-clause-seen g c =
+    let files = g.F.Files in
+    let first = files.faults c.args.files.now in
+    let entered = files.faults c.enter_main.new.files in
+    let same : entered ≡ first = search rules in
+    tells_none c.from_residual-in_err-no_file-in-Err-Absent.result first entered same
+
+-- no room for the name
+
+pub returns-in_err-told-clause-begins : goal.returns-in_err-told-clause-begins
+returns-in_err-told-clause-begins g c = λ honest.
+    let s = g.F.Files.sources c.args.files.now in
+    let name = c.args.name.now in
+    on_err c.from_residual.result
+    (begins_none s (chosen_for s name c.args.options.now) c.args.serial.now name (g.M.Sink.taken c.args.messages.now))
+
+pub returns-in_err-told-clause-opened : goal.returns-in_err-told-clause-opened
+returns-in_err-told-clause-opened g c = λ honest. on_err c.from_residual.result (inl refl)
+
+pub returns-in_err-told-clause-quiet : goal.returns-in_err-told-clause-quiet
+returns-in_err-told-clause-quiet g c = hides_none c.from_residual.result (g.M.Sink.failures c.args.messages.now)
+
+pub returns-in_err-told-clause-seen : goal.returns-in_err-told-clause-seen
+returns-in_err-told-clause-seen g c =
+    let faults = g.F.Files.faults c.args.files.now in
+    tells_none c.from_residual.result faults faults refl

@@ -1,14 +1,14 @@
-use Rattle.std.proofs.Common.{◌≡◌, [], ℕ, zero, Result, Err, inl, inr, IfErr, IfOk, IsTrue, map, refl, ap, subst, sym, ◌∙◌}
+use Rattle.std.proofs.Common.{◌≡◌, [], ℕ, zero, Result, Err, inl, inr, string_bytes, IfErr, IfOk, IsTrue, map, refl, ap, subst, sym, ◌∙◌}
 use Rattle.std.proofs.lemmas.Result.{on_err_weaker}
 use Rattle.inf_devices.specs.Files.{Rose, Sources}
 use Rattle.inf_lexer.proofs.Candidates.{rose_earlier}
 use Rattle.inf_sources.specs.{Calls.IsUnreadable, Calls.StaysFit, Inclusions.Nesting, Open.Open, Open.nesting, Open.opened_since}
-use Rattle.inf_sources.proofs.Calls.{fit_then, unreadable_then, went_then}
+use Rattle.inf_sources.proofs.Calls.{fit_then, unreadable_then, went_none, went_then}
+use Rattle.inf_session.proofs.{Standings.if_caused_more, Standings.if_read_more, Telling.tells_then}
 use Rattle.inf_letters.specs.Letters.{set_of}
 use Rattle.inf_session.specs.{Choices.Choices, Choices.most_quoted, Leading.GivenUp, Leading.OpensAll, Session.first_state, Session.run}
 use Rattle.inf_ending.specs.{Faults.IfRead, declared.faults.Fault.Fault}
 use Rattle.inf_ending.proofs.{Delivering.if_ok_more, Quiet.hides_none}
-use Rattle.inf_session.proofs.Standings.{caused_more, if_caused_more, if_read_more, read_caused}
 use Rattle.inf_settings.specs.Bounds.{limits_of}
 use Rattle.inf_command.specs.{Directories.directories_of, Spoken.settings_of}
 use Rattle.inf_compile.specs.{Chosen.begun_at, Chosen.chosen_at, Chosen.read_as, Comes.Concludes, Comes.GivenUpFrom, Comes.Stops}
@@ -33,14 +33,14 @@ returns-clause-concludes g c = λ honest start nested.
     let r = c.translate_under.result in
     let still = subst (λ b. IsTrue b) (sym c.read_head.ensures.went.honesty) honest in
     let here = c.choose.ensures.nested start mid (c.read_head.ensures.went.nested honest start nested) in
-    let chosen : p ≡ o = chosen_over_is was c.in-Ok.head c.args.options.now options p (c.in-Ok.ensures.head honest start nested)
-    c.with_head-options.ensures
+    let chosen : p ≡ o = chosen_over_is was c.in-Ok-read_head.head c.args.options.now options p
+    (c.in-Ok-read_head.ensures.head honest start nested) c.with_head-options.ensures
     (chosen_is c.letters.result options.letters c.settings-settings.result (settings_of options.settings)
     (map (λ d. d.now) c.as_slice.result.now) (directories_of options.path)
     c.letters.ensures c.settings-settings.ensures (ap (map (λ d. d.now)) c.as_slice.ensures.value ∙ c.in-Ok-directories.ensures)) in
     let read : nesting s start mid c.choose.new.self ≡ read_as o was =
     read_as_is o c.set.result c.of.result was (nesting s start mid c.read_head.new.open_files) (nesting s start mid c.choose.new.self)
-    (c.in-Ok.ensures.nesting honest start nested) (c.choose.ensures.nesting s start mid)
+    (c.in-Ok-read_head.ensures.nesting honest start nested) (c.choose.ensures.nesting s start mid)
     (c.set.ensures ∙ ap set_of (sym c.letters.ensures) ∙ ap (λ (x : Choices). set_of x.letters) chosen)
     (c.of.ensures.value ∙ ap most_quoted chosen) in
     subst (λ (n : Nesting). IfOk r.1 (λ x. Concludes (limits_of o.settings) s o serial (first_state o n []) start now r.0 before after x))
@@ -68,14 +68,14 @@ returns-clause-stops g c = λ honest start nested.
     let r = c.translate_under.result in
     let still = subst (λ b. IsTrue b) (sym c.read_head.ensures.went.honesty) honest in
     let here = c.choose.ensures.nested start mid (c.read_head.ensures.went.nested honest start nested) in
-    let chosen : p ≡ o = chosen_over_is was c.in-Ok.head c.args.options.now options p (c.in-Ok.ensures.head honest start nested)
-    c.with_head-options.ensures
+    let chosen : p ≡ o = chosen_over_is was c.in-Ok-read_head.head c.args.options.now options p
+    (c.in-Ok-read_head.ensures.head honest start nested) c.with_head-options.ensures
     (chosen_is c.letters.result options.letters c.settings-settings.result (settings_of options.settings)
     (map (λ d. d.now) c.as_slice.result.now) (directories_of options.path)
     c.letters.ensures c.settings-settings.ensures (ap (map (λ d. d.now)) c.as_slice.ensures.value ∙ c.in-Ok-directories.ensures)) in
     let read : nesting s start mid c.choose.new.self ≡ read_as o was =
     read_as_is o c.set.result c.of.result was (nesting s start mid c.read_head.new.open_files) (nesting s start mid c.choose.new.self)
-    (c.in-Ok.ensures.nesting honest start nested) (c.choose.ensures.nesting s start mid)
+    (c.in-Ok-read_head.ensures.nesting honest start nested) (c.choose.ensures.nesting s start mid)
     (c.set.ensures ∙ ap set_of (sym c.letters.ensures) ∙ ap (λ (x : Choices). set_of x.letters) chosen)
     (c.of.ensures.value ∙ ap most_quoted chosen) in
     on_err_weaker r.1
@@ -103,14 +103,14 @@ returns-clause-opened g c = λ honest start nested.
     let r = c.translate_under.result in
     let still = subst (λ b. IsTrue b) (sym c.read_head.ensures.went.honesty) honest in
     let here = c.choose.ensures.nested start mid (c.read_head.ensures.went.nested honest start nested) in
-    let chosen : p ≡ o = chosen_over_is was c.in-Ok.head c.args.options.now options p (c.in-Ok.ensures.head honest start nested)
-    c.with_head-options.ensures
+    let chosen : p ≡ o = chosen_over_is was c.in-Ok-read_head.head c.args.options.now options p
+    (c.in-Ok-read_head.ensures.head honest start nested) c.with_head-options.ensures
     (chosen_is c.letters.result options.letters c.settings-settings.result (settings_of options.settings)
     (map (λ d. d.now) c.as_slice.result.now) (directories_of options.path)
     c.letters.ensures c.settings-settings.ensures (ap (map (λ d. d.now)) c.as_slice.ensures.value ∙ c.in-Ok-directories.ensures)) in
     let read : nesting s start mid c.choose.new.self ≡ read_as o was =
     read_as_is o c.set.result c.of.result was (nesting s start mid c.read_head.new.open_files) (nesting s start mid c.choose.new.self)
-    (c.in-Ok.ensures.nesting honest start nested) (c.choose.ensures.nesting s start mid)
+    (c.in-Ok-read_head.ensures.nesting honest start nested) (c.choose.ensures.nesting s start mid)
     (c.set.ensures ∙ ap set_of (sym c.letters.ensures) ∙ ap (λ (x : Choices). set_of x.letters) chosen)
     (c.of.ensures.value ∙ ap most_quoted chosen) in
     on_err_weaker r.1
@@ -141,14 +141,14 @@ returns-clause-heard g c = λ honest start nested.
     let r = c.translate_under.result in
     let still = subst (λ b. IsTrue b) (sym c.read_head.ensures.went.honesty) honest in
     let here = c.choose.ensures.nested start mid (c.read_head.ensures.went.nested honest start nested) in
-    let chosen : p ≡ o = chosen_over_is was c.in-Ok.head c.args.options.now options p (c.in-Ok.ensures.head honest start nested)
-    c.with_head-options.ensures
+    let chosen : p ≡ o = chosen_over_is was c.in-Ok-read_head.head c.args.options.now options p
+    (c.in-Ok-read_head.ensures.head honest start nested) c.with_head-options.ensures
     (chosen_is c.letters.result options.letters c.settings-settings.result (settings_of options.settings)
     (map (λ d. d.now) c.as_slice.result.now) (directories_of options.path)
     c.letters.ensures c.settings-settings.ensures (ap (map (λ d. d.now)) c.as_slice.ensures.value ∙ c.in-Ok-directories.ensures)) in
     let read : nesting s start mid c.choose.new.self ≡ read_as o was =
     read_as_is o c.set.result c.of.result was (nesting s start mid c.read_head.new.open_files) (nesting s start mid c.choose.new.self)
-    (c.in-Ok.ensures.nesting honest start nested) (c.choose.ensures.nesting s start mid)
+    (c.in-Ok-read_head.ensures.nesting honest start nested) (c.choose.ensures.nesting s start mid)
     (c.set.ensures ∙ ap set_of (sym c.letters.ensures) ∙ ap (λ (x : Choices). set_of x.letters) chosen)
     (c.of.ensures.value ∙ ap most_quoted chosen) in
     let first_faults = files.faults c.args.files.now in
@@ -194,7 +194,7 @@ returns-clause-fits g c =
     c.choose.ensures.nested c.choose.ensures.given_all c.read_head.ensures.went in
     let r = c.translate_under.result in
     if_ok_more r.1 (λ compiled. StaysFit files b d y) (λ compiled. StaysFit files a d x)
-    (λ compiled fit. fit_then files a b d x y went c.in-Ok.ensures.fits fit) c.translate_under.ensures.fits
+    (λ compiled fit. fit_then files a b d x y went c.in-Ok-read_head.ensures.fits fit) c.translate_under.ensures.fits
 
 pub returns-clause-fault : goal.returns-clause-fault
 returns-clause-fault g c =
@@ -234,37 +234,50 @@ returns-in-Err-clause-heard g c = λ honest start nested.
     let told = g.M.Sink.taken c.args.messages.now in
     let failed = Rose (files.faults c.args.files.now) (files.faults c.read_head.new.files) in
     let head = c.in-Err.ensures in
-    read_caused c.unread-fault.result (λ name. name ≡ c.innermost.result.now)
-    (λ name. GivenUpFrom (limits_of o.settings) failed s o was (begun_at was options) told told start now c.read_head.new.open_files name) ⊥
-    (λ name is. inl (given_up_there failed s start old now c.args.open_files c.read_head.new.open_files told name nested
+    inl (given_up_there failed s start old now c.args.open_files c.read_head.new.open_files told (string_bytes c.in-Ok.told) nested
     (head.cause refl).1 (head.unfinished honest start nested) (head.on refl) (c.read_head.ensures.opened honest start nested)
-    c.read_head.ensures.same (is ∙ c.innermost.ensures.file))) c.unread-fault.ensures
+    c.read_head.ensures.same (c.in-Ok.ensures.ok ∙ c.innermost.ensures.file))
 
 pub returns-in-Err-clause-fault : goal.returns-in-Err-clause-fault
 returns-in-Err-clause-fault g c =
     let files = g.F.Files in
     let x = c.args.open_files in
     let z = c.read_head.new.open_files in
-    let rose = Rose (g.M.Sink.failures c.args.messages.now) (g.M.Sink.failures c.args.messages.now) in
-    caused_more c.unread-fault.result (λ name. name ≡ c.innermost.result.now)
-    (λ name. IsUnreadable files c.args.files.now c.read_head.new.files x z) ⊥ rose
-    (λ name is. unread_there files c.args.files.now c.read_head.new.files x z (c.in-Err.ensures.cause refl).1) (λ never. absurd never)
-    c.unread-fault.ensures
+    unread_there files c.args.files.now c.read_head.new.files x z (c.in-Err.ensures.cause refl).1
 
 -- no memory for the directories
 
-pub returns-in_default-clause-stops : goal.returns-in_default-clause-stops
-returns-in_default-clause-stops g c = λ honest start nested. stops_none _ _ _ _ _ _
+pub returns-in_default-directories-clause-stops : goal.returns-in_default-directories-clause-stops
+returns-in_default-directories-clause-stops g c = λ honest start nested. stops_none _ _ _ _ _ _
 
-pub returns-in_default-clause-opened : goal.returns-in_default-clause-opened
-returns-in_default-clause-opened g c = λ honest start nested. (zero, λ told. c.read_head.ensures.opened honest start nested)
+pub returns-in_default-directories-clause-opened : goal.returns-in_default-directories-clause-opened
+returns-in_default-directories-clause-opened g c = λ honest start nested. (zero, λ told. c.read_head.ensures.opened honest start nested)
 
-pub returns-in_default-clause-went : goal.returns-in_default-clause-went
-returns-in_default-clause-went g c =
+pub returns-in_default-directories-clause-went : goal.returns-in_default-directories-clause-went
+returns-in_default-directories-clause-went g c =
     went_chosen g.F.Files c.args.files.now c.read_head.new.files c.args.open_files c.read_head.new.open_files c.choose.new.self c.set.result
     c.of.result c.choose.ensures.value c.choose.ensures.given c.choose.ensures.nested c.choose.ensures.given_all c.read_head.ensures.went
 
 pub returns-in-Err-clause-quiet : goal.returns-in-Err-clause-quiet
 returns-in-Err-clause-quiet g c =
-    let answer : Result ℕ Fault = Err c.unread-fault.result in
+    let answer : Result ℕ Fault = Err (Fault.Read c.in-Ok.told) in
     hides_none answer (g.M.Sink.failures c.args.messages.now)
+
+-- no room for the name
+
+pub returns-in_default-clause-stops : goal.returns-in_default-clause-stops
+returns-in_default-clause-stops g c = λ honest start nested. stops_none _ _ _ _ _ _
+
+pub returns-in_default-clause-opened : goal.returns-in_default-clause-opened
+returns-in_default-clause-opened g c = λ honest start nested. (zero, λ told. refl)
+
+pub returns-in_default-clause-went : goal.returns-in_default-clause-went
+returns-in_default-clause-went g c = went_none g.F.Files c.args.files.now c.args.open_files
+
+-- Failures to open or to read are told.
+
+pub returns-clause-seen : goal.returns-clause-seen
+returns-clause-seen g c =
+    let files = g.F.Files in
+    tells_then c.translate_under.result.1 (files.faults c.args.files.now) (files.faults c.read_head.new.files)
+    (files.faults c.translate_under.new.files) c.in-Ok-read_head.ensures.seen c.translate_under.ensures.seen

@@ -66,7 +66,7 @@ windows-preserved g c =
           c.pass.ensures.given;
       depth = filled.depth ∙ inv.depth;
       opened = filled.opened ∙ inv.opened;
-      faults = omega (arith, filled.faults.0, inv.faults);
+      faults = filled.faults.1 ∙ inv.faults;
       sources = filled.sources ∙ inv.sources;
       honesty = filled.honesty ∙ inv.honesty;
     }

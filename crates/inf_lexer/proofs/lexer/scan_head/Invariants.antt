@@ -23,7 +23,7 @@ invariant-windows g l =
       counts : CountsOn (files.counts l.fn.files) (files.counts l.files) l.fn.window.given l.window.given;
       depth : files.depth l.files ≡ files.depth l.fn.files;
       opened : files.opened l.files ≡ files.opened l.fn.files;
-      faults : files.faults l.fn.files ≤ files.faults l.files;
+      faults : files.faults l.files ≡ files.faults l.fn.files;
       sources : files.sources l.files ≡ files.sources l.fn.files;
       honesty : files.is_honest l.files ≡ files.is_honest l.fn.files;
     }

@@ -7,9 +7,10 @@ use Rattle.inf_sources.proofs.Calls.{fit_none}
 use Rattle.inf_unit.specs.Directives.{Include}
 use Rattle.inf_compilation.specs.Actions.{Compilation}
 use Rattle.inf_session.specs.{Choices.chosen, Leading.NotTried, Leading.StopsAtInclusion, Session.asked_nothing, Session.included}
-use Rattle.inf_session.specs.{Standing.state, Weights.Turns}
-use Rattle.inf_session.proofs.{Opening.carried_out_within, Opening.heeds, Opening.not_ended, Opening.turns, Standings.if_halt_read}
-use Rattle.inf_session.proofs.{Turning.turned_went, session.Session.carry_out.Goals.in-Ended, session.Session.carry_out.Goals.in_default}
+use Rattle.inf_session.specs.{Standing.HasRoom, Standing.state, Weights.Turns}
+use Rattle.inf_session.proofs.{Standings.if_halt_read, Telling.halt_tells_none, Turning.turned_went}
+use Rattle.inf_session.proofs.Opening.{carried_out_within, heeds, not_ended, turns}
+use Rattle.inf_session.proofs.session.Session.carry_out.Goals.{in-Ended, in_default}
 use Rattle.inf_session.proofs.session.Session.carry_out.Goals as goal
 
 pub returns-in-Include-clause-carried_out : goal.returns-in-Include-clause-carried_out
@@ -131,3 +132,12 @@ returns-in-Characters-clause-set g c = ap (λ (o : Open). o.nest.limit) c.set_ch
 
 pub returns-in-Characters-clause-fits : goal.returns-in-Characters-clause-fits
 returns-in-Characters-clause-fits g c = fit_none g.F.Files c.args.files.now c.args.self.now.open_files
+
+pub returns-in-Characters-clause-room : goal.returns-in-Characters-clause-room
+returns-in-Characters-clause-room g c =
+    subst (λ (o : Open). HasRoom c.args.self.now.room o) (sym c.set_characters.ensures.value) c.requires.room
+
+pub returns-then-matches-clause-seen : goal.returns-then-matches-clause-seen
+returns-then-matches-clause-seen g c =
+    let files = g.F.Files in
+    halt_tells_none c.leave.result c.args.lost.now (files.faults c.args.files.now) (files.faults c.leave.new.files) c.leave.ensures.seen

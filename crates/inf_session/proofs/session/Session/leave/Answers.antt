@@ -1,8 +1,8 @@
-use Rattle.std.proofs.Common.{List, ap, drop, length, map, ◌∙◌}
+use Rattle.std.proofs.Common.{List, ap, drop, length, map, subst, sym, ◌∙◌}
 use Rattle.inf_conditionals.specs.Ends.{file_told}
 use Rattle.inf_devices.specs.Files.{Opening}
-use Rattle.inf_sources.specs.Open.{nesting, waits}
-use Rattle.inf_session.specs.Standing.{state}
+use Rattle.inf_sources.specs.Open.{Open, nesting, waits}
+use Rattle.inf_session.specs.Standing.{HasRoom, state}
 use Rattle.inf_session.proofs.Standings.{left_is, none_waits, one_waits, stays}
 use Rattle.inf_session.proofs.session.Session.leave.Goals as goal
 
@@ -41,3 +41,7 @@ returns-clause-opened g c = λ honest start nested.
 pub returns-in_default-clause-opened : goal.returns-in_default-clause-opened
 returns-in_default-clause-opened g c = λ honest start nested.
     ap (λ (all : List Opening). map (λ (p : Opening). p.name) (drop (length start.all) all)) (c.leave.ensures.all honest)
+
+pub returns-in_default-clause-room : goal.returns-in_default-clause-room
+returns-in_default-clause-room g c =
+    subst (λ (o : Open). HasRoom c.args.self.now.room o) (sym c.in_default.ensures.last.1.0) c.requires.room

@@ -6,10 +6,10 @@ use Rattle.inf_sources.specs.{Calls.IsUnreadable, Open.opened_since}
 use Rattle.inf_sources.proofs.Calls.{fit_none, fit_then, unreadable_then, went_none, went_then}
 use Rattle.inf_session.specs.{Choices.Choices, Choices.chosen, Session.run, Standing.state}
 use Rattle.inf_session.specs.Leading.{CutsShort, GivenUp, OpensAll, Writes}
-use Rattle.inf_ending.specs.Faults.{Caused, IfRead, UnlessMessages}
+use Rattle.inf_ending.specs.Faults.{Caused, IfRead, UnlessMessages, UnlessRead}
 use Rattle.inf_ending.proofs.{Delivering.appends_none, Delivering.appends_then, Quiet.hides_behind}
+use Rattle.inf_session.proofs.{Standings.if_caused_more, Standings.if_read_more, Telling.tells_behind}
 use Rattle.inf_session.proofs.Leadings.{cuts_on, given_up_on, opened_on, run_sum, writes_none, writes_on}
-use Rattle.inf_session.proofs.Standings.{if_caused_more, if_read_more}
 use Rattle.inf_session.proofs.session.Session.read.Goals as goal
 
 pub loop-self-init : goal.loop-self-init
@@ -27,6 +27,7 @@ loop-self-init g c =
       goes = c.requires.goes;
       set = c.requires.set;
       setup = refl;
+      seen = refl;
       fits = fit_none files c.args.files.now c.args.self.now.open_files;
       wrote = appends_none g.M.Sink c.args.messages.now;
       quiet = refl;
@@ -73,6 +74,7 @@ loop-self-preserved g c =
       goes = took.goes;
       set = c.read_part.ensures.set;
       setup = c.read_part.ensures.setup ∙ inv.setup;
+      seen = took.seen.0 ∙ inv.seen;
       fits = fit_then files c.args.files.now c.loop-self.files c.read_part.new.files c.args.self.now.open_files c.loop-self.self.open_files
           inv.went inv.fits took.fits;
       wrote = appends_then g.M.Sink c.args.messages.now c.loop-self.messages c.read_part.new.messages inv.wrote
@@ -204,3 +206,16 @@ returns-in_err-read_part-clause-wrote g c =
 
 pub returns-clause-wrote : goal.returns-clause-wrote
 returns-clause-wrote g c = (c.loop-self.invariant.wrote, (c.loop-self.invariant.quiet, tt))
+
+pub returns-in_err-read_part-clause-seen : goal.returns-in_err-read_part-clause-seen
+returns-in_err-read_part-clause-seen g c =
+    let files = g.F.Files in
+    let first = files.faults c.args.files.now in
+    let before = files.faults c.loop-self.files in
+    let now = files.faults c.read_part.new.files in
+    let told : IfErr c.read_part.result (λ fault. UnlessRead fault (now ≡ before)) = c.read_part.ensures.seen.1 in
+    let passed : IfErr c.from_residual.result (λ fault. UnlessRead fault (now ≡ before)) = search rules in
+    tells_behind c.from_residual.result first before now c.from_residual.ensures.0 c.loop-self.invariant.seen passed
+
+pub returns-clause-seen : goal.returns-clause-seen
+returns-clause-seen g c = (c.loop-self.invariant.seen, tt)

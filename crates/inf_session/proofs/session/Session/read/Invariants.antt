@@ -19,6 +19,7 @@ invariant-loop-self g l =
       goes : l.self.open_files.lexer.has_failed ≡ false;
       set : IsSet l.self;
       setup : l.self.setup ≡ l.fn.self.setup;
+      seen : files.faults l.files ≡ files.faults l.fn.files;
       fits : StaysFit files l.fn.files l.files l.fn.self.open_files;
       wrote : Appends g.M.Sink l.fn.messages l.messages;
       quiet : g.M.Sink.failures l.messages ≡ g.M.Sink.failures l.fn.messages;

@@ -2,16 +2,17 @@ use Rattle.std.proofs.Common.{◌≡◌, ℕ, ◌≤◌, List, suc, zero, [], fa
 use Rattle.inf_devices.specs.Files.{Rose, Sources}
 use Rattle.inf_lexer.proofs.Candidates.{rose_earlier}
 use Rattle.inf_sources.specs.{Calls.IsUnreadable, Open.opened_since}
-use Rattle.inf_sources.proofs.Calls.{fit_then, unreadable_then, went_then}
+use Rattle.inf_sources.proofs.Calls.{fit_then, unreadable_then, went_none, went_then}
 use Rattle.inf_session.specs.{Choices.Choices, Choices.chosen, Choices.most_quoted, Session.has_ended, Session.turn, Standing.came_to}
 use Rattle.inf_session.specs.{Standing.ended, Standing.parted, Standing.state, Weights.weight, declared.setup.Setup.Setup}
 use Rattle.inf_session.specs.Leading.{CutsShort, GivenUp, OpensWithin, StopsFor, Writes}
-use Rattle.inf_ending.specs.{Faults.Caused, Faults.IfRead, Faults.UnlessMessages, declared.faults.Fault.Fault}
-use Rattle.inf_ending.proofs.{Delivering.appends_then, Quiet.unless_more}
-use Rattle.inf_session.proofs.{Bounds.bounded_still, Standings.caused_more, Standings.read_both, Weighing.ends_or_falls}
-use Rattle.inf_session.proofs.{Weighing.falls_then}
-use Rattle.inf_session.proofs.Leadings.{cuts_then, given_up, opened_then, part_first, part_none, part_then, still_going, stops_more}
-use Rattle.inf_session.proofs.Leadings.{writes_none, writes_then}
+use Rattle.inf_opcode.proofs.Growing.{on_err}
+use Rattle.inf_ending.specs.{Faults.Caused, Faults.IfRead, Faults.UnlessMessages, Faults.UnlessRead, declared.faults.Fault.Fault}
+use Rattle.inf_ending.proofs.{Delivering.appends_none, Delivering.appends_then, Quiet.hides_none, Quiet.unless_more}
+use Rattle.inf_session.proofs.{Bounds.bounded_still, Standings.caused_more, Standings.read_both, Telling.tells_none}
+use Rattle.inf_session.proofs.{Telling.unless_read_more, Weighing.ends_or_falls, Weighing.falls_then}
+use Rattle.inf_session.proofs.Leadings.{cut_none, cuts_then, given_up, opened_then, part_first, part_none, part_then, still_going}
+use Rattle.inf_session.proofs.Leadings.{stops_more, writes_none, writes_then}
 use Rattle.inf_session.proofs.session.Session.read_part.Goals as goal
 
 pub loop-self-init : goal.loop-self-init
@@ -42,6 +43,8 @@ loop-self-init g c =
       set = c.turn.ensures.set;
       longest = took.longest;
       setup = c.turn.ensures.setup;
+      room = took.room;
+      seen = took.seen.0;
       fits = took.fits;
       wrote = c.turn.ensures.wrote.0;
       quiet = took.wrote.1.0;
@@ -100,6 +103,8 @@ loop-self-preserved g c =
       longest = λ few. subst (λ (p : Setup). c.turn-in-loop-self.new.self.quoted ≤ most_quoted (chosen p)) inv.setup
           (took.longest (subst (λ (p : Setup). c.loop-self.self.quoted ≤ most_quoted (chosen p)) (sym inv.setup) (inv.longest few)));
       setup = c.turn-in-loop-self.ensures.setup ∙ inv.setup;
+      room = took.room;
+      seen = took.seen.0 ∙ inv.seen;
       fits = fit_then files c.args.files.now c.loop-self.files c.turn-in-loop-self.new.files c.args.self.now.open_files
           c.loop-self.self.open_files inv.went inv.fits took.fits;
       wrote = appends_then g.M.Sink c.args.messages.now c.loop-self.messages c.turn-in-loop-self.new.messages inv.wrote
@@ -324,3 +329,48 @@ returns-in-Err-turn-clause-wrote g c =
 
 pub returns-clause-wrote : goal.returns-clause-wrote
 returns-clause-wrote g c = (c.loop-self.invariant.wrote, (c.loop-self.invariant.quiet, tt))
+
+pub returns-in-Err-clause-seen : goal.returns-in-Err-clause-seen
+returns-in-Err-clause-seen g c =
+    let files = g.F.Files in
+    let same = files.faults c.turn.new.files ≡ files.faults c.args.files.now in
+    (tt, subst (λ (f : Fault). UnlessRead f same) (sym c.fault_of.ensures) c.in-Err.ensures.seen.1)
+
+pub returns-in-Err-turn-clause-seen : goal.returns-in-Err-turn-clause-seen
+returns-in-Err-turn-clause-seen g c =
+    let files = g.F.Files in
+    let first = files.faults c.args.files.now in
+    let before = files.faults c.loop-self.files in
+    let now = files.faults c.turn-in-loop-self.new.files in
+    let passed = subst (λ (f : Fault). UnlessRead f (now ≡ before)) (sym c.fault_of-in-Err-turn.ensures) c.in-Err-turn.ensures.seen.1 in
+    (tt, unless_read_more c.fault_of-in-Err-turn.result (now ≡ before) (now ≡ first) (λ later. later ∙ c.loop-self.invariant.seen) passed)
+
+pub returns-clause-seen : goal.returns-clause-seen
+returns-clause-seen g c = (c.loop-self.invariant.seen, tt)
+
+-- no room for the name of the innermost file
+
+pub returns-in_err-make_room-clause-cut : goal.returns-in_err-make_room-clause-cut
+returns-in_err-make_room-clause-cut g c = λ honest start nested.
+    let files = g.F.Files in
+    let s = files.sources c.args.files.now in
+    on_err c.from_residual.result (
+      zero,
+      cut_none g.B.Bounds.most s (chosen c.args.self.now.setup) (state s start (files.openings c.args.files.now) c.args.self.now)
+          (g.M.Sink.taken c.args.messages.now) (λ told. refl),
+    )
+
+pub returns-in_err-make_room-clause-opened : goal.returns-in_err-make_room-clause-opened
+returns-in_err-make_room-clause-opened g c = λ honest start nested. on_err c.from_residual.result (zero, λ told. refl)
+
+pub returns-in_err-make_room-clause-went : goal.returns-in_err-make_room-clause-went
+returns-in_err-make_room-clause-went g c = went_none g.F.Files c.args.files.now c.args.self.now.open_files
+
+pub returns-in_err-make_room-clause-seen : goal.returns-in_err-make_room-clause-seen
+returns-in_err-make_room-clause-seen g c =
+    let faults = g.F.Files.faults c.args.files.now in
+    tells_none c.from_residual.result faults faults refl
+
+pub returns-in_err-make_room-clause-wrote : goal.returns-in_err-make_room-clause-wrote
+returns-in_err-make_room-clause-wrote g c =
+    (appends_none g.M.Sink c.args.messages.now, hides_none c.from_residual.result (g.M.Sink.failures c.args.messages.now))

@@ -1,7 +1,7 @@
 use Rattle.std.proofs.Common.{◌≡◌, ℕ, ◌<◌, ◌≤◌, ◌⊎◌, true, false, length, cond, suc}
 use Rattle.inf_sources.specs.Calls.{Honestly, StaysFit, Went}
 use Rattle.inf_session.specs.{Choices.chosen, Choices.most_quoted, Leading.Writes, Session.part, Session.run, Weights.weight}
-use Rattle.inf_session.specs.Standing.{IsSet, ended, state}
+use Rattle.inf_session.specs.Standing.{HasRoom, IsSet, ended, state}
 use Rattle.inf_ending.specs.Delivered.{Appends}
 use Rattle.inf_session.proofs.session.Session.read_part.Given as goal
 
@@ -25,6 +25,8 @@ invariant-loop-self g l =
       set : IsSet l.self;
       longest : l.fn.self.quoted ≤ most_quoted (chosen l.fn.self.setup) → l.self.quoted ≤ most_quoted (chosen l.fn.self.setup);
       setup : l.self.setup ≡ l.fn.self.setup;
+      room : HasRoom l.self.room l.self.open_files;
+      seen : files.faults l.files ≡ files.faults l.fn.files;
       fits : StaysFit files l.fn.files l.files l.fn.self.open_files;
       wrote : Appends g.M.Sink l.fn.messages l.messages;
       quiet : g.M.Sink.failures l.messages ≡ g.M.Sink.failures l.fn.messages;

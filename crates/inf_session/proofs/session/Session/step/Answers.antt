@@ -7,8 +7,8 @@ use Rattle.inf_conditionals.specs.Judging.{may_part}
 use Rattle.inf_reader.specs.{Handing.is_between, Standing.reading}
 use Rattle.inf_session.specs.{Veneer.most_texts, Weights.steps_left, declared.session.Step.Step}
 use Rattle.inf_session.specs.Standing.{came_to, ended, is_done, next_of}
+use Rattle.inf_session.proofs.{Standings.if_caused_more, Telling.tells_none}
 use Rattle.inf_session.proofs.Parting.{done_by, done_is, going_is, if_ok_two, part_ends, part_falls, veneer_bounded, veneer_falls}
-use Rattle.inf_session.proofs.Standings.{if_caused_more}
 use Rattle.inf_session.proofs.session.Session.step.Goals as goal
 
 pub returns-then-has_ended-clause-went : goal.returns-then-has_ended-clause-went
@@ -96,3 +96,8 @@ pub returns-clause-falls : goal.returns-clause-falls
 returns-clause-falls g c =
     on_ok_weaker c.read_part.result (part_falls c.args.self.now c.read_part.new.self (sym c.has_ended.ensures ∙ c.if-has_ended.false))
     c.read_part.ensures.falls
+
+pub returns-then-has_ended-clause-seen : goal.returns-then-has_ended-clause-seen
+returns-then-has_ended-clause-seen g c =
+    let faults = g.F.Files.faults c.args.files.now in
+    tells_none c.step_veneer.result faults faults refl

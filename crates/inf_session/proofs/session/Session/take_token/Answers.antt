@@ -1,18 +1,19 @@
-use Rattle.std.proofs.Common.{◌≡◌, true, Err, ℕ, List, [], ◌∷◌, ◌≤◌, reverse, unwrap_or, inl, inr, refl, ap, length, subst, sym, ◌∙◌}
+use Rattle.std.proofs.Common.{◌≡◌, string_capacity, true, Err, ℕ, List, [], ◌∷◌, ◌≤◌, reverse, unwrap_or, inl, inr, refl, ap, length}
+use Rattle.std.proofs.Common.{subst, sym, ◌∙◌}
 use Rattle.std.specs.Prelude.{slice_get}
 use Rattle.inf_devices.specs.Files.{Rose}
 use Rattle.inf_characters.specs.declared.characters.CharSet.{CharSet}
-use Rattle.inf_sources.specs.{Inclusions.Nesting, Quoted.is_quoted_kind, declared.open_file.OpenFile.OpenFile}
+use Rattle.inf_sources.specs.{Calls.IsUnreadable, Inclusions.Nesting, Quoted.is_quoted_kind, declared.open_file.OpenFile.OpenFile}
 use Rattle.inf_sources.specs.Open.{files_of, lexers_of, nesting}
 use Rattle.inf_sources.proofs.Places.{files_are}
-use Rattle.inf_lexer.specs.Names.{Nest}
+use Rattle.inf_lexer.specs.Names.{Nest, innermost_name}
 use Rattle.inf_unit.specs.Messages.{FileNames}
 use Rattle.inf_compilation.specs.Context.{Context}
 use Rattle.inf_reader.specs.{Handing.is_between, Reading.is_mode_ended, Standing.standing}
 use Rattle.inf_session.specs.{Choices.chosen, Leading.StopsInToken, Session.State, Session.context_of, Standing.state, Taking.Taken}
 use Rattle.inf_session.specs.{Taking.token_at}
-use Rattle.inf_ending.specs.Faults.{fault_of}
-use Rattle.inf_session.proofs.{Standings.read_caused, Weighing.room_less}
+use Rattle.inf_ending.specs.{Faults.Caused, Faults.IfRead, Faults.fault_of, declared.faults.Fault.Fault}
+use Rattle.inf_session.proofs.{Telling.halt_tells_none, Telling.unless_read_told, Weighing.room_less}
 use Rattle.inf_session.proofs.Taking.{step_is, taken_as, taken_ends, taken_within, token_is}
 use Rattle.inf_session.proofs.session.Session.take_token.Goals as goal
 
@@ -43,9 +44,9 @@ returns-in-Err-Read-clause-stops g c = λ honest start nested.
     let next = c.in-Err-Read.ensures in
     let read = ap (λ f. Err f) c.in-Err-Read.field-0-is in
     let same = c.next.ensures.same in
-    read_caused (fault_of c.lose.result c.lose.new.lost) (λ told. told ≡ c.innermost.result.now)
-    (λ name. (told : List ℕ) → StopsInToken failed s (was told) start now after name) ⊥
-    (λ name is told. record {
+    subst (λ (f : Fault). IfRead f (λ name. (told : List ℕ) → StopsInToken failed s (was told) start now after name))
+    (sym c.lose.ensures)
+    (λ told. record {
       cause = next.cause.0 read;
       not_ended = next.unfinished honest start read;
       goes_on = next.on read;
@@ -55,9 +56,46 @@ returns-in-Err-Read-clause-stops g c = λ honest start nested.
           ap (λ (n : ℕ). n ∷ files_of (lexers_of (reverse after.outer))) same.1.1
           ∙ ap (λ (fs : List OpenFile). before.lexer.file ∷ files_of (lexers_of (reverse fs))) same.1.0
           ∙ sym (files_are s start old before nested);
-      name_is = is ∙ c.innermost.ensures.file ∙ ap (λ (n : Nest). unwrap_or (slice_get n.names after.lexer.file) []) same.0
+      name_is = c.give_room-name.ensures ∙ ap (λ (n : Nest). unwrap_or (slice_get n.names after.lexer.file) []) same.0
           ∙ ap (λ (k : ℕ). unwrap_or (slice_get before.nest.names k) []) same.1.1;
-    }) c.lose.ensures
+    })
+
+pub returns-in-Err-Read-clause-fault : goal.returns-in-Err-Read-clause-fault
+returns-in-Err-Read-clause-fault g c =
+    let files = g.F.Files in
+    let next = c.in-Err-Read.ensures in
+    let unread = IsUnreadable files c.args.files.now c.next.new.files c.args.self.now.open_files c.next.new.self in
+    let cause : unread = elim (next.cause.0 (ap (λ f. Err f) c.in-Err-Read.field-0-is)) [
+      | inl rose ↦ inl rose
+      | inr long ↦ inr (inl long)
+    ] in
+    subst (λ (f : Fault). Caused f (λ name. unread) ⊥) (sym c.lose.ensures) cause
+
+pub returns-in-Err-Read-clause-seen : goal.returns-in-Err-Read-clause-seen
+returns-in-Err-Read-clause-seen g c =
+    let files = g.F.Files in
+    let same = files.faults c.next.new.files ≡ files.faults c.args.files.now in
+    (tt, unless_read_told (fault_of c.lose.result c.lose.new.lost) c.give_room-name.result same c.lose.ensures)
+
+pub returns-in-Err-Memory-clause-seen : goal.returns-in-Err-Memory-clause-seen
+returns-in-Err-Memory-clause-seen g c = (tt, c.in-Err-Memory.ensures.cause.1 (ap (λ f. Err f) c.in-Err-Memory.field-0-is))
+
+pub returns-in_err-self-clause-seen : goal.returns-in_err-self-clause-seen
+returns-in_err-self-clause-seen g c =
+    let files = g.F.Files in
+    halt_tells_none c.from_residual.result c.args.lost.now (files.faults c.args.files.now) (files.faults c.next.new.files)
+    c.in-Ok.ensures.seen
+
+pub returns-clause-seen : goal.returns-clause-seen
+returns-clause-seen g c = (c.in-Ok.ensures.seen, tt)
+
+pub give_room-name-requires : goal.give_room-name-requires
+give_room-name-requires g c =
+    subst (λ (n : Nest). length (innermost_name n) ≤ string_capacity c.args.self.now.room) (sym c.next.ensures.same.0) c.requires.room
+
+pub returns-clause-room : goal.returns-clause-room
+returns-clause-room g c =
+    subst (λ (n : Nest). length (innermost_name n) ≤ string_capacity c.args.self.now.room) (sym c.next.ensures.same.0) c.requires.room
 
 pub returns-clause-longest : goal.returns-clause-longest
 returns-clause-longest g c = λ few_before.

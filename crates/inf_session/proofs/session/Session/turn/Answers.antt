@@ -1,4 +1,4 @@
-use Rattle.std.proofs.Common.{rules, arith, List, ℕ, ◌≤◌, IfErr, inl, inr, ◌||◌, IsTrue, ap, refl, sym, subst, ◌∙◌}
+use Rattle.std.proofs.Common.{rules, ◌≡◌, arith, List, ℕ, ◌≤◌, IfErr, inl, inr, ◌||◌, IsTrue, ap, refl, sym, subst, ◌∙◌}
 use Rattle.inf_opcode.proofs.Growing.{on_err}
 use Rattle.inf_devices.specs.Files.{Rose, Sources}
 use Rattle.inf_lexer.proofs.Candidates.{rose_earlier}
@@ -8,8 +8,9 @@ use Rattle.inf_unit.specs.Messages.{Reported}
 use Rattle.inf_reader.specs.Reading.{is_mode_ended}
 use Rattle.inf_session.specs.{Choices.Choices, Choices.chosen, Choices.most_quoted, Leading.OpensWithin, Leading.StopsAtInclusion}
 use Rattle.inf_session.specs.{Leading.StopsFor, Leading.StopsInToken, Session.State, Session.followed, Session.stepped, Standing.state}
-use Rattle.inf_ending.specs.Faults.{Caused, IfRead, fault_of}
-use Rattle.inf_session.proofs.{Leadings.cut_at_once, Leadings.stops_at_more, Opening.turned_within, Weighing.falls}
+use Rattle.inf_ending.specs.Faults.{Caused, IfRead, UnlessRead, fault_of}
+use Rattle.inf_session.proofs.{Leadings.cut_at_once, Leadings.stops_at_more, Opening.turned_within, Telling.halt_tells_behind}
+use Rattle.inf_session.proofs.{Telling.halt_tells_none, Weighing.falls}
 use Rattle.inf_session.proofs.Standings.{as_before, if_halt_caused, if_halt_read, turn_cut, turn_writes}
 use Rattle.inf_ending.proofs.{Delivering.appends_none, Quiet.halt_hides_none, Quiet.halt_hides_told}
 use Rattle.inf_session.proofs.session.Session.turn.Goals as goal
@@ -245,3 +246,33 @@ returns-clause-wrote g c =
       record { lines = c.follow.new.self.progress.work.report.lines; takes = w.0; failures = omega (arith, w.1) },
       (w.1, tt),
     )
+
+pub returns-in_err-take_token-clause-seen : goal.returns-in_err-take_token-clause-seen
+returns-in_err-take_token-clause-seen g c =
+    let files = g.F.Files in
+    let lost = c.take_token.new.lost in
+    let first = files.faults c.args.files.now in
+    let same = files.faults c.take_token.new.files ≡ first in
+    let told : IfErr c.take_token.result (λ halt. UnlessRead (fault_of halt lost) same) = c.take_token.ensures.seen.1 in
+    let passed : IfErr c.from_residual.result (λ halt. UnlessRead (fault_of halt lost) same) = search rules in
+    halt_tells_behind c.from_residual.result lost first first (files.faults c.take_token.new.files) c.from_residual.ensures.0 refl passed
+
+pub returns-in_err-follow-clause-seen : goal.returns-in_err-follow-clause-seen
+returns-in_err-follow-clause-seen g c =
+    let files = g.F.Files in
+    let lost = c.follow.new.lost in
+    let before = files.faults c.take_token.new.files in
+    let now = files.faults c.follow.new.files in
+    let told : IfErr c.follow.result (λ halt. UnlessRead (fault_of halt lost) (now ≡ before)) = c.follow.ensures.seen.1 in
+    let passed : IfErr c.from_residual-in_err-follow.result (λ halt. UnlessRead (fault_of halt lost) (now ≡ before)) = search rules in
+    halt_tells_behind c.from_residual-in_err-follow.result lost (files.faults c.args.files.now) before now
+    c.from_residual-in_err-follow.ensures.0 c.in_ok-take_token.ensures.seen.0 passed
+
+pub returns-in_err-flush-clause-seen : goal.returns-in_err-flush-clause-seen
+returns-in_err-flush-clause-seen g c =
+    let files = g.F.Files in
+    halt_tells_none c.from_residual-in_err-flush.result c.follow.new.lost (files.faults c.args.files.now)
+    (files.faults c.follow.new.files) (c.in_ok-follow.ensures.seen.0 ∙ c.in_ok-take_token.ensures.seen.0)
+
+pub returns-clause-seen : goal.returns-clause-seen
+returns-clause-seen g c = (c.in_ok-follow.ensures.seen.0 ∙ c.in_ok-take_token.ensures.seen.0, tt)

@@ -1,7 +1,7 @@
 -- The actions so far, with those of the rest of the row, are those of the whole row.
 use Rattle.std.proofs.Common.{◌≡◌, ◌++◌, reverse, take, length}
 use Rattle.inf_machine.specs.Machine.{acts_of}
-use Rattle.inf_machine.proofs.machine.act.Given as goal
+use Rattle.inf_machine.proofs.rest.act.Given as goal
 
 abbrev pub invariant-loop-part : goal.invariant-loop-part
 invariant-loop-part g l = record {

@@ -1,7 +1,7 @@
 -- The token taken from here on, behind the actions so far, gives the result of taking it from the start.
 use Rattle.std.proofs.Common.{◌≡◌, ◌≤◌, reverse, take, length}
 use Rattle.inf_machine.proofs.Reaching.{IsOn}
-use Rattle.inf_machine.proofs.machine.reach.Given as goal
+use Rattle.inf_machine.proofs.rest.reach.Given as goal
 
 abbrev pub invariant-loop-below : goal.invariant-loop-below
 invariant-loop-below g l = record {

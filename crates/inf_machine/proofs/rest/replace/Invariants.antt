@@ -1,6 +1,6 @@
 -- The symbols put so far come behind those that stay, and there is room for the rest.
 use Rattle.std.proofs.Common.{◌≡◌, ◌≤◌, ◌+◌, ◌++◌, length, take, vec_capacity}
-use Rattle.inf_machine.proofs.machine.replace.Given as goal
+use Rattle.inf_machine.proofs.rest.replace.Given as goal
 
 abbrev pub invariant-loop-other : goal.invariant-loop-other
 invariant-loop-other g l = record {
