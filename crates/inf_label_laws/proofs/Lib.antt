@@ -1,4 +1,4 @@
 mod Examples
-pub mod OwnRows
+pub mod OwnCode
 pub mod Owning
 mod Programs

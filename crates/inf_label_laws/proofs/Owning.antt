@@ -1,7 +1,7 @@
 -- Which labels code marks: those that are handed out while it is laid, and some that are given to it.
 use Rattle.std.proofs.Common.{arith, ◌≡◌, ◌≤◌, ℕ, suc, List, [], ◌∷◌, ◌++◌, Bool, true, false, Option, Some, None, refl, ◌∙◌, ap, sym}
-use Rattle.std.proofs.Common.{subst, append_assoc, append-nil, inl, inr, ◌+◌, ◌<◌, ◌==◌, ◌⊎◌, map, min, nat_lt, if◌then◌else◌}
-use Rattle.std.proofs.lemmas.Bool.{cases_eq, cases_lt, eq-eqb, ne_eqb}
+use Rattle.std.proofs.Common.{subst, append_assoc, append-nil, inl, inr, ◌+◌, ◌<◌, ◌⊎◌, map, min, nat_lt, if◌then◌else◌}
+use Rattle.std.proofs.lemmas.Bool.{cases_eq, cases_lt}
 use Rattle.std.proofs.Math.Nat.{min-eq_left, min-eq_right}
 use Rattle.inf_settings.specs.Bounds.{Limits}
 use Rattle.inf_opcode.specs.{Instructions.Parts, declared.instructions.Branch.Branch, declared.instructions.Label.Label}
@@ -12,26 +12,13 @@ use Rattle.inf_output.specs.Output.{Code, Out, behind, fitted, full_item, in_rou
 use Rattle.inf_output.specs.Output.{next_label, nothing, routine, used, used_by, with_label, with_routine, ◌▸◌}
 use Rattle.inf_assembler.specs.declared.routines.Limit.{Limit}
 use Rattle.inf_names.specs.{Symbols.refer_fault, declared.symbols.ReferFault.ReferFault}
-use Rattle.inf_label_laws.specs.{Labels.times, Programs.branch_labels, Programs.marks, Programs.operand_labels, Programs.uses}
+use Rattle.inf_code_walk.{proofs.Numbers.one_needed, proofs.Numbers.times_first, proofs.Numbers.times_joined, proofs.Numbers.times_other}
+use Rattle.inf_code_walk.{specs.Labels.branch_labels, specs.Labels.times}
+use Rattle.inf_label_laws.specs.{Programs.marks, Programs.operand_labels, Programs.uses}
 use Rattle.inf_interpreter.specs.Claims.{Laid, code_behind, kept_behind}
 use Rattle.inf_interpreter.proofs.Laying.{code_none, item_laid, kept_none, laid_then, used_code, used_fits, used_kept}
 
--- Numbers in lists
-
-pub times_joined : (n : ℕ) (a b : List ℕ) → times n (a ++ b) ≡ times n a + times n b
-times_joined n [] b = omega arith
-times_joined n (m ∷ a) b = go (if n == m then 1 else 0) (times_joined n a b)
-  where
-    go : (x : ℕ) → times n (a ++ b) ≡ times n a + times n b → x + times n (a ++ b) ≡ (x + times n a) + times n b
-    go x e = omega (arith, e)
-
-pub times_first : (n : ℕ) (ms : List ℕ) → times n (n ∷ ms) ≡ suc (times n ms)
-times_first n ms =
-    let e : 1 + times n ms ≡ suc (times n ms) = omega arith in ap (λ b. (if b then 1 else 0) + times n ms) (eq-eqb n n refl) ∙ e
-
-pub times_other : (n m : ℕ) (ms : List ℕ) → (n ≡ m → ⊥) → times n (m ∷ ms) ≡ times n ms
-times_other n m ms h =
-    let e : 0 + times n ms ≡ times n ms = omega arith in ap (λ b. (if b then 1 else 0) + times n ms) (ne_eqb n m h) ∙ e
+-- Labels in lists
 
 pub marks_joined : (a b : List Item) → marks (a ++ b) ≡ marks a ++ marks b
 marks_joined [] b = refl
@@ -265,25 +252,9 @@ none_needed n h = absurd (omega (arith, h))
 pub owned_free : {c : Code} {needs given : List ℕ} → Owned c [] given → Owned c needs given
 owned_free {c} {needs} {given} f = owned_wide {c = c} {a = []} {b = needs} (λ n h. none_needed n h) f
 
-one_needed : (needs : List ℕ) (l n : ℕ) → 1 ≤ times l needs → 1 ≤ times n (l ∷ []) → 1 ≤ times n needs
-one_needed needs l n has h = go (cases_eq n l)
-  where
-    go : (n ≡ l) ⊎ (n ≡ l → ⊥) → 1 ≤ times n needs
-    go (inl same) = subst (λ k. 1 ≤ times k needs) (sym same) has
-    go (inr other) = let e = times_other n l [] other in absurd (omega (arith, e, h))
-
 -- code that needs one label, which is among others
 pub owned_at : {c : Code} {l : ℕ} {needs given : List ℕ} → 1 ≤ times l needs → Owned c (l ∷ []) given → Owned c needs given
 owned_at {c} {l} {needs} {given} has f = owned_wide {c = c} {a = l ∷ []} {b = needs} (λ n h. one_needed needs l n has h) f
-
-pub has_first : (l : ℕ) (needs : List ℕ) → 1 ≤ times l (l ∷ needs)
-has_first l needs = let e = times_first l needs in omega (arith, e)
-
-pub has_later : (l m : ℕ) (needs : List ℕ) → 1 ≤ times l needs → 1 ≤ times l (m ∷ needs)
-has_later l m needs h = go (if l == m then 1 else 0)
-  where
-    go : (x : ℕ) → 1 ≤ x + times l needs
-    go x = omega (arith, h)
 
 -- code that needs no label, before other code
 pub owned_before : {c d : Code} {needs b : List ℕ} → Owned c [] [] → Owned d needs b → Owned (c ▸ d) needs b

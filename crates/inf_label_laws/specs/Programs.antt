@@ -1,11 +1,11 @@
 -- The code of an expression, anywhere in a program, with the labels looked up.
-use Rattle.std.specs.Prelude.{◌≡◌, ℕ, ◌==◌, Bool, false, List, [], ◌∷◌, ◌++◌, Option, Some, None, if◌then◌else◌}
+use Rattle.std.specs.Prelude.{◌≡◌, ℕ, ◌==◌, Bool, false, List, [], ◌∷◌, ◌++◌, Some, if◌then◌else◌}
 use Rattle.inf_settings.specs.Bounds.{Limits}
-use Rattle.inf_opcode.specs.{declared.instructions.Branch.Branch, declared.instructions.Destination.Destination}
 use Rattle.inf_opcode.specs.{declared.instructions.Label.Label, declared.instructions.Operand.Operand}
 use Rattle.inf_expressions.specs.Trees.{Tree}
 use Rattle.inf_output.specs.{Output.Code, Output.Out, Output.apart, Output.items_of, declared.items.Item.Item}
 use Rattle.inf_templates.specs.Meaning.{meaning}
+use Rattle.inf_code_walk.specs.Labels.{branch_labels}
 use Rattle.inf_interpreter.specs.{Claims.state, Machine.Place, Machine.State, Machine.Store, Machine.World, Machine.run, Supplied.Supplies}
 use Rattle.inf_meaning_laws.specs.{Covered.Covered, Laws.taken, Laws.taker, Values.sense, Values.value_of}
 
@@ -21,15 +21,6 @@ marks ((Item.Instruction i) ∷ items) = marks items
 marks ((Item.Mark m) ∷ items) = m.number ∷ marks items
 
 -- the labels to which items branch or jump
-abbrev pub target_labels : Destination → List ℕ
-target_labels (Destination.To label) = label.number ∷ []
-target_labels Destination.ReturnFalse = []
-target_labels Destination.ReturnTrue = []
-
-abbrev pub branch_labels : Option Branch → List ℕ
-branch_labels None = []
-branch_labels (Some branch) = target_labels branch.target
-
 abbrev pub operand_labels : List Operand → List ℕ
 operand_labels [] = []
 operand_labels ((Operand.Offset label) ∷ others) = label.number ∷ operand_labels others

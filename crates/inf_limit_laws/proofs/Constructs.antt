@@ -26,11 +26,12 @@ use Rattle.inf_constructs.specs.Constructs.{opened, over_all, over_children, tes
 use Rattle.inf_operands.specs.Operands.{Settled, is_stack, leaf_added, one_added, settled, settled_action, settled_alone, settled_by}
 use Rattle.inf_operands.specs.Operands.{settled_leaf, settled_name, settled_text, with_settled}
 use Rattle.inf_operands.specs.Texts.{text_at, text_packed}
+use Rattle.inf_code_walk.proofs.{Leaves.Any, Leaves.any_meaning, Leaves.any_part, Rows.MeaningMade}
 use Rattle.inf_limit_laws.specs.Rooms.{Before, Counted, Keeps, Sound}
 use Rattle.inf_limit_laws.proofs.Outputs.{declare_keeps, items_keep, refer_keeps, table_keeps, text_keeps, word_keeps}
+use Rattle.inf_limit_laws.proofs.Pieces.{made_sound, sound_if, sound_instruction, sound_jump, sound_label, sound_mark, sound_naming}
+use Rattle.inf_limit_laws.proofs.Pieces.{sound_nothing, sound_then, worked_sound}
 use Rattle.inf_limit_laws.proofs.Statements.{Gives, gives_code}
-use Rattle.inf_limit_laws.proofs.Templates.{MeaningSound, meaning_sound, sound_if, sound_instruction, sound_jump, sound_label, sound_mark}
-use Rattle.inf_limit_laws.proofs.Templates.{sound_naming, sound_nothing, sound_then, worked_sound}
 
 -- Cases
 
@@ -120,18 +121,18 @@ between_gives {was} limits c = record { keeps = λ o h. (joint_sound limits c c.
 children_sound : {was : Before} (limits : Limits) (e : Tree) (v : ℕ) (c : Construct) → Sound limits was (over_children limits e v c)
 children_sound {was} limits e v c =
     sound_then (worked_sound limits Opcode.GetChild (part (meaning limits e) ∷ []) (Some v) (to false c.end)
-    ((meaning_sound limits e).value, tt))
+    (any_part limits e, tt))
     (sound_mark c.top)
 
-over_sound : {was : Before} (limits : Limits) (x : Option Simple) (e : Meaning) (next : Label) → MeaningSound limits was e →
+over_sound : {was : Before} (limits : Limits) (x : Option Simple) (e : Meaning) (next : Label) → MeaningMade limits Any e →
     Sound limits was (tested_over x e next)
 over_sound {was} limits (Some operand) e next h = sound_nothing
-over_sound {was} limits None e next h = h.branch false next
+over_sound {was} limits None e next h = made_sound (h.branch false next)
 
 all_sound : {was : Before} (limits : Limits) (e : Tree) (v : ℕ) (c : Construct) → Sound limits was (over_all limits (meaning limits e) v c)
 all_sound {was} limits e v c =
     sound_then (sound_naming Opcode.Store v (Simple.Known 5 ∷ []) None None) (sound_then (sound_mark c.top)
-    (over_sound limits (meaning limits e).operand (meaning limits e) c.next (meaning_sound limits e)))
+    (over_sound limits (meaning limits e).operand (meaning limits e) c.next (any_meaning limits e)))
 
 looped_by_gives : {was : Before} (limits : Limits) (parent : Option Tree) (e : Tree) (v : ℕ) (c : Construct) →
     Gives limits was (looped_by limits parent e v c)

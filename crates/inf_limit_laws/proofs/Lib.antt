@@ -1,6 +1,6 @@
 pub mod Rooms
 pub mod Outputs
-pub mod Templates
+pub mod Pieces
 pub mod Statements
 pub mod Constructs
 pub mod Leaving

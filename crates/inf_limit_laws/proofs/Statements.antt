@@ -14,7 +14,7 @@ use Rattle.inf_output.specs.Output.{Code, Out, behind, low_string_at, with_low_t
 use Rattle.inf_templates.specs.{Meaning.Meaning, Meaning.meaning, Meaning.part, Parts.Part, Parts.SP, Parts.TEMP, Parts.is}
 use Rattle.inf_unit.specs.{Opcodes.opcode_of, Tokens.SourceToken, Units.bytes_at, declared.items.Item.Item}
 use Rattle.inf_unit.specs.{declared.items.PrintRule.PrintRule}
-use Rattle.inf_constructs.specs.{Constructs.Laying, Constructs.left_to, Labels.NamedLabel}
+use Rattle.inf_constructs.specs.{Cases.SWITCHED, Constructs.Laying, Constructs.left_to, Labels.NamedLabel}
 use Rattle.inf_statements.specs.{declared.assembly.Ends.Ends, declared.statements.Statement.Statement}
 use Rattle.inf_statements.specs.Assembly.{branch_to, branched, branched_to, ends_of, fits, instructed, jumped_on, labelled, line_instructed}
 use Rattle.inf_statements.specs.Assembly.{line_laid, line_laid_as, line_laid_by, named_first, placed, printing_of, some_printed, store_of}
@@ -27,16 +27,14 @@ use Rattle.inf_statements.specs.Statements.{attributes_changed, attributes_given
 use Rattle.inf_statements.specs.Statements.{rest, returned, returned_by, returned_number, spaced, string_changed, string_set, style_of}
 use Rattle.inf_statements.specs.Statements.{styled_by, switched, tested, unless}
 use Rattle.inf_operands.specs.Texts.{text_at, text_packed}
+use Rattle.inf_code_walk.proofs.Leaves.{Any, any_meaning, any_part}
+use Rattle.inf_code_walk.proofs.Rows.{MeaningMade, PartMade, is_made, part_made}
 use Rattle.inf_limit_laws.specs.Rooms.{Before, Counted, Sound}
 use Rattle.inf_limit_laws.proofs.Outputs.{item_keeps, low_text_keeps}
-use Rattle.inf_limit_laws.proofs.Templates.{MeaningSound, PartSound, ask_sound, call_sound, is_sound, meaning_sound, sound_if}
-use Rattle.inf_limit_laws.proofs.Templates.{sound_instruction, sound_jump, sound_mark, sound_naming, sound_nothing, sound_then}
-use Rattle.inf_limit_laws.proofs.Templates.{worked_sound}
+use Rattle.inf_limit_laws.proofs.Pieces.{ask_sound, call_sound, made_sound, sound_if, sound_instruction, sound_jump, sound_mark}
+use Rattle.inf_limit_laws.proofs.Pieces.{sound_naming, sound_nothing, sound_then, worked_sound}
 
 -- Operands
-
-tree_sound : {was : Before} (limits : Limits) (e : Tree) → PartSound limits was (part (meaning limits e))
-tree_sound {was} limits e = (meaning_sound limits e).value
 
 plain_sound : {was : Before} (limits : Limits) (op : Opcode) → Sound limits was (plain limits op)
 plain_sound {was} limits op = sound_instruction op [] None None
@@ -47,7 +45,7 @@ printed_sound {was} limits op (Some text) = record { keeps = λ o h. item_keeps 
 
 one_sound : {was : Before} (limits : Limits) (op : Opcode) (trees : List Tree) → Sound limits was (one_worked limits op trees)
 one_sound {was} limits op [] = sound_nothing
-one_sound {was} limits op (e ∷ trees) = worked_sound limits op (part (meaning limits e) ∷ []) None None (tree_sound limits e, tt)
+one_sound {was} limits op (e ∷ trees) = worked_sound limits op (part (meaning limits e) ∷ []) None None (any_part limits e, tt)
 
 -- Printing
 
@@ -59,11 +57,11 @@ called_sound : {was : Before} (limits : Limits) (trees : List Tree) → Sound li
 called_sound {was} limits [] = sound_nothing
 called_sound {was} limits (f ∷ []) = sound_nothing
 called_sound {was} limits (f ∷ e ∷ trees) =
-    call_sound limits (part (meaning limits f)) (part (meaning limits e) ∷ []) None (tree_sound limits f) (tree_sound limits e, tt)
+    call_sound limits (part (meaning limits f)) (part (meaning limits e) ∷ []) None (any_part limits f) (any_part limits e, tt)
 
 veneer_sound : {was : Before} (limits : Limits) (v : Veneer) (trees : List Tree) → Sound limits was (veneer_called limits v trees)
 veneer_sound {was} limits v [] = sound_nothing
-veneer_sound {was} limits v (e ∷ trees) = ask_sound limits v (part (meaning limits e) ∷ []) None (tree_sound limits e, tt)
+veneer_sound {was} limits v (e ∷ trees) = ask_sound limits v (part (meaning limits e) ∷ []) None (any_part limits e, tt)
 
 rule_sound : {was : Before} (limits : Limits) (r : PrintRule) (trees : List Tree) → Sound limits was (rule_code limits r trees)
 unfolding rule_code
@@ -106,37 +104,37 @@ number_sound {was} limits n =
     sound_if (n == 1) (plain_sound limits Opcode.Rtrue)
     (sound_if (n == 0) (plain_sound limits Opcode.Rfalse) (sound_instruction Opcode.Ret (Simple.Known n ∷ []) None None))
 
-returned_by_sound : {was : Before} (limits : Limits) (x : Option Simple) (m : Meaning) → MeaningSound limits was m →
+returned_by_sound : {was : Before} (limits : Limits) (x : Option Simple) (m : Meaning) → MeaningMade limits Any m →
     Sound limits was (returned_by limits x m)
 returned_by_sound {was} limits (Some (Simple.Known n)) m h = number_sound limits n
 returned_by_sound {was} limits (Some (Simple.Variable v)) m h = sound_instruction Opcode.Ret (Simple.Variable v ∷ []) None None
 returned_by_sound {was} limits (Some (Simple.Later t)) m h = sound_instruction Opcode.Ret (Simple.Later t ∷ []) None None
-returned_by_sound {was} limits None m h = sound_then (h.value SP) (plain_sound limits Opcode.RetPopped)
+returned_by_sound {was} limits None m h = sound_then (made_sound (h.value SP)) (plain_sound limits Opcode.RetPopped)
 
 returned_sound : {was : Before} (limits : Limits) (trees : List Tree) → Sound limits was (returned limits trees)
 returned_sound {was} limits [] = plain_sound limits Opcode.Rtrue
-returned_sound {was} limits (e ∷ trees) = returned_by_sound limits (meaning limits e).operand (meaning limits e) (meaning_sound limits e)
+returned_sound {was} limits (e ∷ trees) = returned_by_sound limits (meaning limits e).operand (meaning limits e) (any_meaning limits e)
 
 pub alone_sound : {was : Before} (limits : Limits) (trees : List Tree) → Sound limits was (alone limits trees)
 alone_sound {was} limits [] = sound_nothing
-alone_sound {was} limits (e ∷ trees) = (meaning_sound limits e).alone
+alone_sound {was} limits (e ∷ trees) = made_sound (any_meaning limits e).alone
 
 moved_sound : {was : Before} (limits : Limits) (trees : List Tree) → Sound limits was (moved limits trees)
 moved_sound {was} limits [] = sound_nothing
 moved_sound {was} limits (a ∷ []) = sound_nothing
 moved_sound {was} limits (a ∷ b ∷ trees) =
     worked_sound limits Opcode.InsertObj (part (meaning limits a) ∷ part (meaning limits b) ∷ []) None None
-    (tree_sound limits a, (tree_sound limits b, tt))
+    (any_part limits a, (any_part limits b, tt))
 
 spaced_sound : {was : Before} (limits : Limits) (trees : List Tree) → Sound limits was (spaced limits trees)
 spaced_sound {was} limits [] = sound_nothing
-spaced_sound {was} limits (e ∷ trees) = ask_sound limits Veneer.Spaces (part (meaning limits e) ∷ []) None (tree_sound limits e, tt)
+spaced_sound {was} limits (e ∷ trees) = ask_sound limits Veneer.Spaces (part (meaning limits e) ∷ []) None (any_part limits e, tt)
 
 set_sound : {was : Before} (limits : Limits) (low : Target) (trees : List Tree) → Sound limits was (string_set limits low trees)
 set_sound {was} limits low [] = sound_nothing
 set_sound {was} limits low (e ∷ trees) =
     worked_sound limits Opcode.Storew (is (Simple.Later abbreviations) ∷ part (meaning limits e) ∷ is (Simple.Later low) ∷ []) None None
-    (is_sound limits (Simple.Later abbreviations), (tree_sound limits e, (is_sound limits (Simple.Later low), tt)))
+    (is_made limits Any (Simple.Later abbreviations) tt, (any_part limits e, (is_made limits Any (Simple.Later low) tt, tt)))
 
 changed_sound : {was : Before} (limits : Limits) (text : Option (List TextItem)) (trees : List Tree) →
     Sound limits was (string_changed limits text trees)
@@ -148,22 +146,22 @@ changed_sound {was} limits (Some text) trees = record {
       (low_text_keeps limits (packed text []) p h);
 }
 
-on_sound : {was : Before} (limits : Limits) (action : Part) → PartSound limits was action → (trees : List Tree) →
+on_sound : {was : Before} (limits : Limits) (action : Part) → PartMade limits Any action → (trees : List Tree) →
     Sound limits was (action_on limits action trees)
 on_sound {was} limits action h [] = ask_sound limits Veneer.Process (action ∷ []) None (h, tt)
 on_sound {was} limits action h (a ∷ []) =
-    ask_sound limits Veneer.Process (action ∷ part (meaning limits a) ∷ []) None (h, (tree_sound limits a, tt))
+    ask_sound limits Veneer.Process (action ∷ part (meaning limits a) ∷ []) None (h, (any_part limits a, tt))
 on_sound {was} limits action h (a ∷ b ∷ trees) =
     ask_sound limits Veneer.Process (action ∷ part (meaning limits a) ∷ part (meaning limits b) ∷ []) None
-    (h, (tree_sound limits a, (tree_sound limits b, tt)))
+    (h, (any_part limits a, (any_part limits b, tt)))
 
 action_sound : {was : Before} (limits : Limits) (trees : List Tree) → Sound limits was (action_laid limits trees)
 action_sound {was} limits [] = sound_nothing
-action_sound {was} limits (e ∷ trees) = on_sound limits (part (meaning limits e)) (tree_sound limits e) trees
+action_sound {was} limits (e ∷ trees) = on_sound limits (part (meaning limits e)) (any_part limits e) trees
 
 unless_sound : {was : Before} (limits : Limits) (trees : List Tree) (label : Label) → Sound limits was (unless limits trees label)
 unless_sound {was} limits [] label = sound_nothing
-unless_sound {was} limits (e ∷ trees) label = (meaning_sound limits e).branch false label
+unless_sound {was} limits (e ∷ trees) label = made_sound ((any_meaning limits e).branch false label)
 
 pub tested_sound : {was : Before} (limits : Limits) (label : Option Label) (trees : List Tree) →
     Sound limits was (tested limits label trees)
@@ -172,36 +170,37 @@ tested_sound {was} limits (Some label) trees = unless_sound limits trees label
 
 pub switched_sound : {was : Before} (limits : Limits) (trees : List Tree) → Sound limits was (switched limits trees)
 switched_sound {was} limits [] = sound_nothing
-switched_sound {was} limits (e ∷ trees) = (meaning_sound limits e).value _
+switched_sound {was} limits (e ∷ trees) = made_sound ((any_meaning limits e).value SWITCHED)
 
-attribute_sound : {was : Before} (limits : Limits) (op : Opcode) (object : Part) → PartSound limits was object → (trees : List Tree)
+attribute_sound : {was : Before} (limits : Limits) (op : Opcode) (object : Part) → PartMade limits Any object → (trees : List Tree)
     → Sound limits was (attribute_code limits op object trees)
 attribute_sound {was} limits op object h [] = sound_nothing
 attribute_sound {was} limits op object h (a ∷ attributes) =
-    worked_sound limits op (object ∷ part (meaning limits a) ∷ []) None None (h, (tree_sound limits a, tt))
+    worked_sound limits op (object ∷ part (meaning limits a) ∷ []) None None (h, (any_part limits a, tt))
 
-attributes_sound : {was : Before} (limits : Limits) (object : Part) → PartSound limits was object →
+attributes_sound : {was : Before} (limits : Limits) (object : Part) → PartMade limits Any object →
     (items : List Item) (attributes : List Tree)
     → Sound limits was (attributes_given limits object items attributes)
 attributes_sound {was} limits object h [] attributes = sound_nothing
 attributes_sound {was} limits object h (i ∷ items) attributes =
     sound_then (attribute_sound limits (attribute_opcode i) object h attributes) (attributes_sound limits object h items (rest attributes))
 
-given_sound : {was : Before} (limits : Limits) (several : Bool) (x : Option Simple) (m : Meaning) → MeaningSound limits was m →
+given_sound : {was : Before} (limits : Limits) (several : Bool) (x : Option Simple) (m : Meaning) → MeaningMade limits Any m →
     (items : List Item)
     (attributes : List Tree) → Sound limits was (given_by limits several x m items attributes)
 given_sound {was} limits true None m h items attributes =
-    sound_then (h.value TEMP) (attributes_sound limits (is (Simple.Variable TEMP)) (is_sound limits (Simple.Variable TEMP))
+    sound_then (made_sound (h.value TEMP)) (attributes_sound limits (is (Simple.Variable TEMP))
+    (is_made limits Any (Simple.Variable TEMP) tt)
     items attributes)
-given_sound {was} limits true (Some x) m h items attributes = attributes_sound limits (part m) h.value items attributes
-given_sound {was} limits false None m h items attributes = attributes_sound limits (part m) h.value items attributes
-given_sound {was} limits false (Some x) m h items attributes = attributes_sound limits (part m) h.value items attributes
+given_sound {was} limits true (Some x) m h items attributes = attributes_sound limits (part m) (part_made limits Any m h) items attributes
+given_sound {was} limits false None m h items attributes = attributes_sound limits (part m) (part_made limits Any m h) items attributes
+given_sound {was} limits false (Some x) m h items attributes = attributes_sound limits (part m) (part_made limits Any m h) items attributes
 
 give_sound : {was : Before} (limits : Limits) (items : List Item) (trees : List Tree) →
     Sound limits was (attributes_changed limits items trees)
 give_sound {was} limits items [] = sound_nothing
 give_sound {was} limits items (e ∷ trees) =
-    given_sound limits (are_several items) (meaning limits e).operand (meaning limits e) (meaning_sound limits e) items trees
+    given_sound limits (are_several items) (meaning limits e).operand (meaning limits e) (any_meaning limits e) items trees
 
 styled_sound : {was : Before} (limits : Limits) (style : Option ℕ) → Sound limits was (styled_by limits style)
 styled_sound {was} limits None = sound_nothing

@@ -6,7 +6,7 @@ use Rattle.inf_opcode.specs.declared.instructions.Label.{Label}
 use Rattle.inf_output.specs.Output.{Out, behind, marked}
 use Rattle.inf_constructs.specs.{Constructs.opened, Constructs.with_labels, Labels.NamedLabel, declared.constructs.Case.Case}
 use Rattle.inf_constructs.specs.{declared.constructs.Construct.Construct, declared.constructs.Kind.Kind, declared.constructs.Over.Over}
-use Rattle.inf_label_laws.specs.Labels.{times}
+use Rattle.inf_code_walk.specs.Labels.{times}
 use Rattle.inf_label_laws.proofs.Owning.{owned_mark}
 use Rattle.inf_routine_laws.specs.Leaving.{LeavesRoutine}
 use Rattle.inf_routine_laws.proofs.Booking.{Came, Counts, Sound, came, one, one_is, paid_together, sound_as, sound_label, sound_paid}

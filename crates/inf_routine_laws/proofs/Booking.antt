@@ -7,8 +7,10 @@ use Rattle.inf_opcode.specs.{Cells.Cell, Instructions.Parts, Instructions.instru
 use Rattle.inf_code.specs.Code.{Opened, Routines}
 use Rattle.inf_output.specs.{Output.Code, Output.Out, Output.behind, Output.grown, declared.items.Item.Item}
 use Rattle.inf_interpreter.specs.Claims.{Laid, all_grown, code_behind, kept_behind}
-use Rattle.inf_label_laws.specs.{Labels.times, Programs.branch_labels, Programs.marks, Programs.operand_labels, Programs.uses}
-use Rattle.inf_label_laws.proofs.Owning.{Owned, Settles, behind_is, marks_joined, some_of_two, times_first, times_joined, times_other}
+use Rattle.inf_code_walk.specs.Labels.{branch_labels, times}
+use Rattle.inf_code_walk.proofs.Numbers.{times_first, times_joined, times_other}
+use Rattle.inf_label_laws.specs.Programs.{marks, operand_labels, uses}
+use Rattle.inf_label_laws.proofs.Owning.{Owned, Settles, behind_is, marks_joined, some_of_two}
 use Rattle.inf_label_laws.proofs.Owning.{uses_joined}
 use Rattle.inf_routine_laws.proofs.Counting.{cell_marks, cell_marks_joined, cell_uses, cell_uses_joined, instruction_marks}
 use Rattle.inf_routine_laws.proofs.Counting.{instruction_uses}

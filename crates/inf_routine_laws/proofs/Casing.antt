@@ -11,10 +11,12 @@ use Rattle.inf_constructs.specs.{Labels.NamedLabel, declared.constructs.Case.Cas
 use Rattle.inf_constructs.specs.{declared.constructs.Kind.Kind, declared.constructs.Over.Over}
 use Rattle.inf_constructs.specs.Constructs.{between, case_closed, changed, closed, ending, entered, entered_by, joint, kind_behind, looped}
 use Rattle.inf_constructs.specs.Constructs.{looped_by, looped_over, over_all, over_children, tested_over, with_case}
-use Rattle.inf_label_laws.specs.Labels.{times}
+use Rattle.inf_code_walk.specs.Labels.{times}
+use Rattle.inf_code_walk.proofs.{Leaves.Any, Leaves.any_meaning, Leaves.any_part, Rows.MeaningMade, Rows.worked_made}
+use Rattle.inf_code_walk.proofs.Numbers.{times_joined}
 use Rattle.inf_label_laws.proofs.Owning.{Owned, owned_before, owned_behind, owned_jump, owned_mark, owned_naming}
-use Rattle.inf_label_laws.proofs.Owning.{owned_nothing, owned_then, times_joined}
-use Rattle.inf_label_laws.proofs.OwnRows.{OwnsAll, owned_worked, owns}
+use Rattle.inf_label_laws.proofs.Owning.{owned_nothing, owned_then}
+use Rattle.inf_label_laws.proofs.OwnCode.{owned}
 use Rattle.inf_routine_laws.proofs.Booking.{Counts, came, one, one_is}
 use Rattle.inf_routine_laws.proofs.Balance.{Good, case_due, cased_in, good_as, good_label, good_paid, loop_due, named_all}
 use Rattle.inf_routine_laws.proofs.Balance.{reached, reached_in, top_known}
@@ -276,18 +278,20 @@ pub record IsLooped (due spare extra : Counts) (labels : List NamedLabel) (c : C
 children_owns : (limits : Limits) (e : Tree) (v : ℕ) (c : Construct) →
     Owned (over_children limits e v c) (c.end.number ∷ []) (c.top.number ∷ [])
 children_owns limits e v c =
-    owned_behind (owned_worked limits Opcode.GetChild (part (meaning limits e) ∷ []) ((owns limits e).value, tt) (Some v) (to false c.end))
+    owned_behind
+    (owned (worked_made limits Any Opcode.GetChild (part (meaning limits e) ∷ []) (any_part limits e, tt) (Some v) (to false c.end)))
     (owned_mark limits c.top)
 
-tested_owns_over : (x : Option Simple) (m : Meaning) → OwnsAll m → (next : Label) → Owned (tested_over x m next) (next.number ∷ []) []
-tested_owns_over (Some x) m h next = owned_nothing
-tested_owns_over None m h next = h.branch false next
+tested_owns_over : (limits : Limits) (x : Option Simple) (m : Meaning) → MeaningMade limits Any m → (next : Label) →
+    Owned (tested_over x m next) (next.number ∷ []) []
+tested_owns_over limits (Some x) m h next = owned_nothing
+tested_owns_over limits None m h next = owned (h.branch false next)
 
-all_owns : (limits : Limits) (m : Meaning) → OwnsAll m → (v : ℕ) (c : Construct) →
+all_owns : (limits : Limits) (m : Meaning) → MeaningMade limits Any m → (v : ℕ) (c : Construct) →
     Owned (over_all limits m v c) (c.next.number ∷ []) (c.top.number ∷ [])
 all_owns limits m h v c =
     owned_before (owned_naming limits Opcode.Store v (Simple.Known 5 ∷ []) None None)
-    (owned_then {a = c.top.number ∷ []} {b = []} (owned_mark limits c.top) (tested_owns_over m.operand m h c.next))
+    (owned_then {a = c.top.number ∷ []} {b = []} (owned_mark limits c.top) (tested_owns_over limits m.operand m h c.next))
 
 looped_as : (limits : Limits) (code : Code) (needs : Label) (how : Over) (v : ℕ) (due spare extra : Counts) (labels : List NamedLabel)
     (c : Construct) (around : List Construct) (o : Out) → c.kind ≡ Kind.Objects Over.Nothing 0 →
@@ -327,7 +331,7 @@ looped_by_good limits None e v due spare extra labels c around o k g = record {
   is = refl;
   good =
       looped_as limits (over_all limits (meaning limits e) v c) c.next Over.All v due spare extra labels c around o k (λ n. omega arith)
-      (λ n. refl) (all_owns limits (meaning limits e) (owns limits e) v c) g;
+      (λ n. refl) (all_owns limits (meaning limits e) (any_meaning limits e) v c) g;
 }
 
 not_begun : (due spare extra : Counts) (labels : List NamedLabel) (c : Construct) (around : List Construct) (o : Out) →

@@ -22,11 +22,15 @@ use Rattle.inf_statements.specs.Statements.{attributes_changed, attributes_given
 use Rattle.inf_statements.specs.Statements.{rest, returned, returned_by, returned_number, spaced, string_changed, string_set}
 use Rattle.inf_statements.specs.Statements.{styled_by, switched, tested, unless}
 use Rattle.inf_operands.specs.Texts.{text_at, text_packed}
-use Rattle.inf_label_laws.specs.{Labels.times, Programs.branch_labels, Programs.marks, Programs.operand_labels, Programs.uses}
-use Rattle.inf_label_laws.proofs.Owning.{Owned, Owns, Settles, has_first, has_later, owned_at, owned_before, owned_behind, owned_free}
+use Rattle.inf_code_walk.specs.Labels.{branch_labels, times}
+use Rattle.inf_code_walk.proofs.{Leaves.Any, Leaves.any_meaning, Leaves.any_part, Numbers.has_first, Numbers.has_later}
+use Rattle.inf_code_walk.proofs.{Numbers.times_joined}
+use Rattle.inf_code_walk.proofs.Rows.{MeaningMade, PartMade, ask_made, call_made, is_made, part_made, worked_made}
+use Rattle.inf_label_laws.specs.Programs.{marks, operand_labels, uses}
+use Rattle.inf_label_laws.proofs.Owning.{Owned, Owns, Settles, owned_at, owned_before, owned_behind, owned_free}
 use Rattle.inf_label_laws.proofs.Owning.{owned_instruction, owned_jump, owned_label, owned_mark, owned_nothing}
-use Rattle.inf_label_laws.proofs.Owning.{owned_item, owned_parts_laid, owned_then, owned_wide, times_joined}
-use Rattle.inf_label_laws.proofs.OwnRows.{OwnsAll, OwnsPart, owned_ask, owned_call, owned_worked, owns, simple_owns}
+use Rattle.inf_label_laws.proofs.Owning.{owned_item, owned_parts_laid, owned_then, owned_wide}
+use Rattle.inf_label_laws.proofs.OwnCode.{owned}
 use Rattle.inf_interpreter.specs.Claims.{code_behind, kept_behind}
 
 -- An output in which something beside code has changed
@@ -61,12 +65,9 @@ if_owns false c d h k = k
 pub plain_owns : (limits : Limits) (op : Opcode) → Owned (plain limits op) [] []
 plain_owns limits op = owned_instruction limits op [] None None
 
-part_owns : (limits : Limits) (e : Tree) → OwnsPart (part (meaning limits e))
-part_owns limits e = (owns limits e).value
-
 pub one_owns : (limits : Limits) (op : Opcode) (trees : List Tree) → Owned (one_worked limits op trees) [] []
 one_owns limits op [] = owned_nothing
-one_owns limits op (e ∷ trees) = owned_worked limits op (part (meaning limits e) ∷ []) (part_owns limits e, tt) None None
+one_owns limits op (e ∷ trees) = owned (worked_made limits Any op (part (meaning limits e) ∷ []) (any_part limits e, tt) None None)
 
 pub printed_owns : (limits : Limits) (op : Opcode) (text : Option (List TextItem)) → Owned (printed limits op text) [] []
 printed_owns limits op None o = owned_nothing {needs = []} o
@@ -84,68 +85,70 @@ number_owns limits n =
     (plain_owns limits Opcode.Rfalse)
     (owned_instruction limits Opcode.Ret (Simple.Known n ∷ []) None None))
 
-by_owns : (limits : Limits) (x : Option Simple) (m : Meaning) → OwnsAll m → Owned (returned_by limits x m) [] []
+by_owns : (limits : Limits) (x : Option Simple) (m : Meaning) → MeaningMade limits Any m → Owned (returned_by limits x m) [] []
 by_owns limits (Some (Simple.Known n)) m h = number_owns limits n
 by_owns limits (Some (Simple.Variable v)) m h = owned_instruction limits Opcode.Ret (Simple.Variable v ∷ []) None None
 by_owns limits (Some (Simple.Later t)) m h = owned_instruction limits Opcode.Ret (Simple.Later t ∷ []) None None
-by_owns limits None m h = owned_before (h.value SP) (plain_owns limits Opcode.RetPopped)
+by_owns limits None m h = owned_before (owned (h.value SP)) (plain_owns limits Opcode.RetPopped)
 
 pub returned_owns : (limits : Limits) (trees : List Tree) → Owned (returned limits trees) [] []
 returned_owns limits [] = plain_owns limits Opcode.Rtrue
-returned_owns limits (e ∷ trees) = by_owns limits (meaning limits e).operand (meaning limits e) (owns limits e)
+returned_owns limits (e ∷ trees) = by_owns limits (meaning limits e).operand (meaning limits e) (any_meaning limits e)
 
 pub alone_owns : (limits : Limits) (trees : List Tree) → Owned (alone limits trees) [] []
 alone_owns limits [] = owned_nothing
-alone_owns limits (e ∷ trees) = (owns limits e).alone
+alone_owns limits (e ∷ trees) = owned (any_meaning limits e).alone
 
 pub moved_owns : (limits : Limits) (trees : List Tree) → Owned (moved limits trees) [] []
 moved_owns limits [] = owned_nothing
 moved_owns limits (a ∷ []) = owned_nothing
 moved_owns limits (a ∷ b ∷ trees) =
-    owned_worked limits Opcode.InsertObj (part (meaning limits a) ∷ part (meaning limits b) ∷ [])
-    (part_owns limits a, (part_owns limits b, tt)) None None
+    owned (worked_made limits Any Opcode.InsertObj (part (meaning limits a) ∷ part (meaning limits b) ∷ [])
+    (any_part limits a, (any_part limits b, tt)) None None)
 
 pub spaced_owns : (limits : Limits) (trees : List Tree) → Owned (spaced limits trees) [] []
 spaced_owns limits [] = owned_nothing
-spaced_owns limits (e ∷ trees) = owned_ask limits Veneer.Spaces (part (meaning limits e) ∷ []) (part_owns limits e, tt) None
+spaced_owns limits (e ∷ trees) = owned (ask_made limits Any Veneer.Spaces (part (meaning limits e) ∷ []) (any_part limits e, tt) None)
 
-action_owns_on : (limits : Limits) (action : Part) → OwnsPart action → (trees : List Tree) → Owned (action_on limits action trees) [] []
-action_owns_on limits action h [] = owned_ask limits Veneer.Process (action ∷ []) (h, tt) None
+action_owns_on : (limits : Limits) (action : Part) → PartMade limits Any action → (trees : List Tree) →
+    Owned (action_on limits action trees) [] []
+action_owns_on limits action h [] = owned (ask_made limits Any Veneer.Process (action ∷ []) (h, tt) None)
 action_owns_on limits action h (a ∷ []) =
-    owned_ask limits Veneer.Process (action ∷ part (meaning limits a) ∷ []) (h, (part_owns limits a, tt)) None
+    owned (ask_made limits Any Veneer.Process (action ∷ part (meaning limits a) ∷ []) (h, (any_part limits a, tt)) None)
 action_owns_on limits action h (a ∷ b ∷ trees) =
-    owned_ask limits Veneer.Process (action ∷ part (meaning limits a) ∷ part (meaning limits b) ∷ [])
-    (h, (part_owns limits a, (part_owns limits b, tt))) None
+    owned (ask_made limits Any Veneer.Process (action ∷ part (meaning limits a) ∷ part (meaning limits b) ∷ [])
+    (h, (any_part limits a, (any_part limits b, tt))) None)
 
 pub action_owns : (limits : Limits) (trees : List Tree) → Owned (action_laid limits trees) [] []
 action_owns limits [] = owned_nothing
-action_owns limits (e ∷ trees) = action_owns_on limits (part (meaning limits e)) (part_owns limits e) trees
+action_owns limits (e ∷ trees) = action_owns_on limits (part (meaning limits e)) (any_part limits e) trees
 
-attribute_owns : (limits : Limits) (op : Opcode) (object : Part) → OwnsPart object → (trees : List Tree) →
+attribute_owns : (limits : Limits) (op : Opcode) (object : Part) → PartMade limits Any object → (trees : List Tree) →
     Owned (attribute_code limits op object trees) [] []
 attribute_owns limits op object h [] = owned_nothing
 attribute_owns limits op object h (a ∷ attributes) =
-    owned_worked limits op (object ∷ part (meaning limits a) ∷ []) (h, (part_owns limits a, tt)) None None
+    owned (worked_made limits Any op (object ∷ part (meaning limits a) ∷ []) (h, (any_part limits a, tt)) None None)
 
-attributes_owns : (limits : Limits) (object : Part) → OwnsPart object → (items : List Item) (attributes : List Tree) →
+attributes_owns : (limits : Limits) (object : Part) → PartMade limits Any object → (items : List Item) (attributes : List Tree) →
     Owned (attributes_given limits object items attributes) [] []
 attributes_owns limits object h [] attributes = owned_nothing
 attributes_owns limits object h (i ∷ items) attributes =
     owned_before (attribute_owns limits (attribute_opcode i) object h attributes) (attributes_owns limits object h items (rest attributes))
 
-given_owns : (limits : Limits) (several : Bool) (x : Option Simple) (m : Meaning) → OwnsAll m →
+given_owns : (limits : Limits) (several : Bool) (x : Option Simple) (m : Meaning) → MeaningMade limits Any m →
     (items : List Item) (attributes : List Tree) →
     Owned (given_by limits several x m items attributes) [] []
 given_owns limits true None m h items attributes =
-    owned_before (h.value TEMP) (attributes_owns limits (is (Simple.Variable TEMP)) (simple_owns (Simple.Variable TEMP)) items attributes)
-given_owns limits true (Some x) m h items attributes = attributes_owns limits (part m) h.value items attributes
-given_owns limits false None m h items attributes = attributes_owns limits (part m) h.value items attributes
-given_owns limits false (Some x) m h items attributes = attributes_owns limits (part m) h.value items attributes
+    owned_before (owned (h.value TEMP)) (attributes_owns limits (is (Simple.Variable TEMP)) (is_made limits Any (Simple.Variable TEMP) tt)
+    items attributes)
+given_owns limits true (Some x) m h items attributes = attributes_owns limits (part m) (part_made limits Any m h) items attributes
+given_owns limits false None m h items attributes = attributes_owns limits (part m) (part_made limits Any m h) items attributes
+given_owns limits false (Some x) m h items attributes = attributes_owns limits (part m) (part_made limits Any m h) items attributes
 
 pub changed_owns : (limits : Limits) (items : List Item) (trees : List Tree) → Owned (attributes_changed limits items trees) [] []
 changed_owns limits items [] = owned_nothing
 changed_owns limits items (e ∷ trees) =
-    given_owns limits (are_several items) (meaning limits e).operand (meaning limits e) (owns limits e) items trees
+    given_owns limits (are_several items) (meaning limits e).operand (meaning limits e) (any_meaning limits e) items trees
 
 pub styled_owns : (limits : Limits) (style : Option ℕ) → Owned (styled_by limits style) [] []
 styled_owns limits None = owned_nothing
@@ -154,8 +157,8 @@ styled_owns limits (Some style) = owned_instruction limits Opcode.SetTextStyle (
 set_owns : (limits : Limits) (low : Target) (trees : List Tree) → Owned (string_set limits low trees) [] []
 set_owns limits low [] = owned_nothing
 set_owns limits low (e ∷ trees) =
-    owned_worked limits Opcode.Storew (is (Simple.Later abbreviations) ∷ part (meaning limits e) ∷ is (Simple.Later low) ∷ [])
-    (simple_owns (Simple.Later abbreviations), (part_owns limits e, (simple_owns (Simple.Later low), tt))) None None
+    owned (worked_made limits Any Opcode.Storew (is (Simple.Later abbreviations) ∷ part (meaning limits e) ∷ is (Simple.Later low) ∷ [])
+    (is_made limits Any (Simple.Later abbreviations) tt, (any_part limits e, (is_made limits Any (Simple.Later low) tt, tt))) None None)
 
 past_none : {A : Type 0} {B : Type 0} {a : A} → Some a ≡ None → B
 past_none e = absurd (cc e)
@@ -186,7 +189,7 @@ string_owns limits (Some text) trees o =
 
 unless_owns : (limits : Limits) (trees : List Tree) (l : Label) → Owned (unless limits trees l) (l.number ∷ []) []
 unless_owns limits [] l = owned_nothing
-unless_owns limits (e ∷ trees) l = (owns limits e).branch false l
+unless_owns limits (e ∷ trees) l = owned ((any_meaning limits e).branch false l)
 
 abbrev pub label_in : Option Label → List ℕ
 label_in None = []
@@ -198,7 +201,7 @@ tested_owns limits (Some l) trees = unless_owns limits trees l
 
 pub switched_owns : (limits : Limits) (trees : List Tree) → Owned (switched limits trees) [] []
 switched_owns limits [] = owned_nothing
-switched_owns limits (e ∷ trees) = (owns limits e).value SWITCHED
+switched_owns limits (e ∷ trees) = owned ((any_meaning limits e).value SWITCHED)
 
 pub jumped_owns : (limits : Limits) (l : Option Label) → Owned (jumped_to limits l) (label_in l) []
 jumped_owns limits None = owned_nothing
@@ -214,11 +217,11 @@ called_owns : (limits : Limits) (trees : List Tree) → Owned (called_with limit
 called_owns limits [] = owned_nothing
 called_owns limits (f ∷ []) = owned_nothing
 called_owns limits (f ∷ e ∷ trees) =
-    owned_call limits (part (meaning limits f)) (part (meaning limits e) ∷ []) (part_owns limits f) (part_owns limits e, tt) None
+    owned (call_made limits Any (part (meaning limits f)) (part (meaning limits e) ∷ []) (any_part limits f) (any_part limits e, tt) None)
 
 veneer_owns : (limits : Limits) (v : Veneer) (trees : List Tree) → Owned (veneer_called limits v trees) [] []
 veneer_owns limits v [] = owned_nothing
-veneer_owns limits v (e ∷ trees) = owned_ask limits v (part (meaning limits e) ∷ []) (part_owns limits e, tt) None
+veneer_owns limits v (e ∷ trees) = owned (ask_made limits Any v (part (meaning limits e) ∷ []) (any_part limits e, tt) None)
 
 rule_owns : (limits : Limits) (r : PrintRule) (trees : List Tree) → Owned (rule_code limits r trees) [] []
 unfolding rule_code

@@ -7,9 +7,11 @@ use Rattle.inf_output.specs.declared.operands.Simple.{Simple}
 use Rattle.inf_output.specs.Output.{Out, items_of, jumped, laid_all, marked, to, ◌▸◌}
 use Rattle.inf_constructs.specs.{Constructs.closed, Constructs.ending, Constructs.looped_on, Labels.NamedLabel}
 use Rattle.inf_constructs.specs.{declared.constructs.Construct.Construct, declared.constructs.Kind.Kind, declared.constructs.Over.Over}
-use Rattle.inf_label_laws.specs.{Labels.times, Programs.marks, Programs.uses}
-use Rattle.inf_label_laws.proofs.Owning.{Owned, has_first, owned_at, owned_behind, owned_instruction, owned_jump}
-use Rattle.inf_label_laws.proofs.Owning.{owned_mark, owned_naming, owned_nothing, owned_then, owned_wide, times_joined}
+use Rattle.inf_code_walk.specs.Labels.{times}
+use Rattle.inf_code_walk.proofs.Numbers.{has_first, times_joined}
+use Rattle.inf_label_laws.specs.Programs.{marks, uses}
+use Rattle.inf_label_laws.proofs.Owning.{Owned, owned_at, owned_behind, owned_instruction, owned_jump}
+use Rattle.inf_label_laws.proofs.Owning.{owned_mark, owned_naming, owned_nothing, owned_then, owned_wide}
 use Rattle.inf_routine_laws.proofs.{Booking.Came, Booking.Counts, Booking.came, Booking.one, Booking.one_is, Codes.items_laid_own}
 use Rattle.inf_routine_laws.proofs.Balance.{Good, Turns, cased_in, good_as, good_paid, named_all, reached, reached_in}
 

@@ -7,8 +7,9 @@ use Rattle.inf_opcode.specs.{declared.instructions.Branch.Branch, declared.instr
 use Rattle.inf_opcode.specs.{declared.instructions.Label.Label, declared.instructions.Operand.Operand}
 use Rattle.inf_opcode.specs.Instructions.{Parts, branch_cells, heading, instruction_cells, operand_cells, store_cells}
 use Rattle.inf_assembler.specs.Places.{Places, first_of, label_of, long_place, missing, twice_behind, unplaced}
-use Rattle.inf_label_laws.specs.{Labels.times, Programs.branch_labels, Programs.operand_labels, Programs.target_labels}
-use Rattle.inf_label_laws.proofs.Owning.{times_first, times_joined, times_other}
+use Rattle.inf_code_walk.specs.Labels.{branch_labels, target_labels, times}
+use Rattle.inf_code_walk.proofs.Numbers.{times_first, times_joined, times_other}
+use Rattle.inf_label_laws.specs.Programs.{operand_labels}
 
 abbrev pub cell_marks : List Cell → List ℕ
 cell_marks [] = []

@@ -23,7 +23,7 @@ use Rattle.inf_statements.specs.Effects.{Site, last_text, name_behind, statement
 use Rattle.inf_statements.specs.Statements.{action_laid, alone, attributes_changed, jumped_to, moved, one_worked, plain, returned, spaced}
 use Rattle.inf_statements.specs.Statements.{string_changed, style_of, styled}
 use Rattle.inf_operands.specs.Texts.{text_at}
-use Rattle.inf_label_laws.specs.{Labels.times, Programs.branch_labels}
+use Rattle.inf_code_walk.specs.Labels.{branch_labels, times}
 use Rattle.inf_label_laws.proofs.Owning.{Owned, owned_before, owned_instruction, owned_naming, owned_nothing}
 use Rattle.inf_routine_laws.proofs.Booking.{Counts, came, one_is}
 use Rattle.inf_routine_laws.proofs.Balance.{Good, good_paid, named_all, reached, reached_in}

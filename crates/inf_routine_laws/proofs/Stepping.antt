@@ -24,7 +24,8 @@ use Rattle.inf_unit.proofs.Cases.{of_both}
 use Rattle.inf_statement_laws.specs.Nested.{Case, Do, For, If, IfElse, Nested, Objectloop, Plain, Switch, Then, While}
 use Rattle.inf_statement_laws.specs.Laid.{laid, run}
 use Rattle.inf_statement_laws.proofs.{Acts.quiet_run, Laying.laid_as}
-use Rattle.inf_label_laws.specs.{Labels.times, Programs.marks, Programs.uses}
+use Rattle.inf_code_walk.specs.Labels.{times}
+use Rattle.inf_label_laws.specs.Programs.{marks, uses}
 use Rattle.inf_label_laws.proofs.Owning.{Owned, Settles, some_of_two}
 use Rattle.inf_routine_laws.proofs.{Acting.settled_good, Codes.alone_owns, Counting.cell_marks, Counting.cell_uses}
 use Rattle.inf_routine_laws.proofs.Booking.{Booked, Counts, booked_as}

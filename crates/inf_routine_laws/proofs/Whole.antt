@@ -27,7 +27,7 @@ use Rattle.inf_statement_laws.specs.{Nested.Nested, Nested.happenings, Readings.
 use Rattle.inf_statement_laws.specs.Happenings.{Acts, Between, Happening, Moment}
 use Rattle.inf_statement_laws.specs.Laid.{happens, laid, passed, run}
 use Rattle.inf_statement_laws.proofs.{Acts.inside_act, Acts.own_alone, Acts.quiet_run, Laying.alone_behind}
-use Rattle.inf_label_laws.specs.Labels.{times}
+use Rattle.inf_code_walk.specs.Labels.{times}
 use Rattle.inf_routine_laws.specs.{Laws.RoutinesHaveTheirLabels, Laws.headed, Leaving.LeavesRoutine}
 use Rattle.inf_routine_laws.specs.Faults.{AllLeave, HasBegun, HasItsLabels, LeaveRoutine, is_of_labels}
 use Rattle.inf_routine_laws.proofs.{Acting.Balanced, Acting.quiet_good, Booking.Counts, Booking.one, Booking.some_is, Nesting.keeps_all}

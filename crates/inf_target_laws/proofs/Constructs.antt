@@ -14,18 +14,19 @@ use Rattle.inf_constructs.specs.Cases.{range_tested, SWITCHED, beside, group_beh
 use Rattle.inf_constructs.specs.Constructs.{Laying, all_ended, begun, between, case_closed, case_entered, cases_begun, changed, closed}
 use Rattle.inf_constructs.specs.Constructs.{ended, ending, entered, entered_by, front, joint, looped, looped_by, looped_on, looped_over}
 use Rattle.inf_constructs.specs.Constructs.{opened, over_all, over_children, tested_over, with_labels}
+use Rattle.inf_code_walk.proofs.Rows.{MeaningMade, meaning_made, operand_meets}
 use Rattle.inf_target_laws.specs.Lists.{ItemsStand, StepsStand}
 use Rattle.inf_target_laws.proofs.{Outputs.GoesIf, Outputs.Sound, Outputs.if_nowhere, Outputs.items_keep, Statements.Gives}
-use Rattle.inf_target_laws.proofs.{Statements.gives_code, Statements.tree_sound, Templates.MeaningSound, Templates.meaning_sound}
+use Rattle.inf_target_laws.proofs.Statements.{gives_code, tree_part}
 use Rattle.inf_target_laws.proofs.{Trees.ChildStands, Trees.EndsStand, Trees.child_stands, Trees.range_stands}
-use Rattle.inf_target_laws.proofs.Pieces.{by_stands, sound_if, sound_instruction, sound_jump, sound_label, sound_mark, sound_naming}
+use Rattle.inf_target_laws.proofs.Pieces.{made_sound, sound_if, sound_instruction, sound_jump, sound_label, sound_mark, sound_naming}
 use Rattle.inf_target_laws.proofs.Pieces.{sound_nothing, sound_then, worked_sound}
-use Rattle.inf_target_laws.proofs.Premises.{RootsStand, SimpleStands, SimplesStand, TreeStands, TreesStand}
+use Rattle.inf_target_laws.proofs.Premises.{RootsStand, SimpleStands, SimplesStand, There, TreeStands, TreesStand}
 
 -- Cases
 
 operand_stands : (u : Out) (P : Type 0) (limits : Limits) (e : Tree) → TreeStands u P e → SimpleStands u P (operand_in limits e)
-operand_stands u P limits e h = by_stands u P (meaning limits e).operand (meaning_sound {u = u} {P = P} limits e h).operand
+operand_stands u P limits e h = operand_meets limits (There u P) (meaning limits e).operand (meaning_made limits (There u P) e h).operand
 
 group_sound : {u : Out} {P : Type 0} (limits : Limits) (group : List Simple) (sense : Bool) (label : Label) → SimplesStand u P group
     → Sound limits u P (group_tested limits group sense label)
@@ -140,19 +141,19 @@ between_gives {u} {P} limits c = record { keeps = λ o. (joint_sound limits c c.
 children_sound : {u : Out} {P : Type 0} (limits : Limits) (e : Tree) (v : ℕ) (c : Construct) → TreeStands u P e
     → Sound limits u P (over_children limits e v c)
 children_sound {u} {P} limits e v c h =
-    sound_then (worked_sound limits Opcode.GetChild (part (meaning limits e) ∷ []) (Some v) (to false c.end) (tree_sound limits e h, tt))
+    sound_then (worked_sound limits Opcode.GetChild (part (meaning limits e) ∷ []) (Some v) (to false c.end) (tree_part u P limits e h, tt))
     (sound_mark c.top)
 
-over_sound : {u : Out} {P : Type 0} (limits : Limits) (x : Option Simple) (e : Meaning) (next : Label) → MeaningSound limits u P e
+over_sound : {u : Out} {P : Type 0} (limits : Limits) (x : Option Simple) (e : Meaning) (next : Label) → MeaningMade limits (There u P) e
     → Sound limits u P (tested_over x e next)
 over_sound {u} {P} limits (Some operand) e next h = sound_nothing
-over_sound {u} {P} limits None e next h = h.branch false next
+over_sound {u} {P} limits None e next h = made_sound (h.branch false next)
 
 all_sound : {u : Out} {P : Type 0} (limits : Limits) (e : Tree) (v : ℕ) (c : Construct) → TreeStands u P e
     → Sound limits u P (over_all limits (meaning limits e) v c)
 all_sound {u} {P} limits e v c h =
     sound_then (sound_naming Opcode.Store v (Simple.Known 5 ∷ []) None None (tt, tt)) (sound_then (sound_mark c.top)
-    (over_sound limits (meaning limits e).operand (meaning limits e) c.next (meaning_sound limits e h)))
+    (over_sound limits (meaning limits e).operand (meaning limits e) c.next (meaning_made limits (There u P) e h)))
 
 looped_by_gives : {u : Out} {P : Type 0} (limits : Limits) (parent : Option Tree) (e : Tree) (v : ℕ) (c : Construct)
     → ChildStands u P parent → TreeStands u P e → Gives limits u P (looped_by limits parent e v c)

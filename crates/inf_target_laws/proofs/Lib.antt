@@ -4,7 +4,6 @@ pub mod Trees
 pub mod Outputs
 pub mod Names
 pub mod Pieces
-pub mod Templates
 pub mod Statements
 pub mod Constructs
 pub mod Operands

@@ -15,7 +15,7 @@ use Rattle.inf_output.specs.{declared.items.Item.TheVariants.Instruction, declar
 use Rattle.inf_templates.specs.{Meaning.Meaning, Meaning.meaning, Meaning.part, Parts.Part, Parts.SP, Parts.TEMP, Parts.is}
 use Rattle.inf_unit.specs.{Opcodes.opcode_of, Tokens.SourceToken, Units.bytes_at, declared.items.Item.Item}
 use Rattle.inf_unit.specs.{declared.items.PrintRule.PrintRule}
-use Rattle.inf_constructs.specs.{Constructs.Laying, Constructs.left_to, Labels.NamedLabel}
+use Rattle.inf_constructs.specs.{Cases.SWITCHED, Constructs.Laying, Constructs.left_to, Labels.NamedLabel}
 use Rattle.inf_statements.specs.{declared.assembly.Ends.Ends, declared.statements.Statement.Statement}
 use Rattle.inf_statements.specs.Assembly.{branch_to, branched, branched_to, ends_of, fits, instructed, jumped_on, labelled, line_instructed}
 use Rattle.inf_statements.specs.Assembly.{line_laid, line_laid_as, line_laid_by, named_first, operands_in, placed, printing_of}
@@ -28,16 +28,17 @@ use Rattle.inf_statements.specs.Statements.{attributes_changed, attributes_given
 use Rattle.inf_statements.specs.Statements.{rest, returned, returned_by, returned_number, spaced, string_changed, string_set, style_of}
 use Rattle.inf_statements.specs.Statements.{styled_by, switched, tested, unless}
 use Rattle.inf_operands.specs.Texts.{text_at, text_packed}
+use Rattle.inf_code_walk.proofs.Rows.{MeaningMade, PartMade, is_made, meaning_made, operand_meets, part_made}
 use Rattle.inf_target_laws.proofs.Outputs.{GoesIf, Sound, if_nowhere, if_then, item_keeps, low_text_keeps}
-use Rattle.inf_target_laws.proofs.Pieces.{PartSound, ask_sound, by_stands, call_sound, is_sound, sound_if, sound_instruction, sound_jump}
-use Rattle.inf_target_laws.proofs.Pieces.{sound_mark, sound_naming, sound_nothing, sound_then, worked_sound}
-use Rattle.inf_target_laws.proofs.Premises.{MaybeStands, SimpleStands, SimplesStand, TreeStands, TreesStand}
-use Rattle.inf_target_laws.proofs.Templates.{MeaningSound, meaning_sound, part_sound}
+use Rattle.inf_target_laws.proofs.Pieces.{ask_sound, call_sound, made_sound, sound_if, sound_instruction, sound_jump, sound_mark}
+use Rattle.inf_target_laws.proofs.Pieces.{sound_naming, sound_nothing, sound_then, worked_sound}
+use Rattle.inf_target_laws.proofs.Premises.{MaybeStands, SimpleStands, SimplesStand, There, TreeStands, TreesStand}
 
 -- Operands
 
-pub tree_sound : {u : Out} {P : Type 0} (limits : Limits) (e : Tree) → TreeStands u P e → PartSound limits u P (part (meaning limits e))
-tree_sound {u} {P} limits e h = part_sound limits (meaning limits e) (meaning_sound limits e h)
+pub tree_part : (u : Out) (P : Type 0) (limits : Limits) (e : Tree) → TreeStands u P e
+    → PartMade limits (There u P) (part (meaning limits e))
+tree_part u P limits e h = part_made limits (There u P) (meaning limits e) (meaning_made limits (There u P) e h)
 
 plain_sound : {u : Out} {P : Type 0} (limits : Limits) (op : Opcode) → Sound limits u P (plain limits op)
 plain_sound {u} {P} limits op = sound_instruction op [] None None tt
@@ -53,7 +54,7 @@ printed_sound {u} {P} limits op (Some text) = record {
 one_sound : {u : Out} {P : Type 0} (limits : Limits) (op : Opcode) (trees : List Tree) → TreesStand u P trees
     → Sound limits u P (one_worked limits op trees)
 one_sound {u} {P} limits op [] h = sound_nothing
-one_sound {u} {P} limits op (e ∷ trees) h = worked_sound limits op (part (meaning limits e) ∷ []) None None (tree_sound limits e h.0, tt)
+one_sound {u} {P} limits op (e ∷ trees) h = worked_sound limits op (part (meaning limits e) ∷ []) None None (tree_part u P limits e h.0, tt)
 
 -- Printing
 
@@ -66,13 +67,13 @@ called_sound : {u : Out} {P : Type 0} (limits : Limits) (trees : List Tree) → 
 called_sound {u} {P} limits [] h = sound_nothing
 called_sound {u} {P} limits (f ∷ []) h = sound_nothing
 called_sound {u} {P} limits (f ∷ e ∷ trees) h =
-    call_sound limits (part (meaning limits f)) (part (meaning limits e) ∷ []) None (tree_sound limits f h.0)
-    (tree_sound limits e h.1.0, tt)
+    call_sound limits (part (meaning limits f)) (part (meaning limits e) ∷ []) None (tree_part u P limits f h.0)
+    (tree_part u P limits e h.1.0, tt)
 
 veneer_sound : {u : Out} {P : Type 0} (limits : Limits) (v : Veneer) (trees : List Tree) → TreesStand u P trees
     → Sound limits u P (veneer_called limits v trees)
 veneer_sound {u} {P} limits v [] h = sound_nothing
-veneer_sound {u} {P} limits v (e ∷ trees) h = ask_sound limits v (part (meaning limits e) ∷ []) None (tree_sound limits e h.0, tt)
+veneer_sound {u} {P} limits v (e ∷ trees) h = ask_sound limits v (part (meaning limits e) ∷ []) None (tree_part u P limits e h.0, tt)
 
 rule_sound : {u : Out} {P : Type 0} (limits : Limits) (r : PrintRule) (trees : List Tree) → TreesStand u P trees
     → Sound limits u P (rule_code limits r trees)
@@ -144,40 +145,43 @@ number_sound {u} {P} limits n =
     (sound_if (n == 0) (plain_sound limits Opcode.Rfalse) (sound_instruction Opcode.Ret (Simple.Known n ∷ []) None None (tt, tt)))
 
 returned_by_sound : {u : Out} {P : Type 0} (limits : Limits) (x : Option Simple) (m : Meaning) → MaybeStands u P x
-    → MeaningSound limits u P m → Sound limits u P (returned_by limits x m)
+    → MeaningMade limits (There u P) m → Sound limits u P (returned_by limits x m)
 returned_by_sound {u} {P} limits (Some (Simple.Known n)) m s h = number_sound limits n
 returned_by_sound {u} {P} limits (Some (Simple.Variable v)) m s h = sound_instruction Opcode.Ret (Simple.Variable v ∷ []) None None (tt, tt)
 returned_by_sound {u} {P} limits (Some (Simple.Later t)) m s h = sound_instruction Opcode.Ret (Simple.Later t ∷ []) None None (s, tt)
-returned_by_sound {u} {P} limits None m s h = sound_then (h.value SP) (plain_sound limits Opcode.RetPopped)
+returned_by_sound {u} {P} limits None m s h = sound_then (made_sound (h.value SP)) (plain_sound limits Opcode.RetPopped)
 
 returned_sound : {u : Out} {P : Type 0} (limits : Limits) (trees : List Tree) → TreesStand u P trees
     → Sound limits u P (returned limits trees)
 returned_sound {u} {P} limits [] h = plain_sound limits Opcode.Rtrue
 returned_sound {u} {P} limits (e ∷ trees) h =
-    let m = meaning_sound limits e h.0 in returned_by_sound limits (meaning limits e).operand (meaning limits e) m.operand m
+    let m = meaning_made limits (There u P) e h.0 in returned_by_sound limits (meaning limits e).operand (meaning limits e) m.operand m
 
 pub alone_sound : {u : Out} {P : Type 0} (limits : Limits) (trees : List Tree) → TreesStand u P trees
     → Sound limits u P (alone limits trees)
 alone_sound {u} {P} limits [] h = sound_nothing
-alone_sound {u} {P} limits (e ∷ trees) h = (meaning_sound limits e h.0).alone
+alone_sound {u} {P} limits (e ∷ trees) h = made_sound (meaning_made limits (There u P) e h.0).alone
 
 moved_sound : {u : Out} {P : Type 0} (limits : Limits) (trees : List Tree) → TreesStand u P trees → Sound limits u P (moved limits trees)
 moved_sound {u} {P} limits [] h = sound_nothing
 moved_sound {u} {P} limits (a ∷ []) h = sound_nothing
 moved_sound {u} {P} limits (a ∷ b ∷ trees) h =
     worked_sound limits Opcode.InsertObj (part (meaning limits a) ∷ part (meaning limits b) ∷ []) None None
-    (tree_sound limits a h.0, (tree_sound limits b h.1.0, tt))
+    (tree_part u P limits a h.0, (tree_part u P limits b h.1.0, tt))
 
 spaced_sound : {u : Out} {P : Type 0} (limits : Limits) (trees : List Tree) → TreesStand u P trees → Sound limits u P (spaced limits trees)
 spaced_sound {u} {P} limits [] h = sound_nothing
-spaced_sound {u} {P} limits (e ∷ trees) h = ask_sound limits Veneer.Spaces (part (meaning limits e) ∷ []) None (tree_sound limits e h.0, tt)
+spaced_sound {u} {P} limits (e ∷ trees) h =
+    ask_sound limits Veneer.Spaces (part (meaning limits e) ∷ []) None (tree_part u P limits e h.0, tt)
 
 set_sound : {u : Out} {P : Type 0} (limits : Limits) (low : Target) → SimpleStands u P (Simple.Later low) → (trees : List Tree)
     → TreesStand u P trees → Sound limits u P (string_set limits low trees)
 set_sound {u} {P} limits low s [] h = sound_nothing
 set_sound {u} {P} limits low s (e ∷ trees) h =
-    worked_sound limits Opcode.Storew (is (Simple.Later abbreviations) ∷ part (meaning limits e) ∷ is (Simple.Later low) ∷ []) None None
-    (is_sound limits (Simple.Later abbreviations) (λ p. tt), (tree_sound limits e h.0, (is_sound limits (Simple.Later low) s, tt)))
+    worked_sound limits Opcode.Storew (is (Simple.Later abbreviations) ∷ part (meaning limits e) ∷ is (Simple.Later low) ∷ []) None None (
+      is_made limits (There u P) (Simple.Later abbreviations) (λ p. tt),
+      (tree_part u P limits e h.0, (is_made limits (There u P) (Simple.Later low) s, tt)),
+    )
 
 changed_sound : {u : Out} {P : Type 0} (limits : Limits) (text : Option (List TextItem)) (trees : List Tree) → TreesStand u P trees
     → Sound limits u P (string_changed limits text trees)
@@ -191,24 +195,24 @@ changed_sound {u} {P} limits (Some text) trees h = record {
       ((set_sound limits (low_string_at p) (λ x. tt) trees h).keeps v);
 }
 
-on_sound : {u : Out} {P : Type 0} (limits : Limits) (action : Part) → PartSound limits u P action → (trees : List Tree)
+on_sound : {u : Out} {P : Type 0} (limits : Limits) (action : Part) → PartMade limits (There u P) action → (trees : List Tree)
     → TreesStand u P trees → Sound limits u P (action_on limits action trees)
 on_sound {u} {P} limits action s [] h = ask_sound limits Veneer.Process (action ∷ []) None (s, tt)
 on_sound {u} {P} limits action s (a ∷ []) h =
-    ask_sound limits Veneer.Process (action ∷ part (meaning limits a) ∷ []) None (s, (tree_sound limits a h.0, tt))
+    ask_sound limits Veneer.Process (action ∷ part (meaning limits a) ∷ []) None (s, (tree_part u P limits a h.0, tt))
 on_sound {u} {P} limits action s (a ∷ b ∷ trees) h =
     ask_sound limits Veneer.Process (action ∷ part (meaning limits a) ∷ part (meaning limits b) ∷ []) None
-    (s, (tree_sound limits a h.0, (tree_sound limits b h.1.0, tt)))
+    (s, (tree_part u P limits a h.0, (tree_part u P limits b h.1.0, tt)))
 
 action_sound : {u : Out} {P : Type 0} (limits : Limits) (trees : List Tree) → TreesStand u P trees
     → Sound limits u P (action_laid limits trees)
 action_sound {u} {P} limits [] h = sound_nothing
-action_sound {u} {P} limits (e ∷ trees) h = on_sound limits (part (meaning limits e)) (tree_sound limits e h.0) trees h.1
+action_sound {u} {P} limits (e ∷ trees) h = on_sound limits (part (meaning limits e)) (tree_part u P limits e h.0) trees h.1
 
 unless_sound : {u : Out} {P : Type 0} (limits : Limits) (trees : List Tree) (label : Label) → TreesStand u P trees
     → Sound limits u P (unless limits trees label)
 unless_sound {u} {P} limits [] label h = sound_nothing
-unless_sound {u} {P} limits (e ∷ trees) label h = (meaning_sound limits e h.0).branch false label
+unless_sound {u} {P} limits (e ∷ trees) label h = made_sound ((meaning_made limits (There u P) e h.0).branch false label)
 
 pub tested_sound : {u : Out} {P : Type 0} (limits : Limits) (label : Option Label) (trees : List Tree) → TreesStand u P trees
     → Sound limits u P (tested limits label trees)
@@ -218,15 +222,16 @@ tested_sound {u} {P} limits (Some label) trees h = unless_sound limits trees lab
 pub switched_sound : {u : Out} {P : Type 0} (limits : Limits) (trees : List Tree) → TreesStand u P trees
     → Sound limits u P (switched limits trees)
 switched_sound {u} {P} limits [] h = sound_nothing
-switched_sound {u} {P} limits (e ∷ trees) h = (meaning_sound limits e h.0).value _
+switched_sound {u} {P} limits (e ∷ trees) h = made_sound ((meaning_made limits (There u P) e h.0).value SWITCHED)
 
-attribute_sound : {u : Out} {P : Type 0} (limits : Limits) (op : Opcode) (object : Part) → PartSound limits u P object → (trees : List Tree)
+attribute_sound : {u : Out} {P : Type 0} (limits : Limits) (op : Opcode) (object : Part) → PartMade limits (There u P) object →
+    (trees : List Tree)
     → TreesStand u P trees → Sound limits u P (attribute_code limits op object trees)
 attribute_sound {u} {P} limits op object s [] h = sound_nothing
 attribute_sound {u} {P} limits op object s (a ∷ attributes) h =
-    worked_sound limits op (object ∷ part (meaning limits a) ∷ []) None None (s, (tree_sound limits a h.0, tt))
+    worked_sound limits op (object ∷ part (meaning limits a) ∷ []) None None (s, (tree_part u P limits a h.0, tt))
 
-attributes_sound : {u : Out} {P : Type 0} (limits : Limits) (object : Part) → PartSound limits u P object
+attributes_sound : {u : Out} {P : Type 0} (limits : Limits) (object : Part) → PartMade limits (There u P) object
     → (items : List Item) (attributes : List Tree) → TreesStand u P attributes
     → Sound limits u P (attributes_given limits object items attributes)
 attributes_sound {u} {P} limits object s [] attributes h = sound_nothing
@@ -234,23 +239,26 @@ attributes_sound {u} {P} limits object s (i ∷ items) attributes h =
     sound_then (attribute_sound limits (attribute_opcode i) object s attributes h)
     (attributes_sound limits object s items (rest attributes) (rest_stand u P attributes h))
 
-given_sound : {u : Out} {P : Type 0} (limits : Limits) (several : Bool) (x : Option Simple) (m : Meaning) → MeaningSound limits u P m
+given_sound : {u : Out} {P : Type 0} (limits : Limits) (several : Bool) (x : Option Simple) (m : Meaning) → MeaningMade limits (There u P) m
     → (items : List Item) (attributes : List Tree) → TreesStand u P attributes
     → Sound limits u P (given_by limits several x m items attributes)
 given_sound {u} {P} limits true None m s items attributes h =
-    sound_then (s.value TEMP) (attributes_sound limits (is (Simple.Variable TEMP)) (is_sound limits (Simple.Variable TEMP) tt) items
+    sound_then (made_sound (s.value TEMP)) (attributes_sound limits (is (Simple.Variable TEMP))
+    (is_made limits (There u P) (Simple.Variable TEMP) tt) items
     attributes h)
 given_sound {u} {P} limits true (Some x) m s items attributes h =
-    attributes_sound limits (part m) (part_sound limits m s) items attributes h
-given_sound {u} {P} limits false None m s items attributes h = attributes_sound limits (part m) (part_sound limits m s) items attributes h
+    attributes_sound limits (part m) (part_made limits (There u P) m s) items attributes h
+given_sound {u} {P} limits false None m s items attributes h =
+    attributes_sound limits (part m) (part_made limits (There u P) m s) items attributes h
 given_sound {u} {P} limits false (Some x) m s items attributes h =
-    attributes_sound limits (part m) (part_sound limits m s) items attributes h
+    attributes_sound limits (part m) (part_made limits (There u P) m s) items attributes h
 
 give_sound : {u : Out} {P : Type 0} (limits : Limits) (items : List Item) (trees : List Tree) → TreesStand u P trees
     → Sound limits u P (attributes_changed limits items trees)
 give_sound {u} {P} limits items [] h = sound_nothing
 give_sound {u} {P} limits items (e ∷ trees) h =
-    given_sound limits (are_several items) (meaning limits e).operand (meaning limits e) (meaning_sound limits e h.0) items trees h.1
+    given_sound limits (are_several items) (meaning limits e).operand (meaning limits e) (meaning_made limits (There u P) e h.0)
+    items trees h.1
 
 styled_sound : {u : Out} {P : Type 0} (limits : Limits) (style : Option ℕ) → Sound limits u P (styled_by limits style)
 styled_sound {u} {P} limits None = sound_nothing
@@ -327,8 +335,11 @@ jumped_gives {u} {P} limits tokens (Some at) labels = record {
 simples_stand : (u : Out) (P : Type 0) (limits : Limits) (trees : List Tree) → TreesStand u P trees
     → SimplesStand u P (operands_in limits trees)
 simples_stand u P limits [] h = tt
-simples_stand u P limits (e ∷ trees) h =
-    (by_stands u P (meaning limits e).operand (meaning_sound {u = u} {P = P} limits e h.0).operand, simples_stand u P limits trees h.1)
+simples_stand u P limits (e ∷ trees) h = (
+  operand_meets limits (There u P) (meaning limits e).operand (meaning_made limits (There u P) e h.0).operand,
+  simples_stand u P
+      limits trees h.1,
+)
 
 first_sound : {u : Out} {P : Type 0} (limits : Limits) (op : Opcode) (trees : List Tree) (store : Option ℕ) (branch : Option Branch)
     → TreesStand u P trees → Sound limits u P (named_first limits op trees store branch)

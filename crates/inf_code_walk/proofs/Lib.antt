@@ -1,0 +1,4 @@
+pub mod Leaves
+pub mod Making
+pub mod Numbers
+pub mod Rows

@@ -1,0 +1,76 @@
+-- Code by the pieces that it is put together of. A law that holds of each piece holds of the code, by one induction.
+use Rattle.std.specs.Prelude.{◌≡◌, ℕ, ◌≤◌, Bool, List, [], ◌∷◌, ◌++◌, Option, Some, None, ◌⊎◌}
+use Rattle.inf_settings.specs.Bounds.{Limits}
+use Rattle.inf_area.specs.declared.targets.Target.{Target}
+use Rattle.inf_expressions.specs.{Trees.Leaf, Trees.One, Trees.Tree, Trees.Two, declared.operators.Operand.Operand}
+use Rattle.inf_opcode.specs.{declared.instructions.Branch.Branch, declared.instructions.Label.Label, declared.opcodes.Opcode.Opcode}
+use Rattle.inf_output.specs.{declared.operands.Simple.Simple, declared.veneer.Veneer.Veneer}
+use Rattle.inf_output.specs.Output.{Code, instruction, jumped, marked, naming, nothing, with_label, ◌▸◌}
+use Rattle.inf_templates.specs.{Meaning.meaning, Parts.calling_routine}
+use Rattle.inf_code_walk.specs.Labels.{branch_labels, times}
+
+-- Operands meet a premise where the targets that they refer to do: numbers and variables refer to none.
+abbrev pub Meets : (Target → Type 0) → Simple → Type 0
+Meets L (Simple.Later t) = L t
+Meets L _ = Unit {0}
+
+abbrev pub AllMeet : (Target → Type 0) → List Simple → Type 0
+AllMeet L [] = Unit {0}
+AllMeet L (s ∷ simples) = Meets L s × AllMeet L simples
+
+abbrev pub MaybeMeets : (Target → Type 0) → Option Simple → Type 0
+MaybeMeets L None = Unit {0}
+MaybeMeets L (Some s) = Meets L s
+
+abbrev pub LeafMeets : (Target → Type 0) → Operand → Type 0
+LeafMeets L (Operand.Later t) = L t
+LeafMeets L _ = Unit {0}
+
+-- the leaves of a tree
+abbrev pub TreeMeets : (Target → Type 0) → Tree → Type 0
+TreeMeets L (Leaf x) = LeafMeets L x
+TreeMeets L (One op a) = TreeMeets L a
+TreeMeets L (Two op a b) = TreeMeets L a × TreeMeets L b
+
+-- Code of these pieces alone: instructions whose operands meet a premise, calls of supplied routines, and labels. It branches and jumps to
+-- labels that it marks or that are among those that it may need; beside the labels that are handed out while it is laid, it marks those
+-- that it is given, once each.
+pub data Made (limits : Limits) (L : Target → Type 0) : Code → List ℕ → List ℕ → Type 0 where
+  Nothing : {needs : List ℕ} → Made limits L nothing needs []
+  Then : {c d : Code} {needs a b : List ℕ} → Made limits L c needs a → Made limits L d needs b → Made limits L (c ▸ d) needs (a ++ b)
+  Handed : {body : Label → Code} {needs given : List ℕ}
+      → ((l : Label) → Made limits L (body l) (l.number ∷ needs) (l.number ∷ given)) → Made limits L (with_label body) needs given
+  Wide : {c : Code} {a b given : List ℕ} → ((n : ℕ) → 1 ≤ times n a → 1 ≤ times n b) → Made limits L c a given → Made limits L c b given
+  As : {c : Code} {needs a b : List ℕ} → ((n : ℕ) → times n a ≡ times n b) → Made limits L c needs a → Made limits L c needs b
+  Instructs : (op : Opcode) (operands : List Simple) (store : Option ℕ) (branch : Option Branch) → AllMeet L operands
+      → Made limits L (instruction limits op operands store branch) (branch_labels branch) []
+  Names : (op : Opcode) (variable : ℕ) (operands : List Simple) (store : Option ℕ) (branch : Option Branch) → AllMeet L operands
+      → Made limits L (naming limits op variable operands store branch) (branch_labels branch) []
+  Asks : (v : Veneer) (arguments : List Simple) (store : Option ℕ) → AllMeet L arguments
+      → Made limits L (calling_routine limits v arguments store) [] []
+  Marks : {needs : List ℕ} (l : Label) → Made limits L (marked limits l) needs (l.number ∷ [])
+  Jumps : (l : Label) → Made limits L (jumped limits l) (l.number ∷ []) []
+
+-- The code of a tree is made so in each use of the tree; as a branch it needs the label to which it leads.
+pub record TreeMade (limits : Limits) (L : Target → Type 0) (t : Tree) : Type 0 where
+  pub value : (d : ℕ) → Made limits L ((meaning limits t).value d) [] []
+  pub alone : Made limits L (meaning limits t).alone [] []
+  pub branch : (sense : Bool) (label : Label) → Made limits L ((meaning limits t).branch sense label) (label.number ∷ []) []
+
+-- the targets to which the leaves of a tree refer
+abbrev pub leaf_targets : Operand → List Target
+leaf_targets (Operand.Later t) = t ∷ []
+leaf_targets _ = []
+
+abbrev pub tree_targets : Tree → List Target
+tree_targets (Leaf x) = leaf_targets x
+tree_targets (One op a) = tree_targets a
+tree_targets (Two op a b) = tree_targets a ++ tree_targets b
+
+abbrev pub IsAmong : List Target → Target → Type 0
+IsAmong [] t = ⊥
+IsAmong (u ∷ others) t = (t ≡ u) ⊎ IsAmong others t
+
+-- Code refers to no other targets than the leaves of its tree do.
+abbrev pub TreesAreMade : Type 0
+TreesAreMade = (limits : Limits) (t : Tree) → TreeMade limits (IsAmong (tree_targets t)) t
