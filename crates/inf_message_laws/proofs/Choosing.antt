@@ -18,54 +18,54 @@ use Rattle.inf_declarations.specs.Abbreviations.{low_string_added, low_string_wi
 use Rattle.inf_declarations.specs.Headers.{known_number, release, release_ended, release_finding, release_told, release_with, serial}
 use Rattle.inf_declarations.specs.Headers.{serial_by, serial_in}
 use Rattle.inf_named_values.specs.{Declarations.plainly_known, declared.declarations.Declared.Declared}
-use Rattle.inf_message_laws.specs.Growing.{Keeps}
 use Rattle.inf_message_laws.proofs.{Declaring.declaration_keeps, Tokens.end_keeps, Tokens.passed_keeps}
-use Rattle.inf_message_laws.proofs.Keeping.{laid_keeps, nothing_keeps, then_keeps, with_keeps}
+use Rattle.inf_message_laws.proofs.Keeping.{laid_keeps}
+use Rattle.inf_message_laws.proofs.Steps.{By, Idle, Sets, Step, Then}
 
 -- Releases and serial numbers
 
 release_told_keeps : (limits : Limits) (context : Context) (number : Option ℕ) (finding : Option Finding)
-    → Keeps (release_told limits context number finding)
-release_told_keeps limits context number (Some f) = nothing_keeps
-release_told_keeps limits context number None = record { keeps = λ b w. refl }
+    → Step false (release_told limits context number finding)
+release_told_keeps limits context number (Some f) = Idle
+release_told_keeps limits context number None = Sets (λ b w. refl) (λ w. refl)
 
 release_ended_keeps : (limits : Limits) (context : Context) (first : Place) (number : Option ℕ) (finding : Option Finding)
-    → Keeps (release_ended limits context first number finding)
+    → Step false (release_ended limits context first number finding)
 release_ended_keeps limits context first number finding =
-    then_keeps (release_told limits context number finding) (unit_ended limits context first true (found_alone finding))
+    Then (release_told limits context number finding) (unit_ended limits context first true (found_alone finding))
     (release_told_keeps limits context number finding) (end_keeps limits context first true (found_alone finding))
 
-pub release_keeps : (limits : Limits) (context : Context) (first : Place) → Keeps (release limits context first)
+pub release_keeps : (limits : Limits) (context : Context) (first : Place) → Step false (release limits context first)
 release_keeps limits context first =
-    with_keeps (λ (w : Compilation). known_number (map tree_in (trees_at 0 Wanted.Constant (operands_of w) w)))
+    By (λ (w : Compilation). known_number (map tree_in (trees_at 0 Wanted.Constant (operands_of w) w)))
     (λ (number : Option ℕ) (w : Compilation). release_with limits context first number (finding_at 0 Wanted.Constant w) w)
     (λ b w. refl)
-    (λ number. with_keeps (finding_at 0 Wanted.Constant) (release_with limits context first number) (λ b w. refl)
+    (λ number. By (finding_at 0 Wanted.Constant) (release_with limits context first number) (λ b w. refl)
     (λ found. release_ended_keeps limits context first number (release_finding number found)))
 
 -- the story has a serial number
 abbrev numbered_by : List ℕ → Compilation → Compilation
 numbered_by digits w = record w { told = record w.told { serial = Some digits } }
 
-numbered_keeps : (digits : List ℕ) → Keeps (numbered_by digits)
-numbered_keeps digits = record { keeps = λ b w. refl }
+numbered_keeps : (digits : List ℕ) → Step false (numbered_by digits)
+numbered_keeps digits = Sets (λ b w. refl) (λ w. refl)
 
 serial_by_keeps : (limits : Limits) (context : Context) (first : Place) (digits : Option (List ℕ))
-    → Keeps (serial_by limits context first digits)
+    → Step false (serial_by limits context first digits)
 serial_by_keeps limits context first None = end_keeps limits context first true (found_alone (Some (out_of_range 0)))
 serial_by_keeps limits context first (Some digits) =
-    then_keeps (numbered_by digits) (unit_ended limits context first true (found_alone None)) (numbered_keeps digits)
+    Then (numbered_by digits) (unit_ended limits context first true (found_alone None)) (numbered_keeps digits)
     (end_keeps limits context first true (found_alone None))
 
-pub serial_keeps : (limits : Limits) (context : Context) (first : Place) → Keeps (serial limits context first)
+pub serial_keeps : (limits : Limits) (context : Context) (first : Place) → Step false (serial limits context first)
 serial_keeps limits context first =
-    with_keeps (λ (w : Compilation). serial_in (quoted_in w.unit.tokens)) (serial_by limits context first) (λ b w. refl)
+    By (λ (w : Compilation). serial_in (quoted_in w.unit.tokens)) (serial_by limits context first) (λ b w. refl)
     (serial_by_keeps limits context first)
 
 -- Abbreviations
 
 abbreviation_ended_keeps : (limits : Limits) (context : Context) (first : Place) (error : Option UnitError)
-    → Keeps (abbreviation_ended limits context first error)
+    → Step false (abbreviation_ended limits context first error)
 abbreviation_ended_keeps limits context first error = end_keeps limits context first false (abbreviation_findings error)
 
 -- the end of a text by its error
@@ -74,42 +74,43 @@ abbreviated limits context first items error w =
     abbreviation_ended limits context first error (record w { output = abbreviation_added limits error items w.output })
 
 abbreviated_keeps : (limits : Limits) (context : Context) (first : Place) (items : List TextItem) (error : Option UnitError)
-    → Keeps (abbreviated limits context first items error)
+    → Step false (abbreviated limits context first items error)
 abbreviated_keeps limits context first items error =
-    then_keeps (λ (w : Compilation). record w { output = abbreviation_added limits error items w.output })
+    Then (λ (w : Compilation). record w { output = abbreviation_added limits error items w.output })
     (abbreviation_ended limits context first error)
     (laid_keeps (λ (w : Compilation). abbreviation_added limits error items w.output) (λ b w. refl))
     (abbreviation_ended_keeps limits context first error)
 
 abbreviation_with_keeps : (limits : Limits) (context : Context) (first : Place) (items : Result (List TextItem) UnitError)
-    → Keeps (abbreviation_with limits context first items)
+    → Step false (abbreviation_with limits context first items)
 abbreviation_with_keeps limits context first (Err error) = abbreviation_ended_keeps limits context first (Some error)
 abbreviation_with_keeps limits context first (Ok items) =
-    with_keeps (λ (w : Compilation). abbreviation_error items w.output) (abbreviated limits context first items) (λ b w. refl)
+    By (λ (w : Compilation). abbreviation_error items w.output) (abbreviated limits context first items) (λ b w. refl)
     (abbreviated_keeps limits context first items)
 
-pub abbreviation_keeps : (limits : Limits) (context : Context) (place : Place) → Keeps (abbreviation limits context place)
+pub abbreviation_keeps : (limits : Limits) (context : Context) (place : Place) → Step false (abbreviation limits context place)
 abbreviation_keeps limits context place =
-    with_keeps (λ (w : Compilation). first_place w.unit.tokens place)
+    By (λ (w : Compilation). first_place w.unit.tokens place)
     (λ (first : Place) (w : Compilation). abbreviation_with limits context first
     (or_error (text_of context.set Mode.Abbreviation (quoted_in w.unit.tokens))) w)
     (λ b w. refl)
-    (λ first. with_keeps (λ (w : Compilation). or_error (text_of context.set Mode.Abbreviation (quoted_in w.unit.tokens)))
+    (λ first. By (λ (w : Compilation). or_error (text_of context.set Mode.Abbreviation (quoted_in w.unit.tokens)))
     (abbreviation_with limits context first) (λ b w. refl) (abbreviation_with_keeps limits context first))
 
-pub abbreviate_keeps : (limits : Limits) (context : Context) (first : Place) → Keeps (abbreviate_header limits context first)
+pub abbreviate_keeps : (limits : Limits) (context : Context) (first : Place) → Step false (abbreviate_header limits context first)
 abbreviate_keeps limits context first = end_keeps limits context first false (found_alone None)
 
 -- Low strings with names
 
 low_with_keeps : (limits : Limits) (context : Context) (first : Place) (name : Name) (d : Declared)
-    → Keeps (low_string_with limits context first name d)
+    → Step false (low_string_with limits context first name d)
 low_with_keeps limits context first name d =
     declaration_keeps limits context first name FixedLimit.Values d
     (λ (w : Compilation). low_string_added limits context.set d.finding name w.unit.tokens w.output) (λ b w. refl)
 
-pub low_keeps : (limits : Limits) (context : Context) (first : Place) (names : List Name) → Keeps (low_string limits context first names)
+pub low_keeps : (limits : Limits) (context : Context) (first : Place) (names : List Name) →
+    Step false (low_string limits context first names)
 low_keeps limits context first [] = passed_keeps true
 low_keeps limits context first (name ∷ names) =
-    with_keeps (λ (w : Compilation). plainly_known name (name_order w.unit.tokens) w) (low_string_with limits context first name)
+    By (λ (w : Compilation). plainly_known name (name_order w.unit.tokens) w) (low_string_with limits context first name)
     (λ b w. refl) (low_with_keeps limits context first name)

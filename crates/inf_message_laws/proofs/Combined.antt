@@ -1,5 +1,5 @@
 -- Steps of a compilation whose messages grow, put together.
-use Rattle.std.proofs.Common.{◌≡◌, ℕ, List, Bool, true, false, refl, ◌∙◌, ap, if◌then◌else◌}
+use Rattle.std.proofs.Common.{◌≡◌, ℕ, List, refl, ◌∙◌, ap}
 use Rattle.inf_compilation.specs.Actions.{Compilation}
 use Rattle.inf_message_laws.specs.Growing.{Grows, with_lines_before}
 
@@ -20,13 +20,3 @@ pub with_grows : {A : Type 0} (x : Compilation → A) (f : A → Compilation →
 with_grows x f stays each = record {
   grows = λ lines w. ap (λ a. f a (with_lines_before lines w)) (stays lines w) ∙ (each (x w)).grows lines w;
 }
-
--- one of two steps, by a test
-pub either_grows : (b : Bool) (f g : Compilation → Compilation) → Grows f → Grows g → Grows (λ w. if b then f w else g w)
-either_grows true f g first second = first
-either_grows false f g first second = second
-
-pub if_grows : (b : Compilation → Bool) (f g : Compilation → Compilation) → Stays b → Grows f → Grows g
-    → Grows (λ w. if b w then f w else g w)
-if_grows b f g stays first second =
-    with_grows b (λ (c : Bool) (w : Compilation). if c then f w else g w) stays (λ c. either_grows c f g first second)

@@ -5,9 +5,10 @@ use Rattle.inf_compilation.specs.{Actions.Compilation, Actions.took, Context.Con
 use Rattle.inf_reader.specs.Acting.{act}
 use Rattle.inf_statement_laws.specs.Happenings.{Acts, Between, Happening, Takes}
 use Rattle.inf_statement_laws.specs.Laid.{next_comes, passed, run}
-use Rattle.inf_message_laws.specs.Growing.{AllOnlyAdd, Grows, MessagesGrow, OnlyAdds}
-use Rattle.inf_message_laws.proofs.{Combined.nothing_grows, Combined.then_grows, Keeping.asks_nothing, Tokens.took_grows, Tokens.took_keeps}
-use Rattle.inf_message_laws.proofs.Actions.{act_grows, act_keeps, cut_at_grows, cut_at_keeps}
+use Rattle.inf_message_laws.specs.Growing.{AllOnlyAdd, Grows, MessagesGrow, OnlyAdds, ReportsGoOn}
+use Rattle.inf_message_laws.proofs.{Combined.nothing_grows, Combined.then_grows, Keeping.asks_nothing, Keeping.goes_on}
+use Rattle.inf_message_laws.proofs.{Tokens.took_grows, Tokens.took_keeps}
+use Rattle.inf_message_laws.proofs.Actions.{act_asks_nothing, act_grows, act_steps, cut_at_grows, cut_at_keeps}
 
 between_grows : (m : Between) → OnlyAdds m → Grows (passed m)
 between_grows m adds = record {
@@ -39,7 +40,14 @@ messages_grow limits = record {
   all = all_grow limits;
   asks = record {
     token = λ context t w. asks_nothing (took_keeps context t) w;
-    action = λ context place a w other. asks_nothing (act_keeps limits context place a other) w;
+    action = act_asks_nothing limits;
     cut = λ context place w. asks_nothing (cut_at_keeps limits context place) w;
   };
+}
+
+pub reports_go_on : (limits : Limits) → ReportsGoOn limits
+reports_go_on limits = record {
+  token = λ context t. goes_on (took_keeps context t);
+  action = λ context place a. goes_on (act_steps limits context place a);
+  cut = λ context place. goes_on (cut_at_keeps limits context place);
 }

@@ -1,80 +1,84 @@
--- Steps of a compilation that depend neither on the lines of the report nor on what is asked, and change neither, put together.
-use Rattle.std.proofs.Common.{◌≡◌, List, [], Bool, true, false, refl, ◌∙◌, ap, if◌then◌else◌}
+-- Steps of a compilation put together, and the laws that hold of each: messages grow, nothing is asked, and the report goes on.
+use Rattle.std.proofs.Common.{ℕ, ◌≡◌, List, [], Bool, true, false, refl, ◌∙◌, ap, if◌then◌else◌}
 use Rattle.inf_output.specs.Output.{Out}
 use Rattle.inf_unit.specs.{Directives.Request, Messages.Reported, Units.Unit}
 use Rattle.inf_constructs.specs.{Constructs.Laying, declared.constructs.Construct.Construct}
 use Rattle.inf_compilation.specs.{Actions.Compilation, Nesting.constructs_laid}
-use Rattle.inf_message_laws.specs.Growing.{Before, Grows, Keeps, told_before, with_before}
-use Rattle.inf_message_laws.proofs.Told.{Adds}
-
--- A value of the compilation depends neither on what was reported nor on what is asked.
-abbrev pub Rests : {A : Type 0} → (Compilation → A) → Type 0
-Rests x = (b : Before) (w : Compilation) → x (with_before b w) ≡ x w
-
--- messages grow with such a step
-pub grows_of : {f : Compilation → Compilation} → Keeps f → Grows f
-grows_of k = record { grows = λ lines w. k.keeps (record { lines = lines; ask = λ (r : Request). r }) w }
-
--- such a step asks for nothing
-pub asks_nothing : {f : Compilation → Compilation} → Keeps f → (w : Compilation) → (f w).asked ≡ w.asked
-asks_nothing k w = ap (λ (v : Compilation). v.asked) (k.keeps (record { lines = []; ask = λ (r : Request). w.asked }) w)
-
-pub nothing_keeps : Keeps (λ w. w)
-nothing_keeps = record { keeps = λ b w. refl }
-
--- one step behind another
-pub then_keeps : (f g : Compilation → Compilation) → Keeps f → Keeps g → Keeps (λ w. g (f w))
-then_keeps f g first second = record { keeps = λ b w. ap g (first.keeps b w) ∙ second.keeps b (f w) }
-
--- a step by a value that stays
-pub with_keeps : {A : Type 0} (x : Compilation → A) (f : A → Compilation → Compilation) → Rests x → ((a : A) → Keeps (f a))
-    → Keeps (λ w. f (x w) w)
-with_keeps x f rests each = record {
-  keeps = λ b w. ap (λ a. f a (with_before b w)) (rests b w) ∙ (each (x w)).keeps b w;
-}
+use Rattle.inf_message_laws.specs.Growing.{GoesOn, Grows, told_before, with_lines_before}
+use Rattle.inf_message_laws.proofs.Steps.{Asks, Before, By, Idle, Quiet, Rests, Sets, Step, Tells, Then}
+use Rattle.inf_message_laws.proofs.Told.{Adds, goes_behind, same_report}
 
 -- one of two steps, by a test
-pub either_keeps : (c : Bool) (f g : Compilation → Compilation) → Keeps f → Keeps g → Keeps (λ w. if c then f w else g w)
+pub either_keeps : {asks : Bool} (c : Bool) (f g : Compilation → Compilation) → Step asks f → Step asks g
+    → Step asks (λ w. if c then f w else g w)
 either_keeps true f g first second = first
 either_keeps false f g first second = second
 
-pub if_keeps : (c : Compilation → Bool) (f g : Compilation → Compilation) → Rests c → Keeps f → Keeps g
-    → Keeps (λ w. if c w then f w else g w)
+pub if_keeps : {asks : Bool} (c : Compilation → Bool) (f g : Compilation → Compilation) → Rests c → Step asks f → Step asks g
+    → Step asks (λ w. if c w then f w else g w)
 if_keeps c f g rests first second =
-    with_keeps c (λ (d : Bool) (w : Compilation). if d then f w else g w) rests (λ d. either_keeps d f g first second)
+    By c (λ (d : Bool) (w : Compilation). if d then f w else g w) rests (λ d. either_keeps d f g first second)
 
 -- Steps that change a part of the compilation that is neither the report nor what is asked
 
-pub unit_keeps : (f : Unit → Unit) → Keeps (λ w. record w { unit = f w.unit })
-unit_keeps f = record { keeps = λ b w. refl }
+pub unit_keeps : (f : Unit → Unit) → Step false (λ w. record w { unit = f w.unit })
+unit_keeps f = Sets (λ b w. refl) (λ w. refl)
 
-output_keeps : (o : Out) → Keeps (λ w. record w { output = o })
-output_keeps o = record { keeps = λ b w. refl }
+output_keeps : (o : Out) → Step false (λ w. record w { output = o })
+output_keeps o = Sets (λ b w. refl) (λ w. refl)
 
 -- the output of the compilation is another one
-pub laid_keeps : (o : Compilation → Out) → Rests o → Keeps (λ w. record w { output = o w })
-laid_keeps o rests = with_keeps o (λ (new : Out) (w : Compilation). record w { output = new }) rests output_keeps
+pub laid_keeps : (o : Compilation → Out) → Rests o → Step false (λ w. record w { output = o w })
+laid_keeps o rests = By o (λ (new : Out) (w : Compilation). record w { output = new }) rests output_keeps
 
-open_keeps : (laying : Laying (List Construct)) → Keeps (constructs_laid laying)
-open_keeps laying = record { keeps = λ b w. refl }
+open_keeps : (laying : Laying (List Construct)) → Step false (constructs_laid laying)
+open_keeps laying = Sets (λ b w. refl) (λ w. refl)
 
 -- the open statements of the compilation, and its output, are others
-pub constructs_keep : (laying : Compilation → Laying (List Construct)) → Rests laying → Keeps (λ w. constructs_laid (laying w) w)
-constructs_keep laying rests = with_keeps laying constructs_laid rests open_keeps
-
--- Messages
+pub constructs_keep : (laying : Compilation → Laying (List Construct)) → Rests laying → Step false (λ w. constructs_laid (laying w) w)
+constructs_keep laying rests = By laying constructs_laid rests open_keeps
 
 -- the step of a compilation that changes the report alone
-pub told_keeps : (tell : Reported → Reported) → Adds tell → Keeps (λ w. record w { report = tell w.report })
-told_keeps tell only = record {
-  keeps = λ b w. ap (λ (r : Reported). record w { report = r; asked = b.ask w.asked }) (only.adds b.lines w.report);
-}
+pub told_keeps : {asks : Bool} (tell : Reported → Reported) → Adds tell → Step asks (λ w. record w { report = tell w.report })
+told_keeps tell only = Tells (λ w. tell) (λ b w. refl) (λ w. only)
 
--- one whose change depends on values that stay
-pub telling_keeps : (tell : Compilation → Reported → Reported) → Rests tell → ((w : Compilation) → Adds (tell w))
-    → Keeps (λ w. record w { report = tell w w.report })
-telling_keeps tell rests each = record {
-  keeps = λ b w.
-      ap (λ (t : Reported → Reported). record w { report = t (told_before b.lines w.report); asked = b.ask w.asked }) (rests b w)
-      ∙ ap (λ (r : Reported). record w { report = r; asked = b.ask w.asked }) ((each w).adds b.lines w.report);
-}
+-- Laws of all steps
+
+abbrev before_of : List ℕ → Before
+before_of lines = record { lines = lines; ask = λ (r : Request). r }
+
+step_grows : {asks : Bool} {f : Compilation → Compilation} → Step asks f → (lines : List ℕ) (w : Compilation)
+    → f (with_lines_before lines w) ≡ with_lines_before lines (f w)
+step_grows Idle lines w = refl
+step_grows (Then f g a b) lines w = ap g (step_grows a lines w) ∙ step_grows b lines (f w)
+step_grows (By x f rests each) lines w =
+    ap (λ a. f a (with_lines_before lines w)) (rests (before_of lines) w) ∙ step_grows (each (x w)) lines w
+step_grows (Sets alike same) lines w = alike (before_of lines) w
+step_grows (Tells tell rests each) lines w =
+    ap (λ (t : Reported → Reported). record w { report = t (told_before lines w.report) }) (rests (before_of lines) w)
+    ∙ ap (λ (r : Reported). record w { report = r }) ((each w).adds lines w.report)
+step_grows (Asks request) lines w = refl
+step_grows (Quiet s) lines w = step_grows s lines w
+
+-- messages grow
+pub grows_of : {asks : Bool} {f : Compilation → Compilation} → Step asks f → Grows f
+grows_of s = record { grows = step_grows s }
+
+-- a step that asks for nothing leaves what is asked
+pub asks_nothing : {f : Compilation → Compilation} → Step false f → (w : Compilation) → (f w).asked ≡ w.asked
+asks_nothing Idle w = refl
+asks_nothing (Then f g a b) w = asks_nothing b (f w) ∙ asks_nothing a w
+asks_nothing (By x f rests each) w = asks_nothing (each (x w)) w
+asks_nothing (Sets alike same) w =
+    ap (λ (v : Compilation). v.asked) (alike (record { lines = []; ask = λ (r : Request). w.asked }) w)
+asks_nothing (Tells tell rests each) w = refl
+
+-- the report goes on
+pub goes_on : {asks : Bool} {f : Compilation → Compilation} → Step asks f → (w : Compilation) → GoesOn w.report (f w).report
+goes_on Idle w = same_report w.report w.report refl
+goes_on (Then f g a b) w = goes_behind w.report (f w).report (g (f w)).report (goes_on a w) (goes_on b (f w))
+goes_on (By x f rests each) w = goes_on (each (x w)) w
+goes_on {asks} {f} (Sets alike same) w = same_report w.report (f w).report (same w)
+goes_on (Tells tell rests each) w = (each w).goes_on w.report
+goes_on (Asks request) w = same_report w.report w.report refl
+goes_on (Quiet s) w = goes_on s w

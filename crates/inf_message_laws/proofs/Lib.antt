@@ -1,5 +1,6 @@
 pub mod Combined
 pub mod Told
+pub mod Steps
 pub mod Keeping
 pub mod Tokens
 pub mod Notes

@@ -13,39 +13,39 @@ use Rattle.inf_verb_lines.specs.Verbs.{header_opened, line_added, line_ended, li
 use Rattle.inf_verb_lines.specs.Verbs.{place_named, tokens_finding, verb_ended, verb_extended, verb_findings, verb_head, verb_header}
 use Rattle.inf_verb_lines.specs.Verbs.{verb_header_with, verb_named, word_at}
 use Rattle.inf_verb_lines.specs.declared.verbs.VerbHead.{VerbHead}
-use Rattle.inf_message_laws.specs.Growing.{Keeps}
-use Rattle.inf_message_laws.proofs.Keeping.{laid_keeps, nothing_keeps, then_keeps, with_keeps}
 use Rattle.inf_message_laws.proofs.Tokens.{end_keeps, passed_keeps}
+use Rattle.inf_message_laws.proofs.Keeping.{laid_keeps}
+use Rattle.inf_message_laws.proofs.Steps.{By, Idle, Sets, Step, Then}
 
 verb_ended_keeps : (limits : Limits) (context : Context) (first : Place) (found : Option Finding)
-    → Keeps (verb_ended limits context first found)
+    → Step false (verb_ended limits context first found)
 verb_ended_keeps limits context first found = end_keeps limits context first false (verb_findings found)
 
 -- The header of `Verb`
 
-opened_keeps : (limits : Limits) (found : Option Finding) (head : VerbHead) → Keeps (header_opened limits found head)
-opened_keeps limits (Some f) head = record { keeps = λ b w. refl }
-opened_keeps limits None head = record { keeps = λ b w. refl }
+opened_keeps : (limits : Limits) (found : Option Finding) (head : VerbHead) → Step false (header_opened limits found head)
+opened_keeps limits (Some f) head = Sets (λ b w. refl) (λ w. refl)
+opened_keeps limits None head = Sets (λ b w. refl) (λ w. refl)
 
 -- the header of a verb by its finding
 abbrev header_found : Limits → Context → Place → VerbHead → Option Finding → Compilation → Compilation
 header_found limits context first head found w = verb_ended limits context first found (header_opened limits found head w)
 
 header_found_keeps : (limits : Limits) (context : Context) (first : Place) (head : VerbHead) (found : Option Finding)
-    → Keeps (header_found limits context first head found)
+    → Step false (header_found limits context first head found)
 header_found_keeps limits context first head found =
-    then_keeps (header_opened limits found head) (verb_ended limits context first found) (opened_keeps limits found head)
+    Then (header_opened limits found head) (verb_ended limits context first found) (opened_keeps limits found head)
     (verb_ended_keeps limits context first found)
 
 header_with_keeps : (limits : Limits) (context : Context) (first : Place) (head : VerbHead)
-    → Keeps (verb_header_with limits context first head)
+    → Step false (verb_header_with limits context first head)
 header_with_keeps limits context first head =
-    with_keeps (λ (w : Compilation). head_finding head w.unit.tokens w.output) (header_found limits context first head) (λ b w. refl)
+    By (λ (w : Compilation). head_finding head w.unit.tokens w.output) (header_found limits context first head) (λ b w. refl)
     (header_found_keeps limits context first head)
 
-pub verb_keeps : (limits : Limits) (context : Context) (first : Place) → Keeps (verb_header limits context first)
+pub verb_keeps : (limits : Limits) (context : Context) (first : Place) → Step false (verb_header limits context first)
 verb_keeps limits context first =
-    with_keeps (λ (w : Compilation). verb_head w.unit.tokens) (verb_header_with limits context first) (λ b w. refl)
+    By (λ (w : Compilation). verb_head w.unit.tokens) (verb_header_with limits context first) (λ b w. refl)
     (header_with_keeps limits context first)
 
 -- The header of `Extend`
@@ -57,13 +57,13 @@ extended limits at number place w = record w {
   output = verb_extended limits number place (word_at w.unit.tokens at) w.output;
 }
 
-extended_keeps : (limits : Limits) (at : ℕ) (number : Option ℕ) (place : LinePlace) → Keeps (extended limits at number place)
-extended_keeps limits at number place = record { keeps = λ b w. refl }
+extended_keeps : (limits : Limits) (at : ℕ) (number : Option ℕ) (place : LinePlace) → Step false (extended limits at number place)
+extended_keeps limits at number place = Sets (λ b w. refl) (λ w. refl)
 
 extend_with_keeps : (limits : Limits) (context : Context) (first : Place) (at : ℕ) (number : Option ℕ) (place : LinePlace)
-    → Keeps (extend_with limits context first at number place)
+    → Step false (extend_with limits context first at number place)
 extend_with_keeps limits context first at number place =
-    then_keeps (extended limits at number place) (verb_ended limits context first (no_verb_finding at number))
+    Then (extended limits at number place) (verb_ended limits context first (no_verb_finding at number))
     (extended_keeps limits at number place) (verb_ended_keeps limits context first (no_verb_finding at number))
 
 -- the header of `Extend` by the place of its verb, and by the number of that
@@ -76,59 +76,59 @@ extend_by limits context first at number w =
     extend_with limits context first at number (place_named (bytes_at w.unit.tokens (at + 1))) w
 
 extend_by_keeps : (limits : Limits) (context : Context) (first : Place) (at : ℕ) (number : Option ℕ)
-    → Keeps (extend_by limits context first at number)
+    → Step false (extend_by limits context first at number)
 extend_by_keeps limits context first at number =
-    with_keeps (λ (w : Compilation). place_named (bytes_at w.unit.tokens (at + 1))) (extend_with limits context first at number)
+    By (λ (w : Compilation). place_named (bytes_at w.unit.tokens (at + 1))) (extend_with limits context first at number)
     (λ b w. refl) (extend_with_keeps limits context first at number)
 
-extend_at_keeps : (limits : Limits) (context : Context) (first : Place) (at : ℕ) → Keeps (extend_at limits context first at)
+extend_at_keeps : (limits : Limits) (context : Context) (first : Place) (at : ℕ) → Step false (extend_at limits context first at)
 extend_at_keeps limits context first at =
-    with_keeps (λ (w : Compilation). verb_named w.unit.tokens at w.output) (extend_by limits context first at) (λ b w. refl)
+    By (λ (w : Compilation). verb_named w.unit.tokens at w.output) (extend_by limits context first at) (λ b w. refl)
     (extend_by_keeps limits context first at)
 
-pub extend_keeps : (limits : Limits) (context : Context) (first : Place) → Keeps (extend_header limits context first)
+pub extend_keeps : (limits : Limits) (context : Context) (first : Place) → Step false (extend_header limits context first)
 extend_keeps limits context first =
-    with_keeps (λ (w : Compilation). name_order w.unit.tokens) (extend_at limits context first) (λ b w. refl)
+    By (λ (w : Compilation). name_order w.unit.tokens) (extend_at limits context first) (λ b w. refl)
     (extend_at_keeps limits context first)
 
 -- Lines
 
-laid_line_keeps : (limits : Limits) (found : Option Finding) (arrow : ℕ) → Keeps (line_laid limits found arrow)
-laid_line_keeps limits (Some f) arrow = nothing_keeps
+laid_line_keeps : (limits : Limits) (found : Option Finding) (arrow : ℕ) → Step false (line_laid limits found arrow)
+laid_line_keeps limits (Some f) arrow = Idle
 laid_line_keeps limits None arrow =
     laid_keeps (λ (w : Compilation). line_added limits w.extending w.unit.tokens arrow w.output) (λ b w. refl)
 
 line_found_keeps : (limits : Limits) (context : Context) (first : Place) (found : Option Finding) (arrow : ℕ)
-    → Keeps (line_found limits context first found arrow)
+    → Step false (line_found limits context first found arrow)
 line_found_keeps limits context first found arrow =
-    then_keeps (line_laid limits found arrow) (verb_ended limits context first found) (laid_line_keeps limits found arrow)
+    Then (line_laid limits found arrow) (verb_ended limits context first found) (laid_line_keeps limits found arrow)
     (verb_ended_keeps limits context first found)
 
-line_judged_keeps : (limits : Limits) (context : Context) (first : Place) (arrow : ℕ) → Keeps (line_judged limits context first arrow)
+line_judged_keeps : (limits : Limits) (context : Context) (first : Place) (arrow : ℕ) → Step false (line_judged limits context first arrow)
 line_judged_keeps limits context first arrow =
-    with_keeps (λ (w : Compilation). tokens_finding arrow w.unit.tokens w.output.names)
+    By (λ (w : Compilation). tokens_finding arrow w.unit.tokens w.output.names)
     (λ (found : Option Finding) (w : Compilation). line_found limits context first found arrow w) (λ b w. refl)
     (λ found. line_found_keeps limits context first found arrow)
 
-pub line_keeps : (limits : Limits) (context : Context) (place : Place) → Keeps (line_ended limits context place)
+pub line_keeps : (limits : Limits) (context : Context) (place : Place) → Step false (line_ended limits context place)
 line_keeps limits context place =
-    with_keeps (λ (w : Compilation). first_place w.unit.tokens place)
+    By (λ (w : Compilation). first_place w.unit.tokens place)
     (λ (first : Place) (w : Compilation). line_judged limits context first (arrow_in w.unit.tokens) w) (λ b w. refl)
-    (λ first. with_keeps (λ (w : Compilation). arrow_in w.unit.tokens) (line_judged limits context first) (λ b w. refl)
+    (λ first. By (λ (w : Compilation). arrow_in w.unit.tokens) (line_judged limits context first) (λ b w. refl)
     (line_judged_keeps limits context first))
 
 -- Fake actions
 
 fake_with_keeps : (limits : Limits) (context : Context) (first : Place) (name : Name) (f : Out × Option (DeclareFault Place))
-    → Keeps (fake_with limits context first name f)
+    → Step false (fake_with limits context first name f)
 fake_with_keeps limits context first name f =
-    then_keeps (λ (w : Compilation). record w { output = f.0 })
+    Then (λ (w : Compilation). record w { output = f.0 })
     (unit_ended limits context first true (fake_findings (again_by name f.1)))
     (laid_keeps (λ (w : Compilation). f.0) (λ b w. refl)) (end_keeps limits context first true (fake_findings (again_by name f.1)))
 
 pub fake_keeps : (limits : Limits) (context : Context) (first : Place) (names : List Name)
-    → Keeps (fake_action limits context first names)
+    → Step false (fake_action limits context first names)
 fake_keeps limits context first [] = passed_keeps true
 fake_keeps limits context first (name ∷ names) =
-    with_keeps (λ (w : Compilation). faked limits name.bytes name.place w.output) (fake_with limits context first name) (λ b w. refl)
+    By (λ (w : Compilation). faked limits name.bytes name.place w.output) (fake_with limits context first name) (λ b w. refl)
     (fake_with_keeps limits context first name)

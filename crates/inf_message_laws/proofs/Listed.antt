@@ -17,40 +17,40 @@ use Rattle.inf_declarations.specs.Arrays.{added, adding, array_header, array_nam
 use Rattle.inf_declarations.specs.Arrays.{entry_ended, entry_finding, entry_judged, entry_with, header_with, is_alone, kind_in}
 use Rattle.inf_declarations.specs.Arrays.{items_finding}
 use Rattle.inf_declarations.specs.Arrays.{listed, lost_added, one_more, own_finding, story_added, text_added, text_finding, value_added}
-use Rattle.inf_message_laws.specs.Growing.{Keeps}
 use Rattle.inf_message_laws.proofs.{Declaring.declared_ended_keeps, Tokens.end_keeps, Tokens.passed_keeps}
-use Rattle.inf_message_laws.proofs.Keeping.{Rests, if_keeps, laid_keeps, nothing_keeps, then_keeps, with_keeps}
+use Rattle.inf_message_laws.proofs.Keeping.{if_keeps, laid_keeps}
+use Rattle.inf_message_laws.proofs.Steps.{By, Idle, Rests, Sets, Step, Then}
 
 -- Headers
 
-listed_keeps : (limits : Limits) (finding : Option Finding) (k : ArrayKind) (name : Name) → Keeps (listed limits finding k name)
-listed_keeps limits None k name = record { keeps = λ b w. refl }
-listed_keeps limits (Some f) k name = record { keeps = λ b w. refl }
+listed_keeps : (limits : Limits) (finding : Option Finding) (k : ArrayKind) (name : Name) → Step false (listed limits finding k name)
+listed_keeps limits None k name = Sets (λ b w. refl) (λ w. refl)
+listed_keeps limits (Some f) k name = Sets (λ b w. refl) (λ w. refl)
 
 -- the array of a header begins
 abbrev begun : Limits → Name → Declared → Compilation → Compilation
 begun limits name d w = listed limits d.finding (kind_in w.unit.tokens) name w
 
-begun_keeps : (limits : Limits) (name : Name) (d : Declared) → Keeps (begun limits name d)
+begun_keeps : (limits : Limits) (name : Name) (d : Declared) → Step false (begun limits name d)
 begun_keeps limits name d =
-    with_keeps (λ (w : Compilation). kind_in w.unit.tokens)
+    By (λ (w : Compilation). kind_in w.unit.tokens)
     (λ (k : ArrayKind) (w : Compilation). listed limits d.finding k name w) (λ b w. refl)
     (λ k. listed_keeps limits d.finding k name)
 
 header_keeps : (limits : Limits) (context : Context) (first : Place) (name : Name) (d : Declared)
-    → Keeps (header_with limits context first name d)
+    → Step false (header_with limits context first name d)
 header_keeps limits context first name d =
-    then_keeps (begun limits name d) (declared_ended limits context first false name FixedLimit.Globals d) (begun_keeps limits name d)
+    Then (begun limits name d) (declared_ended limits context first false name FixedLimit.Globals d) (begun_keeps limits name d)
     (declared_ended_keeps limits context first false name FixedLimit.Globals d)
 
 array_header_keeps : (limits : Limits) (context : Context) (first : Place) (name : Name)
-    → Keeps (array_header limits context first name)
+    → Step false (array_header limits context first name)
 array_header_keeps limits context first name =
-    with_keeps (λ (w : Compilation). plainly_known name (name_order w.unit.tokens) w) (header_with limits context first name)
+    By (λ (w : Compilation). plainly_known name (name_order w.unit.tokens) w) (header_with limits context first name)
     (λ b w. refl) (header_keeps limits context first name)
 
 pub array_keeps : (limits : Limits) (context : Context) (first : Place) (names : List Name)
-    → Keeps (array_named limits context first names)
+    → Step false (array_named limits context first names)
 array_keeps limits context first [] = passed_keeps false
 array_keeps limits context first (name ∷ names) = array_header_keeps limits context first name
 
@@ -78,72 +78,72 @@ finding_stays limits context alone b w =
 abbrev apart_added : Adding → Compilation → Compilation
 apart_added a w = record w { lost = lost_added (added_fault unbounded a w.lost) a w.lost }
 
-apart_keeps : (a : Adding) → Keeps (apart_added a)
-apart_keeps a = record { keeps = λ b w. refl }
+apart_keeps : (a : Adding) → Step false (apart_added a)
+apart_keeps a = Sets (λ b w. refl) (λ w. refl)
 
 abbrev of_story_added : Limits → Adding → Compilation → Compilation
 of_story_added limits a w = record w { output = story_added limits (added_fault limits a w.output.tables.arrays) a w.output }
 
-of_story_keeps : (limits : Limits) (a : Adding) → Keeps (of_story_added limits a)
+of_story_keeps : (limits : Limits) (a : Adding) → Step false (of_story_added limits a)
 of_story_keeps limits a =
     laid_keeps (λ (w : Compilation). story_added limits (added_fault limits a w.output.tables.arrays) a w.output) (λ b w. refl)
 
-added_keeps : (limits : Limits) (a : Adding) → Keeps (added limits a)
+added_keeps : (limits : Limits) (a : Adding) → Step false (added limits a)
 added_keeps limits a =
     if_keeps (λ (w : Compilation). w.listing.is_lost) (apart_added a) (of_story_added limits a) (λ b w. refl) (apart_keeps a)
     (of_story_keeps limits a)
 
-text_added_keeps : (limits : Limits) (text : Option (List TextItem)) → Keeps (text_added limits text)
-text_added_keeps limits None = nothing_keeps
+text_added_keeps : (limits : Limits) (text : Option (List TextItem)) → Step false (text_added limits text)
+text_added_keeps limits None = Idle
 text_added_keeps limits (Some items) = added_keeps limits (Characters (codes_of items))
 
 -- the names of an entry are used
 abbrev used : Limits → Context → Compilation → Compilation
 used limits context w = record w { output = (settled_of limits context w).out }
 
-used_keeps : (limits : Limits) (context : Context) → Keeps (used limits context)
+used_keeps : (limits : Limits) (context : Context) → Step false (used limits context)
 used_keeps limits context = laid_keeps (λ (w : Compilation). (settled_of limits context w).out) (λ b w. refl)
 
-value_added_keeps : (limits : Limits) (context : Context) (alone : Bool) → Keeps (value_added limits context alone)
+value_added_keeps : (limits : Limits) (context : Context) (alone : Bool) → Step false (value_added limits context alone)
 value_added_keeps limits context alone =
-    with_keeps (λ (w : Compilation). adding alone (value_of limits context w))
+    By (λ (w : Compilation). adding alone (value_of limits context w))
     (λ (a : Adding) (w : Compilation). added limits a (used limits context w)) (λ b w. refl)
-    (λ a. then_keeps (used limits context) (added limits a) (used_keeps limits context) (added_keeps limits a))
+    (λ a. Then (used limits context) (added limits a) (used_keeps limits context) (added_keeps limits a))
 
 entry_by_keeps : (limits : Limits) (context : Context) (at : Option ℕ) (alone : Bool)
-    → Keeps (entry_added_by limits context at alone)
+    → Step false (entry_added_by limits context at alone)
 entry_by_keeps limits context (Some at) alone =
-    with_keeps (λ (w : Compilation). text_at context.set w.unit.tokens at) (text_added limits) (λ b w. refl)
+    By (λ (w : Compilation). text_at context.set w.unit.tokens at) (text_added limits) (λ b w. refl)
     (text_added_keeps limits)
 entry_by_keeps limits context None alone = value_added_keeps limits context alone
 
-entry_added_keeps : (limits : Limits) (context : Context) (alone : Bool) → Keeps (entry_added limits context alone)
+entry_added_keeps : (limits : Limits) (context : Context) (alone : Bool) → Step false (entry_added limits context alone)
 entry_added_keeps limits context alone =
-    with_keeps (bare_text alone) (λ (at : Option ℕ) (w : Compilation). entry_added_by limits context at alone w) (λ b w. refl)
+    By (bare_text alone) (λ (at : Option ℕ) (w : Compilation). entry_added_by limits context at alone w) (λ b w. refl)
     (λ at. entry_by_keeps limits context at alone)
 
 entry_with_keeps : (limits : Limits) (context : Context) (first : Place) (alone : Bool) (found : Option Finding)
-    → Keeps (entry_with limits context first alone found)
+    → Step false (entry_with limits context first alone found)
 entry_with_keeps limits context first alone None =
-    then_keeps (entry_added limits context alone) (unit_ended limits context first false nothing_found)
+    Then (entry_added limits context alone) (unit_ended limits context first false nothing_found)
     (entry_added_keeps limits context alone) (end_keeps limits context first false nothing_found)
 entry_with_keeps limits context first alone (Some f) = end_keeps limits context first false (found_alone (Some f))
 
-one_more_keeps : Keeps one_more
-one_more_keeps = record { keeps = λ b w. refl }
+one_more_keeps : Step false one_more
+one_more_keeps = Sets (λ b w. refl) (λ w. refl)
 
-judged_keeps : (limits : Limits) (context : Context) (first : Place) (alone : Bool) → Keeps (entry_judged limits context first alone)
+judged_keeps : (limits : Limits) (context : Context) (first : Place) (alone : Bool) → Step false (entry_judged limits context first alone)
 judged_keeps limits context first alone =
-    with_keeps (entry_finding limits context alone)
+    By (entry_finding limits context alone)
     (λ (found : Option Finding) (w : Compilation). entry_with limits context first alone found (one_more w))
     (finding_stays limits context alone)
-    (λ found. then_keeps one_more (entry_with limits context first alone found) one_more_keeps
+    (λ found. Then one_more (entry_with limits context first alone found) one_more_keeps
     (entry_with_keeps limits context first alone found))
 
 pub entry_keeps : (limits : Limits) (context : Context) (place : Place) (is_last : Bool)
-    → Keeps (entry_ended limits context place is_last)
+    → Step false (entry_ended limits context place is_last)
 entry_keeps limits context place is_last =
-    with_keeps (λ (w : Compilation). first_place w.unit.tokens place)
+    By (λ (w : Compilation). first_place w.unit.tokens place)
     (λ (first : Place) (w : Compilation). entry_judged limits context first (is_alone is_last w) w) (λ b w. refl)
-    (λ first. with_keeps (is_alone is_last) (entry_judged limits context first) (λ b w. refl)
+    (λ first. By (is_alone is_last) (entry_judged limits context first) (λ b w. refl)
     (judged_keeps limits context first))

@@ -16,30 +16,31 @@ use Rattle.inf_bodies.specs.Objects.{object_header, object_known, object_lost, o
 use Rattle.inf_bodies.specs.Objects.{own_name, parent_finding, parent_in}
 use Rattle.inf_bodies.specs.ShortNames.{header_text, name_packed, packed_name, short_by, short_text}
 use Rattle.inf_bodies.specs.declared.headers.Header.{Header}
-use Rattle.inf_message_laws.specs.Growing.{Keeps, with_before}
 use Rattle.inf_message_laws.proofs.{Declaring.declared_ended_keeps, Tokens.end_keeps}
-use Rattle.inf_message_laws.proofs.Keeping.{Rests, laid_keeps, then_keeps, with_keeps}
+use Rattle.inf_message_laws.proofs.Keeping.{laid_keeps}
+use Rattle.inf_message_laws.proofs.Steps.{By, Rests, Sets, Step, Then, with_before}
 
-pub entry_keeps : (limits : Limits) (context : Context) (first : Place) (f : Option Finding) → Keeps (entry_told limits context first f)
+pub entry_keeps : (limits : Limits) (context : Context) (first : Place) (f : Option Finding) →
+    Step false (entry_told limits context first f)
 entry_keeps limits context first f = end_keeps limits context first false (found_alone f)
 
 -- Classes
 
 class_opened_keeps : (limits : Limits) (context : Context) (found : Option Finding) (name : Name)
-    → Keeps (class_opened limits context found name)
-class_opened_keeps limits context None name = record { keeps = λ b w. refl }
+    → Step false (class_opened limits context found name)
+class_opened_keeps limits context None name = Sets (λ b w. refl) (λ w. refl)
 class_opened_keeps limits context (Some f) name =
     laid_keeps (λ (w : Compilation). class_lost limits name w.output) (λ b w. refl)
 
 class_with_keeps : (limits : Limits) (context : Context) (first : Place) (name : Name) (d : Declared)
-    → Keeps (class_with limits context first name d)
+    → Step false (class_with limits context first name d)
 class_with_keeps limits context first name d =
-    then_keeps (class_opened limits context d.finding name) (declared_ended limits context first false name FixedLimit.Globals d)
+    Then (class_opened limits context d.finding name) (declared_ended limits context first false name FixedLimit.Globals d)
     (class_opened_keeps limits context d.finding name) (declared_ended_keeps limits context first false name FixedLimit.Globals d)
 
-pub class_keeps : (limits : Limits) (context : Context) (first : Place) (name : Name) → Keeps (class_header limits context first name)
+pub class_keeps : (limits : Limits) (context : Context) (first : Place) (name : Name) → Step false (class_header limits context first name)
 class_keeps limits context first name =
-    with_keeps (λ (w : Compilation). plainly_known name (name_order w.unit.tokens) w) (class_with limits context first name)
+    By (λ (w : Compilation). plainly_known name (name_order w.unit.tokens) w) (class_with limits context first name)
     (λ b w. refl) (class_with_keeps limits context first name)
 
 -- The knowledge of an object does not depend on what was reported.
@@ -92,49 +93,49 @@ new_below limits name text p w = record w {
 }
 
 below_keeps : (limits : Limits) (name : Option Name) (text : Option (List TextItem)) (p : Parent)
-    → Keeps (new_below limits name text p)
-below_keeps limits name text p = record { keeps = λ b w. refl }
+    → Step false (new_below limits name text p)
+below_keeps limits name text p = Sets (λ b w. refl) (λ w. refl)
 
 -- a new object with a short name
 abbrev new_named : Limits → Header → Option Name → Option (List TextItem) → Compilation → Compilation
 new_named limits h name text w = new_below limits name text (parent_in h.parent h.arrows w) w
 
 new_named_keeps : (limits : Limits) (h : Header) (name : Option Name) (text : Option (List TextItem))
-    → Keeps (new_named limits h name text)
+    → Step false (new_named limits h name text)
 new_named_keeps limits h name text =
-    with_keeps (parent_in h.parent h.arrows) (new_below limits name text) (parent_in_stays h.parent h.arrows)
+    By (parent_in h.parent h.arrows) (new_below limits name text) (parent_in_stays h.parent h.arrows)
     (below_keeps limits name text)
 
-new_keeps : (limits : Limits) (context : Context) (h : Header) (name : Option Name) → Keeps (object_new limits context h name)
+new_keeps : (limits : Limits) (context : Context) (h : Header) (name : Option Name) → Step false (object_new limits context h name)
 new_keeps limits context h name =
-    with_keeps (short_text context h name) (new_named limits h name) (short_stays context h name) (new_named_keeps limits h name)
+    By (short_text context h name) (new_named limits h name) (short_stays context h name) (new_named_keeps limits h name)
 
 opened_keeps : (limits : Limits) (context : Context) (found : Option Finding) (h : Header) (name : Option Name)
-    → Keeps (object_opened limits context found h name)
+    → Step false (object_opened limits context found h name)
 opened_keeps limits context None h name = new_keeps limits context h name
 opened_keeps limits context (Some f) h name =
     laid_keeps (λ (w : Compilation). object_lost limits name w.output) (λ b w. refl)
 
 ended_keeps : (limits : Limits) (context : Context) (first : Place) (name : Option Name) (d : Declared)
-    → Keeps (object_ended limits context first name d)
+    → Step false (object_ended limits context first name d)
 ended_keeps limits context first None d = entry_keeps limits context first d.finding
 ended_keeps limits context first (Some name) d = declared_ended_keeps limits context first false name FixedLimit.Values d
 
 with_known_keeps : (limits : Limits) (context : Context) (first : Place) (h : Header) (name : Option Name) (d : Declared)
-    → Keeps (object_with_known limits context first h name d)
+    → Step false (object_with_known limits context first h name d)
 with_known_keeps limits context first h name d =
-    then_keeps (object_opened limits context d.finding h name) (object_ended limits context first name d)
+    Then (object_opened limits context d.finding h name) (object_ended limits context first name d)
     (opened_keeps limits context d.finding h name) (ended_keeps limits context first name d)
 
 object_with_keeps : (limits : Limits) (context : Context) (first : Place) (h : Header) (name : Option Name)
-    → Keeps (object_with limits context first h name)
+    → Step false (object_with limits context first h name)
 object_with_keeps limits context first h name =
-    with_keeps (object_known context h name) (object_with_known limits context first h name) (known_stays context h name)
+    By (object_known context h name) (object_with_known limits context first h name) (known_stays context h name)
     (with_known_keeps limits context first h name)
 
-pub object_keeps : (limits : Limits) (context : Context) (first : Place) → Keeps (object_header limits context first)
+pub object_keeps : (limits : Limits) (context : Context) (first : Place) → Step false (object_header limits context first)
 object_keeps limits context first =
-    with_keeps (λ (w : Compilation). header_in w.unit.tokens)
+    By (λ (w : Compilation). header_in w.unit.tokens)
     (λ (h : Header) (w : Compilation). object_with limits context first h (own_name h.own w) w) (λ b w. refl)
-    (λ h. with_keeps (own_name h.own) (object_with limits context first h) (own_stays h.own)
+    (λ h. By (own_name h.own) (object_with limits context first h) (own_stays h.own)
     (object_with_keeps limits context first h))

@@ -15,9 +15,9 @@ use Rattle.inf_parts.specs.Parts.{actions_named, case_prepared, found_in, has_la
 use Rattle.inf_parts.specs.Parts.{own_case_prepared, own_finding, part_begun, part_carried, part_effect, part_ended, part_finished}
 use Rattle.inf_parts.specs.Parts.{part_prepared, place_of, site_of, statement_at, wanted_of}
 use Rattle.inf_parts.specs.declared.parts.Part.{Part}
-use Rattle.inf_message_laws.specs.Growing.{Keeps, with_before}
-use Rattle.inf_message_laws.proofs.Keeping.{Rests, constructs_keep, if_keeps, laid_keeps, nothing_keeps, then_keeps, with_keeps}
 use Rattle.inf_message_laws.proofs.Tokens.{end_keeps, passed_keeps}
+use Rattle.inf_message_laws.proofs.Keeping.{constructs_keep, if_keeps, laid_keeps}
+use Rattle.inf_message_laws.proofs.Steps.{By, Idle, Rests, Sets, Step, Then, with_before}
 
 -- The place of a part, and the findings about it, do not depend on what was reported.
 
@@ -52,8 +52,8 @@ trees_stay limits context p b w =
 -- The effect of a part
 
 labels_grow : (lay : List NamedLabel → Out → List NamedLabel × Out)
-    → Keeps (λ w. let laid = lay w.labels w.output in record w { labels = laid.0; output = laid.1 })
-labels_grow lay = record { keeps = λ b w. refl }
+    → Step false (λ w. let laid = lay w.labels w.output in record w { labels = laid.0; output = laid.1 })
+labels_grow lay = Sets (λ b w. refl) (λ w. refl)
 
 -- a statement by its site
 abbrev laid_at : Limits → Statement → List Rooted → Site → Compilation → Compilation
@@ -61,12 +61,12 @@ laid_at limits s trees site w =
     let laid = statement_laid limits site s (map tree_in trees) w.labels w.output in record w { labels = laid.0; output = laid.1 }
 
 statement_keeps : (limits : Limits) (context : Context) (s : Statement) (trees : List Rooted)
-    → Keeps (λ w. laid_at limits s trees (site_of context w) w)
+    → Step false (λ w. laid_at limits s trees (site_of context w) w)
 statement_keeps limits context s trees =
-    with_keeps (site_of context) (laid_at limits s trees) (λ b w. refl)
+    By (site_of context) (laid_at limits s trees) (λ b w. refl)
     (λ site. labels_grow (statement_laid limits site s (map tree_in trees)))
 
-effect_keeps : (limits : Limits) (context : Context) (p : Part) (trees : List Rooted) → Keeps (part_effect limits context p trees)
+effect_keeps : (limits : Limits) (context : Context) (p : Part) (trees : List Rooted) → Step false (part_effect limits context p trees)
 unfolding part_effect
 effect_keeps limits context (Part.Statement s) trees = statement_keeps limits context s trees
 effect_keeps limits context Part.Condition trees =
@@ -86,7 +86,7 @@ effect_keeps limits context Part.Case trees =
 abbrev settled_at : Limits → Context → Place → Compilation → Compilation
 settled_at limits context first w = let s = settled_of limits context w in record w { output = record s.out { first = first } }
 
-settled_keeps : (limits : Limits) (context : Context) (first : Place) → Keeps (settled_at limits context first)
+settled_keeps : (limits : Limits) (context : Context) (first : Place) → Step false (settled_at limits context first)
 settled_keeps limits context first =
     laid_keeps (λ (w : Compilation). let s = settled_of limits context w in record s.out { first = first }) (λ b w. refl)
 
@@ -96,78 +96,78 @@ laid_whole limits context first p trees w =
     unit_ended limits context first (has_last p) nothing_found (part_effect limits context p trees (settled_at limits context first w))
 
 whole_keeps : (limits : Limits) (context : Context) (first : Place) (p : Part) (trees : List Rooted)
-    → Keeps (laid_whole limits context first p trees)
+    → Step false (laid_whole limits context first p trees)
 whole_keeps limits context first p trees =
-    then_keeps (λ (w : Compilation). part_effect limits context p trees (settled_at limits context first w))
+    Then (λ (w : Compilation). part_effect limits context p trees (settled_at limits context first w))
     (unit_ended limits context first (has_last p) nothing_found)
-    (then_keeps (settled_at limits context first) (part_effect limits context p trees) (settled_keeps limits context first)
+    (Then (settled_at limits context first) (part_effect limits context p trees) (settled_keeps limits context first)
     (effect_keeps limits context p trees))
     (end_keeps limits context first (has_last p) nothing_found)
 
 carried_keeps : (limits : Limits) (context : Context) (first : Place) (p : Part) (found : Option Finding)
-    → Keeps (part_carried limits context first p found)
+    → Step false (part_carried limits context first p found)
 carried_keeps limits context first p (Some f) = end_keeps limits context first (has_last p) (found_alone (Some f))
 carried_keeps limits context first p None =
-    with_keeps (trees_of limits context p) (laid_whole limits context first p) (trees_stay limits context p)
+    By (trees_of limits context p) (laid_whole limits context first p) (trees_stay limits context p)
     (whole_keeps limits context first p)
 
 -- From the beginning of a part to its end
 
-begun_keeps : (limits : Limits) (p : Part) → Keeps (part_begun limits p)
+begun_keeps : (limits : Limits) (p : Part) → Step false (part_begun limits p)
 begun_keeps limits Part.Case =
     constructs_keep (λ (w : Compilation). changed (entered limits (is_default w.unit.items)) w.constructs) (λ b w. refl)
-begun_keeps limits _ = nothing_keeps
+begun_keeps limits _ = Idle
 
-named_keeps : Keeps named
-named_keeps = record { keeps = λ b w. refl }
+named_keeps : Step false named
+named_keeps = Sets (λ b w. refl) (λ w. refl)
 
-finished_keeps : (limits : Limits) (context : Context) (first : Place) (p : Part) → Keeps (part_finished limits context first p)
+finished_keeps : (limits : Limits) (context : Context) (first : Place) (p : Part) → Step false (part_finished limits context first p)
 finished_keeps limits context first p =
-    with_keeps (found_in limits context p)
+    By (found_in limits context p)
     (λ (found : Option Finding) (w : Compilation). part_carried limits context first p found (named (part_begun limits p w)))
     (found_stays limits context p)
-    (λ found. then_keeps (λ (w : Compilation). named (part_begun limits p w)) (part_carried limits context first p found)
-    (then_keeps (part_begun limits p) named (begun_keeps limits p) named_keeps) (carried_keeps limits context first p found))
+    (λ found. Then (λ (w : Compilation). named (part_begun limits p w)) (part_carried limits context first p found)
+    (Then (part_begun limits p) named (begun_keeps limits p) named_keeps) (carried_keeps limits context first p found))
 
-actions_grow : (are_own : Bool) → Keeps (actions_named are_own)
-actions_grow true = record { keeps = λ b w. refl }
-actions_grow false = nothing_keeps
+actions_grow : (are_own : Bool) → Step false (actions_named are_own)
+actions_grow true = Sets (λ b w. refl) (λ w. refl)
+actions_grow false = Idle
 
-own_prepared_keeps : (limits : Limits) → Keeps (own_case_prepared limits)
+own_prepared_keeps : (limits : Limits) → Step false (own_case_prepared limits)
 own_prepared_keeps limits =
-    then_keeps (λ (w : Compilation). constructs_laid (cases_begun limits w.constructs) w)
+    Then (λ (w : Compilation). constructs_laid (cases_begun limits w.constructs) w)
     (λ (w : Compilation). actions_named (are_own w.constructs) w)
     (constructs_keep (λ (w : Compilation). cases_begun limits w.constructs) (λ b w. refl))
-    (with_keeps (λ (w : Compilation). are_own w.constructs) actions_named (λ b w. refl) actions_grow)
+    (By (λ (w : Compilation). are_own w.constructs) actions_named (λ b w. refl) actions_grow)
 
-case_keeps : (limits : Limits) (p : Part) → Keeps (case_prepared limits p)
+case_keeps : (limits : Limits) (p : Part) → Step false (case_prepared limits p)
 case_keeps limits Part.Case = own_prepared_keeps limits
-case_keeps limits _ = nothing_keeps
+case_keeps limits _ = Idle
 
-prepared_keeps : Keeps part_prepared
-prepared_keeps = record { keeps = λ b w. refl }
+prepared_keeps : Step false part_prepared
+prepared_keeps = Sets (λ b w. refl) (λ w. refl)
 
 -- a part that is prepared, at its own place
 abbrev finished_at : Limits → Context → Place → Part → Compilation → Compilation
 finished_at limits context place p w = part_finished limits context (place_of p place w) p w
 
-finished_at_keeps : (limits : Limits) (context : Context) (place : Place) (p : Part) → Keeps (finished_at limits context place p)
+finished_at_keeps : (limits : Limits) (context : Context) (place : Place) (p : Part) → Step false (finished_at limits context place p)
 finished_at_keeps limits context place p =
-    with_keeps (place_of p place) (λ (first : Place) (w : Compilation). part_finished limits context first p w) (place_stays p place)
+    By (place_of p place) (λ (first : Place) (w : Compilation). part_finished limits context first p w) (place_stays p place)
     (λ first. finished_keeps limits context first p)
 
-pub part_keeps : (limits : Limits) (context : Context) (place : Place) (p : Part) → Keeps (part_ended limits context place p)
+pub part_keeps : (limits : Limits) (context : Context) (place : Place) (p : Part) → Step false (part_ended limits context place p)
 part_keeps limits context place p =
     if_keeps (λ (w : Compilation). w.is_replaced) (passed (has_last p))
     (λ (w : Compilation). finished_at limits context place p (case_prepared limits p (part_prepared w))) (λ b w. refl)
     (passed_keeps (has_last p))
-    (then_keeps (λ (w : Compilation). case_prepared limits p (part_prepared w)) (finished_at limits context place p)
-    (then_keeps part_prepared (case_prepared limits p) prepared_keeps (case_keeps limits p))
+    (Then (λ (w : Compilation). case_prepared limits p (part_prepared w)) (finished_at limits context place p)
+    (Then part_prepared (case_prepared limits p) prepared_keeps (case_keeps limits p))
     (finished_at_keeps limits context place p))
 
 -- a statement is what its unit says
 pub statement_part_keeps : (limits : Limits) (context : Context) (place : Place)
-    → Keeps (λ w. part_ended limits context place (Part.Statement (statement_at w)) w)
+    → Step false (λ w. part_ended limits context place (Part.Statement (statement_at w)) w)
 statement_part_keeps limits context place =
-    with_keeps statement_at (λ (s : Statement) (w : Compilation). part_ended limits context place (Part.Statement s) w) (λ b w. refl)
+    By statement_at (λ (s : Statement) (w : Compilation). part_ended limits context place (Part.Statement s) w) (λ b w. refl)
     (λ s. part_keeps limits context place (Part.Statement s))

@@ -1,6 +1,6 @@
 -- Messages are added behind the report.
-use Rattle.std.proofs.Common.{◌≡◌, ℕ, List, Bool, true, false, Option, Some, None, refl, ◌∙◌, ap, append_assoc}
-use Rattle.std.specs.Prelude.{[], ◌∷◌, ◌++◌, if◌then◌else◌}
+use Rattle.std.proofs.Common.{arith, ◌≡◌, ℕ, List, Bool, true, false, Option, Some, None, refl, ◌∙◌, ap, sym, append_assoc, append-nil}
+use Rattle.std.specs.Prelude.{[], ◌∷◌, ◌++◌, ◌+◌, ◌≤◌, ◌||◌, not, if◌then◌else◌}
 use Rattle.inf_settings.specs.declared.setting.Setting.{Setting}
 use Rattle.inf_scanner.specs.declared.tokens.Place.{Place}
 use Rattle.inf_assembler.specs.declared.routines.CloseFault.{CloseFault}
@@ -9,23 +9,48 @@ use Rattle.inf_constructs.specs.Labels.{NamedLabel, missing}
 use Rattle.inf_report.specs.{OwnWords.Words, declared.messages.Kind.Kind}
 use Rattle.inf_report.specs.Messages.{BranchTooFar, ErrorText, Exceeded, FatalText, LabelMissing, Location, Message, UnusedLocal}
 use Rattle.inf_report.specs.Messages.{WarningText}
-use Rattle.inf_report.specs.Reports.{Counts, error_lines, fatal_lines, plain_lines, warning_lines, with_error as error_counted}
+use Rattle.inf_report.specs.Reports.{Counts, error_lines, fatal_lines, is_last, one_warning_more, plain_lines, warning_lines}
+use Rattle.inf_report.specs.Reports.{with_error as error_counted}
 use Rattle.inf_report.specs.Reports.{with_fatal as fatal_counted, with_warning as warning_counted}
 use Rattle.inf_unit.specs.Messages.{Diagnostic, FileNames, Reported, location, with_error, with_fatal, with_fault, with_full, with_plain}
-use Rattle.inf_unit.specs.Messages.{with_warning, with_words}
+use Rattle.inf_unit.specs.Messages.{warnings_chosen, with_warning, with_words}
 use Rattle.inf_compilation.specs.Context.{Context}
 use Rattle.inf_compilation.specs.Actions.{with_all_unused, with_branch_fault, with_fault_or, with_routine_fault, with_unused}
-use Rattle.inf_message_laws.specs.Growing.{Grows, told_before}
+use Rattle.inf_message_laws.specs.Growing.{GoesOn, Grows, told_before}
 
--- A change of the report does not depend on its lines, and leaves them unchanged before its own.
+-- Reports that go on
+
+pub same_report : (r s : Reported) → s ≡ r → GoesOn r s
+same_report r s e = record {
+  more = [];
+  lines = ap (λ (x : Reported). x.lines) e ∙ sym (append-nil r.lines);
+  over = λ o. ap (λ (x : Reported). x.counts.is_over) e ∙ o;
+  errors = let n = ap (λ (x : Reported). x.counts.errors) e in omega (arith, n);
+}
+
+pub goes_behind : (r s t : Reported) → GoesOn r s → GoesOn s t → GoesOn r t
+goes_behind r s t a b = record {
+  more = a.more ++ b.more;
+  lines = b.lines ∙ (ap (λ lines. lines ++ b.more) a.lines ∙ append_assoc r.lines a.more b.more);
+  over = λ o. b.over (a.over o);
+  errors = let p = a.errors in let q = b.errors in omega (arith, p, q);
+}
+
+-- Changes of the report put together
+
+-- A change of the report does not depend on its lines, leaves them unchanged before its own, and the report goes on.
 pub record Adds (tell : Reported → Reported) : Type 0 where
   pub adds : (lines : List ℕ) (r : Reported) → tell (told_before lines r) ≡ told_before lines (tell r)
+  pub goes_on : (r : Reported) → GoesOn r (tell r)
 
 pub nothing_adds : Adds (λ r. r)
-nothing_adds = record { adds = λ lines r. refl }
+nothing_adds = record { adds = λ lines r. refl; goes_on = λ r. same_report r r refl }
 
 pub then_adds : (f g : Reported → Reported) → Adds f → Adds g → Adds (λ r. g (f r))
-then_adds f g first second = record { adds = λ lines r. ap g (first.adds lines r) ∙ second.adds lines (f r) }
+then_adds f g first second = record {
+  adds = λ lines r. ap g (first.adds lines r) ∙ second.adds lines (f r);
+  goes_on = λ r. goes_behind r (f r) (g (f r)) (first.goes_on r) (second.goes_on (f r));
+}
 
 -- the step of a compilation that changes the report alone
 pub told_grows : (tell : Reported → Reported) → Adds tell → Grows (λ w. record w { report = tell w.report })
@@ -33,29 +58,77 @@ told_grows tell only = record {
   grows = λ lines w. ap (λ (r : Reported). record w { report = r }) (only.adds lines w.report);
 }
 
+-- whether warnings are told
+pub chosen_adds : (has_warnings : Bool) → Adds (warnings_chosen has_warnings)
+chosen_adds has_warnings = record {
+  adds = λ lines r. refl;
+  goes_on = λ r. record { more = []; lines = sym (append-nil r.lines); over = λ o. o; errors = omega arith };
+}
+
+-- counts behind a message: they keep that a fatal message was told, and errors are no fewer
+record IsCounted (counted : Counts → Counts) : Type 0 where
+  over : (c : Counts) → c.is_over ≡ true → (counted c).is_over ≡ true
+  errors : (c : Counts) → c.errors ≤ (counted c).errors
+
+error_counts : IsCounted error_counted
+error_counts = record { over = λ c. over c c.is_over refl; errors = λ c. errors c c.is_over }
+  where
+    over : (c : Counts) (b : Bool) → c.is_over ≡ b → c.is_over ≡ true
+        → (if b then c else record c { errors = c.errors + 1; is_over = is_last c }).is_over ≡ true
+    over c true is e = e
+    over c false is e = absurd (cc)
+
+    errors : (c : Counts) (b : Bool) → c.errors ≤ (if b then c else record c { errors = c.errors + 1; is_over = is_last c }).errors
+    errors c true = omega arith
+    errors c false = omega arith
+
+warning_counts : IsCounted warning_counted
+warning_counts = record { over = λ c. over c (c.is_over || not c.has_warnings); errors = λ c. errors c (c.is_over || not c.has_warnings) }
+  where
+    over : (c : Counts) (b : Bool) → c.is_over ≡ true →
+        (if b then c else record c { warnings = one_warning_more c.warnings }).is_over ≡ true
+    over c true e = e
+    over c false e = e
+
+    errors : (c : Counts) (b : Bool) → c.errors ≤ (if b then c else record c { warnings = one_warning_more c.warnings }).errors
+    errors c true = omega arith
+    errors c false = omega arith
+
+fatal_counts : IsCounted fatal_counted
+fatal_counts = record { over = λ c. over c c.is_over; errors = λ c. errors c c.is_over }
+  where
+    over : (c : Counts) (b : Bool) → c.is_over ≡ true → (if b then c else record c { is_over = true }).is_over ≡ true
+    over c true e = e
+    over c false e = refl
+
+    errors : (c : Counts) (b : Bool) → c.errors ≤ (if b then c else record c { is_over = true }).errors
+    errors c true = omega arith
+    errors c false = omega arith
+
 -- lines behind those of the report, and counts, which both depend on the counts alone
 abbrev with_more : (Counts → List ℕ) → (Counts → Counts) → Reported → Reported
 with_more more counted r = record { lines = r.lines ++ more r.counts; counts = counted r.counts }
 
-more_adds : (more : Counts → List ℕ) (counted : Counts → Counts) → Adds (with_more more counted)
-more_adds more counted = record {
+more_adds : (more : Counts → List ℕ) (counted : Counts → Counts) → IsCounted counted → Adds (with_more more counted)
+more_adds more counted h = record {
   adds = λ lines r. ap (λ (all : List ℕ). record r { lines = all; counts = counted r.counts })
       (append_assoc lines r.lines (more r.counts));
+  goes_on = λ r. record { more = more r.counts; lines = refl; over = h.over r.counts; errors = h.errors r.counts };
 }
 
 -- The messages one by one
 
 pub error_adds : (at unit : Location) (m : Message) → Adds (with_error at unit m)
-error_adds at unit m = more_adds (error_lines at unit m) error_counted
+error_adds at unit m = more_adds (error_lines at unit m) error_counted error_counts
 
 pub warning_adds : (at : Location) (m : Message) → Adds (with_warning at m)
-warning_adds at m = more_adds (warning_lines at m) warning_counted
+warning_adds at m = more_adds (warning_lines at m) warning_counted warning_counts
 
 pub fatal_adds : (at : Location) (m : Message) → Adds (with_fatal at m)
-fatal_adds at m = more_adds (fatal_lines at m) fatal_counted
+fatal_adds at m = more_adds (fatal_lines at m) fatal_counted fatal_counts
 
 plain_adds : (words : Words) → Adds (with_plain words)
-plain_adds words = more_adds (plain_lines words) (λ c. c)
+plain_adds words = more_adds (plain_lines words) (λ c. c) (record { over = λ c e. e; errors = λ c. omega arith })
 
 pub words_add : (at : Location) (kind : Option Kind) (words : Words) → Adds (with_words at kind words)
 words_add at None words = plain_adds words

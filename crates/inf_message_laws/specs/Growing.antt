@@ -1,10 +1,10 @@
 -- Messages only grow: a step of a compilation has the same effect whatever was reported before it, and its own messages stand behind that.
-use Rattle.std.specs.Prelude.{◌≡◌, ℕ, List, [], ◌∷◌, ◌++◌}
+use Rattle.std.specs.Prelude.{◌≡◌, ◌≤◌, ℕ, List, [], ◌∷◌, ◌++◌, true}
 use Rattle.inf_settings.specs.Bounds.{Limits}
 use Rattle.inf_scanner.specs.declared.tokens.Place.{Place}
 use Rattle.inf_syntax.specs.declared.actions.Action.{Action}
 use Rattle.inf_output.specs.Output.{Out}
-use Rattle.inf_unit.specs.{Directives.Request, Messages.Reported, Roles.role_of, Tokens.SourceToken, declared.roles.Ending.Ending}
+use Rattle.inf_unit.specs.{Messages.Reported, Roles.role_of, Tokens.SourceToken, declared.roles.Ending.Ending}
 use Rattle.inf_unit.specs.{declared.roles.Role.Role}
 use Rattle.inf_compilation.specs.{Actions.Compilation, Actions.took, Context.Context}
 use Rattle.inf_reader.specs.Acting.{act, cut_at}
@@ -20,18 +20,6 @@ with_lines_before lines w = record w { report = told_before lines w.report }
 -- A step does not depend on lines that were reported before it, and leaves them unchanged before its own.
 pub record Grows (step : Compilation → Compilation) : Type 0 where
   pub grows : (lines : List ℕ) (w : Compilation) → step (with_lines_before lines w) ≡ with_lines_before lines (step w)
-
--- A change before a step: there are lines before those of the report, and something else is asked, or the same.
-pub record Before : Type 0 where
-  pub lines : List ℕ
-  pub ask : Request → Request
-
-abbrev pub with_before : Before → Compilation → Compilation
-with_before b w = record w { report = told_before b.lines w.report; asked = b.ask w.asked }
-
--- A step depends neither on such lines nor on what is asked, and changes neither.
-pub record Keeps (step : Compilation → Compilation) : Type 0 where
-  pub keeps : (b : Before) (w : Compilation) → step (with_before b w) ≡ with_before b (step w)
 
 -- Conditional directives between two tokens add lines to the report, and change none.
 abbrev pub OnlyAdds : Between → Type 0
@@ -60,3 +48,16 @@ pub record MessagesGrow (limits : Limits) : Type 0 where
   pub cut : (context : Context) (place : Place) → Grows (cut_at limits context place)
   pub all : (context : Context) (happenings : List Happening) → AllOnlyAdd happenings → Grows (run limits context happenings)
   pub asks : AsksAtDirectives limits
+
+-- A report goes on from another: the lines of that stand before its own, a fatal message ends it, too, and errors are no fewer.
+pub record GoesOn (before behind : Reported) : Type 0 where
+  pub more : List ℕ
+  pub lines : behind.lines ≡ before.lines ++ more
+  pub over : before.counts.is_over ≡ true → behind.counts.is_over ≡ true
+  pub errors : before.counts.errors ≤ behind.counts.errors
+
+-- The report goes on where a token is taken, where an action of the grammar acts, and where a bad token cuts a unit.
+pub record ReportsGoOn (limits : Limits) : Type 0 where
+  pub token : (context : Context) (t : SourceToken) (w : Compilation) → GoesOn w.report (took context t w).report
+  pub action : (context : Context) (place : Place) (a : Action) (w : Compilation) → GoesOn w.report (act limits context place a w).report
+  pub cut : (context : Context) (place : Place) (w : Compilation) → GoesOn w.report (cut_at limits context place w).report

@@ -1,6 +1,6 @@
-//! The report of a compilation: messages only grow. A function carries this law as its clause, and does nothing.
+//! The report of a compilation: messages only grow. Functions carry its laws as their clauses, and do nothing.
 #![tactic(auto)]
 
 mod laws;
 
-pub use laws::messages_grow;
+pub use laws::{messages_grow, reports_go_on};
