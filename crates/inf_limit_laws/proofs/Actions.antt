@@ -1,5 +1,5 @@
 -- Directives, headers, notes and all actions of the grammar; and the cut that a bad token makes.
-use Rattle.std.proofs.Common.{◌≡◌, ◌+◌, ◌≤◌, ℕ, List, [], ◌∷◌, cond, Bool, true, false, Option, Some, None, ap, arith, ◌&&◌}
+use Rattle.std.proofs.Common.{◌≡◌, ◌+◌, ◌≤◌, ℕ, List, [], ◌∷◌, cond, Bool, true, false, Option, Some, None, refl, ap, arith, ◌&&◌}
 use Rattle.inf_settings.specs.{Bounds.Limits, declared.setting.Setting.Setting}
 use Rattle.inf_scanner.specs.declared.tokens.Place.{Place}
 use Rattle.inf_assembler.specs.declared.routines.Limit.{Limit as CodeLimit}
@@ -24,7 +24,7 @@ use Rattle.inf_reader.specs.Acting.{noted, noted_of, played}
 use Rattle.inf_reader.specs.Directives.{carried_out, code_begun_by, directive_end, directive_of_names, fit_ended}
 use Rattle.inf_reader.specs.Headers.{class_named, directive_header, header_as, header_ended, heading_of}
 use Rattle.inf_reader.specs.declared.headers.Heading.{Heading}
-use Rattle.inf_limit_laws.specs.{Rooms.Before, Within.Ends, Within.Steps}
+use Rattle.inf_limit_laws.specs.{Rooms.Before, Rooms.unfollowed, Within.Ends, Within.Steps}
 use Rattle.inf_limit_laws.proofs.{Leaving.Few, Outputs.begin_keeps}
 use Rattle.inf_limit_laws.proofs.Bodies.{attribute_read_steps, body_steps, class_read_steps, class_steps, embedded_read_steps}
 use Rattle.inf_limit_laws.proofs.Bodies.{given_up_steps, object_steps, property_read_steps, value_read_steps}
@@ -183,54 +183,54 @@ noted_steps {limits} {context} {was} n w =
 -- Actions
 
 ended_steps : {limits : Limits} {context : Context} {was : Before} (place : Place) (e : Ending) (w : Compilation)
-    → Steps limits context was w (ended limits context place e w)
-ended_steps place Ending.Locals w = header_steps place w
-ended_steps place Ending.Embedded w = embedded_read_steps place w
-ended_steps place Ending.Routine w = close_steps place w
-ended_steps place Ending.Directive w = directive_steps place w
-ended_steps place Ending.Header w = header_ended_steps place w
-ended_steps place Ending.Body w = body_steps w
-ended_steps place Ending.Class w = class_read_steps place w
-ended_steps place Ending.Attribute w = attribute_read_steps place w
-ended_steps place Ending.Property w = property_read_steps place w
-ended_steps place Ending.Value w = value_read_steps place w
-ended_steps place Ending.Line w = line_steps place w
-ended_steps place Ending.Abbreviation w = abbreviation_steps place w
-ended_steps place Ending.Entry w = entry_steps place false w
-ended_steps place Ending.Alone w = entry_steps place true w
-ended_steps place Ending.Statement w = part_steps place (Part.Statement (statement_at w)) w
-ended_steps place Ending.Condition w = part_steps place Part.Condition w
-ended_steps place Ending.Start w = part_steps place Part.Start w
-ended_steps place Ending.Step w = part_steps place Part.Step w
-ended_steps place Ending.Loop w = part_steps place Part.Loop w
-ended_steps place Ending.Switched w = part_steps place Part.Switched w
-ended_steps place Ending.Case w = part_steps place Part.Case w
+    → (e ≡ Ending.Abbreviation → was.abbreviations ≡ None) → Steps limits context was w (ended limits context place e w)
+ended_steps place Ending.Locals w none = header_steps place w
+ended_steps place Ending.Embedded w none = embedded_read_steps place w
+ended_steps place Ending.Routine w none = close_steps place w
+ended_steps place Ending.Directive w none = directive_steps place w
+ended_steps place Ending.Header w none = header_ended_steps place w
+ended_steps place Ending.Body w none = body_steps w
+ended_steps place Ending.Class w none = class_read_steps place w
+ended_steps place Ending.Attribute w none = attribute_read_steps place w
+ended_steps place Ending.Property w none = property_read_steps place w
+ended_steps place Ending.Value w none = value_read_steps place w
+ended_steps place Ending.Line w none = line_steps place w
+ended_steps place Ending.Abbreviation w none = abbreviation_steps place w (none refl)
+ended_steps place Ending.Entry w none = entry_steps place false w
+ended_steps place Ending.Alone w none = entry_steps place true w
+ended_steps place Ending.Statement w none = part_steps place (Part.Statement (statement_at w)) w
+ended_steps place Ending.Condition w none = part_steps place Part.Condition w
+ended_steps place Ending.Start w none = part_steps place Part.Start w
+ended_steps place Ending.Step w none = part_steps place Part.Step w
+ended_steps place Ending.Loop w none = part_steps place Part.Loop w
+ended_steps place Ending.Switched w none = part_steps place Part.Switched w
+ended_steps place Ending.Case w none = part_steps place Part.Case w
 
 played_steps : {limits : Limits} {context : Context} {was : Before} (place : Place) (r : Role) (w : Compilation)
-    → Steps limits context was w (played limits context place r w)
-played_steps place (Role.Gather s) w = unit_steps w (stepped s w.unit)
-played_steps place (Role.Note n) w = noted_steps n w
-played_steps place (Role.End e) w = ended_steps place e w
-played_steps place (Role.Open o) w = opening_steps place (kind_of o) w
-played_steps place Role.Join w = joining_steps w
-played_steps place Role.Close w = closing_steps w
-played_steps place Role.Deeper w = nested_steps place (is_deep w 1) w
-played_steps place Role.MaybeDeeper w = record { on = λ e. e; kept = λ e h. h; few = λ e b h k. k; near = λ e h k. k }
-played_steps place Role.Nothing w = stays w
+    → (r ≡ Role.End Ending.Abbreviation → was.abbreviations ≡ None) → Steps limits context was w (played limits context place r w)
+played_steps place (Role.Gather s) w none = unit_steps w (stepped s w.unit)
+played_steps place (Role.Note n) w none = noted_steps n w
+played_steps place (Role.End e) w none = ended_steps place e w (λ is. none (ap Role.End is))
+played_steps place (Role.Open o) w none = opening_steps place (kind_of o) w
+played_steps place Role.Join w none = joining_steps w
+played_steps place Role.Close w none = closing_steps w
+played_steps place Role.Deeper w none = nested_steps place (is_deep w 1) w
+played_steps place Role.MaybeDeeper w none = record { on = λ e. e; kept = λ e h. h; few = λ e b h k. k; near = λ e h k. k }
+played_steps place Role.Nothing w none = stays w
 
 pub act_steps : {limits : Limits} {context : Context} {was : Before} (place : Place) (a : Action) (w : Compilation)
-    → Steps limits context was w (act limits context place a w)
-act_steps place a w = played_steps place (role_of a) w
+    → (role_of a ≡ Role.End Ending.Abbreviation → was.abbreviations ≡ None) → Steps limits context was w (act limits context place a w)
+act_steps place a w none = played_steps place (role_of a) w none
 
-acted_steps : {limits : Limits} {context : Context} {was : Before} (place : Place) (actions : List Action) (w : Compilation)
-    → Steps limits context was w (acted limits context place actions w)
+acted_steps : {limits : Limits} {context : Context} {begins strict : Bool} (place : Place) (actions : List Action) (w : Compilation)
+    → Steps limits context (unfollowed begins strict) w (acted limits context place actions w)
 acted_steps place [] w = stays w
-acted_steps {limits} {context} {was} place (a ∷ actions) w =
-    steps_then (act_steps place a w) (acted_steps place actions (act limits context place a w))
+acted_steps {limits} {context} place (a ∷ actions) w =
+    steps_then (act_steps place a w (λ is. refl)) (acted_steps place actions (act limits context place a w))
 
-pub all_acted_steps : {limits : Limits} {context : Context} {was : Before} (place : Place) (actions : List Action) (w : Compilation)
-    → Steps limits context was w (all_acted limits context place actions w)
-all_acted_steps {limits} {context} {was} place actions w =
+pub all_acted_steps : {limits : Limits} {context : Context} {begins strict : Bool} (place : Place) (actions : List Action)
+    (w : Compilation) → Steps limits context (unfollowed begins strict) w (all_acted limits context place actions w)
+all_acted_steps {limits} {context} place actions w =
     steps_then {a = w} {b = record w { opening = None }} (record { on = λ e. e; kept = λ e h. h; few = λ e b h k. k; near = λ e h k. k })
     (acted_steps place actions (record w { opening = None }))
 

@@ -1,6 +1,7 @@
 -- The directives that declare: attributes, properties, variables, abbreviations, low strings and arrays; and those that choose how a story
 -- is made.
-use Rattle.std.proofs.Common.{ℕ, List, [], ◌∷◌, map, Bool, true, false, Option, Some, None, Result, Ok, Err, length, nat_le, if◌then◌else◌}
+use Rattle.std.proofs.Common.{◌≡◌, ◌∙◌, sym, ℕ, List, [], ◌∷◌, map, Bool, true, false, Option, Some, None, Result, Ok, Err, length, nat_le}
+use Rattle.std.proofs.Common.{if◌then◌else◌}
 use Rattle.inf_settings.specs.{Bounds.Limits, declared.setting.Setting.Setting}
 use Rattle.inf_scanner.specs.declared.tokens.Place.{Place}
 use Rattle.inf_characters.specs.{Reading.text_of, declared.reading.Mode.Mode, declared.texts.TextItem.TextItem}
@@ -159,11 +160,16 @@ global_steps first (name ∷ names) w = global_with_steps first name w
 
 -- Abbreviations
 
-low_added_keeps : {was : Before} (limits : Limits) (bytes : List ℕ) → Keeps limits was (low_added limits bytes)
-low_added_keeps {was} limits bytes o h = go (low_fits limits bytes o.tables.low_strings)
+low_added_keeps : {was : Before} (limits : Limits) (bytes : List ℕ) → was.abbreviations ≡ None → Keeps limits was (low_added limits bytes)
+low_added_keeps {was} limits bytes none o h = go (low_fits limits bytes o.tables.low_strings)
   where
     go : (b : Bool) → Counted limits was (low_added_by limits b bytes o)
-    go true = h
+    go true = record {
+      stays = h.stays;
+      begun = h.begun;
+      room = h.room;
+      same = λ known is. let never : None ≡ Some known = sym none ∙ is in cc;
+    }
     go false = table_keeps limits Setting.LowStrings o h
 
 text_declared_keeps : {was : Before} (limits : Limits) (error : Option UnitError) (items : List TextItem) →
@@ -171,30 +177,29 @@ text_declared_keeps : {was : Before} (limits : Limits) (error : Option UnitError
 text_declared_keeps {was} limits None items o h = h
 text_declared_keeps {was} limits (Some error) items o h = h
 
-unless_keeps : {was : Before} (limits : Limits) (error : Option UnitError) (items : List TextItem) →
-    Keeps limits was (low_unless limits error items)
-unless_keeps {was} limits None items o h = low_added_keeps limits (packed items []) o h
-unless_keeps {was} limits (Some error) items o h = h
+unless_keeps : {was : Before} (limits : Limits) (error : Option UnitError) (items : List TextItem) → was.abbreviations ≡ None
+    → Keeps limits was (low_unless limits error items)
+unless_keeps {was} limits None items none o h = low_added_keeps limits (packed items []) none o h
+unless_keeps {was} limits (Some error) items none o h = h
 
 abbreviation_keeps : {was : Before} (limits : Limits) (error : Option UnitError) (items : List TextItem)
-    → Keeps limits was (abbreviation_added limits error items)
-abbreviation_keeps limits error items o h =
-    unless_keeps limits error items (text_declared error items o) (text_declared_keeps limits error items o h)
+    → was.abbreviations ≡ None → Keeps limits was (abbreviation_added limits error items)
+abbreviation_keeps limits error items none o h =
+    unless_keeps limits error items none (text_declared error items o) (text_declared_keeps limits error items o h)
 
 abbreviation_with_steps : {limits : Limits} {context : Context} {was : Before} (first : Place) (items : Result (List TextItem) UnitError)
-    (w : Compilation)
-    → Steps limits context was w (abbreviation_with limits context first items w)
-abbreviation_with_steps first (Err error) w = step_of (unit_ends first false (abbreviation_findings (Some error)) w)
-abbreviation_with_steps {limits} {context} first (Ok items) w =
+    (w : Compilation) → was.abbreviations ≡ None → Steps limits context was w (abbreviation_with limits context first items w)
+abbreviation_with_steps first (Err error) w none = step_of (unit_ends first false (abbreviation_findings (Some error)) w)
+abbreviation_with_steps {limits} {context} first (Ok items) w none =
     let error = abbreviation_error items w.output in
-    lays_step (output_lays w (abbreviation_added limits error items w.output) (abbreviation_keeps limits error items w.output))
+    lays_step (output_lays w (abbreviation_added limits error items w.output) (abbreviation_keeps limits error items none w.output))
     (unit_ends first false (abbreviation_findings error) (record w { output = abbreviation_added limits error items w.output }))
 
 pub abbreviation_steps : {limits : Limits} {context : Context} {was : Before} (place : Place) (w : Compilation)
-    → Steps limits context was w (abbreviation limits context place w)
-abbreviation_steps {limits} {context} {was} place w =
+    → was.abbreviations ≡ None → Steps limits context was w (abbreviation limits context place w)
+abbreviation_steps {limits} {context} {was} place w none =
     abbreviation_with_steps (first_place w.unit.tokens place)
-    (or_error (text_of context.set Mode.Abbreviation (quoted_in w.unit.tokens))) w
+    (or_error (text_of context.set Mode.Abbreviation (quoted_in w.unit.tokens))) w none
 
 pub abbreviate_steps : {limits : Limits} {context : Context} {was : Before} (first : Place) (w : Compilation)
     → Steps limits context was w (abbreviate_header limits context first w)

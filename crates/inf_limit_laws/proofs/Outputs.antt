@@ -13,7 +13,8 @@ use Rattle.inf_opcode.specs.{Cells.Cell, Cells.fixup_count, Instructions.Parts, 
 use Rattle.inf_opcode.specs.{declared.instructions.Branch.Branch, declared.instructions.Label.Label, declared.opcodes.Opcode.Opcode}
 use Rattle.inf_code.specs.Code.{Opened, Routines, begun_unless, cells_from, cells_with, closed_cells, fault_closed, full_begun, full_behind}
 use Rattle.inf_code.specs.Code.{full_marked, full_opened, known, padding, place_behind, references_open, routine_cells}
-use Rattle.inf_code.specs.Code.{whole_bytes, with_item as code_with_item, with_label as with_mark, with_none_open, with_opened, zeros_behind}
+use Rattle.inf_code.specs.Code.{whole_bytes, with_item as code_with_item, with_label as with_mark, with_none_open, with_opened}
+use Rattle.inf_code.specs.Code.{zeros_behind}
 use Rattle.inf_dictionary.specs.{Texts.Text, declared.dictionary.AddFault.AddFault as WordFault, declared.uses.WordUse.WordUse}
 use Rattle.inf_dictionary.specs.Words.{add_fault, word_of}
 use Rattle.inf_names.specs.declared.{meanings.Meaning.Meaning, symbols.DeclareFault.DeclareFault, symbols.ReferFault.ReferFault}
@@ -62,11 +63,13 @@ grown_counted : {was : Before} (limits : Limits) (item : Item) (o : Out) → Cou
     Counted limits was (fitted limits None item o)
 grown_counted {was} limits (Item.Instruction parts) o h none = record {
   stays = h.stays;
+  same = h.same;
   begun = λ e. h.begun (sym (some_item parts o.code.opened) ∙ e);
   room = λ p is free. let never : None ≡ Some p = sym none ∙ is in cc;
 }
 grown_counted {was} limits (Item.Mark label) o h none = record {
   stays = h.stays;
+  same = h.same;
   begun = λ e. h.begun (sym (some_mark label o.code.opened) ∙ e);
   room = λ p is free. let never : None ≡ Some p = sym none ∙ is in cc;
 }
@@ -75,6 +78,7 @@ passed_counted : {was : Before} (limits : Limits) (item : Item) (o : Out) → Co
     → (full_past (past_of limits o) ≡ None → LeavesRoom limits o.code (past_of limits o)) → Counted limits was (passed limits item o)
 passed_counted {was} limits item o h room = record {
   stays = h.stays;
+  same = h.same;
   begun = h.begun;
   room = λ p is free.
       let same : without_item o.code item (past_of limits o) ≡ p = cc in
@@ -158,11 +162,13 @@ open_keeps {was} limits locals is_lost o h = go (full_opened limits is_lost o.co
     go : (full : Option CodeLimit) → Counted limits was (opened_by limits full locals is_lost o)
     go None = record {
       stays = λ e. refl;
+      same = h.same;
       begun = λ e. refl;
       room = λ p is free. opened_room limits locals is_lost o.code p (h.room p is free);
     }
     go (Some limit) = record {
       stays = h.stays;
+      same = h.same;
       begun = λ e. cc;
       room = λ p is free.
           full_room (passed_limit limit (past_by limits o.past (with_none_open o.code))) is (limit_full limit
@@ -180,6 +186,7 @@ none_open_room limits code p r = record {
 pub none_open_keeps : {was : Before} (limits : Limits) → Keeps limits was (λ o. record o { code = with_none_open o.code })
 none_open_keeps {was} limits o h = record {
   stays = h.stays;
+  same = h.same;
   begun = λ e. cc;
   room = λ p is free. none_open_room limits o.code p (h.room p is free);
 }
@@ -253,11 +260,13 @@ by_closed : {was : Before} (limits : Limits) (kind : RoutineKind) (o : Out) → 
     → Counted limits was (closed_by limits fault kind o)
 by_closed {was} limits kind o h None = record {
   stays = h.stays;
+  same = h.same;
   begun = λ e. cc;
   room = λ p is free. closed_room limits kind o p (h.room p is free);
 }
 by_closed {was} limits kind o h (Some (CloseFault.Full limit)) = record {
   stays = h.stays;
+  same = h.same;
   begun = λ e. cc;
   room = λ p is free.
       full_room (passed_limit limit (past_by limits o.past (with_none_open o.code))) is
@@ -272,6 +281,7 @@ labels_counted : {was : Before} (limits : Limits) (left : Option ℕ) (o : Out) 
     Counted limits was (with_labels_left limits left o)
 labels_counted {was} limits None o h = record {
   stays = h.stays;
+  same = h.same;
   begun = h.begun;
   room = λ p is free.
       full_room (passed_limit CodeLimit.Labels (past_of limits o)) is (limit_full CodeLimit.Labels (past_of limits o)) free;
@@ -286,9 +296,10 @@ close_keeps {was} limits kind o h =
 -- Beginnings
 
 begun_code : {was : Before} (limits : Limits) (o : Out) → Counted limits was o → (full : Option CodeLimit)
-    → IsCounted limits was (begun_unless full o.code) o.past
+    → IsCounted limits was (begun_unless full o.code) o.past o.tables.low_strings.abbreviations
 begun_code {was} limits o h None = record {
   stays = λ e. refl;
+  same = h.same;
   begun = λ e. refl;
   room = λ p is free.
       let r = h.room p is free in
@@ -303,13 +314,14 @@ begun_code {was} limits o h (Some limit) = h
 pub begin_keeps : {was : Before} (limits : Limits) → Keeps limits was (begun limits)
 begin_keeps {was} limits o h = go (full_begun limits o.code)
   where
-    counted : IsCounted limits was (begun_unless (full_begun limits o.code) o.code) o.past
+    counted : IsCounted limits was (begun_unless (full_begun limits o.code) o.code) o.past o.tables.low_strings.abbreviations
     counted = begun_code limits o h (full_begun limits o.code)
 
     go : (full : Option CodeLimit) → Counted limits was (begun_by limits full o)
     go None = counted
     go (Some limit) = record {
       stays = counted.stays;
+      same = counted.same;
       begun = counted.begun;
       room = λ p is free. full_room (passed_limit limit (past_of limits o)) is (limit_full limit (past_of limits o)) free;
     }
@@ -318,6 +330,7 @@ begin_keeps {was} limits o h = go (full_begun limits o.code)
 pub scale_keeps : {was : Before} (limits : Limits) (scale : Scale) → Keeps limits was (with_scale scale)
 scale_keeps {was} limits scale o h = record {
   stays = h.stays;
+  same = h.same;
   begun = h.begun;
   room = λ p is free.
       let r = h.room p is free in
@@ -329,6 +342,7 @@ scale_keeps {was} limits scale o h = record {
 pub table_keeps : {was : Before} (limits : Limits) (limit : Setting) → Keeps limits was (passed_table limits limit)
 table_keeps {was} limits limit o h = record {
   stays = h.stays;
+  same = h.same;
   begun = h.begun;
   room = λ p is free. full_room (table_passed limit (past_of limits o)) is (table_full limit (past_of limits o)) free;
 }
@@ -336,6 +350,7 @@ table_keeps {was} limits limit o h = record {
 pub symbols_keeps : {was : Before} (limits : Limits) → Keeps limits was (symbols_passed limits)
 symbols_keeps {was} limits o h = record {
   stays = h.stays;
+  same = h.same;
   begun = h.begun;
   room = λ p is free. full_room (record (past_of limits o) { symbols = true }) is (symbols_full (past_of limits o)) free;
 }
@@ -347,6 +362,7 @@ text_keeps {was} limits text o h = go (fits limits text o.strings)
     go true = h
     go false = record {
       stays = h.stays;
+      same = h.same;
       begun = h.begun;
       room = λ p is free. full_room (record (past_of limits o) { strings = true }) is (strings_full (past_of limits o)) free;
     }

@@ -30,7 +30,7 @@ use Rattle.inf_session.specs.Choices.{Choices}
 use Rattle.inf_session.specs.Session.{State, answered, asked_nothing, carried_out, context_of, file_closed, followed, has_ended}
 use Rattle.inf_session.specs.Session.{included_by}
 use Rattle.inf_session.specs.Session.{is_resting, left, left_by, none_included, piece_closed, rested, stand_of, stepped, token_of, turn}
-use Rattle.inf_limit_laws.specs.{Rooms.Before, Rooms.Keeps, Signs.SignFits, Signs.is_loud}
+use Rattle.inf_limit_laws.specs.{Rooms.Keeps, Rooms.unfollowed, Signs.SignFits, Signs.is_loud}
 use Rattle.inf_limit_laws.specs.Within.{Ends, Lays, Steps, is_over}
 use Rattle.inf_limit_laws.proofs.{ConditionTokens.loud_is_over, ConditionTokens.tokens_are_few, Constructs.action_keeps, Units.ahead_lays}
 use Rattle.inf_limit_laws.proofs.Actions.{all_acted_steps, cut_at_steps, took_steps}
@@ -40,24 +40,26 @@ use Rattle.inf_limit_laws.proofs.Ways.{with_fatal_stays}
 
 -- Actions of a condition
 
-appeared_by_keeps : {was : Before} (limits : Limits) (n : Option Name) → Keeps limits was (appeared_by limits n)
-appeared_by_keeps {was} limits None o h = h
-appeared_by_keeps {was} limits (Some n) o h = action_keeps limits n.bytes n.place o h
+appeared_by_keeps : {begins strict : Bool} (limits : Limits) (n : Option Name) →
+    Keeps limits (unfollowed begins strict) (appeared_by limits n)
+appeared_by_keeps {begins} {strict} limits None o h = h
+appeared_by_keeps {begins} {strict} limits (Some n) o h = action_keeps limits n.bytes n.place o h
 
-one_action_keeps : {was : Before} (limits : Limits) (tokens : List SourceToken) (l : Leaf) → Keeps limits was (action_added limits tokens l)
-one_action_keeps {was} limits tokens (Leaf.Action at) o h = appeared_by_keeps limits (name_at tokens at) o h
-one_action_keeps {was} limits tokens (Leaf.Name at) o h = h
-one_action_keeps {was} limits tokens (Leaf.Alone at) o h = h
-one_action_keeps {was} limits tokens (Leaf.Number number) o h = h
-one_action_keeps {was} limits tokens (Leaf.Char zscii) o h = h
-one_action_keeps {was} limits tokens (Leaf.Word word) o h = h
-one_action_keeps {was} limits tokens (Leaf.Text at) o h = h
-one_action_keeps {was} limits tokens (Leaf.System at) o h = h
+one_action_keeps : {begins strict : Bool} (limits : Limits) (tokens : List SourceToken) (l : Leaf) →
+    Keeps limits (unfollowed begins strict) (action_added limits tokens l)
+one_action_keeps {begins} {strict} limits tokens (Leaf.Action at) o h = appeared_by_keeps limits (name_at tokens at) o h
+one_action_keeps {begins} {strict} limits tokens (Leaf.Name at) o h = h
+one_action_keeps {begins} {strict} limits tokens (Leaf.Alone at) o h = h
+one_action_keeps {begins} {strict} limits tokens (Leaf.Number number) o h = h
+one_action_keeps {begins} {strict} limits tokens (Leaf.Char zscii) o h = h
+one_action_keeps {begins} {strict} limits tokens (Leaf.Word word) o h = h
+one_action_keeps {begins} {strict} limits tokens (Leaf.Text at) o h = h
+one_action_keeps {begins} {strict} limits tokens (Leaf.System at) o h = h
 
-pub actions_keep : {was : Before} (limits : Limits) (tokens : List SourceToken) (leaves : List Leaf) →
-    Keeps limits was (actions_added limits tokens leaves)
-actions_keep {was} limits tokens [] o h = h
-actions_keep {was} limits tokens (l ∷ leaves) o h =
+pub actions_keep : {begins strict : Bool} (limits : Limits) (tokens : List SourceToken) (leaves : List Leaf) →
+    Keeps limits (unfollowed begins strict) (actions_added limits tokens leaves)
+actions_keep {begins} {strict} limits tokens [] o h = h
+actions_keep {begins} {strict} limits tokens (l ∷ leaves) o h =
     actions_keep limits tokens leaves (action_added limits tokens l o) (one_action_keeps limits tokens l o h)
 
 -- Messages about tokens and conditionals
@@ -94,117 +96,119 @@ said_stays files (Some (Deep place)) r free = with_fatal_stays (location files p
 
 -- Tokens that the grammar gets
 
-bad_steps : {limits : Limits} {context : Context} {was : Before} (t : SourceToken) (r : Reading) (w : Compilation)
-    → Steps limits context was w (bad limits context t r w).work
-bad_steps {limits} {context} {was} t r w =
+bad_steps : {limits : Limits} {context : Context} {begins strict : Bool} (t : SourceToken) (r : Reading) (w : Compilation)
+    → Steps limits context (unfollowed begins strict) w (bad limits context t r w).work
+bad_steps {limits} {context} {begins} {strict} t r w =
     let c = cut_at limits context t.place w in
     steps_then (cut_at_steps t.place w)
     (report_steps c (with_complaint (location context.names t.place) (complaint_of t))
     (with_complaint_stays (location context.names t.place) (complaint_of t)))
 
-took_token_steps : {limits : Limits} {context : Context} {was : Before} (t : SourceToken) (r : Reading) (w : Compilation)
-    → Steps limits context was w (took limits context t r w).work
-took_token_steps {limits} {context} {was} t r w =
+took_token_steps : {limits : Limits} {context : Context} {begins strict : Bool} (t : SourceToken) (r : Reading) (w : Compilation)
+    → Steps limits context (unfollowed begins strict) w (took limits context t r w).work
+took_token_steps {limits} {context} {begins} {strict} t r w =
     let n = taken grammar known (atom_of t) r.stack in
     steps_then (all_acted_steps t.place n.actions w) (took_steps t (all_acted limits context t.place n.actions w))
 
 -- one of two states
-either_steps : {limits : Limits} {context : Context} {was : Before} (b : Bool) (w : Compilation) (x y : ReaderState)
-    → Steps limits context was w x.work → Steps limits context was w y.work → Steps limits context was w (if b then x else y).work
+either_steps : {limits : Limits} {context : Context} {begins strict : Bool} (b : Bool) (w : Compilation) (x y : ReaderState)
+    → Steps limits context (unfollowed begins strict) w x.work → Steps limits context (unfollowed begins strict) w y.work → Steps limits
+    context (unfollowed begins strict) w (if b then x else y).work
 either_steps true w x y f g = f
 either_steps false w x y f g = g
 
-judged_steps : {limits : Limits} {context : Context} {was : Before} (t : SourceToken) (r : Reading) (w : Compilation)
-    → Steps limits context was w (token_judged limits context t r w).work
-judged_steps {limits} {context} {was} t r w =
+judged_steps : {limits : Limits} {context : Context} {begins strict : Bool} (t : SourceToken) (r : Reading) (w : Compilation)
+    → Steps limits context (unfollowed begins strict) w (token_judged limits context t r w).work
+judged_steps {limits} {context} {begins} {strict} t r w =
     either_steps (fits grammar known (atom_of t) r.stack) w (took limits context t r w) (bad limits context t r w)
     (took_token_steps t r w) (bad_steps t r w)
 
 -- a piece begins
-piece_steps : {limits : Limits} {context : Context} {was : Before} (w : Compilation) → Steps limits context was w (work_begun w)
+piece_steps : {limits : Limits} {context : Context} {begins strict : Bool} (w : Compilation) →
+    Steps limits context (unfollowed begins strict) w (work_begun w)
 piece_steps w = record { on = λ e. e; kept = λ e h. h; few = λ e b h k. k; near = λ e h k. k }
 
-at_steps : {limits : Limits} {context : Context} {was : Before} (t : SourceToken) (stack : List (Symbol Action)) (r : Reading)
-    (w : Compilation) → Steps limits context was w (read_at limits context t stack r w).work
-at_steps {limits} {context} {was} t [] r w =
+at_steps : {limits : Limits} {context : Context} {begins strict : Bool} (t : SourceToken) (stack : List (Symbol Action)) (r : Reading)
+    (w : Compilation) → Steps limits context (unfollowed begins strict) w (read_at limits context t stack r w).work
+at_steps {limits} {context} {begins} {strict} t [] r w =
     either_steps (is_end t.kind) w (record { reading = record r { mode = Recovery.Ended }; work = w })
     (token_judged limits context t (piece_begun r) (work_begun w)) (stays w)
     (steps_then (piece_steps w) (judged_steps t (piece_begun r) (work_begun w)))
 at_steps t (symbol ∷ symbols) r w = judged_steps t r w
 
-in_steps : {limits : Limits} {context : Context} {was : Before} (m : Recovery) (t : SourceToken) (r : Reading) (w : Compilation)
-    → Steps limits context was w (step_in limits m context t r w).work
+in_steps : {limits : Limits} {context : Context} {begins strict : Bool} (m : Recovery) (t : SourceToken) (r : Reading) (w : Compilation)
+    → Steps limits context (unfollowed begins strict) w (step_in limits m context t r w).work
 in_steps Recovery.Reads t r w = at_steps t r.stack r w
 in_steps Recovery.SkipsRoutine t r w = stays w
 in_steps Recovery.SkipsDirective t r w = stays w
 in_steps Recovery.Ended t r w = stays w
 
-token_steps : {limits : Limits} {context : Context} {was : Before} (t : SourceToken) (r : Reading) (w : Compilation)
-    → Steps limits context was w (step limits context t r w).work
+token_steps : {limits : Limits} {context : Context} {begins strict : Bool} (t : SourceToken) (r : Reading) (w : Compilation)
+    → Steps limits context (unfollowed begins strict) w (step limits context t r w).work
 token_steps t r w = in_steps r.mode t r w
 
-unfit_steps : {limits : Limits} {context : Context} {was : Before} (m : Recovery) (t : SourceToken) (s : ReaderState)
-    → Steps limits context was s.work (unfit_in limits m context t s).work
+unfit_steps : {limits : Limits} {context : Context} {begins strict : Bool} (m : Recovery) (t : SourceToken) (s : ReaderState)
+    → Steps limits context (unfollowed begins strict) s.work (unfit_in limits m context t s).work
 unfit_steps Recovery.Reads t s = bad_steps t s.reading s.work
 unfit_steps Recovery.SkipsRoutine t s = token_steps t s.reading s.work
 unfit_steps Recovery.SkipsDirective t s = token_steps t s.reading s.work
 unfit_steps Recovery.Ended t s = token_steps t s.reading s.work
 
-handed_steps : {limits : Limits} {context : Context} {was : Before} (h : Forwarded) (t : SourceToken) (s : ReaderState)
-    → Steps limits context was s.work (handed_as limits h context t s).work
+handed_steps : {limits : Limits} {context : Context} {begins strict : Bool} (h : Forwarded) (t : SourceToken) (s : ReaderState)
+    → Steps limits context (unfollowed begins strict) s.work (handed_as limits h context t s).work
 handed_steps Forwarded.Kept t s = token_steps t s.reading s.work
 handed_steps Forwarded.Unfit t s = unfit_steps s.reading.mode t s
 handed_steps Forwarded.Condition t s = stays s.work
 
-sign_steps : {limits : Limits} {context : Context} {was : Before} (sign : Option Sign) (s : ReaderState)
-    → Steps limits context was s.work (sign_taken limits sign context s).work
+sign_steps : {limits : Limits} {context : Context} {begins strict : Bool} (sign : Option Sign) (s : ReaderState)
+    → Steps limits context (unfollowed begins strict) s.work (sign_taken limits sign context s).work
 sign_steps None s = stays s.work
 sign_steps (Some sign) s = handed_steps sign.handed (hash sign.place) s
 
-given_steps : {limits : Limits} {context : Context} {was : Before} (h : Option Forwarded) (t : SourceToken) (s : ReaderState)
-    → Steps limits context was s.work (token_taken limits h context t s).work
+given_steps : {limits : Limits} {context : Context} {begins strict : Bool} (h : Option Forwarded) (t : SourceToken) (s : ReaderState)
+    → Steps limits context (unfollowed begins strict) s.work (token_taken limits h context t s).work
 given_steps None t s = stays s.work
 given_steps (Some h) t s = handed_steps h t s
 
-lone_steps : {limits : Limits} {context : Context} {was : Before} (place : Option Place) (s : ReaderState)
-    → Steps limits context was s.work (lone_told place context s).work
+lone_steps : {limits : Limits} {context : Context} {begins strict : Bool} (place : Option Place) (s : ReaderState)
+    → Steps limits context (unfollowed begins strict) s.work (lone_told place context s).work
 lone_steps None s = stays s.work
-lone_steps {limits} {context} {was} (Some place) s =
+lone_steps {limits} {context} {begins} {strict} (Some place) s =
     report_steps s.work (with_lone context.names place) (lone_stays context.names place)
 
-directive_ends : {limits : Limits} {context : Context} {was : Before} (place : Place) (s : ReaderState)
-    → Ends limits context was s.work (unit_ended limits (Some place) context s).work
-directive_ends {limits} {context} {was} place s =
+directive_ends : {limits : Limits} {context : Context} {begins strict : Bool} (place : Place) (s : ReaderState)
+    → Ends limits context (unfollowed begins strict) s.work (unit_ended limits (Some place) context s).work
+directive_ends {limits} {context} {begins} {strict} place s =
     let w = closed_ahead limits (closings s.reading.stack) s.work in
     lays_end (ahead_lays (closings s.reading.stack) s.work) (begun_ends context.names place w)
 
-ended_steps : {limits : Limits} {context : Context} {was : Before} (place : Option Place) (s : ReaderState)
-    → Steps limits context was s.work (unit_ended limits place context s).work
+ended_steps : {limits : Limits} {context : Context} {begins strict : Bool} (place : Option Place) (s : ReaderState)
+    → Steps limits context (unfollowed begins strict) s.work (unit_ended limits place context s).work
 ended_steps None s = stays s.work
 ended_steps (Some place) s = step_of (directive_ends place s)
 
 -- Messages about a condition. One that is right has its actions appear, before its directive ends.
 
-told_lays : {limits : Limits} {context : Context} {was : Before} (said : Option Said) (s : ReaderState)
-    → Lays limits context was s.work (said_told limits said context s).work
-told_lays {limits} {context} {was} None s = record { on = said_stays context.names None s.work.report; kept = λ e h. h }
-told_lays {limits} {context} {was} (Some (Right tokens leaves)) s = record {
+told_lays : {limits : Limits} {context : Context} {begins strict : Bool} (said : Option Said) (s : ReaderState)
+    → Lays limits context (unfollowed begins strict) s.work (said_told limits said context s).work
+told_lays {limits} {context} {begins} {strict} None s = record { on = said_stays context.names None s.work.report; kept = λ e h. h }
+told_lays {limits} {context} {begins} {strict} (Some (Right tokens leaves)) s = record {
   on = λ e. e;
   kept = λ e h. (h.0, (h.1.0, actions_keep limits tokens leaves s.work.output h.1.1));
 }
-told_lays {limits} {context} {was} (Some (Wrong directive b)) s =
+told_lays {limits} {context} {begins} {strict} (Some (Wrong directive b)) s =
     record { on = said_stays context.names (Some (Wrong directive b)) s.work.report; kept = λ e h. h }
-told_lays {limits} {context} {was} (Some (Long place)) s =
+told_lays {limits} {context} {begins} {strict} (Some (Long place)) s =
     record { on = said_stays context.names (Some (Long place)) s.work.report; kept = λ e h. h }
-told_lays {limits} {context} {was} (Some (Deep place)) s =
+told_lays {limits} {context} {begins} {strict} (Some (Deep place)) s =
     record { on = said_stays context.names (Some (Deep place)) s.work.report; kept = λ e h. h }
 
-told_steps : {limits : Limits} {context : Context} {was : Before} (said : Option Said) (s : ReaderState) → is_right said ≡ false
-    → Steps limits context was s.work (said_told limits said context s).work
-told_steps {limits} {context} {was} None s none =
+told_steps : {limits : Limits} {context : Context} {begins strict : Bool} (said : Option Said) (s : ReaderState) → is_right said ≡ false
+    → Steps limits context (unfollowed begins strict) s.work (said_told limits said context s).work
+told_steps {limits} {context} {begins} {strict} None s none =
     record { on = said_stays context.names None s.work.report; kept = λ e h. h; few = λ e b h k. k; near = λ e h k. k }
-told_steps {limits} {context} {was} (Some (Right tokens leaves)) s none = cc
-told_steps {limits} {context} {was} (Some (Wrong directive b)) s none =
+told_steps {limits} {context} {begins} {strict} (Some (Right tokens leaves)) s none = cc
+told_steps {limits} {context} {begins} {strict} (Some (Wrong directive b)) s none =
     record {
       on = said_stays context.names (Some (Wrong directive b)) s.work.report;
       kept = λ e h. h;
@@ -212,40 +216,42 @@ told_steps {limits} {context} {was} (Some (Wrong directive b)) s none =
       near =
           λ e h k. k;
     }
-told_steps {limits} {context} {was} (Some (Long place)) s none =
+told_steps {limits} {context} {begins} {strict} (Some (Long place)) s none =
     record { on = said_stays context.names (Some (Long place)) s.work.report; kept = λ e h. h; few = λ e b h k. k; near = λ e h k. k }
-told_steps {limits} {context} {was} (Some (Deep place)) s none =
+told_steps {limits} {context} {begins} {strict} (Some (Deep place)) s none =
     record { on = said_stays context.names (Some (Deep place)) s.work.report; kept = λ e h. h; few = λ e b h k. k; near = λ e h k. k }
 
 -- the tokens of a turn, up to the end of a conditional directive
-between_steps : {limits : Limits} {context : Context} {was : Before} (t : SourceToken) (j : Filtered) (s : ReaderState)
-    → Steps limits context was s.work
+between_steps : {limits : Limits} {context : Context} {begins strict : Bool} (t : SourceToken) (j : Filtered) (s : ReaderState)
+    → Steps limits context (unfollowed begins strict) s.work
     (lone_told j.unmatched context (token_taken limits j.token context t (sign_taken limits j.sign context s))).work
-between_steps {limits} {context} {was} t j s =
+between_steps {limits} {context} {begins} {strict} t j s =
     let first = sign_taken limits j.sign context s in
     let second = token_taken limits j.token context t first in
     steps_then (sign_steps j.sign s) (steps_then (given_steps j.token t first) (lone_steps j.unmatched second))
 
 -- a turn in which a conditional directive ends
-ending_steps : {limits : Limits} {context : Context} {was : Before} (t : SourceToken) (j : Filtered) (said : Option Said) (s : ReaderState)
-    (ended : Option Place) → is_some ended ≡ true → Ends limits context was s.work
+ending_steps : {limits : Limits} {context : Context} {begins strict : Bool} (t : SourceToken) (j : Filtered) (said : Option Said)
+    (s : ReaderState)
+    (ended : Option Place) → is_some ended ≡ true → Ends limits context (unfollowed begins strict) s.work
     (unit_ended limits ended context (lone_told j.unmatched context (token_taken limits j.token context t (sign_taken limits j.sign context
     (said_told limits said context s))))).work
 ending_steps t j said s None e = cc
-ending_steps {limits} {context} {was} t j said s (Some place) e =
+ending_steps {limits} {context} {begins} {strict} t j said s (Some place) e =
     let told = said_told limits said context s in
     lays_end (told_lays said s) (lays_end (lay_of (between_steps t j told)) (directive_ends place
     (lone_told j.unmatched context (token_taken limits j.token context t (sign_taken limits j.sign context told)))))
 
-turned_steps : {limits : Limits} {context : Context} {was : Before} (t : SourceToken) (j : Filtered) (said : Option Said) (s : ReaderState)
+turned_steps : {limits : Limits} {context : Context} {begins strict : Bool} (t : SourceToken) (j : Filtered) (said : Option Said)
+    (s : ReaderState)
     → (is_right said ≡ true → is_some j.ended ≡ true)
-    → Steps limits context was s.work (judged_taken limits context t j (said_told limits said context s)).work
-turned_steps {limits} {context} {was} t j said s ends = go (is_right said) refl
+    → Steps limits context (unfollowed begins strict) s.work (judged_taken limits context t j (said_told limits said context s)).work
+turned_steps {limits} {context} {begins} {strict} t j said s ends = go (is_right said) refl
   where
     told : ReaderState
     told = said_told limits said context s
 
-    go : (b : Bool) → is_right said ≡ b → Steps limits context was s.work (judged_taken limits context t j told).work
+    go : (b : Bool) → is_right said ≡ b → Steps limits context (unfollowed begins strict) s.work (judged_taken limits context t j told).work
     go true e = step_of (ending_steps t j said s j.ended (ends e))
     go false e = steps_then (told_steps said s e) (steps_then (between_steps t j told) (ended_steps j.ended
         (lone_told j.unmatched context (token_taken limits j.token context t (sign_taken limits j.sign context told)))))
@@ -253,29 +259,31 @@ turned_steps {limits} {context} {was} t j said s ends = go (is_right said) refl
 -- States
 
 -- one turn of tokens
-pub stepped_steps : {was : Before} (limits : Limits) (o : Choices) (s : State) → NoneRight s.conditions
-    → Steps limits (context_of o s) was s.work (stepped limits o s).work
+pub stepped_steps : {begins strict : Bool} (limits : Limits) (o : Choices) (s : State) → NoneRight s.conditions
+    → Steps limits (context_of o s) (unfollowed begins strict) s.work (stepped limits o s).work
 stepped_steps limits o s none =
     let site = site_of (context_of o s).settings s.reading in
     let b = judged site s.work.output (token_of s) s.conditions in
     turned_steps (token_of s) b.judged b.now.said (stand_of s) (right_ends site s.work.output (token_of s) s.conditions none)
 
 -- one of two states
-either_state : {limits : Limits} {context : Context} {was : Before} (b : Bool) (w : Compilation) (x y : State)
-    → Steps limits context was w x.work → Steps limits context was w y.work → Steps limits context was w (if b then x else y).work
+either_state : {limits : Limits} {context : Context} {begins strict : Bool} (b : Bool) (w : Compilation) (x y : State)
+    → Steps limits context (unfollowed begins strict) w x.work → Steps limits context (unfollowed begins strict) w y.work → Steps limits
+    context (unfollowed begins strict) w (if b then x else y).work
 either_state true w x y f g = f
 either_state false w x y f g = g
 
-left_steps : {limits : Limits} {context : Context} {was : Before} (waiting : List Waiting) (s : State)
-    → Steps limits context was s.work (left_by waiting s).work
+left_steps : {limits : Limits} {context : Context} {begins strict : Bool} (waiting : List Waiting) (s : State)
+    → Steps limits context (unfollowed begins strict) s.work (left_by waiting s).work
 left_steps [] s = stays s.work
 left_steps (w ∷ waiting) s = record { on = λ e. e; kept = λ e h. h; few = λ e b h k. k; near = λ e h k. k }
 
-closed_steps : {limits : Limits} {context : Context} {was : Before} (s : State) → Steps limits context was s.work (file_closed s).work
+closed_steps : {limits : Limits} {context : Context} {begins strict : Bool} (s : State) →
+    Steps limits context (unfollowed begins strict) s.work (file_closed s).work
 closed_steps s = report_steps s.work (file_told s.nesting.names s.conditions) (file_stays s.nesting.names s.conditions)
 
-none_steps : {limits : Limits} {context : Context} {was : Before} (unit : Place) (text : List ℕ) (why : Included) (s : State)
-    → Steps limits context was s.work (none_included unit text why s).work
+none_steps : {limits : Limits} {context : Context} {begins strict : Bool} (unit : Place) (text : List ℕ) (why : Included) (s : State)
+    → Steps limits context (unfollowed begins strict) s.work (none_included unit text why s).work
 none_steps unit text Included.Entered s = stays s.work
 none_steps unit text Included.NotThere s =
     report_steps s.work (with_fatal (location s.nesting.names unit) (NoInclude text))
@@ -284,43 +292,46 @@ none_steps unit text Included.TooDeep s =
     report_steps s.work (with_fatal (location s.nesting.names unit) TooManyFiles)
     (with_fatal_stays (location s.nesting.names unit) TooManyFiles)
 
-included_steps : {limits : Limits} {context : Context} {was : Before} (sources : Sources) (o : Choices) (unit : Place) (text : List ℕ)
-    (i : Inclusion) (s : State) → Steps limits context was s.work (included_by sources o unit text i s).work
+included_steps : {limits : Limits} {context : Context} {begins strict : Bool} (sources : Sources) (o : Choices) (unit : Place)
+    (text : List ℕ)
+    (i : Inclusion) (s : State) → Steps limits context (unfollowed begins strict) s.work (included_by sources o unit text i s).work
 included_steps sources o unit text (Opens name) s = record { on = λ e. e; kept = λ e h. h; few = λ e b h k. k; near = λ e h k. k }
 included_steps sources o unit text (OpensNone why) s = none_steps unit text why s
 
-answered_steps : {limits : Limits} {context : Context} {was : Before} (r : Request) (sources : Sources) (o : Choices) (s : State)
-    → Steps limits context was s.work (answered r sources o s).work
+answered_steps : {limits : Limits} {context : Context} {begins strict : Bool} (r : Request) (sources : Sources) (o : Choices) (s : State)
+    → Steps limits context (unfollowed begins strict) s.work (answered r sources o s).work
 answered_steps (Include text unit) sources o s = included_steps sources o unit text (inclusion sources o.directories text s.nesting) s
 answered_steps End sources o s = stays s.work
 answered_steps (Characters set) sources o s = stays s.work
 answered_steps Nothing sources o s = stays s.work
 
 -- nothing is asked any more
-silent_steps : {limits : Limits} {context : Context} {was : Before} (s : State) → Steps limits context was s.work (asked_nothing s).work
+silent_steps : {limits : Limits} {context : Context} {begins strict : Bool} (s : State) →
+    Steps limits context (unfollowed begins strict) s.work (asked_nothing s).work
 silent_steps s = record { on = λ e. e; kept = λ e h. h; few = λ e b h k. k; near = λ e h k. k }
 
-carried_steps : {limits : Limits} {context : Context} {was : Before} (sources : Sources) (o : Choices) (s : State)
-    → Steps limits context was s.work (carried_out sources o s).work
-carried_steps {limits} {context} {was} sources o s =
+carried_steps : {limits : Limits} {context : Context} {begins strict : Bool} (sources : Sources) (o : Choices) (s : State)
+    → Steps limits context (unfollowed begins strict) s.work (carried_out sources o s).work
+carried_steps {limits} {context} {begins} {strict} sources o s =
     either_state s.work.report.counts.is_over s.work s _ (stays s.work)
     (either_state (is_mode_ended s.reading.mode) s.work (left s) (answered s.work.asked sources o (asked_nothing s))
     (steps_then (closed_steps s) (left_steps s.nesting.waiting (file_closed s)))
     (steps_then (silent_steps s) (answered_steps s.work.asked sources o (asked_nothing s))))
 
-pub rested_steps : {limits : Limits} {context : Context} {was : Before} (s : State) → Steps limits context was s.work (rested s).work
+pub rested_steps : {limits : Limits} {context : Context} {begins strict : Bool} (s : State) →
+    Steps limits context (unfollowed begins strict) s.work (rested s).work
 rested_steps s =
     either_state (has_ended s) s.work s _ (stays s.work)
     (either_state (is_resting s) s.work (piece_closed s) s
     (report_steps s.work (piece_told s.nesting.names s.conditions) (piece_stays s.nesting.names s.conditions)) (stays s.work))
 
-pub followed_steps : {limits : Limits} {context : Context} {was : Before} (sources : Sources) (o : Choices) (s : State)
-    → Steps limits context was s.work (followed sources o s).work
+pub followed_steps : {limits : Limits} {context : Context} {begins strict : Bool} (sources : Sources) (o : Choices) (s : State)
+    → Steps limits context (unfollowed begins strict) s.work (followed sources o s).work
 followed_steps sources o s = steps_then (carried_steps sources o s) (rested_steps (carried_out sources o s))
 
 -- a whole turn
-pub turn_steps : {was : Before} (limits : Limits) (sources : Sources) (o : Choices) (s : State) → NoneRight s.conditions
-    → Steps limits (context_of o s) was s.work (turn limits sources o s).work
+pub turn_steps : {begins strict : Bool} (limits : Limits) (sources : Sources) (o : Choices) (s : State) → NoneRight s.conditions
+    → Steps limits (context_of o s) (unfollowed begins strict) s.work (turn limits sources o s).work
 turn_steps limits sources o s none =
     let t = stepped limits o s in
     steps_then (stepped_steps limits o s none)
@@ -385,11 +396,12 @@ turn_none limits sources o s = ap is_right (followed_alike sources o (stepped li
 -- Tokens of conditions
 
 -- no fatal message stood before a token where none stands behind it
-before_token : (limits : Limits) (context : Context) (was : Before) (t : SourceToken) (j : Filtered) (s : ReaderState)
+before_token : (limits : Limits) (context : Context) (begins strict : Bool) (t : SourceToken) (j : Filtered) (s : ReaderState)
     → is_over (judged_taken limits context t j s).work ≡ false → is_over s.work ≡ false
-before_token limits context was t j s e =
+before_token limits context begins strict t j s e =
     let told = lone_told j.unmatched context (token_taken limits j.token context t (sign_taken limits j.sign context s)) in
-    let f = steps_then {limits = limits} {context = context} {was = was} (between_steps t j s) (ended_steps j.ended told) in
+    let f =
+    steps_then {limits = limits} {context = context} {was = unfollowed begins strict} (between_steps t j s) (ended_steps j.ended told) in
     f.on e
 
 stepped_few : (limits : Limits) (o : Choices) (s : State) → SignFits (site_of o.settings s.reading) s.conditions
@@ -410,7 +422,7 @@ stepped_few limits o s none few e = go (is_loud b.now.said) refl
     go true said =
         let stands : is_over told.work ≡ true = loud_is_over s.nesting.names b.now.said s.work.report said in
         let free : is_over told.work ≡ false =
-        before_token limits (context_of o s) (record { has_begun = false; is_exact = false }) (token_of s) b.judged told e in
+        before_token limits (context_of o s) false false (token_of s) b.judged told e in
         let never : true ≡ false = sym stands ∙ free in
         cc
     go false said = tokens_are_few site s.work.output (token_of s) s.conditions none few said
@@ -422,6 +434,6 @@ pub conditions_few : (limits : Limits) (sources : Sources) (o : Choices) (s : St
 conditions_few limits sources o s none few e =
     let t = stepped limits o s in
     let f =
-    followed_steps {limits = limits} {context = context_of o s} {was = record { has_begun = false; is_exact = false }} sources o t in
+    followed_steps {limits = limits} {context = context_of o s} {begins = false} {strict = false} sources o t in
     subst (λ (n : ℕ). n ≤ number_of Setting.ExpressionNodes o.settings) (sym (followed_alike sources o t).1)
     (stepped_few limits o s none few (f.on e))

@@ -1,6 +1,7 @@
 -- Counts keep to their settings from the start of a reading on.
 use Rattle.std.proofs.{Math.Nat.max-le, lemmas.Bool.ltb-false}
-use Rattle.std.proofs.Common.{◌≡◌, ◌+◌, ◌≤◌, ℕ, zero, suc, List, length, cond, ltb, Bool, true, false, Option, Some, None, refl, arith}
+use Rattle.std.proofs.Common.{◌≡◌, ◌∙◌, ◌+◌, ◌≤◌, ℕ, zero, suc, List, length, cond, ltb, Bool, true, false, Option, Some, None, refl, sym}
+use Rattle.std.proofs.Common.{arith}
 use Rattle.std.specs.Prelude.{if◌then◌else◌}
 use Rattle.inf_settings.specs.{Settings.number_of, declared.setting.Setting.Setting, declared.settings.Settings.Settings}
 use Rattle.inf_settings.specs.Bounds.{Limits, limits_of}
@@ -9,13 +10,15 @@ use Rattle.inf_devices.specs.Files.{Sources}
 use Rattle.inf_area.specs.Cells.{later_count}
 use Rattle.inf_tables.specs.Tables.{more, no_tables, references}
 use Rattle.inf_text_lexer.specs.TextReaders.{TextReader}
-use Rattle.inf_compilation.specs.{Actions.letters_chosen, Actions.unit_ended, Context.Context, Findings.Findings}
+use Rattle.inf_output.specs.Output.{Out}
+use Rattle.inf_compilation.specs.{Actions.Compilation, Actions.letters_chosen, Actions.unit_ended, Context.Context, Findings.Findings}
 use Rattle.inf_reader.specs.Reading.{begun_stand}
 use Rattle.inf_session.specs.Choices.{Choices}
 use Rattle.inf_session.specs.Session.{State, context_of, has_ended, rested, start, stepped, tables_full, turn}
 use Rattle.inf_session.specs.Veneer.{in_text, text_begun, text_front, text_read, text_turns, veneer_text}
 use Rattle.inf_ending.specs.Ending.{first_place}
-use Rattle.inf_limit_laws.specs.{Laws.CountsKeepToSettings, Laws.StepsKeepCounts, Rooms.Before}
+use Rattle.inf_limit_laws.specs.{Laws.CountsKeepToSettings, Laws.AbbreviationsStay, Laws.StepsKeepCounts, Laws.abbreviations_of}
+use Rattle.inf_limit_laws.specs.Rooms.{Before, Counted, unfollowed}
 use Rattle.inf_limit_laws.specs.Reached.{Begins, Goes, Here, IsBehind, IsReached, IsTurned, Supplies, Turns}
 use Rattle.inf_limit_laws.specs.Within.{AreFew, AreNear, IsKept, Steps, is_over}
 use Rattle.inf_limit_laws.proofs.{Actions.act_steps, Actions.cut_at_steps, Actions.took_steps, Conditions.NoneRight}
@@ -24,7 +27,7 @@ use Rattle.inf_limit_laws.proofs.Ways.{begun_ends, near_of, none_full, steps_the
 
 -- nothing is known of a compilation before; or that code had begun; or that expressions were within their setting
 abbrev plain : Before
-plain = record { has_begun = false; is_exact = false }
+plain = unfollowed false false
 
 -- A state whose counts are kept, and whose references are few where code had begun
 pub record Holds (o : Choices) (was : Before) (s : State) : Type 0 where
@@ -33,27 +36,30 @@ pub record Holds (o : Choices) (was : Before) (s : State) : Type 0 where
   pub few : is_over s.work ≡ false → was.has_begun ≡ true → AreFew (limits_of o.settings) s.work
   pub near : is_over s.work ≡ false → AreNear (limits_of o.settings) s.work
 
-holds_by : {o : Choices} {was : Before} {s t : State} → Holds o was s
-    → Steps (limits_of o.settings) (context_of o s) was s.work t.work → NoneRight t.conditions → Holds o was t
-holds_by {o} {was} {s} {t} h f none = record {
+holds_by : {o : Choices} {begins strict : Bool} {s t : State} → Holds o (unfollowed begins strict) s
+    → Steps (limits_of o.settings) (context_of o s) (unfollowed begins strict) s.work t.work → NoneRight t.conditions → Holds o
+    (unfollowed begins strict) t
+holds_by {o} {begins} {strict} {s} {t} h f none = record {
   quiet = none;
   kept = λ e. f.kept e (h.kept (f.on e));
   few = λ e b. f.few e b (h.kept (f.on e)) (h.few (f.on e) b);
   near = λ e. f.near e (h.kept (f.on e)) (h.near (f.on e));
 }
 
-turn_holds : {o : Choices} {was : Before} {s : State} (sources : Sources) → Holds o was s
-    → Holds o was (turn (limits_of o.settings) sources o s)
-turn_holds {o} {was} {s} sources h =
+turn_holds : {o : Choices} {begins strict : Bool} {s : State} (sources : Sources) → Holds o (unfollowed begins strict) s
+    → Holds o (unfollowed begins strict) (turn (limits_of o.settings) sources o s)
+turn_holds {o} {begins} {strict} {s} sources h =
     holds_by h (turn_steps (limits_of o.settings) sources o s h.quiet) (turn_none (limits_of o.settings) sources o s)
 
 -- Supplied routines, whose tokens may come behind conditions with more than they may have
 
-either_holds : {o : Choices} {was : Before} (b : Bool) (s t : State) → Holds o was s → Holds o was t → Holds o was (if b then s else t)
+either_holds : {o : Choices} {begins strict : Bool} (b : Bool) (s t : State) → Holds o (unfollowed begins strict) s →
+    Holds o (unfollowed begins strict) t → Holds o (unfollowed begins strict) (if b then s else t)
 either_holds true s t h k = h
 either_holds false s t h k = k
 
-turns_hold : {was : Before} (o : Choices) (n : ℕ) (s : State) → Holds o was s → Holds o was (text_turns (limits_of o.settings) o n s)
+turns_hold : {begins strict : Bool} (o : Choices) (n : ℕ) (s : State) → Holds o (unfollowed begins strict) s →
+    Holds o (unfollowed begins strict) (text_turns (limits_of o.settings) o n s)
 turns_hold o zero s h = h
 turns_hold o (suc n) s h =
     let t = stepped (limits_of o.settings) o s in
@@ -61,26 +67,29 @@ turns_hold o (suc n) s h =
     (turns_hold o n (rested t)
     (holds_by h (steps_then (stepped_steps (limits_of o.settings) o s h.quiet) (rested_steps t)) (rested_none t refl)))
 
-begun_holds : {was : Before} (o : Choices) (s : State) → was.is_exact ≡ false → Holds o was s → Holds o was (text_begun s)
-begun_holds {was} o s loose h = record {
+begun_holds : {begins strict : Bool} (o : Choices) (s : State) → strict ≡ false → Holds o (unfollowed begins strict) s →
+    Holds o (unfollowed begins strict) (text_begun s)
+begun_holds {begins} {strict} o s loose h = record {
   quiet = refl;
   kept = λ e. let k = h.kept e in ((λ x. cc), k.1);
   few = h.few;
   near = h.near;
 }
 
-in_text_holds : {was : Before} (o : Choices) (l : TextReader) (s : State) → Holds o was s → Holds o was (in_text l s)
+in_text_holds : {begins strict : Bool} (o : Choices) (l : TextReader) (s : State) → Holds o (unfollowed begins strict) s →
+    Holds o (unfollowed begins strict) (in_text l s)
 in_text_holds o l s h = record { quiet = h.quiet; kept = h.kept; few = h.few; near = h.near }
 
-read_holds : {was : Before} (o : Choices) (n : ℕ) (s : State) → was.is_exact ≡ false → Holds o was s
-    → Holds o was (text_read (limits_of o.settings) o n s)
+read_holds : {begins strict : Bool} (o : Choices) (n : ℕ) (s : State) → strict ≡ false → Holds o (unfollowed begins strict) s
+    → Holds o (unfollowed begins strict) (text_read (limits_of o.settings) o n s)
 read_holds o n s loose h =
     let t = turns_hold o (suc (length (veneer_text n))) (in_text (text_front o n s) (text_begun s))
     (in_text_holds o (text_front o n s) (text_begun s) (begun_holds o s loose h)) in
     record { quiet = t.quiet; kept = t.kept; few = t.few; near = t.near }
 
-behind_holds : {o : Choices} {was : Before} {s : State} (sources : Sources) → was.is_exact ≡ false → Holds o was s → {t : State}
-    → IsBehind sources o s t → Holds o was t
+behind_holds : {o : Choices} {begins strict : Bool} {s : State} (sources : Sources) → strict ≡ false →
+    Holds o (unfollowed begins strict) s → {t : State}
+    → IsBehind sources o s t → Holds o (unfollowed begins strict) t
 behind_holds sources loose h Here = h
 behind_holds sources loose h (Turns behind) = turn_holds sources (behind_holds sources loose h behind)
 behind_holds {o} sources loose h (Supplies {t} number behind) = read_holds o number t loose (behind_holds sources loose h behind)
@@ -125,7 +134,8 @@ start_few sources o name e =
 start_holds : (sources : Sources) (o : Choices) (name : List ℕ) → Holds o plain (start sources o name)
 start_holds sources o name = record {
   quiet = refl;
-  kept = λ e. ((λ x. omega arith), (omega arith, record { stays = λ b. cc; begun = λ b. cc; room = λ p is free. cc }));
+  kept =
+      λ e. ((λ x. omega arith), (omega arith, record { stays = λ b. cc; begun = λ b. cc; room = λ p is free. cc; same = λ known is. cc }));
   few = λ e b. cc;
   near = λ e. near_of (limits_of o.settings) (start sources o name).work (start_few sources o name e);
 }
@@ -136,13 +146,22 @@ reached_holds sources o name s reached = behind_holds sources refl (start_holds 
 -- References behind a state in which code had begun
 
 abbrev begun : Before
-begun = record { has_begun = true; is_exact = false }
+begun = unfollowed true false
+
+counted_behind : (limits : Limits) (o : Out) (was : Before) → (was.has_begun ≡ true → o.code.has_begun ≡ true)
+    → was.abbreviations ≡ None → Counted limits plain o → Counted limits was o
+counted_behind limits o was stays none h = record {
+  stays = stays;
+  begun = h.begun;
+  room = h.room;
+  same = λ known is. let never : None ≡ Some known = sym none ∙ is in cc;
+}
 
 from_begun : (o : Choices) (s : State) → Holds o plain s → s.work.output.code.has_begun ≡ true → AreFew (limits_of o.settings) s.work
     → Holds o begun s
 from_begun o s h has few = record {
   quiet = h.quiet;
-  kept = λ e. let k = h.kept e in ((λ x. cc), (k.1.0, record { stays = λ b. has; begun = k.1.1.begun; room = k.1.1.room }));
+  kept = λ e. let k = h.kept e in ((λ x. cc), (k.1.0, counted_behind (limits_of o.settings) s.work.output begun (λ b. has) refl k.1.1));
   few = λ e b. few;
   near = h.near;
 }
@@ -164,7 +183,7 @@ references_keep sources o s t h has few behind e = (behind_holds sources refl (f
 -- Tokens of expressions, turn by turn
 
 abbrev exact : Before
-exact = record { has_begun = false; is_exact = true }
+exact = unfollowed false true
 
 tokens_keep : (sources : Sources) (o : Choices) (s : State) → Holds o plain s
     → s.work.most_tokens ≤ number_of Setting.ExpressionNodes o.settings → is_over (turn (limits_of o.settings) sources o s).work ≡ false
@@ -175,7 +194,7 @@ tokens_keep sources o s h few e = (f.kept e kept).0 refl
     f = turn_steps (limits_of o.settings) sources o s h.quiet
 
     kept : IsKept (limits_of o.settings) (context_of o s) exact s.work
-    kept = let k = h.kept (f.on e) in ((λ x. few), (k.1.0, record { stays = λ b. cc; begun = k.1.1.begun; room = k.1.1.room }))
+    kept = let k = h.kept (f.on e) in ((λ x. few), (k.1.0, counted_behind (limits_of o.settings) s.work.output exact (λ b. cc) refl k.1.1))
 
 turned_reached : {sources : Sources} {o : Choices} {name : List ℕ} {s : State} → IsTurned sources o name s → IsReached sources o name s
 turned_reached Begins = Here
@@ -187,7 +206,7 @@ tokens_few : (sources : Sources) (o : Choices) (name : List ℕ) {s : State} →
 tokens_few sources o name Begins e = (omega arith, omega arith)
 tokens_few sources o name (Goes {s} turned fits) e =
     let h = reached_holds sources o name s (turned_reached turned) in
-    let f = turn_steps {was = exact} (limits_of o.settings) sources o s h.quiet in
+    let f = turn_steps {begins = false} {strict = true} (limits_of o.settings) sources o s h.quiet in
     let few = tokens_few sources o name turned (f.on e) in
     (tokens_keep sources o s h few.0 e, conditions_few (limits_of o.settings) sources o s fits few.1 e)
 
@@ -226,9 +245,28 @@ counts_keep_to_settings sources o = record {
 
 pub steps_keep_counts : (limits : Limits) → StepsKeepCounts limits
 steps_keep_counts limits = record {
-  action = λ context was place a w. act_steps place a w;
+  action = λ context was place a w none. act_steps place a w none;
   token = λ context was t w. took_steps t w;
   cut = λ context was place w. cut_at_steps place w;
   unit = λ context was first has_last found w. unit_ends first has_last found w;
   conditional = λ context was files first w. begun_ends files first w;
+}
+
+-- Abbreviations that are followed from one compilation on
+
+abbrev from : Compilation → Before
+from w = record { has_begun = false; is_exact = false; abbreviations = Some (abbreviations_of w) }
+
+stay_by : {limits : Limits} {context : Context} {w v : Compilation} → Steps limits context (from w) w v
+    → IsKept limits context (unfollowed false false) w → is_over v ≡ false → abbreviations_of v ≡ abbreviations_of w
+stay_by {limits} {context} {w} {v} f h e = (f.kept e kept).1.1.same (abbreviations_of w) refl
+  where
+    kept : IsKept limits context (from w) w
+    kept = (h.0, (h.1.0, record { stays = λ b. cc; begun = h.1.1.begun; room = h.1.1.room; same = λ known is. cc }))
+
+pub abbreviations_stay : (limits : Limits) → AbbreviationsStay limits
+abbreviations_stay limits = record {
+  action = λ context place a w other. stay_by {context = context} (act_steps place a w (λ is. absurd (other is)));
+  token = λ context t w. stay_by {context = context} (took_steps t w);
+  cut = λ context place w. stay_by {context = context} (cut_at_steps place w);
 }

@@ -1,23 +1,25 @@
 -- The counts of a reading that are compared with their settings later are within these, as long as no fatal message was told.
-use Rattle.std.specs.Prelude.{◌≡◌, ◌+◌, ◌≤◌, ℕ, List, Bool, true, false}
+use Rattle.std.specs.Prelude.{◌≡◌, ◌+◌, ◌≤◌, ℕ, List, Bool, true, false, None}
 use Rattle.inf_settings.specs.{Bounds.Limits, Bounds.limits_of, Settings.number_of, declared.setting.Setting.Setting}
 use Rattle.inf_scanner.specs.declared.tokens.Place.{Place}
 use Rattle.inf_devices.specs.Files.{Sources}
 use Rattle.inf_syntax.specs.declared.actions.Action.{Action}
-use Rattle.inf_unit.specs.{Messages.FileNames, Tokens.SourceToken}
+use Rattle.inf_unit.specs.{Messages.FileNames, Roles.role_of, Tokens.SourceToken, declared.roles.Ending.Ending}
+use Rattle.inf_unit.specs.declared.roles.Role.{Role}
 use Rattle.inf_compilation.specs.{Context.Context, Findings.Findings}
 use Rattle.inf_compilation.specs.Actions.{Compilation, begun_at, took, unit_ended}
 use Rattle.inf_reader.specs.{Acting.act, Acting.cut_at, Handing.site_of}
 use Rattle.inf_session.specs.{Choices.Choices, Session.State, Session.start, Session.turn, Uses.used}
 use Rattle.inf_ending.specs.Ending.{first_place}
-use Rattle.inf_limit_laws.specs.{Reached.IsBehind, Reached.IsReached, Reached.IsTurned, Rooms.Before, Signs.SignFits}
-use Rattle.inf_limit_laws.specs.Within.{AreFew, Ends, Steps, is_over}
+use Rattle.inf_limit_laws.specs.{Reached.IsBehind, Reached.IsReached, Reached.IsTurned, Rooms.Before, Rooms.unfollowed}
+use Rattle.inf_limit_laws.specs.{Signs.SignFits, Within.AreFew, Within.Ends, Within.IsKept, Within.Steps, Within.is_over}
 
--- Each action of the grammar, each token that is taken, and the cut that a bad token makes keep the counts of a compilation; and where a
--- unit, a conditional directive or the source ends, references are few.
+-- Each action of the grammar, each token that is taken, and the cut that a bad token makes keep the counts of a compilation, and the
+-- abbreviations that are followed, which are none where one is added; and where a unit, a conditional directive or the source ends,
+-- references are few.
 pub record StepsKeepCounts (limits : Limits) : Type 0 where
   pub action : (context : Context) (was : Before) (place : Place) (a : Action) (w : Compilation)
-      → Steps limits context was w (act limits context place a w)
+      → (role_of a ≡ Role.End Ending.Abbreviation → was.abbreviations ≡ None) → Steps limits context was w (act limits context place a w)
   pub token : (context : Context) (was : Before) (t : SourceToken) (w : Compilation) → Steps limits context was w (took context t w)
   pub cut : (context : Context) (was : Before) (place : Place) (w : Compilation)
       → Steps limits context was w (cut_at limits context place w)
@@ -25,6 +27,21 @@ pub record StepsKeepCounts (limits : Limits) : Type 0 where
       → Ends limits context was w (unit_ended limits context first has_last found w)
   pub conditional : (context : Context) (was : Before) (files : FileNames) (first : Place) (w : Compilation)
       → Ends limits context was w (begun_at limits files first w)
+
+-- where the abbreviations of a compilation begin, in their order
+abbrev pub abbreviations_of : Compilation → List ℕ
+abbreviations_of w = w.output.tables.low_strings.abbreviations
+
+-- Nothing changes the abbreviations but the end of a text of `Abbreviate`: each other action, each token that is taken and the cut that a
+-- bad token makes leave them, where the counts of the compilation are kept and no fatal message stands behind the step.
+pub record AbbreviationsStay (limits : Limits) : Type 0 where
+  pub action : (context : Context) (place : Place) (a : Action) (w : Compilation) → (role_of a ≡ Role.End Ending.Abbreviation → ⊥)
+      → IsKept limits context (unfollowed false false) w → is_over (act limits context place a w) ≡ false
+      → abbreviations_of (act limits context place a w) ≡ abbreviations_of w
+  pub token : (context : Context) (t : SourceToken) (w : Compilation) → IsKept limits context (unfollowed false false) w
+      → is_over (took context t w) ≡ false → abbreviations_of (took context t w) ≡ abbreviations_of w
+  pub cut : (context : Context) (place : Place) (w : Compilation) → IsKept limits context (unfollowed false false) w
+      → is_over (cut_at limits context place w) ≡ false → abbreviations_of (cut_at limits context place w) ≡ abbreviations_of w
 
 -- Labels and references of a source keep to their settings where it has ended.
 pub record EndWithin (o : Choices) (s : State) (w : Compilation) : Type 0 where

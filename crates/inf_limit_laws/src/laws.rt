@@ -2,7 +2,8 @@
 ghost use Rattle.inf_settings.specs.Bounds.{Limits};
 ghost use Rattle.inf_devices.specs.Files.{Sources};
 ghost use Rattle.inf_session.specs.Choices.{Choices};
-ghost use Rattle.inf_limit_laws.specs.{Laws.CountsKeepToSettings, Laws.StepsKeepCounts, Reached.StatesComeBehind};
+ghost use Rattle.inf_limit_laws.specs.{Laws.AbbreviationsStay, Laws.CountsKeepToSettings, Laws.StepsKeepCounts};
+ghost use Rattle.inf_limit_laws.specs.Reached.{StatesComeBehind};
 
 /// Shows that the counts of labels and of references, which are compared with their settings where a unit has ended, and that of the
 /// tokens of an expression of a unit, are at most their settings wherever no fatal message was told, in each state of a reading and of
@@ -22,4 +23,9 @@ pub fn steps_keep_counts()
 /// `counts_keep_to_settings` speaks.
 pub fn states_come_behind()
     ensures { (sources : Sources) (o : Choices) → StatesComeBehind sources o }
+{}
+
+/// Shows that nothing changes the abbreviations of a compilation but the end of a text of `Abbreviate`, as long as no fatal message is told.
+pub fn abbreviations_stay()
+    ensures { (limits : Limits) → AbbreviationsStay limits }
 {}

@@ -4,4 +4,6 @@
 
 mod laws;
 
-pub use laws::{counts_keep_to_settings, states_come_behind, steps_keep_counts};
+pub use laws::{
+    abbreviations_stay, counts_keep_to_settings, states_come_behind, steps_keep_counts,
+};
