@@ -24,7 +24,8 @@ use Rattle.inf_output.specs.Output.{with_labels_left, with_low_text, with_low_te
 use Rattle.inf_output.specs.Output.{with_word_by, without, without_item, without_lost}
 use Rattle.inf_tables.specs.LowStrings.{low_fits}
 use Rattle.inf_word_laws.specs.Standing.{Stands, has_word, is_limited, is_limited_by}
-use Rattle.inf_word_laws.proofs.{Numbering.put_longer, Steps.steps_keep_words, Steps.used_words_stand}
+use Rattle.inf_word_laws.proofs.{Numbering.put_longer, Steps.limit_tables, Steps.passed_tables, Steps.steps_keep_words}
+use Rattle.inf_word_laws.proofs.Steps.{used_words_stand}
 use Rattle.inf_target_laws.specs.{Lists.ItemStands, Lists.ItemsStand, Outputs.Holds}
 use Rattle.inf_target_laws.specs.Standing.{Before, IsBefore, MeaningStands, is_short_by}
 use Rattle.inf_target_laws.proofs.{Names.never, Premises.SimplesStand}
@@ -110,27 +111,12 @@ item_symbols : (item : Item) (past : Past) → (without item past).symbols ≡ p
 item_symbols (Item.Instruction parts) past = refl
 item_symbols (Item.Mark label) past = refl
 
-lost_tables : (item : Item) (past : Past) → (without_lost item past).tables ≡ past.tables
-lost_tables (Item.Instruction parts) past = refl
-lost_tables (Item.Mark label) past = refl
-
-item_tables : (item : Item) (past : Past) → (without item past).tables ≡ past.tables
-item_tables (Item.Instruction parts) past = refl
-item_tables (Item.Mark label) past = refl
-
 passed_symbols : (code : Routines) (item : Item) (past : Past) → (without_item code item past).symbols ≡ past.symbols
 passed_symbols code item past = go (is_lost_in code.opened)
   where
     go : (b : Bool) → (if b then without_lost item past else without item past).symbols ≡ past.symbols
     go true = lost_symbols item past
     go false = item_symbols item past
-
-passed_tables : (code : Routines) (item : Item) (past : Past) → (without_item code item past).tables ≡ past.tables
-passed_tables code item past = go (is_lost_in code.opened)
-  where
-    go : (b : Bool) → (if b then without_lost item past else without item past).tables ≡ past.tables
-    go true = lost_tables item past
-    go false = item_tables item past
 
 passed_goes : (limits : Limits) (u : Out) (item : Item) (o : Out) → Goes u o (fitted limits (Some CodeLimit.Code) item o)
 passed_goes limits u item o = (
@@ -246,11 +232,6 @@ limit_symbols : (limit : CodeLimit) (past : Past) → (passed_limit limit past).
 limit_symbols CodeLimit.Labels past = refl
 limit_symbols CodeLimit.Code past = refl
 limit_symbols CodeLimit.Refs past = refl
-
-limit_tables : (limit : CodeLimit) (past : Past) → (passed_limit limit past).tables ≡ past.tables
-limit_tables CodeLimit.Labels past = refl
-limit_tables CodeLimit.Code past = refl
-limit_tables CodeLimit.Refs past = refl
 
 limit_before : (limits : Limits) (u o : Out) (code : Routines) (limit : CodeLimit)
     → IsBefore (Some (passed_limit limit (past_by limits o.past code))) o.tables.dictionary.list o.names.names u → Before u o

@@ -26,7 +26,7 @@ use Rattle.inf_compilation.specs.Actions.{Compilation, begun_at}
 use Rattle.inf_session.specs.Choices.{Choices}
 use Rattle.inf_ending.specs.Ending.{begun, begun_from, is_clean, laid, named, refused, told_of, first_place}
 use Rattle.inf_limit_laws.proofs.Ways.{Remains, none_full, with_error_stays}
-use Rattle.inf_word_laws.proofs.Values.{names_are_found}
+use Rattle.inf_word_laws.proofs.{Numbering.same_some, Values.names_are_found}
 use Rattle.inf_target_laws.specs.{Lists.DefaultsStand, Lists.NamesStand, Lists.ObjectsStand, Lists.ValuesStand, Outputs.Holds}
 use Rattle.inf_target_laws.specs.Standing.{MeaningStands, StandingStands, TargetStands, ValueStands, is_short, is_short_by}
 use Rattle.inf_target_laws.specs.Story.{AllFound, AreasFound, IsFound, StoriesAreWhole, StoryIsWhole}
@@ -49,9 +49,6 @@ all_finds u names are = record { finds = finds }
     finds (Target.System constant) h = tt
 
 -- Values of names
-
-same_some : {A : Type 0} {a b : A} → Some a ≡ Some b → a ≡ b
-same_some e = cc e
 
 abbrev MaybeMeaning : Out → Option Meaning → Type 0
 MaybeMeaning u None = Unit {0}

@@ -32,10 +32,10 @@ use Rattle.inf_word_laws.specs.Names.{AllNamed, IsNamed, OperandsNamed}
 
 -- Names in their list
 
-not_some : {A B : Type 0} {a : A} → None ≡ Some a → B
+pub not_some : {A B : Type 0} {a : A} → None ≡ Some a → B
 not_some e = absurd (cc e)
 
-same_some : {A : Type 0} {a b : A} → Some a ≡ Some b → a ≡ b
+pub same_some : {A : Type 0} {a b : A} → Some a ≡ Some b → a ≡ b
 same_some e = cc e
 
 pub put_longer : (key : List ℕ) (s : Standing Place) (names : List (Named Place)) → length names ≤ length (put key s names)

@@ -194,7 +194,8 @@ operand_kept limits set locals tokens l (Operand.Variable n) o stands = tt
 operand_kept limits set locals tokens l (Operand.Function f) o stands = tt
 operand_kept limits set locals tokens l Operand.Unknown o stands = tt
 
-one_more : (limits : Limits) (set : CharSet) (locals : List Local) (tokens : List SourceToken) (l : Leaf) (operands : List Operand) (o : Out)
+one_more : (limits : Limits) (set : CharSet) (locals : List Local) (tokens : List SourceToken) (l : Leaf)
+    (operands : List Operand) (o : Out)
     → AllStand operands o
     → AllStand (operands ++ (settled_leaf limits set locals tokens l o).1 ∷ []) (settled_leaf limits set locals tokens l o).0
 one_more limits set locals tokens l [] o stand = (leaf_operand limits set locals tokens l o, tt)

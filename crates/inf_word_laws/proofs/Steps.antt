@@ -19,7 +19,8 @@ use Rattle.inf_output.specs.Output.{full_past, in_routine, laid, laid_by, less, 
 use Rattle.inf_output.specs.Output.{past_by, past_of, referred_by, with_labels_left, with_low_text_by, with_text_by, with_word_by, without}
 use Rattle.inf_output.specs.Output.{without_item, without_lost}
 use Rattle.inf_tables.specs.{LowStrings.low_fits, Tables.references}
-use Rattle.inf_word_laws.specs.Standing.{Keeps, StandingAreThere, Stands, StepsKeepWords, UsedWordsStand, has_word, is_limited, is_limited_by}
+use Rattle.inf_word_laws.specs.Standing.{Keeps, StandingAreThere, Stands, StepsKeepWords, UsedWordsStand, has_word, is_limited}
+use Rattle.inf_word_laws.specs.Standing.{is_limited_by}
 
 or-true : (b : Bool) → (b || true) ≡ true
 or-true true = refl
@@ -56,7 +57,7 @@ item_tables : (item : Item) (past : Past) → (without item past).tables ≡ pas
 item_tables (Item.Instruction parts) past = refl
 item_tables (Item.Mark label) past = refl
 
-passed_tables : (code : Routines) (item : Item) (past : Past) → (without_item code item past).tables ≡ past.tables
+pub passed_tables : (code : Routines) (item : Item) (past : Past) → (without_item code item past).tables ≡ past.tables
 passed_tables code item past = go (is_lost_in code.opened)
   where
     go : (b : Bool) → (if b then without_lost item past else without item past).tables ≡ past.tables
@@ -87,7 +88,7 @@ keeps_item limits item = record { keeps = λ text o stands. laid_stands limits i
 
 -- Routines
 
-limit_tables : (limit : CodeLimit) (past : Past) → (passed_limit limit past).tables ≡ past.tables
+pub limit_tables : (limit : CodeLimit) (past : Past) → (passed_limit limit past).tables ≡ past.tables
 limit_tables CodeLimit.Labels past = refl
 limit_tables CodeLimit.Code past = refl
 limit_tables CodeLimit.Refs past = refl
@@ -191,7 +192,8 @@ or_parts_true : (a b : Bool) → (a || b) ≡ true → (a ≡ true) ⊎ (b ≡ t
 or_parts_true true b e = inl refl
 or_parts_true false b e = inr e
 
-word_added : (limits : Limits) (f : Option AddFault) (used : Text) (how : WordUse) (is_plural : Bool) (text : Text) (o : Out) → Stands text o
+word_added : (limits : Limits) (f : Option AddFault) (used : Text) (how : WordUse) (is_plural : Bool) (text : Text) (o : Out) →
+    Stands text o
     → Stands text (with_word_by limits f used how is_plural o)
 word_added limits None used how is_plural text o stands = go (or_parts_true (has_word text o) (is_limited o) stands)
   where
@@ -242,11 +244,13 @@ steps_keep_words limits = record {
       record { keeps = λ text o stands. low_text_stands limits (low_fits limits bytes o.tables.low_strings) bytes text o stands };
   word = λ used how is_plural. record {
     keeps = λ text o stands.
-        word_added limits (add_fault limits (word_of used o.tables.dictionary.list) how o.tables.dictionary) used how is_plural text o stands;
+        word_added limits (add_fault limits (word_of used o.tables.dictionary.list) how o.tables.dictionary) used how is_plural
+        text o stands;
   };
   declaring = λ name place m.
       record { keeps = λ text o stands. declared_stands limits (declare_fault limits name o.names) name place m text o stands };
-  refers = λ name place. record { keeps = λ text o stands. referred_stands limits (refer_fault limits name o.names) name place text o stands };
+  refers =
+      λ name place. record { keeps = λ text o stands. referred_stands limits (refer_fault limits name o.names) name place text o stands };
   limit = λ limit. record { keeps = λ text o stands. limit_stands limits limit text o };
   both = λ first second one other.
       record { keeps = λ text o stands. other.keeps text (first o) (one.keeps text o stands) };
@@ -276,7 +280,8 @@ told past refs is none = symbols past.symbols past.tables past.labels is none
 pub standing_are_there : (limits : Limits) → StandingAreThere limits
 standing_are_there limits text o stands none = go (or_parts_true (has_word text o) (is_limited o) stands)
   where
-    limited : (past : Option Past) → is_limited_by past ≡ true → full_past (counted (references o.tables) (past_by limits past o.code)) ≡ None
+    limited : (past : Option Past) → is_limited_by past ≡ true →
+        full_past (counted (references o.tables) (past_by limits past o.code)) ≡ None
         → has_word text o ≡ true
     limited None is none = cc
     limited (Some p) is none = absurd (told p (references o.tables) is none)

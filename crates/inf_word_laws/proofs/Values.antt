@@ -6,12 +6,7 @@ use Rattle.inf_names.specs.{Symbols.Named, Symbols.meaning_in, declared.meanings
 use Rattle.inf_scanner.specs.declared.tokens.Place.{Place}
 use Rattle.inf_story.specs.Names.{value_by, values_of, with_value}
 use Rattle.inf_word_laws.specs.Values.{AllDirect, IsDirect, NamesAreFound}
-
-not_some : {A B : Type 0} {a : A} → None ≡ Some a → B
-not_some e = absurd (cc e)
-
-same_some : {A : Type 0} {a b : A} → Some a ≡ Some b → a ≡ b
-same_some e = cc e
+use Rattle.inf_word_laws.proofs.Numbering.{not_some, same_some}
 
 value_below : (values : List Value) (number : ℕ) → number < length values → is_some (slice_get values number) ≡ true
 value_below [] number below = absurd (omega (arith, below))

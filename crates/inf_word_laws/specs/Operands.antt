@@ -23,6 +23,7 @@ AllStand (operand ∷ operands) o = OperandStands operand o × AllStand operands
 -- All operands of a unit's leaves, once their names and words are used, stand in the output behind that; words that stood before stand
 -- there, too.
 pub record OperandsStand (limits : Limits) : Type 0 where
-  pub stand : (set : CharSet) (locals : List Local) (tokens : List SourceToken) (leaves : List Leaf) (s : Settled) → AllStand s.operands s.out
+  pub stand : (set : CharSet) (locals : List Local) (tokens : List SourceToken) (leaves : List Leaf) (s : Settled) →
+      AllStand s.operands s.out
       → AllStand (settled limits set locals tokens leaves s).operands (settled limits set locals tokens leaves s).out
   pub added : (set : CharSet) (tokens : List SourceToken) (leaves : List Leaf) → Keeps (leaf_added limits set tokens leaves)
