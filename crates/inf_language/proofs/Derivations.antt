@@ -1,47 +1,12 @@
--- Derivations of a text, symbol by symbol, beside the tokens that were seen.
-use Rattle.std.proofs.Common.{◌≡◌, ℕ, List, [], ◌∷◌, ◌++◌, refl, ◌∙◌, ap, subst}
-use Rattle.inf_machine.specs.{Laws.IsSpaced, Machine.Taken, Machine.events_of, Machine.taken, Machine.work, declared.symbols.Symbol.Symbol}
+-- Derivations of a text beside the tokens that were seen.
+use Rattle.std.proofs.Common.{◌≡◌, ℕ, List, [], ◌∷◌, ◌++◌, refl, ap}
+use Rattle.inf_machine.specs.declared.symbols.Symbol.{Symbol}
 use Rattle.inf_machine.specs.Grammar.{Did, Event, Leads, Took, action, here, row, token}
-use Rattle.inf_machine.proofs.Taking.{leads_only, spaced_left}
 use Rattle.inf_syntax.specs.declared.actions.Action.{Action}
-use Rattle.inf_grammar.specs.{Evaluated.language_is_decided, Language.grammar, Language.known}
+use Rattle.inf_grammar.specs.Language.{grammar}
 use Rattle.inf_expression_laws.specs.Gathered.{AreSeen}
 use Rattle.inf_statement_laws.specs.{Happenings.Acts, Happenings.Takes, Readings.Seen, Readings.plainly_at}
 use Rattle.inf_language.specs.{Texts.atoms_of, Texts.happenings_before, Texts.happenings_of, Texts.tokens_of, Units.TakeAll}
-
--- Some events lead a derivation on to symbols that are left, with the events that follow.
-pub record GoesOn (symbols left : List (Symbol Action)) (atoms : List ℕ) (before events : List (Event Action)) : Type 0 where
-  pub rest : List (Event Action)
-  pub are : events ≡ before ++ rest
-  pub leads : Leads grammar symbols atoms rest left
-  pub spaced : IsSpaced grammar known symbols
-
--- behind a token that the machine takes with no action on the way to it
-pub past_read : (atom : ℕ) (symbols left : List (Symbol Action)) (atoms : List ℕ) (events : List (Event Action))
-    → taken grammar known atom symbols ≡ record { actions = []; left = left } → IsSpaced grammar known symbols
-    → Leads grammar symbols (atom ∷ atoms) events [] → GoesOn left [] atoms (Took atom ∷ []) events
-past_read atom symbols left atoms events is spaced leads =
-    let one = leads_only grammar known language_is_decided leads spaced in
-    record {
-      rest = one.rest;
-      are = one.are ∙ ap (λ (t : Taken Action). events_of t.actions atom ++ one.rest) is;
-      leads = subst (λ (t : Taken Action). Leads grammar t.left atoms one.rest []) is one.leads;
-      spaced = subst (λ (t : Taken Action). IsSpaced grammar known t.left) is
-          (spaced_left grammar known language_is_decided atom (work known atom symbols) symbols one.fits_here spaced);
-    }
-
--- behind a token of a class, and behind an action
-pub past_token : (class atom : ℕ) (symbols : List (Symbol Action)) (atoms : List ℕ) (events : List (Event Action))
-    → IsSpaced grammar known symbols → Leads grammar (Symbol.Token class ∷ symbols) (atom ∷ atoms) events []
-    → GoesOn symbols [] atoms (Took atom ∷ []) events
-past_token class atom symbols atoms events spaced (token {events = rest} h leads) =
-    record { rest = rest; are = refl; leads = leads; spaced = spaced }
-
-pub past_action : (a : Action) (symbols : List (Symbol Action)) (atoms : List ℕ) (events : List (Event Action))
-    → IsSpaced grammar known symbols → Leads grammar (Symbol.Act a ∷ symbols) atoms events []
-    → GoesOn symbols [] atoms (Did a ∷ []) events
-past_action a symbols atoms events spaced (action {events = rest} leads) =
-    record { rest = rest; are = refl; leads = leads; spaced = spaced }
 
 -- The tokens of a text
 

@@ -7,6 +7,3 @@ pub mod HeadersRead
 pub mod TextsSplit
 pub mod ExpressionsTold
 pub mod Derivations
-pub mod ConstantsDone
-pub mod ConstantsRead
-pub mod ConstantExample

@@ -1,6 +1,6 @@
 //! Laws that tokens, read one by one, do what the pieces of the language do as a whole.
 ghost use Rattle.inf_settings.specs.Bounds.{Limits};
-ghost use Rattle.inf_language.specs.{Constants.ConstantsAreRead, Gathered.ExpressionsAreGathered, HeaderNames.HeadersNoteTheirNames};
+ghost use Rattle.inf_language.specs.{Gathered.ExpressionsAreGathered, HeaderNames.HeadersNoteTheirNames};
 ghost use Rattle.inf_language.specs.{Headers.HeadersHaveTheirLocals, NamedLocals.UnitsNameTheirLocals, Sifting.UnitsAreSiftedAlone};
 ghost use Rattle.inf_language.specs.{Texts.TextsDoTheirActions, Units.UnitsAreReadAlone};
 
@@ -45,10 +45,4 @@ pub fn headers_have_their_locals()
 /// names, and is unchanged otherwise.
 pub fn headers_note_their_names()
     ensures { (limits : Limits) → HeadersNoteTheirNames limits }
-{}
-
-/// Shows that tokens that are a text of the grammar, and begin as `Constant NAME =`, are that directive, with an expression
-/// as its value, and that taking them has the effect of the directive as a whole.
-pub fn constants_are_read()
-    ensures { (limits : Limits) → ConstantsAreRead limits }
 {}

@@ -5,7 +5,6 @@
 mod laws;
 
 pub use laws::{
-    constants_are_read, expressions_are_gathered, headers_have_their_locals,
-    headers_note_their_names, texts_do_their_actions, units_are_read_alone, units_are_sifted_alone,
-    units_name_their_locals,
+    expressions_are_gathered, headers_have_their_locals, headers_note_their_names,
+    texts_do_their_actions, units_are_read_alone, units_are_sifted_alone, units_name_their_locals,
 };

@@ -14,4 +14,3 @@ pub mod KeptTurns
 pub mod Hashes
 pub mod PartTokens
 pub mod Parts
-pub mod Targets

@@ -1,20 +1,17 @@
--- Units that end without a fatal message keep labels, code, references and tokens within their settings.
-use Rattle.std.proofs.Common.{◌≡◌, ◌∙◌, ◌+◌, ◌-◌, ◌≤◌, ℕ, zero, suc, List, [], ◌∷◌, length, cond, ltb, Bool, true, false, Option, Some}
-use Rattle.std.proofs.Common.{None, refl, sym, arith, option_map}
+-- Units that end without a fatal message keep labels, code and references within their settings.
+use Rattle.std.proofs.Common.{◌≡◌, ◌∙◌, ◌+◌, ◌-◌, ◌≤◌, ℕ, cond, ltb, Bool, true, false, Option, Some}
+use Rattle.std.proofs.Common.{None, refl, sym, arith}
 use Rattle.std.proofs.{Math.Nat.max-le, Math.Nat.min-le_left, lemmas.Bool.ltb-false}
-use Rattle.std.specs.List.{slice_get}
 use Rattle.inf_code.specs.Code.{Routines, bytes_of_code, labels, reference_count, references_open, rest, rest_behind}
-use Rattle.inf_compilation.specs.{Context.Context, Context.longest, Findings.Findings, Findings.told_as}
-use Rattle.inf_compilation.specs.Actions.{Compilation, begun_at, sized, stopped, unit_ended}
-use Rattle.inf_conditionals.specs.{Condition.Condition, Judging.tokens_counted, Open.Conditions, Said.too_much, Said.too_much_by}
+use Rattle.inf_compilation.specs.{Context.Context, Findings.Findings, Findings.told_as}
+use Rattle.inf_compilation.specs.Actions.{Compilation, begun_at, unit_ended}
 use Rattle.inf_output.specs.Output.{Out, begun, counted, full, full_of, full_past, less, past_by, whole}
 use Rattle.inf_output.specs.declared.past.Past.{Past}
 use Rattle.inf_report.specs.Reports.{Counts, with_fatal as fatal_counted}
 use Rattle.inf_scanner.specs.declared.tokens.Place.{Place}
 use Rattle.inf_settings.specs.{Bounds.Limits, declared.setting.Setting.Setting}
 use Rattle.inf_tables.specs.Tables.{AllTables, more, references}
-use Rattle.inf_unit.specs.{Messages.FileNames, Messages.Reported, Messages.with_fault, Messages.with_full, Tokens.SourceToken}
-use Rattle.inf_unit.specs.Units.{Unit, long_at, long_by, long_from, outer_count, outer_tokens, place_at}
+use Rattle.inf_unit.specs.{Messages.FileNames, Messages.Reported, Messages.with_fault, Messages.with_full}
 use Rattle.inf_laws.specs.UnitLimits.{IsWithin, KeepsWithin, StopsForALimit, UnitsKeepWithin}
 
 -- Messages
@@ -141,57 +138,8 @@ conditional_keeps limits files first w stops =
       most_labels = λ goes few. max-le few (full_within limits (begun limits w.output) stops (free goes)).few_labels;
     }
 
--- Expressions
-
-none_behind : (tokens : List SourceToken) (at : ℕ) → slice_get tokens at ≡ None → length tokens ≤ at
-none_behind [] at e = omega arith
-none_behind (t ∷ tokens) zero e = cc
-none_behind (t ∷ tokens) (suc at) e = omega (arith, none_behind tokens at e)
-
-no_place : (tokens : List SourceToken) (at : ℕ) → place_at tokens at ≡ None → length tokens ≤ at
-no_place tokens at = go (slice_get tokens at) refl
-  where
-    go : (x : Option SourceToken) → slice_get tokens at ≡ x → option_map (λ (t : SourceToken). t.place) x ≡ None → length tokens ≤ at
-    go (Some t) e free = cc
-    go None e free = none_behind tokens at e
-
-sure_within : (tokens : List SourceToken) (most outer : ℕ) → long_from tokens most outer true ≡ None → length tokens - outer ≤ most
-sure_within tokens most outer = go (ltb most (length tokens - outer)) refl
-  where
-    go : (b : Bool) → ltb most (length tokens - outer) ≡ b → cond b (place_at tokens (outer + most)) None ≡ None
-        → length tokens - outer ≤ most
-    go false e free = ltb-false most (length tokens - outer) e
-    go true e free = omega (arith, no_place tokens (outer + most) free)
-
-long_within : (tokens : List SourceToken) (most : ℕ) (is_sure : Bool) (outer : Option ℕ) → long_by tokens most is_sure outer ≡ None
-    → outer_count tokens is_sure outer ≤ most
-long_within tokens most is_sure None free = omega arith
-long_within tokens most false (Some outer) free = omega arith
-long_within tokens most true (Some outer) free = sure_within tokens most outer free
-
-tokens_within : (most : ℕ) (u : Unit) → long_at most u ≡ None → outer_tokens u ≤ most
-tokens_within most u free = long_within u.tokens most u.is_sure u.outer free
-
-expression_keeps : (context : Context) (w : Compilation) → w.most_tokens ≤ longest context → (sized context w).most_tokens ≤ longest context
-expression_keeps context w few = go (long_at (longest context) w.unit) refl
-  where
-    go : (p : Option Place) → long_at (longest context) w.unit ≡ p → (stopped context p w).most_tokens ≤ longest context
-    go (Some place) e = few
-    go None e = max-le few (tokens_within (longest context) w.unit e)
-
-none_long : (p : Option Place) (t : SourceToken) (depth : ℕ) → too_much_by p t depth ≡ None → p ≡ None
-none_long (Some place) t depth free = cc
-none_long None t depth free = refl
-
-condition_keeps : (most : ℕ) (t : SourceToken) (k : Condition) (is_quiet : Bool) (c : Conditions) → too_much most t k ≡ None
-    → c.most_tokens ≤ most → (tokens_counted is_quiet k c).most_tokens ≤ most
-condition_keeps most t k true c free few = few
-condition_keeps most t k false c free few = max-le few (tokens_within most k.unit (none_long (long_at most k.unit) t k.unit.depth free))
-
 pub units_keep_within : (limits : Limits) → UnitsKeepWithin limits
 units_keep_within limits = record {
   unit = unit_keeps limits;
   conditional = conditional_keeps limits;
-  expression = expression_keeps;
-  condition = condition_keeps;
 }

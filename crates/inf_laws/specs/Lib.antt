@@ -10,4 +10,3 @@ pub mod KeptTurns
 pub mod Hashes
 pub mod Parts
 pub mod UnitFaults
-pub mod Targets

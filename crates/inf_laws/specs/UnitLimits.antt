@@ -1,14 +1,13 @@
--- The settings that are compared with their counts where an expression or a unit has ended: those of tokens, labels, code and references.
-use Rattle.std.specs.Prelude.{◌≡◌, ◌+◌, ◌≤◌, ℕ, Bool, false, Some, None}
+-- The settings that are compared with their counts where a unit has ended: those of labels, code and references.
+use Rattle.std.specs.Prelude.{◌≡◌, ◌+◌, ◌≤◌, Bool, false, Some, None}
 use Rattle.inf_code.specs.Code.{bytes_of_code, labels, reference_count, references_open}
-use Rattle.inf_compilation.specs.{Context.Context, Context.longest, Findings.Findings}
-use Rattle.inf_compilation.specs.Actions.{Compilation, begun_at, sized, unit_ended}
-use Rattle.inf_conditionals.specs.{Condition.Condition, Judging.tokens_counted, Open.Conditions, Said.too_much}
+use Rattle.inf_compilation.specs.{Context.Context, Findings.Findings}
+use Rattle.inf_compilation.specs.Actions.{Compilation, begun_at, unit_ended}
 use Rattle.inf_output.specs.{Output.Out, Output.begun, Output.full_past, declared.past.Past.Past}
 use Rattle.inf_scanner.specs.declared.tokens.Place.{Place}
 use Rattle.inf_settings.specs.{Bounds.Limits, declared.setting.Setting.Setting}
 use Rattle.inf_tables.specs.Tables.{references, references_with}
-use Rattle.inf_unit.specs.{Messages.FileNames, Tokens.SourceToken}
+use Rattle.inf_unit.specs.Messages.{FileNames}
 
 -- The labels of the open routine are at most their setting; so are the bytes of all code, with the open routine in its longest form; and
 -- so are the references of finished routines and of tables, also with those of the open routine.
@@ -28,13 +27,9 @@ pub record KeepsWithin (limits : Limits) (before behind : Compilation) : Type 0 
   pub most_labels : behind.report.counts.is_over ≡ false → before.most_labels ≤ limits Setting.Labels
       → behind.most_labels ≤ limits Setting.Labels
 
--- Units, conditional directives and sources that end without a fatal message keep within their settings; and so does an expression, of
--- which the context tells the most tokens, and each part of a condition that is not told to be too long.
+-- Units, conditional directives and sources that end without a fatal message keep within their settings.
 pub record UnitsKeepWithin (limits : Limits) : Type 0 where
   pub unit : (context : Context) (first : Place) (has_last : Bool) (found : Findings) (w : Compilation) → StopsForALimit w.output
       → KeepsWithin limits w (unit_ended limits context first has_last found w)
   pub conditional : (files : FileNames) (first : Place) (w : Compilation) → StopsForALimit (begun limits w.output)
       → KeepsWithin limits w (begun_at limits files first w)
-  pub expression : (context : Context) (w : Compilation) → w.most_tokens ≤ longest context → (sized context w).most_tokens ≤ longest context
-  pub condition : (longest : ℕ) (t : SourceToken) (k : Condition) (is_quiet : Bool) (c : Conditions) → too_much longest t k ≡ None
-      → c.most_tokens ≤ longest → (tokens_counted is_quiet k c).most_tokens ≤ longest

@@ -2,8 +2,8 @@
 ghost use Rattle.inf_settings.specs.Bounds.{Limits};
 ghost use Rattle.inf_laws.specs.{Counts.LimitsCountTheStory, Findings.HeadersTellTheFirst, KeptTokens.KeptTokensAreRead};
 ghost use Rattle.inf_laws.specs.{KeptTokens.TokensAreHandedOn, KeptTurns.TurnsReadPieces, Parts.PartsArePieces, Parts.PartsEndWithPieces};
-ghost use Rattle.inf_laws.specs.{Targets.AllPartsAreFound, Told.TokensAreTakenOrTold, Told.UnfitTokensAreTold};
-ghost use Rattle.inf_laws.specs.{UnitFaults.ConstantsTellTheLeast, UnitFaults.PartsTellTheLeast, UnitLimits.UnitsKeepWithin};
+ghost use Rattle.inf_laws.specs.{Told.TokensAreTakenOrTold, Told.UnfitTokensAreTold, UnitFaults.ConstantsTellTheLeast};
+ghost use Rattle.inf_laws.specs.{UnitFaults.PartsTellTheLeast, UnitLimits.UnitsKeepWithin};
 ghost use Rattle.inf_laws.specs.NameEvents.{FewHaveRoom, FirstDeclarationsCount, OperandsUse, UndeclaredAreTold, UnitsDeclare};
 ghost use Rattle.inf_laws.specs.Skipping.{DirectivesAreSkipped, PassedTokensDoNothing, RoutinesAreSkipped, SourcesEnd};
 
@@ -82,14 +82,7 @@ pub fn limits_count_the_story<B: Bounds>(tables: &Tables<B>)
 
 /// Units that end without a fatal message leave no more labels in a routine, bytes of code and references than their settings say,
 /// those of the open routine and of tables with them, unless code is no longer laid though it passed no limit. So do conditional
-/// directives, and the end of a source. No expression, and no condition that is not told to be too long, had more tokens than its
-/// setting says. So the greatest counts of tokens and labels keep to their settings.
+/// directives, and the end of a source. So the greatest count of labels keeps to its setting.
 pub fn units_keep_within_settings()
     ensures { (limits : Limits) → UnitsKeepWithin limits }
-{}
-
-/// Shows that each part of an area to which the tables of a story refer is there: the property table of each object and its individual
-/// table, and the lines of each verb.
-pub fn parts_of_tables_are_found()
-    ensures { AllPartsAreFound }
 {}

@@ -7,5 +7,5 @@ mod laws;
 pub use laws::{
     bad_pieces_are_skipped, bad_tokens_are_told, first_declarations_count, first_errors_are_told,
     kept_tokens_are_read, least_findings_are_told, limits_count_the_story, parts_are_pieces,
-    parts_of_tables_are_found, undeclared_names_are_told_once, units_keep_within_settings,
+    undeclared_names_are_told_once, units_keep_within_settings,
 };

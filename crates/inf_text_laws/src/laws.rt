@@ -1,9 +1,9 @@
 //! Laws of the definitions together.
 ghost use Rattle.std.specs.Prelude.{List, ℕ};
 ghost use Rattle.inf_text_laws.specs.{Joining.ReadsJoined, Plain.ReadsPlainly, Spelled.AccentsRead, Spelled.ComesBack};
-ghost use Rattle.inf_characters.specs.{Items.IsText, declared.characters.CharSet.CharSet, declared.reading.Mode.Mode};
+ghost use Rattle.inf_characters.specs.{declared.characters.CharSet.CharSet, declared.reading.Mode.Mode};
 ghost use Rattle.inf_characters.specs.{declared.texts.TextItem.TextItem};
-ghost use Rattle.inf_text.specs.{Packing.packed, Parts.AreAbbreviations, Parts.AreLongTexts, Parts.IsCut, Unpacking.UnpacksTo};
+ghost use Rattle.inf_text.specs.{Parts.AreLongTexts, Parts.IsCut};
 
 /// States that no abbreviation is missed, and none overlaps another: the Z-characters of a text are
 /// those of parts that follow one another and are the whole text. An item is laid as itself only where
@@ -12,14 +12,6 @@ ghost use Rattle.inf_text.specs.{Packing.packed, Parts.AreAbbreviations, Parts.A
 #[tactic(auto, using(inf_text::proofs::Cutting::is_cut))]
 pub fn abbreviations_cut_texts()
     ensures { (declared : List (List TextItem)) (items : List TextItem) → AreLongTexts declared → IsCut declared items }
-{}
-
-/// States that an interpreter reads a packed text (alphabets and shifts, abbreviations, ten-bit codes
-/// and string variables) as that text, whatever abbreviations are declared.
-#[tactic(auto, using(inf_text::proofs::Unpacks::unpacks))]
-pub fn packed_texts_unpack()
-    ensures { (declared : List (List TextItem)) (items : List TextItem) → AreAbbreviations declared → IsText items →
-        UnpacksTo declared (packed items declared) items }
 {}
 
 /// States that bytes without `@`, `~`, `^`, `\` and line ends are read one by one: as the characters

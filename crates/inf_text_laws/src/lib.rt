@@ -6,5 +6,5 @@ mod laws;
 
 pub use laws::{
     abbreviations_cut_texts, accents_are_spelled, codes_come_back, joined_texts_are_read_joined,
-    packed_texts_unpack, plain_texts_are_their_bytes,
+    plain_texts_are_their_bytes,
 };
