@@ -1,11 +1,9 @@
 -- Premises that the leaves of a tree meet.
 use Rattle.std.proofs.Common.{List, [], ◌∷◌, ◌++◌, refl, inl, inr}
-use Rattle.inf_settings.specs.Bounds.{Limits}
 use Rattle.inf_area.specs.declared.targets.Target.{Target}
 use Rattle.inf_expressions.specs.{Trees.Leaf, Trees.One, Trees.Tree, Trees.Two, declared.operators.Operand.Operand}
-use Rattle.inf_code_walk.specs.Made.{IsAmong, LeafMeets, TreeMeets, TreesAreMade, leaf_targets, tree_targets}
-use Rattle.inf_templates.specs.Meaning.{meaning, part}
-use Rattle.inf_code_walk.proofs.Rows.{MeaningMade, PartMade, meaning_made, part_made, tree_made}
+use Rattle.inf_code_walk.specs.Made.{IsAmong, LeafMeets, TreeMeets, TreesAreMade, TreesMeet, leaf_targets, tree_targets}
+use Rattle.inf_code_walk.proofs.Rows.{tree_made}
 
 leaf_by : (L : Target → Type 0) (x : Operand) → ((t : Target) → IsAmong (leaf_targets x) t → L t) → LeafMeets L x
 leaf_by L (Operand.Later t) all = all t (inl refl)
@@ -38,12 +36,9 @@ Any t = Unit {0}
 pub any_tree : (e : Tree) → TreeMeets Any e
 any_tree e = tree_by Any e (λ t h. tt)
 
--- the code of a tree and its part of an instruction, without a premise
-pub any_meaning : (limits : Limits) (e : Tree) → MeaningMade limits Any (meaning limits e)
-any_meaning limits e = meaning_made limits Any e (any_tree e)
-
-pub any_part : (limits : Limits) (e : Tree) → PartMade limits Any (part (meaning limits e))
-any_part limits e = part_made limits Any (meaning limits e) (any_meaning limits e)
+pub any_trees : (trees : List Tree) → TreesMeet Any trees
+any_trees [] = tt
+any_trees (e ∷ trees) = (any_tree e, any_trees trees)
 
 pub trees_are_made : TreesAreMade
 trees_are_made limits e = tree_made limits (IsAmong (tree_targets e)) e (tree_by (IsAmong (tree_targets e)) e (λ t h. h))

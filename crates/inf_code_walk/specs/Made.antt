@@ -3,9 +3,11 @@ use Rattle.std.specs.Prelude.{◌≡◌, ℕ, ◌≤◌, Bool, List, [], ◌∷�
 use Rattle.inf_settings.specs.Bounds.{Limits}
 use Rattle.inf_area.specs.declared.targets.Target.{Target}
 use Rattle.inf_expressions.specs.{Trees.Leaf, Trees.One, Trees.Tree, Trees.Two, declared.operators.Operand.Operand}
-use Rattle.inf_opcode.specs.{declared.instructions.Branch.Branch, declared.instructions.Label.Label, declared.opcodes.Opcode.Opcode}
-use Rattle.inf_output.specs.{declared.operands.Simple.Simple, declared.veneer.Veneer.Veneer}
-use Rattle.inf_output.specs.Output.{Code, instruction, jumped, marked, naming, nothing, with_label, ◌▸◌}
+use Rattle.inf_opcode.specs.{Instructions.bare, declared.instructions.Branch.Branch, declared.instructions.Label.Label}
+use Rattle.inf_opcode.specs.{declared.opcodes.Opcode.Opcode}
+use Rattle.inf_output.specs.{Texts.late, declared.items.Item.Item, declared.operands.Simple.Simple, declared.veneer.Veneer.Veneer}
+use Rattle.inf_output.specs.Output.{Code, Out, instruction, jumped, laid, low_string_at, marked, naming, nothing, with_label}
+use Rattle.inf_output.specs.Output.{with_low_text, ◌▸◌}
 use Rattle.inf_templates.specs.{Meaning.meaning, Parts.calling_routine}
 use Rattle.inf_code_walk.specs.Labels.{branch_labels, times}
 
@@ -32,9 +34,13 @@ TreeMeets L (Leaf x) = LeafMeets L x
 TreeMeets L (One op a) = TreeMeets L a
 TreeMeets L (Two op a b) = TreeMeets L a × TreeMeets L b
 
--- Code of these pieces alone: instructions whose operands meet a premise, calls of supplied routines, and labels. It branches and jumps to
--- labels that it marks or that are among those that it may need; beside the labels that are handed out while it is laid, it marks those
--- that it is given, once each.
+abbrev pub TreesMeet : (Target → Type 0) → List Tree → Type 0
+TreesMeet L [] = Unit {0}
+TreesMeet L (e ∷ trees) = TreeMeets L e × TreesMeet L trees
+
+-- Code of these pieces alone: instructions whose operands meet a premise or that print a text, calls of supplied routines, low strings,
+-- and labels. It branches and jumps to labels that it marks or that are among those that it may need; beside the labels that are handed
+-- out while it is laid, it marks those that it is given, once each.
 pub data Made (limits : Limits) (L : Target → Type 0) : Code → List ℕ → List ℕ → Type 0 where
   Nothing : {needs : List ℕ} → Made limits L nothing needs []
   Then : {c d : Code} {needs a b : List ℕ} → Made limits L c needs a → Made limits L d needs b → Made limits L (c ▸ d) needs (a ++ b)
@@ -50,6 +56,11 @@ pub data Made (limits : Limits) (L : Target → Type 0) : Code → List ℕ → 
       → Made limits L (calling_routine limits v arguments store) [] []
   Marks : {needs : List ℕ} (l : Label) → Made limits L (marked limits l) needs (l.number ∷ [])
   Jumps : (l : Label) → Made limits L (jumped limits l) (l.number ∷ []) []
+  Packs : Made limits L (λ o. record o { texts = late o.texts }) [] []
+  Prints : (op : Opcode) (text : Out → List ℕ)
+      → Made limits L (λ o. laid limits (Item.Instruction (record (bare op) { text = text o })) o) [] []
+  Lows : {needs given : List ℕ} (text : List ℕ) (body : Target → Code) → ((o : Out) → Made limits L (body (low_string_at o)) needs given)
+      → Made limits L (λ o. body (low_string_at o) (with_low_text limits text o)) needs given
 
 -- The code of a tree is made so in each use of the tree; as a branch it needs the label to which it leads.
 pub record TreeMade (limits : Limits) (L : Target → Type 0) (t : Tree) : Type 0 where

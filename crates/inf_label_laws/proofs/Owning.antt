@@ -256,10 +256,6 @@ owned_free {c} {needs} {given} f = owned_wide {c = c} {a = []} {b = needs} (λ n
 pub owned_at : {c : Code} {l : ℕ} {needs given : List ℕ} → 1 ≤ times l needs → Owned c (l ∷ []) given → Owned c needs given
 owned_at {c} {l} {needs} {given} has f = owned_wide {c = c} {a = l ∷ []} {b = needs} (λ n h. one_needed needs l n has h) f
 
--- code that needs no label, before other code
-pub owned_before : {c d : Code} {needs b : List ℕ} → Owned c [] [] → Owned d needs b → Owned (c ▸ d) needs b
-owned_before {c} {d} {needs} {b} f g = owned_behind {c = c} {d = d} {needs = needs} {b = b} (owned_free {c = c} {needs = needs} f) g
-
 pub owned_as : {c : Code} {needs a b : List ℕ} → ((n : ℕ) → times n a ≡ times n b) → Owned c needs a → Owned c needs b
 owned_as {c} {needs} {a} {b} h f o =
     let x = f o in

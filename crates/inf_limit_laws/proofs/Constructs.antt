@@ -6,85 +6,35 @@ use Rattle.inf_text.specs.Packing.{packed}
 use Rattle.inf_dictionary.specs.declared.uses.WordUse.{WordUse}
 use Rattle.inf_scanner.specs.declared.tokens.Place.{Place}
 use Rattle.inf_gathering.specs.declared.gathering.Leaf.{Leaf}
-use Rattle.inf_opcode.specs.{declared.instructions.Label.Label, declared.opcodes.Opcode.Opcode}
-use Rattle.inf_expressions.specs.{Questions.children_of, Questions.range_of, Rooted.Rooted, Trees.Tree, declared.operators.Operand.Operand}
+use Rattle.inf_opcode.specs.declared.instructions.Label.{Label}
+use Rattle.inf_expressions.specs.{Questions.children_of, Rooted.Rooted, Trees.Tree, declared.operators.Operand.Operand}
 use Rattle.inf_names.specs.{Spellings.Name, Symbols.declare_fault, declared.symbols.DeclareFault.DeclareFault}
 use Rattle.inf_names.specs.Locals.{Local, local_number}
-use Rattle.inf_output.specs.{Texts.used_in, declared.items.Item.Item, declared.operands.Simple.Simple}
+use Rattle.inf_output.specs.{Texts.used_in, declared.items.Item.Item}
 use Rattle.inf_output.specs.Actions.{action_by, action_of, appeared, fake_number, faked, faked_by, first_seen, key_of, numbered_as}
 use Rattle.inf_output.specs.Actions.{numbered_by, one_fake, routine_name, routine_referred, seen_by}
-use Rattle.inf_output.specs.Output.{Out, behind, items_of, laid_all, marked, to, ◌▸◌}
-use Rattle.inf_templates.specs.Meaning.{Meaning, meaning, part}
+use Rattle.inf_output.specs.Output.{Out, behind, items_of, laid_all}
 use Rattle.inf_unit.specs.{Tokens.SourceToken, Units.bytes_at, Units.name_at}
 use Rattle.inf_verbs.specs.{Routines.action_fault, declared.routines.ActionFault.ActionFault}
 use Rattle.inf_constructs.specs.declared.{constructs.Case.Case, constructs.Construct.Construct, constructs.Kind.Kind, constructs.Over.Over}
-use Rattle.inf_constructs.specs.Cases.{case_code, case_tested, group_tested, grouped, is_empty, is_open, laid_before, operand_in}
-use Rattle.inf_constructs.specs.Cases.{range_tested, SWITCHED, beside, value_grouped, value_laid, within}
+use Rattle.inf_constructs.specs.Cases.{case_code}
 use Rattle.inf_constructs.specs.Constructs.{Laying, all_ended, begun, between, case_closed, case_entered, cases_begun, changed, closed}
-use Rattle.inf_constructs.specs.Constructs.{ended, ending, entered, entered_by, front, joint, looped, looped_by, looped_on, looped_over}
-use Rattle.inf_constructs.specs.Constructs.{opened, over_all, over_children, tested_over, with_labels}
+use Rattle.inf_constructs.specs.Constructs.{ended, ending, entered, entered_by, front, joint, looped, looped_by, looped_over}
+use Rattle.inf_constructs.specs.Constructs.{opened, with_labels}
 use Rattle.inf_operands.specs.Operands.{Settled, is_stack, leaf_added, one_added, settled, settled_action, settled_alone, settled_by}
 use Rattle.inf_operands.specs.Operands.{settled_leaf, settled_name, settled_text, with_settled}
 use Rattle.inf_operands.specs.Texts.{text_at, text_packed}
-use Rattle.inf_code_walk.proofs.{Leaves.Any, Leaves.any_meaning, Leaves.any_part, Rows.MeaningMade}
+use Rattle.inf_code_walk.proofs.{Leaves.Any, Leaves.any_tree, Leaves.any_trees, Statements.any_fixed}
+use Rattle.inf_code_walk.proofs.Constructs.{all_made, case_closed_made, case_made, children_made, looped_on_made}
 use Rattle.inf_limit_laws.specs.Rooms.{Before, Counted, Keeps, Sound}
 use Rattle.inf_limit_laws.proofs.Outputs.{declare_keeps, items_keep, refer_keeps, table_keeps, text_keeps, word_keeps}
-use Rattle.inf_limit_laws.proofs.Pieces.{made_sound, sound_if, sound_instruction, sound_jump, sound_label, sound_mark, sound_naming}
-use Rattle.inf_limit_laws.proofs.Pieces.{sound_nothing, sound_then, worked_sound}
+use Rattle.inf_limit_laws.proofs.Pieces.{made_sound, sound_jump, sound_mark}
+use Rattle.inf_limit_laws.proofs.Pieces.{sound_nothing, sound_then}
 use Rattle.inf_limit_laws.proofs.Statements.{Gives, gives_code}
-
--- Cases
-
-group_sound : {was : Before} (limits : Limits) (group : List Simple) (sense : Bool) (label : Label) →
-    Sound limits was (group_tested limits group sense label)
-unfolding group_tested
-group_sound {was} limits [] sense label = sound_nothing
-group_sound {was} limits (a ∷ others) sense label = sound_instruction Opcode.Je _ None _
-
-beside_sound : {was : Before} (limits : Limits) (a b : Simple) (next : Label) → Sound limits was (beside limits a b next)
-beside_sound {was} limits a b next =
-    sound_then (sound_instruction Opcode.Jl (Simple.Variable SWITCHED ∷ a ∷ []) None (to true next))
-    (sound_instruction Opcode.Jg (Simple.Variable SWITCHED ∷ b ∷ []) None (to true next))
-
-within_sound : {was : Before} (limits : Limits) (a b : Simple) (here : Label) → Sound limits was (within limits a b here)
-within_sound {was} limits a b here =
-    sound_label _ (λ beyond. sound_then (sound_instruction Opcode.Jl (Simple.Variable SWITCHED ∷ a ∷ []) None (to true beyond))
-    (sound_then (sound_instruction Opcode.Jg (Simple.Variable SWITCHED ∷ b ∷ []) None (to false here)) (sound_mark beyond)))
-
-range_sound : {was : Before} (limits : Limits) (is_last : Bool) (a b : Simple) (here next : Label) →
-    Sound limits was (range_tested limits is_last a b here next)
-unfolding range_tested
-range_sound {was} limits is_last a b here next = sound_if is_last (beside_sound limits a b next) (within_sound limits a b here)
-
-before_sound : {was : Before} (limits : Limits) (range : Option (Tree × Tree)) (is_last : Bool) (group : List Simple) (here next : Label)
-    → Sound limits was (laid_before limits range is_last group here next)
-before_sound {was} limits (Some ends) is_last group here next =
-    sound_then (group_sound limits group true here)
-    (range_sound limits is_last (operand_in limits ends.0) (operand_in limits ends.1) here next)
-before_sound {was} limits None is_last group here next = sound_if (is_open group) sound_nothing (group_sound limits group true here)
-
-value_sound : {was : Before} (limits : Limits) (v : Tree) (is_last : Bool) (group : List Simple) (here next : Label)
-    → Sound limits was (value_laid limits v is_last group here next)
-unfolding value_laid
-value_sound {was} limits v is_last group here next = before_sound limits (range_of v) is_last group here next
-
-grouped_sound : {was : Before} (limits : Limits) (group : List Simple) (values : List Tree) (here next : Label)
-    → Sound limits was (grouped limits group values here next)
-grouped_sound {was} limits group [] here next = group_sound limits group false next
-grouped_sound {was} limits group (v ∷ values) here next =
-    sound_then (value_sound limits v (is_empty values) group here next)
-    (grouped_sound limits (value_grouped limits v group) values here next)
-
-tests_sound : {was : Before} (limits : Limits) (values : List Tree) (next : Label) → Sound limits was (case_tested limits values next)
-tests_sound {was} limits values next =
-    sound_label (λ here. grouped limits [] values here next ▸ marked limits here)
-    (λ here. sound_then (grouped_sound limits [] values here next) (sound_mark here))
 
 pub case_sound : {was : Before} (limits : Limits) (next : Option Label) (values : List Tree) →
     Sound limits was (case_code limits next values)
-unfolding case_code
-case_sound {was} limits None values = sound_nothing
-case_sound {was} limits (Some next) values = tests_sound limits values next
+case_sound {was} limits next values = made_sound (case_made limits Any next values (any_trees values))
 
 -- Statements that hold others
 
@@ -118,40 +68,17 @@ pub between_gives : {was : Before} (limits : Limits) (c : Construct) → Gives l
 unfolding between
 between_gives {was} limits c = record { keeps = λ o h. (joint_sound limits c c.kind).keeps o h }
 
-children_sound : {was : Before} (limits : Limits) (e : Tree) (v : ℕ) (c : Construct) → Sound limits was (over_children limits e v c)
-children_sound {was} limits e v c =
-    sound_then (worked_sound limits Opcode.GetChild (part (meaning limits e) ∷ []) (Some v) (to false c.end)
-    (any_part limits e, tt))
-    (sound_mark c.top)
-
-over_sound : {was : Before} (limits : Limits) (x : Option Simple) (e : Meaning) (next : Label) → MeaningMade limits Any e →
-    Sound limits was (tested_over x e next)
-over_sound {was} limits (Some operand) e next h = sound_nothing
-over_sound {was} limits None e next h = made_sound (h.branch false next)
-
-all_sound : {was : Before} (limits : Limits) (e : Tree) (v : ℕ) (c : Construct) → Sound limits was (over_all limits (meaning limits e) v c)
-all_sound {was} limits e v c =
-    sound_then (sound_naming Opcode.Store v (Simple.Known 5 ∷ []) None None) (sound_then (sound_mark c.top)
-    (over_sound limits (meaning limits e).operand (meaning limits e) c.next (any_meaning limits e)))
-
 looped_by_gives : {was : Before} (limits : Limits) (parent : Option Tree) (e : Tree) (v : ℕ) (c : Construct) →
     Gives limits was (looped_by limits parent e v c)
-looped_by_gives {was} limits (Some parent) e v c = gives_code _ (children_sound limits parent v c)
-looped_by_gives {was} limits None e v c = gives_code _ (all_sound limits e v c)
+looped_by_gives {was} limits (Some parent) e v c = gives_code _ (made_sound (children_made limits Any parent (any_tree parent) v c))
+looped_by_gives {was} limits None e v c = gives_code _ (made_sound (all_made limits Any e (any_tree e) v c))
 
 looped_gives : {was : Before} (limits : Limits) (r : Rooted) (c : Construct) → Gives limits was (looped limits r c)
 unfolding looped
 looped_gives {was} limits r c = looped_by_gives limits (children_of r.tree) r.tree (unwrap_or r.origin.lead.variable 0) c
 
-on_sound : {was : Before} (limits : Limits) (how : Over) (v : ℕ) (top : Label) → Sound limits was (looped_on limits how v top)
-on_sound {was} limits Over.Nothing v top = sound_nothing
-on_sound {was} limits Over.Children v top = sound_instruction Opcode.GetSibling (Simple.Variable v ∷ []) (Some v) _
-on_sound {was} limits Over.All v top = sound_naming Opcode.IncChk v _ None _
-
 case_closed_sound : {was : Before} (limits : Limits) (c : Case) (end : Label) → Sound limits was (case_closed limits c end)
-case_closed_sound {was} limits Case.Nothing end = sound_nothing
-case_closed_sound {was} limits (Case.Values next) end = sound_then (sound_jump end) (sound_mark next)
-case_closed_sound {was} limits Case.Default end = sound_jump end
+case_closed_sound {was} limits c end = made_sound (case_closed_made limits Any c end)
 
 step_sound : {was : Before} (limits : Limits) (items : List Item) → Sound limits was (laid_all limits items)
 step_sound limits items = record { keeps = items_keep limits items }
@@ -165,7 +92,7 @@ ending_sound {was} limits c Kind.For =
     sound_then (sound_mark c.next) (sound_then (step_sound limits (items_of c.step))
     (sound_then (sound_jump c.top) (sound_mark c.end)))
 ending_sound {was} limits c (Kind.Objects how v) =
-    sound_then (sound_mark c.next) (sound_then (on_sound limits how v c.top) (sound_mark c.end))
+    sound_then (sound_mark c.next) (sound_then (made_sound (looped_on_made limits Any any_fixed how v c.top)) (sound_mark c.end))
 ending_sound {was} limits c (Kind.Switch old had_default) = sound_then (case_closed_sound limits old c.end) (sound_mark c.end)
 ending_sound {was} limits c (Kind.Cases old had_default) = sound_then (case_closed_sound limits old c.end) (sound_mark c.end)
 

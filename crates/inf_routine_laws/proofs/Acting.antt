@@ -30,7 +30,9 @@ use Rattle.inf_statement_laws.specs.Laid.{happens, run}
 use Rattle.inf_routine_laws.specs.{Faults.AllLeave, Leaving.LeavesRoutine}
 use Rattle.inf_routine_laws.proofs.{Booking.Counts, Casing.entered_good, Settling.settled_idle}
 use Rattle.inf_routine_laws.proofs.Balance.{Good, good_still, opened_cases}
-use Rattle.inf_routine_laws.proofs.Codes.{Idle, alone_owns, case_code_owns, label_in, switched_owns, tested_owns}
+use Rattle.inf_code_walk.proofs.Statements.{label_in}
+use Rattle.inf_label_laws.proofs.OwnCode.{Idle}
+use Rattle.inf_routine_laws.proofs.Codes.{alone_owns, case_code_owns, switched_owns, tested_owns}
 use Rattle.inf_routine_laws.proofs.Stating.{code_good, condition_reached, next_reached, statement_good}
 
 -- The book of a compilation

@@ -2,20 +2,20 @@
 use Rattle.std.proofs.Common.{arith, ◌≡◌, ◌≤◌, ℕ, List, [], ◌∷◌, ◌++◌, Bool, true, false, Option, Some, None, refl, ap, sym, subst}
 use Rattle.std.specs.Prelude.{◌+◌, unwrap_or}
 use Rattle.inf_settings.specs.Bounds.{Limits}
-use Rattle.inf_opcode.specs.{declared.instructions.Label.Label, declared.opcodes.Opcode.Opcode}
+use Rattle.inf_opcode.specs.declared.instructions.Label.{Label}
 use Rattle.inf_expressions.specs.{Questions.children_of, Rooted.Rooted, Trees.Tree}
-use Rattle.inf_output.specs.declared.operands.Simple.{Simple}
-use Rattle.inf_output.specs.Output.{Code, Out, behind, jumped, marked, to, ◌▸◌}
-use Rattle.inf_templates.specs.Meaning.{Meaning, meaning, part}
+use Rattle.inf_output.specs.Output.{Code, Out, behind, jumped, marked, ◌▸◌}
+use Rattle.inf_templates.specs.Meaning.{meaning}
 use Rattle.inf_constructs.specs.{Labels.NamedLabel, declared.constructs.Case.Case, declared.constructs.Construct.Construct}
 use Rattle.inf_constructs.specs.{declared.constructs.Kind.Kind, declared.constructs.Over.Over}
 use Rattle.inf_constructs.specs.Constructs.{between, case_closed, changed, closed, ending, entered, entered_by, joint, kind_behind, looped}
-use Rattle.inf_constructs.specs.Constructs.{looped_by, looped_over, over_all, over_children, tested_over, with_case}
+use Rattle.inf_constructs.specs.Constructs.{looped_by, looped_over, over_all, over_children, with_case}
 use Rattle.inf_code_walk.specs.Labels.{times}
-use Rattle.inf_code_walk.proofs.{Leaves.Any, Leaves.any_meaning, Leaves.any_part, Rows.MeaningMade, Rows.worked_made}
+use Rattle.inf_code_walk.proofs.{Leaves.Any, Leaves.any_tree}
+use Rattle.inf_code_walk.proofs.Constructs.{all_made, case_closed_made, case_labels, children_made}
 use Rattle.inf_code_walk.proofs.Numbers.{times_joined}
-use Rattle.inf_label_laws.proofs.Owning.{Owned, owned_before, owned_behind, owned_jump, owned_mark, owned_naming}
-use Rattle.inf_label_laws.proofs.Owning.{owned_nothing, owned_then}
+use Rattle.inf_label_laws.proofs.Owning.{Owned, owned_mark}
+use Rattle.inf_label_laws.proofs.Owning.{owned_then}
 use Rattle.inf_label_laws.proofs.OwnCode.{owned}
 use Rattle.inf_routine_laws.proofs.Booking.{Counts, came, one, one_is}
 use Rattle.inf_routine_laws.proofs.Balance.{Good, case_due, cased_in, good_as, good_label, good_paid, loop_due, named_all}
@@ -24,20 +24,13 @@ use Rattle.inf_routine_laws.proofs.Constructing.{jump_mark, marks_one, needs_one
 
 -- Cases
 
-abbrev pub case_given : Case → List ℕ
-case_given Case.Nothing = []
-case_given (Case.Values next) = next.number ∷ []
-case_given Case.Default = []
-
-case_is : (n : ℕ) (old : Case) → case_due n old ≡ times n (case_given old)
+case_is : (n : ℕ) (old : Case) → case_due n old ≡ times n (case_labels old)
 case_is n Case.Nothing = refl
 case_is n (Case.Values next) = sym (one_is n next)
 case_is n Case.Default = refl
 
-case_closed_owns : (limits : Limits) (old : Case) (end : Label) → Owned (case_closed limits old end) (end.number ∷ []) (case_given old)
-case_closed_owns limits Case.Nothing end = owned_nothing
-case_closed_owns limits (Case.Values next) end = jump_mark limits end next
-case_closed_owns limits Case.Default end = owned_jump limits end
+case_closed_owns : (limits : Limits) (old : Case) (end : Label) → Owned (case_closed limits old end) (end.number ∷ []) (case_labels old)
+case_closed_owns limits old end = owned (case_closed_made limits Any old end)
 
 -- The last case is closed, and then its statement ends.
 ends_as : (limits : Limits) (due spare extra : Counts) (labels : List NamedLabel) (c : Construct) (around : List Construct) (o : Out)
@@ -47,12 +40,12 @@ ends_as : (limits : Limits) (due spare extra : Counts) (labels : List NamedLabel
     Good due spare extra labels around ((case_closed limits old c.end ▸ marked limits c.end) o)
 ends_as limits due spare extra labels c around o old h k g =
     let needs = c.end.number ∷ [] in
-    let given = case_given old ++ c.end.number ∷ [] in
+    let given = case_labels old ++ c.end.number ∷ [] in
     let code = case_closed limits old c.end ▸ marked limits c.end in
     let more : Counts = λ n. case_due n old + (one n c.end + due n) in
     let other : Counts = λ n. one n c.end + extra n in
     let owned : Owned code needs given =
-    owned_then {c = case_closed limits old c.end} {needs = needs} {a = case_given old} {b = c.end.number ∷ []}
+    owned_then {c = case_closed limits old c.end} {needs = needs} {a = case_labels old} {b = c.end.number ∷ []}
     (case_closed_owns limits old c.end) (owned_mark limits c.end) in
     let open_ = good_as due spare extra more spare other labels (c ∷ around) around o
     (record {
@@ -63,10 +56,10 @@ ends_as limits due spare extra labels c around o old h k g =
     let paid = good_paid needs given more due spare other labels around o (code o) open_
     (came {needs = needs} {given = given} owned o)
     (λ n.
-    let a = times_joined n (case_given old) (c.end.number ∷ []) in
+    let a = times_joined n (case_labels old) (c.end.number ∷ []) in
     let x = case_is n old in
     let y = one_is n c.end in
-    sums (case_due n old) (one n c.end) (due n) (times n given) (times n (case_given old)) (times n (c.end.number ∷ [])) a x y)
+    sums (case_due n old) (one n c.end) (due n) (times n given) (times n (case_labels old)) (times n (c.end.number ∷ [])) a x y)
     (λ n some. needs_one c.end n (other n + (reached n around + named_all n labels)) (omega arith) some) in
     good_as due spare other due spare extra labels around around (code o)
     (record { once = λ n. omega arith; all = λ n. omega arith; known = λ n. omega arith }) paid
@@ -109,8 +102,8 @@ enters limits due spare rest extra labels c around o old k n_due h r i j few g =
       all = λ n. let a = h n in let b = i n in omega (arith, a, b);
       known = λ n. let a = r n in let b = j n in let x = i n in omega (arith, a, b, x);
     }) g in
-    good_paid needs (case_given old) more due rest extra labels (d ∷ around) o (case_closed limits old c.end o) open_
-    (came {needs = needs} {given = case_given old} (case_closed_owns limits old c.end) o)
+    good_paid needs (case_labels old) more due rest extra labels (d ∷ around) o (case_closed limits old c.end o) open_
+    (came {needs = needs} {given = case_labels old} (case_closed_owns limits old c.end) o)
     (λ n. let x = case_is n old in ap (λ m. m + due n) x)
     (λ n some. needs_one c.end n (extra n + (reached n (d ∷ around) + named_all n labels)) (let b = j n in omega (arith, b)) some)
 
@@ -275,24 +268,6 @@ pub record IsLooped (due spare extra : Counts) (labels : List NamedLabel) (c : C
   pub is : constructs ≡ record c { kind = Kind.Objects how variable } ∷ around
   pub good : Good (objects_due how c due) spare (top_known c extra) labels (record c { kind = Kind.Objects how variable } ∷ around) o
 
-children_owns : (limits : Limits) (e : Tree) (v : ℕ) (c : Construct) →
-    Owned (over_children limits e v c) (c.end.number ∷ []) (c.top.number ∷ [])
-children_owns limits e v c =
-    owned_behind
-    (owned (worked_made limits Any Opcode.GetChild (part (meaning limits e) ∷ []) (any_part limits e, tt) (Some v) (to false c.end)))
-    (owned_mark limits c.top)
-
-tested_owns_over : (limits : Limits) (x : Option Simple) (m : Meaning) → MeaningMade limits Any m → (next : Label) →
-    Owned (tested_over x m next) (next.number ∷ []) []
-tested_owns_over limits (Some x) m h next = owned_nothing
-tested_owns_over limits None m h next = owned (h.branch false next)
-
-all_owns : (limits : Limits) (m : Meaning) → MeaningMade limits Any m → (v : ℕ) (c : Construct) →
-    Owned (over_all limits m v c) (c.next.number ∷ []) (c.top.number ∷ [])
-all_owns limits m h v c =
-    owned_before (owned_naming limits Opcode.Store v (Simple.Known 5 ∷ []) None None)
-    (owned_then {a = c.top.number ∷ []} {b = []} (owned_mark limits c.top) (tested_owns_over limits m.operand m h c.next))
-
 looped_as : (limits : Limits) (code : Code) (needs : Label) (how : Over) (v : ℕ) (due spare extra : Counts) (labels : List NamedLabel)
     (c : Construct) (around : List Construct) (o : Out) → c.kind ≡ Kind.Objects Over.Nothing 0 →
     ((n : ℕ) → one n needs ≤ one n c.next + one n c.end) → ((n : ℕ) → top_due n how c.top ≡ 0) →
@@ -323,7 +298,7 @@ looped_by_good limits (Some parent) e v due spare extra labels c around o k g = 
   is = refl;
   good =
       looped_as limits (over_children limits parent v c) c.end Over.Children v due spare extra labels c around o k (λ n. omega arith)
-      (λ n. refl) (children_owns limits parent v c) g;
+      (λ n. refl) (owned (children_made limits Any parent (any_tree parent) v c)) g;
 }
 looped_by_good limits None e v due spare extra labels c around o k g = record {
   how = Over.All;
@@ -331,7 +306,7 @@ looped_by_good limits None e v due spare extra labels c around o k g = record {
   is = refl;
   good =
       looped_as limits (over_all limits (meaning limits e) v c) c.next Over.All v due spare extra labels c around o k (λ n. omega arith)
-      (λ n. refl) (all_owns limits (meaning limits e) (any_meaning limits e) v c) g;
+      (λ n. refl) (owned (all_made limits Any e (any_tree e) v c)) g;
 }
 
 not_begun : (due spare extra : Counts) (labels : List NamedLabel) (c : Construct) (around : List Construct) (o : Out) →

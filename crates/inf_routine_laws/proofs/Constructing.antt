@@ -1,17 +1,17 @@
 -- The joints and ends of statements that hold others, their cases, and the beginning of loops over objects, each in the book of labels.
-use Rattle.std.proofs.Common.{arith, ◌≡◌, ◌≤◌, ℕ, List, [], ◌∷◌, ◌++◌, true, false, Some, None, ap, sym, subst, ◌+◌}
+use Rattle.std.proofs.Common.{arith, ◌≡◌, ◌≤◌, ℕ, List, [], ◌∷◌, ◌++◌, ap, sym, subst, ◌+◌}
 use Rattle.inf_settings.specs.Bounds.{Limits}
-use Rattle.inf_opcode.specs.{declared.instructions.Label.Label, declared.opcodes.Opcode.Opcode}
-use Rattle.inf_area.specs.{declared.targets.SystemConstant.SystemConstant, declared.targets.Target.Target}
-use Rattle.inf_output.specs.declared.operands.Simple.{Simple}
-use Rattle.inf_output.specs.Output.{Out, items_of, jumped, laid_all, marked, to, ◌▸◌}
+use Rattle.inf_opcode.specs.declared.instructions.Label.{Label}
+use Rattle.inf_output.specs.Output.{Out, items_of, jumped, laid_all, marked, ◌▸◌}
 use Rattle.inf_constructs.specs.{Constructs.closed, Constructs.ending, Constructs.looped_on, Labels.NamedLabel}
 use Rattle.inf_constructs.specs.{declared.constructs.Construct.Construct, declared.constructs.Kind.Kind, declared.constructs.Over.Over}
 use Rattle.inf_code_walk.specs.Labels.{times}
 use Rattle.inf_code_walk.proofs.Numbers.{has_first, times_joined}
 use Rattle.inf_label_laws.specs.Programs.{marks, uses}
-use Rattle.inf_label_laws.proofs.Owning.{Owned, owned_at, owned_behind, owned_instruction, owned_jump}
-use Rattle.inf_label_laws.proofs.Owning.{owned_mark, owned_naming, owned_nothing, owned_then, owned_wide}
+use Rattle.inf_code_walk.proofs.{Constructs.looped_on_made, Leaves.Any, Statements.any_fixed}
+use Rattle.inf_label_laws.proofs.OwnCode.{owned}
+use Rattle.inf_label_laws.proofs.Owning.{Owned, owned_at, owned_behind, owned_jump}
+use Rattle.inf_label_laws.proofs.Owning.{owned_mark, owned_then, owned_wide}
 use Rattle.inf_routine_laws.proofs.{Booking.Came, Booking.Counts, Booking.came, Booking.one, Booking.one_is, Codes.items_laid_own}
 use Rattle.inf_routine_laws.proofs.Balance.{Good, Turns, cased_in, good_as, good_paid, named_all, reached, reached_in}
 
@@ -164,12 +164,6 @@ ends_for limits due spare extra labels c around o e g =
     some u t x r g y p q h = omega (arith, p, q, h)
 
 -- a loop over objects
-looped_on_owns : (limits : Limits) (how : Over) (v : ℕ) (top : Label) → Owned (looped_on limits how v top) (top.number ∷ []) []
-looped_on_owns limits Over.Nothing v top = owned_nothing
-looped_on_owns limits Over.Children v top = owned_instruction limits Opcode.GetSibling (Simple.Variable v ∷ []) (Some v) (to true top)
-looped_on_owns limits Over.All v top =
-    owned_naming limits Opcode.IncChk v (Simple.Later (Target.System SystemConstant.HighestObjectNumber) ∷ []) None (to false top)
-
 pub ends_objects : (limits : Limits) (due spare extra : Counts) (labels : List NamedLabel) (c : Construct) (around : List Construct)
     (o : Out) (how : Over) (v : ℕ) → c.kind ≡ Kind.Objects how v
     → Good (λ n. one n c.next + (one n c.end + due n)) spare (λ n. one n c.top + extra n) labels (c ∷ around) o →
@@ -182,7 +176,8 @@ ends_objects limits due spare extra labels c around o how v e g =
     let owned : Owned code needs given =
     owned_then {c = marked limits c.next} {needs = needs} {a = c.next.number ∷ []} {b = c.end.number ∷ []}
     (owned_mark limits c.next)
-    (owned_behind {c = looped_on limits how v c.top} {needs = needs} (looped_on_owns limits how v c.top) (owned_mark limits c.end)) in
+    (owned_behind {c = looped_on limits how v c.top} {needs = needs} (owned (looped_on_made limits Any any_fixed how v c.top))
+    (owned_mark limits c.end)) in
     subst (λ k. Good due spare extra labels around (ending limits c k o)) (sym e)
     (ends_by needs given (λ n. one n c.next + (one n c.end + due n)) spare
     (λ n. one n c.top + extra n) due due spare extra labels c around o

@@ -19,7 +19,7 @@ use Rattle.inf_output.specs.Output.{Out, referred, referred_as, referred_by, wit
 use Rattle.inf_operands.specs.Operands.{Settled, is_stack, settled, settled_action, settled_alone, settled_by, settled_leaf, settled_name}
 use Rattle.inf_operands.specs.Operands.{settled_text, with_settled}
 use Rattle.inf_operands.specs.Texts.{text_at, text_packed}
-use Rattle.inf_routine_laws.proofs.Codes.{Idle, idle_then}
+use Rattle.inf_label_laws.proofs.OwnCode.{Idle, idle_then}
 
 passed : {A B : Type 0} {a : A} → Some a ≡ None → B
 passed e = absurd (cc e)

@@ -1,6 +1,6 @@
 -- A statement that holds no others, and its labels with names, in the book of labels.
 use Rattle.std.proofs.Common.{arith, ◌≡◌, ◌≤◌, ℕ, List, [], ◌∷◌, Bool, true, false, Option, Some, None, refl}
-use Rattle.std.specs.Prelude.{codes, unwrap_or, ◌+◌, if◌then◌else◌}
+use Rattle.std.specs.Prelude.{codes, ◌+◌, if◌then◌else◌}
 use Rattle.std.specs.Str.{str_eq_ignore_ascii_case}
 use Rattle.inf_settings.specs.Bounds.{Limits}
 use Rattle.inf_characters.specs.declared.characters.CharSet.{CharSet}
@@ -8,27 +8,25 @@ use Rattle.inf_opcode.specs.{Opcodes.row_of, declared.instructions.Branch.Branch
 use Rattle.inf_opcode.specs.{declared.instructions.Label.Label, declared.opcodes.Opcode.Opcode}
 use Rattle.inf_expressions.specs.Trees.{Tree}
 use Rattle.inf_names.specs.Locals.{Local}
-use Rattle.inf_output.specs.Output.{Code, Out, ◌▸◌}
-use Rattle.inf_templates.specs.Meaning.{meaning}
+use Rattle.inf_output.specs.Output.{Code, Out}
 use Rattle.inf_unit.specs.{Opcodes.opcode_of, Tokens.SourceToken, Units.bytes_at}
 use Rattle.inf_constructs.specs.{declared.constructs.Case.Case, declared.constructs.Construct.Construct, declared.constructs.Kind.Kind}
 use Rattle.inf_constructs.specs.Constructs.{break_of, condition_label, continue_of, found_or, left_to, left_to_by, next_case, next_case_in}
 use Rattle.inf_constructs.specs.Constructs.{otherwise}
 use Rattle.inf_constructs.specs.Labels.{NamedLabel, is_given}
-use Rattle.inf_statements.specs.{Printing.items_printed, declared.assembly.Ends.Ends, declared.statements.Statement.Statement}
+use Rattle.inf_statements.specs.{declared.assembly.Ends.Ends, declared.statements.Statement.Statement}
 use Rattle.inf_statements.specs.Assembly.{branch_to, branched, branched_to, ends_of, fits, instructed, jumped_on, labelled, line_instructed}
-use Rattle.inf_statements.specs.Assembly.{line_laid, line_laid_as, line_laid_by, named_first, operands_in, printing_of, some_printed}
-use Rattle.inf_statements.specs.Assembly.{store_of, text_printed, variable_of}
-use Rattle.inf_statements.specs.Effects.{Site, last_text, name_behind, statement_laid}
-use Rattle.inf_statements.specs.Statements.{action_laid, alone, attributes_changed, jumped_to, moved, one_worked, plain, returned, spaced}
-use Rattle.inf_statements.specs.Statements.{string_changed, style_of, styled}
-use Rattle.inf_operands.specs.Texts.{text_at}
+use Rattle.inf_statements.specs.Assembly.{line_laid, line_laid_as, line_laid_by, some_printed}
+use Rattle.inf_statements.specs.Assembly.{store_of}
+use Rattle.inf_statements.specs.Effects.{Site, name_behind, statement_laid, statement_code}
+use Rattle.inf_statements.specs.Statements.{jumped_to}
 use Rattle.inf_code_walk.specs.Labels.{branch_labels, times}
-use Rattle.inf_label_laws.proofs.Owning.{Owned, owned_before, owned_instruction, owned_naming, owned_nothing}
+use Rattle.inf_code_walk.proofs.{Leaves.Any, Leaves.any_trees, Statements.instructed_made, Statements.label_in, Statements.some_made}
+use Rattle.inf_label_laws.proofs.OwnCode.{owned}
+use Rattle.inf_label_laws.proofs.Owning.{owned_jump, Owned, owned_nothing}
 use Rattle.inf_routine_laws.proofs.Booking.{Counts, came, one_is}
 use Rattle.inf_routine_laws.proofs.Balance.{Good, good_paid, named_all, reached, reached_in}
-use Rattle.inf_routine_laws.proofs.Codes.{action_owns, alone_owns, changed_owns, items_own, jumped_owns, label_in, moved_owns, one_owns}
-use Rattle.inf_routine_laws.proofs.Codes.{plain_owns, printed_owns, returned_owns, spaced_owns, string_owns, styled_owns}
+use Rattle.inf_routine_laws.proofs.Codes.{code_owns}
 use Rattle.inf_routine_laws.proofs.Naming.{IsNamed, jump_good, labelled_good, placed_good}
 
 -- Labels of open statements
@@ -107,6 +105,10 @@ free_good : {code : Code} (due spare extra : Counts) (labels : List NamedLabel) 
 free_good {code} due spare extra labels constructs o h g =
     code_good {code = code} {needs = []} due spare extra labels constructs o h (λ n. omega arith) g
 
+jumped_owns : (limits : Limits) (l : Option Label) → Owned (jumped_to limits l) (label_in l) []
+jumped_owns limits None = owned_nothing
+jumped_owns limits (Some l) = owned_jump limits l
+
 left_good : (limits : Limits) (on : Bool) (due spare extra : Counts) (labels : List NamedLabel) (constructs : List Construct) (o : Out) →
     Good due spare extra labels constructs o →
     Good due spare extra labels constructs (jumped_to limits (left_to on constructs) o)
@@ -160,17 +162,9 @@ branched_good due spare extra constructs tokens None labels o g = record { good 
 branched_good due spare extra constructs tokens (Some b) labels o g =
     branched_to_good due spare extra constructs (bytes_at tokens b.0) b.1 labels o g
 
-named_owns : (limits : Limits) (op : Opcode) (trees : List Tree) (store : Option ℕ) (branch : Option Branch) →
-    Owned (named_first limits op trees store branch) (branch_labels branch) []
-named_owns limits op [] store branch = owned_nothing
-named_owns limits op (e ∷ trees) store branch =
-    owned_naming limits op (unwrap_or (variable_of (meaning limits e).operand) 0) (operands_in limits trees) store branch
-
 instructed_owns : (limits : Limits) (names : Bool) (op : Opcode) (trees : List Tree) (store : Option ℕ) (branch : Option Branch) →
     Owned (instructed limits names op trees store branch) (branch_labels branch) []
-unfolding instructed
-instructed_owns limits true op trees store branch = named_owns limits op trees store branch
-instructed_owns limits false op trees store branch = owned_instruction limits op (operands_in limits trees) store branch
+instructed_owns limits names op trees store branch = owned (instructed_made limits Any names op trees (any_trees trees) store branch)
 
 instructed_good : (limits : Limits) (due spare extra : Counts) (constructs : List Construct) (locals : List Local)
     (tokens : List SourceToken)
@@ -192,16 +186,6 @@ jumped_good limits due spare extra constructs tokens (Some at) labels o g =
     let l = labelled (bytes_at tokens at) labels o in
     jump_good limits due spare extra constructs l.0.0 l.0.1 l.1 (labelled_good due spare extra constructs (bytes_at tokens at) labels o g)
 
-text_owns : (limits : Limits) (set : CharSet) (tokens : List SourceToken) (op : Option Opcode) (at : ℕ) →
-    Owned (text_printed limits set tokens op at) [] []
-text_owns limits set tokens None at = owned_nothing
-text_owns limits set tokens (Some op) at = printed_owns limits op (text_at set tokens at)
-
-some_owns : (limits : Limits) (set : CharSet) (tokens : List SourceToken) (op : Opcode) (at : Option ℕ) →
-    Owned (some_printed limits set tokens op at) [] []
-some_owns limits set tokens op None = owned_nothing
-some_owns limits set tokens op (Some at) = text_owns limits set tokens (printing_of op) at
-
 by_good : (limits : Limits) (jumps has_text : Bool) (due spare extra : Counts) (constructs : List Construct) (set : CharSet)
     (locals : List Local) (tokens : List SourceToken) (op : Opcode) (e : Ends) (trees : List Tree) (labels : List NamedLabel) (o : Out) →
     Good due spare extra labels constructs o →
@@ -210,7 +194,7 @@ by_good limits true has_text due spare extra constructs set locals tokens op e t
     jumped_good limits due spare extra constructs tokens e.jump labels o g
 by_good limits false true due spare extra constructs set locals tokens op e trees labels o g =
     free_good {code = some_printed limits set tokens op e.text} due spare extra labels constructs o
-    (some_owns limits set tokens op e.text) g
+    (owned (some_made limits Any set tokens op e.text)) g
 by_good limits false false due spare extra constructs set locals tokens op e trees labels o g =
     instructed_good limits due spare extra constructs locals tokens op e trees labels o g
 
@@ -238,47 +222,10 @@ pub statement_good : (limits : Limits) (s : Site) (which : Statement) (trees : L
     let r = statement_laid limits s which trees labels o in Good due spare extra r.0 s.constructs r.1
 unfolding statement_laid
 statement_good limits s Statement.Empty trees due spare extra labels o h g = g
-statement_good limits s Statement.Expression trees due spare extra labels o h g =
-    free_good {code = alone limits trees} due spare extra labels s.constructs o (alone_owns limits trees) g
-statement_good limits s Statement.Print trees due spare extra labels o h g =
-    free_good {code = items_printed limits s.set s.tokens false false s.items trees} due spare extra labels s.constructs o
-    (items_own limits s.set s.tokens false false s.items trees) g
-statement_good limits s Statement.PrintReturn trees due spare extra labels o h g =
-    free_good {code = items_printed limits s.set s.tokens true false s.items trees} due spare extra labels s.constructs o
-    (items_own limits s.set s.tokens true false s.items trees) g
-statement_good limits s Statement.Return trees due spare extra labels o h g =
-    free_good {code = returned limits trees} due spare extra labels s.constructs o (returned_owns limits trees) g
-statement_good limits s Statement.NewLine trees due spare extra labels o h g =
-    free_good {code = plain limits Opcode.NewLine} due spare extra labels s.constructs o (plain_owns limits Opcode.NewLine) g
-statement_good limits s Statement.Quit trees due spare extra labels o h g =
-    free_good {code = plain limits Opcode.Quit} due spare extra labels s.constructs o (plain_owns limits Opcode.Quit) g
-statement_good limits s Statement.ReturnTrue trees due spare extra labels o h g =
-    free_good {code = plain limits Opcode.Rtrue} due spare extra labels s.constructs o (plain_owns limits Opcode.Rtrue) g
-statement_good limits s Statement.ReturnFalse trees due spare extra labels o h g =
-    free_good {code = plain limits Opcode.Rfalse} due spare extra labels s.constructs o (plain_owns limits Opcode.Rfalse) g
 statement_good limits s Statement.Break trees due spare extra labels o h g =
     left_good limits false due spare extra labels s.constructs o g
 statement_good limits s Statement.Continue trees due spare extra labels o h g =
     left_good limits true due spare extra labels s.constructs o g
-statement_good limits s Statement.Give trees due spare extra labels o h g =
-    free_good {code = attributes_changed limits s.items trees} due spare extra labels s.constructs o (changed_owns limits s.items trees) g
-statement_good limits s Statement.String trees due spare extra labels o h g =
-    free_good {code = string_changed limits (last_text s) trees} due spare extra labels s.constructs o
-    (string_owns limits (last_text s) trees) g
-statement_good limits s Statement.Move trees due spare extra labels o h g =
-    free_good {code = moved limits trees} due spare extra labels s.constructs o (moved_owns limits trees) g
-statement_good limits s Statement.Action trees due spare extra labels o h g =
-    free_good {code = action_laid limits trees} due spare extra labels s.constructs o (action_owns limits trees) g
-statement_good limits s Statement.ActionReturn trees due spare extra labels o h g =
-    free_good {code = action_laid limits trees ▸ plain limits Opcode.Rtrue} due spare extra labels s.constructs o
-    (owned_before (action_owns limits trees) (plain_owns limits Opcode.Rtrue)) g
-statement_good limits s Statement.Remove trees due spare extra labels o h g =
-    free_good {code = one_worked limits Opcode.RemoveObj trees} due spare extra labels s.constructs o
-    (one_owns limits Opcode.RemoveObj trees) g
-statement_good limits s Statement.Spaces trees due spare extra labels o h g =
-    free_good {code = spaced limits trees} due spare extra labels s.constructs o (spaced_owns limits trees) g
-statement_good limits s Statement.Style trees due spare extra labels o h g =
-    free_good {code = styled limits (name_behind s)} due spare extra labels s.constructs o (styled_owns limits (style_of (name_behind s))) g
 statement_good limits s Statement.Place trees due spare extra labels o h g =
     placed_good limits due spare extra s.constructs (name_behind s) labels o (h refl) g
 statement_good limits s Statement.Jump trees due spare extra labels o h g =
@@ -286,3 +233,5 @@ statement_good limits s Statement.Jump trees due spare extra labels o h g =
     jump_good limits due spare extra s.constructs l.0.0 l.0.1 l.1 (labelled_good due spare extra s.constructs (name_behind s) labels o g)
 statement_good limits s Statement.Assembly trees due spare extra labels o h g =
     line_good limits due spare extra s.constructs s.set s.locals s.tokens (opcode_of (name_behind s)) (ends_of s.items) trees labels o g
+statement_good limits s other trees due spare extra labels o h g =
+    free_good {code = statement_code limits s trees other} due spare extra labels s.constructs o (code_owns limits s trees other) g

@@ -1,19 +1,19 @@
 -- A routine as a whole: where it ends, each label is marked once, and each that is used is marked.
 use Rattle.std.proofs.Common.{arith, ◌≡◌, ℕ, List, [], ◌∷◌, ◌++◌, Bool, true, false, Option, Some, None, refl, ◌∙◌, ap, sym, subst}
-use Rattle.std.specs.Prelude.{is_some, length, nat_lt, ◌+◌, if◌then◌else◌}
+use Rattle.std.specs.Prelude.{is_some, length, ◌+◌, if◌then◌else◌}
 use Rattle.inf_settings.specs.Bounds.{Limits}
 use Rattle.inf_scanner.specs.declared.tokens.Place.{Place}
 use Rattle.inf_area.specs.{Cells.later_count, declared.cells.Cell.Cell as CodeCell}
 use Rattle.inf_opcode.specs.{Cells.Cell, declared.instructions.Label.Label}
 use Rattle.inf_assembler.specs.{Places.twice_behind, declared.routines.CloseFault.CloseFault, declared.routines.Limit.Limit}
-use Rattle.inf_assembler.specs.{declared.routines.RoutineKind.RoutineKind}
+use Rattle.inf_assembler.specs.declared.routines.RoutineKind.{RoutineKind}
 use Rattle.inf_assembler.specs.Routines.{Contents, body_bytes, body_fault, is_full, missing_fault, twice_fault}
 use Rattle.inf_code.specs.Code.{Opened, Routines, begun_unless, code_limits, fault_behind, fault_closed, fault_end, first_fault, full_begun}
 use Rattle.inf_code.specs.Code.{full_opened, limit_fault, padded, place_behind, references_before, routine_cells, unlimited, fault_of_full}
 use Rattle.inf_code.specs.Code.{finished_fault, full_finished}
 use Rattle.inf_code.specs.declared.code.CodeLimits.{CodeLimits}
 use Rattle.inf_names.specs.{Locals.Headed, Spellings.Name, Symbols.declare_fault, declared.meanings.Meaning.Meaning}
-use Rattle.inf_names.specs.{declared.symbols.DeclareFault.DeclareFault}
+use Rattle.inf_names.specs.declared.symbols.DeclareFault.{DeclareFault}
 use Rattle.inf_output.specs.Output.{Out, begun_by, declared_by, opened, opened_by}
 use Rattle.inf_syntax.specs.declared.actions.Action.{Action}
 use Rattle.inf_constructs.specs.{Constructs.are_cases, Constructs.ended, Labels.NamedLabel, Labels.missing}

@@ -1,110 +1,28 @@
 -- The code of statements that hold others keeps targets, and so do their steps.
-use Rattle.std.proofs.Common.{◌≡◌, ℕ, zero, suc, List, [], ◌∷◌, ◌++◌, Bool, true, false, Option, Some, None, refl, sym, subst}
-use Rattle.std.specs.Prelude.{if◌then◌else◌, unwrap_or}
+use Rattle.std.proofs.Common.{◌≡◌, ℕ, zero, suc, List, [], ◌∷◌, Bool, true, false, Option, Some, None, refl, sym, subst}
+use Rattle.std.specs.Prelude.{unwrap_or}
 use Rattle.inf_settings.specs.Bounds.{Limits}
-use Rattle.inf_area.specs.{declared.targets.SystemConstant.SystemConstant, declared.targets.Target.Target}
-use Rattle.inf_opcode.specs.{declared.instructions.Label.Label, declared.opcodes.Opcode.Opcode}
-use Rattle.inf_expressions.specs.{Questions.children_of, Questions.range_of, Rooted.Rooted, Trees.Tree}
-use Rattle.inf_output.specs.{declared.items.Item.Item, declared.operands.Simple.Simple}
-use Rattle.inf_output.specs.Output.{Out, behind, items_of, laid_all, marked, to, ◌▸◌}
-use Rattle.inf_templates.specs.Meaning.{Meaning, meaning, part}
+use Rattle.inf_opcode.specs.declared.instructions.Label.{Label}
+use Rattle.inf_expressions.specs.{Questions.children_of, Rooted.Rooted, Trees.Tree}
+use Rattle.inf_output.specs.declared.items.Item.{Item}
+use Rattle.inf_output.specs.Output.{Out, behind, items_of, laid_all}
 use Rattle.inf_constructs.specs.declared.{constructs.Case.Case, constructs.Construct.Construct, constructs.Kind.Kind, constructs.Over.Over}
-use Rattle.inf_constructs.specs.Cases.{case_code, case_tested, group_tested, grouped, is_empty, is_open, laid_before, operand_in}
-use Rattle.inf_constructs.specs.Cases.{range_tested, SWITCHED, beside, group_behind, value_grouped, value_laid, within}
+use Rattle.inf_constructs.specs.Cases.{case_code}
 use Rattle.inf_constructs.specs.Constructs.{Laying, all_ended, begun, between, case_closed, case_entered, cases_begun, changed, closed}
-use Rattle.inf_constructs.specs.Constructs.{ended, ending, entered, entered_by, front, joint, looped, looped_by, looped_on, looped_over}
-use Rattle.inf_constructs.specs.Constructs.{opened, over_all, over_children, tested_over, with_labels}
-use Rattle.inf_code_walk.proofs.Rows.{MeaningMade, meaning_made, operand_meets}
+use Rattle.inf_constructs.specs.Constructs.{ended, ending, entered, entered_by, front, joint, looped, looped_by, looped_over}
+use Rattle.inf_constructs.specs.Constructs.{opened, with_labels}
+use Rattle.inf_code_walk.proofs.Constructs.{all_made, case_closed_made, case_made, children_made, looped_on_made}
 use Rattle.inf_target_laws.specs.Lists.{ItemsStand, StepsStand}
 use Rattle.inf_target_laws.proofs.{Outputs.GoesIf, Outputs.Sound, Outputs.if_nowhere, Outputs.items_keep, Statements.Gives}
-use Rattle.inf_target_laws.proofs.Statements.{gives_code, tree_part}
-use Rattle.inf_target_laws.proofs.{Trees.ChildStands, Trees.EndsStand, Trees.child_stands, Trees.range_stands}
-use Rattle.inf_target_laws.proofs.Pieces.{made_sound, sound_if, sound_instruction, sound_jump, sound_label, sound_mark, sound_naming}
-use Rattle.inf_target_laws.proofs.Pieces.{sound_nothing, sound_then, worked_sound}
-use Rattle.inf_target_laws.proofs.Premises.{RootsStand, SimpleStands, SimplesStand, There, TreeStands, TreesStand}
-
--- Cases
-
-operand_stands : (u : Out) (P : Type 0) (limits : Limits) (e : Tree) → TreeStands u P e → SimpleStands u P (operand_in limits e)
-operand_stands u P limits e h = operand_meets limits (There u P) (meaning limits e).operand (meaning_made limits (There u P) e h).operand
-
-group_sound : {u : Out} {P : Type 0} (limits : Limits) (group : List Simple) (sense : Bool) (label : Label) → SimplesStand u P group
-    → Sound limits u P (group_tested limits group sense label)
-unfolding group_tested
-group_sound {u} {P} limits [] sense label h = sound_nothing
-group_sound {u} {P} limits (a ∷ others) sense label h =
-    sound_instruction Opcode.Je (Simple.Variable SWITCHED ∷ a ∷ others) None (to sense label) (tt, h)
-
-beside_sound : {u : Out} {P : Type 0} (limits : Limits) (a b : Simple) (next : Label) → SimpleStands u P a → SimpleStands u P b
-    → Sound limits u P (beside limits a b next)
-beside_sound {u} {P} limits a b next h k =
-    sound_then (sound_instruction Opcode.Jl (Simple.Variable SWITCHED ∷ a ∷ []) None (to true next) (tt, (h, tt)))
-    (sound_instruction Opcode.Jg (Simple.Variable SWITCHED ∷ b ∷ []) None (to true next) (tt, (k, tt)))
-
-within_sound : {u : Out} {P : Type 0} (limits : Limits) (a b : Simple) (here : Label) → SimpleStands u P a → SimpleStands u P b
-    → Sound limits u P (within limits a b here)
-within_sound {u} {P} limits a b here h k =
-    sound_label _ (λ beyond. sound_then
-    (sound_instruction Opcode.Jl (Simple.Variable SWITCHED ∷ a ∷ []) None (to true beyond) (tt, (h, tt)))
-    (sound_then (sound_instruction Opcode.Jg (Simple.Variable SWITCHED ∷ b ∷ []) None (to false here) (tt, (k, tt))) (sound_mark beyond)))
-
-range_sound : {u : Out} {P : Type 0} (limits : Limits) (is_last : Bool) (a b : Simple) (here next : Label) → SimpleStands u P a
-    → SimpleStands u P b → Sound limits u P (range_tested limits is_last a b here next)
-unfolding range_tested
-range_sound {u} {P} limits is_last a b here next h k =
-    sound_if is_last (beside_sound limits a b next h k) (within_sound limits a b here h k)
-
-before_sound : {u : Out} {P : Type 0} (limits : Limits) (range : Option (Tree × Tree)) (is_last : Bool) (group : List Simple)
-    (here next : Label)
-    → EndsStand u P range → SimplesStand u P group → Sound limits u P (laid_before limits range is_last group here next)
-before_sound {u} {P} limits (Some ends) is_last group here next k h =
-    sound_then (group_sound limits group true here h)
-    (range_sound limits is_last (operand_in limits ends.0) (operand_in limits ends.1) here next (operand_stands u P limits ends.0 k.0)
-    (operand_stands u P limits ends.1 k.1))
-before_sound {u} {P} limits None is_last group here next k h = sound_if (is_open group) sound_nothing (group_sound limits group true here h)
-
-value_sound : {u : Out} {P : Type 0} (limits : Limits) (v : Tree) (is_last : Bool) (group : List Simple) (here next : Label)
-    → TreeStands u P v → SimplesStand u P group → Sound limits u P (value_laid limits v is_last group here next)
-unfolding value_laid
-value_sound {u} {P} limits v is_last group here next k h =
-    before_sound limits (range_of v) is_last group here next (range_stands u P v k) h
-
-simples_join : (u : Out) (P : Type 0) (a b : List Simple) → SimplesStand u P a → SimplesStand u P b → SimplesStand u P (a ++ b)
-simples_join u P [] b h k = k
-simples_join u P (s ∷ a) b h k = (h.0, simples_join u P a b h.1 k)
-
-group_stands : (u : Out) (P : Type 0) (range : Option (Tree × Tree)) (a : Simple) (group : List Simple) → SimpleStands u P a
-    → SimplesStand u P group → SimplesStand u P (group_behind range a group)
-group_stands u P (Some ends) a group h k = tt
-group_stands u P None a group h k = go (is_open group)
-  where
-    go : (b : Bool) → SimplesStand u P (if b then group ++ a ∷ [] else a ∷ [])
-    go true = simples_join u P group (a ∷ []) k (h, tt)
-    go false = (h, tt)
-
-grouped_stand : (u : Out) (P : Type 0) (limits : Limits) (v : Tree) (group : List Simple) → TreeStands u P v → SimplesStand u P group
-    → SimplesStand u P (value_grouped limits v group)
-unfolding value_grouped
-grouped_stand u P limits v group h k = group_stands u P (range_of v) (operand_in limits v) group (operand_stands u P limits v h) k
-
-grouped_sound : {u : Out} {P : Type 0} (limits : Limits) (group : List Simple) (values : List Tree) (here next : Label)
-    → SimplesStand u P group → TreesStand u P values → Sound limits u P (grouped limits group values here next)
-grouped_sound {u} {P} limits group [] here next h k = group_sound limits group false next h
-grouped_sound {u} {P} limits group (v ∷ values) here next h k =
-    sound_then (value_sound limits v (is_empty values) group here next k.0 h)
-    (grouped_sound limits (value_grouped limits v group) values here next (grouped_stand u P limits v group k.0 h) k.1)
-
-tests_sound : {u : Out} {P : Type 0} (limits : Limits) (values : List Tree) (next : Label) → TreesStand u P values
-    → Sound limits u P (case_tested limits values next)
-tests_sound {u} {P} limits values next h =
-    sound_label (λ here. grouped limits [] values here next ▸ marked limits here)
-    (λ here. sound_then (grouped_sound limits [] values here next tt h) (sound_mark here))
+use Rattle.inf_target_laws.proofs.Statements.{gives_code}
+use Rattle.inf_target_laws.proofs.{Trees.ChildStands, Trees.child_stands}
+use Rattle.inf_target_laws.proofs.Pieces.{fixed_stand, made_sound, sound_jump, sound_mark}
+use Rattle.inf_target_laws.proofs.Pieces.{sound_nothing, sound_then}
+use Rattle.inf_target_laws.proofs.Premises.{RootsStand, There, TreeStands, TreesStand}
 
 pub case_sound : {u : Out} {P : Type 0} (limits : Limits) (next : Option Label) (values : List Tree) → TreesStand u P values
     → Sound limits u P (case_code limits next values)
-unfolding case_code
-case_sound {u} {P} limits None values h = sound_nothing
-case_sound {u} {P} limits (Some next) values h = tests_sound limits values next h
+case_sound {u} {P} limits next values h = made_sound (case_made limits (There u P) next values h)
 
 -- Statements that hold others
 
@@ -138,27 +56,10 @@ pub between_gives : {u : Out} {P : Type 0} (limits : Limits) (c : Construct) →
 unfolding between
 between_gives {u} {P} limits c = record { keeps = λ o. (joint_sound limits c c.kind).keeps o }
 
-children_sound : {u : Out} {P : Type 0} (limits : Limits) (e : Tree) (v : ℕ) (c : Construct) → TreeStands u P e
-    → Sound limits u P (over_children limits e v c)
-children_sound {u} {P} limits e v c h =
-    sound_then (worked_sound limits Opcode.GetChild (part (meaning limits e) ∷ []) (Some v) (to false c.end) (tree_part u P limits e h, tt))
-    (sound_mark c.top)
-
-over_sound : {u : Out} {P : Type 0} (limits : Limits) (x : Option Simple) (e : Meaning) (next : Label) → MeaningMade limits (There u P) e
-    → Sound limits u P (tested_over x e next)
-over_sound {u} {P} limits (Some operand) e next h = sound_nothing
-over_sound {u} {P} limits None e next h = made_sound (h.branch false next)
-
-all_sound : {u : Out} {P : Type 0} (limits : Limits) (e : Tree) (v : ℕ) (c : Construct) → TreeStands u P e
-    → Sound limits u P (over_all limits (meaning limits e) v c)
-all_sound {u} {P} limits e v c h =
-    sound_then (sound_naming Opcode.Store v (Simple.Known 5 ∷ []) None None (tt, tt)) (sound_then (sound_mark c.top)
-    (over_sound limits (meaning limits e).operand (meaning limits e) c.next (meaning_made limits (There u P) e h)))
-
 looped_by_gives : {u : Out} {P : Type 0} (limits : Limits) (parent : Option Tree) (e : Tree) (v : ℕ) (c : Construct)
     → ChildStands u P parent → TreeStands u P e → Gives limits u P (looped_by limits parent e v c)
-looped_by_gives {u} {P} limits (Some parent) e v c k h = gives_code _ (children_sound limits parent v c k)
-looped_by_gives {u} {P} limits None e v c k h = gives_code _ (all_sound limits e v c h)
+looped_by_gives {u} {P} limits (Some parent) e v c k h = gives_code _ (made_sound (children_made limits (There u P) parent k v c))
+looped_by_gives {u} {P} limits None e v c k h = gives_code _ (made_sound (all_made limits (There u P) e h v c))
 
 looped_gives : {u : Out} {P : Type 0} (limits : Limits) (r : Rooted) → TreeStands u P r.tree → (c : Construct)
     → Gives limits u P (looped limits r c)
@@ -166,16 +67,8 @@ unfolding looped
 looped_gives {u} {P} limits r h c =
     looped_by_gives limits (children_of r.tree) r.tree (unwrap_or r.origin.lead.variable 0) c (child_stands u P r.tree h) h
 
-on_sound : {u : Out} {P : Type 0} (limits : Limits) (how : Over) (v : ℕ) (top : Label) → Sound limits u P (looped_on limits how v top)
-on_sound {u} {P} limits Over.Nothing v top = sound_nothing
-on_sound {u} {P} limits Over.Children v top = sound_instruction Opcode.GetSibling (Simple.Variable v ∷ []) (Some v) (to true top) (tt, tt)
-on_sound {u} {P} limits Over.All v top =
-    sound_naming Opcode.IncChk v (Simple.Later (Target.System SystemConstant.HighestObjectNumber) ∷ []) None (to false top) ((λ p. tt), tt)
-
 case_closed_sound : {u : Out} {P : Type 0} (limits : Limits) (c : Case) (end : Label) → Sound limits u P (case_closed limits c end)
-case_closed_sound {u} {P} limits Case.Nothing end = sound_nothing
-case_closed_sound {u} {P} limits (Case.Values next) end = sound_then (sound_jump end) (sound_mark next)
-case_closed_sound {u} {P} limits Case.Default end = sound_jump end
+case_closed_sound {u} {P} limits c end = made_sound (case_closed_made limits (There u P) c end)
 
 step_sound : {u : Out} {P : Type 0} (limits : Limits) (items : List Item) → (P → ItemsStand u items)
     → Sound limits u P (laid_all limits items)
@@ -191,7 +84,8 @@ ending_sound {u} {P} limits c h Kind.For =
     sound_then (sound_mark c.next) (sound_then (step_sound limits (items_of c.step) h)
     (sound_then (sound_jump c.top) (sound_mark c.end)))
 ending_sound {u} {P} limits c h (Kind.Objects how v) =
-    sound_then (sound_mark c.next) (sound_then (on_sound limits how v c.top) (sound_mark c.end))
+    sound_then (sound_mark c.next) (sound_then (made_sound (looped_on_made limits (There u P) (fixed_stand u P) how v c.top))
+    (sound_mark c.end))
 ending_sound {u} {P} limits c h (Kind.Switch old had_default) = sound_then (case_closed_sound limits old c.end) (sound_mark c.end)
 ending_sound {u} {P} limits c h (Kind.Cases old had_default) = sound_then (case_closed_sound limits old c.end) (sound_mark c.end)
 

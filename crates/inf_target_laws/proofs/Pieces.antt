@@ -1,18 +1,19 @@
 -- Code that is made of pieces keeps targets, where its operands stand.
-use Rattle.std.proofs.Common.{ℕ, zero, suc, List, [], ◌∷◌, Bool, true, false, Option, None, take, length, if◌then◌else◌}
+use Rattle.std.proofs.Common.{ℕ, zero, suc, List, [], ◌∷◌, Option, None, take, length}
 use Rattle.inf_settings.specs.Bounds.{Limits}
-use Rattle.inf_opcode.specs.{declared.instructions.Branch.Branch, declared.instructions.Label.Label, declared.opcodes.Opcode.Opcode}
-use Rattle.inf_output.specs.{Veneer.name_of, declared.operands.Simple.Simple, declared.veneer.Veneer.Veneer}
-use Rattle.inf_output.specs.Output.{Code, Out, behind, instruction, jumped, marked, naming, next_label, nothing, routine, used}
-use Rattle.inf_output.specs.Output.{with_label, ◌▸◌}
-use Rattle.inf_templates.specs.Parts.{Part, call, call_opcode, call_routine, calling, calling_routine, worked}
+use Rattle.inf_opcode.specs.{Instructions.bare, declared.instructions.Branch.Branch, declared.instructions.Label.Label}
+use Rattle.inf_opcode.specs.declared.opcodes.Opcode.{Opcode}
+use Rattle.inf_output.specs.{Veneer.name_of, declared.items.Item.Item, declared.operands.Simple.Simple, declared.veneer.Veneer.Veneer}
+use Rattle.inf_output.specs.Output.{Code, Out, behind, instruction, jumped, marked, next_label, nothing, routine, used}
+use Rattle.inf_output.specs.Output.{low_string_at, with_low_text, ◌▸◌}
+use Rattle.inf_templates.specs.Parts.{call_opcode, calling, calling_routine}
 use Rattle.inf_names.specs.Symbols.{refer_fault}
-use Rattle.inf_code_walk.specs.Made.{As, Asks, Handed, Instructs, Jumps, Made, Marks, Names, Nothing, Then, Wide}
-use Rattle.inf_code_walk.proofs.Rows.{PartMade, PartsMade, ask_made, call_made, worked_made}
+use Rattle.inf_code_walk.specs.Made.{As, Asks, Handed, Instructs, Jumps, Lows, Made, Marks, Names, Nothing, Packs, Prints, Then, Wide}
+use Rattle.inf_code_walk.proofs.Statements.{FixedMeet}
 use Rattle.inf_target_laws.specs.Standing.{Before}
 use Rattle.inf_target_laws.proofs.{Names.routine_stands, Premises.SimpleStands, Premises.SimplesStand, Premises.There}
-use Rattle.inf_target_laws.proofs.Outputs.{GoesIf, Sound, if_nowhere, if_then, instruction_before, instruction_keeps}
-use Rattle.inf_target_laws.proofs.Outputs.{jump_keeps, mark_keeps, naming_keeps, used_keeps}
+use Rattle.inf_target_laws.proofs.Outputs.{GoesIf, Sound, if_nowhere, if_then, instruction_before, instruction_keeps, item_keeps}
+use Rattle.inf_target_laws.proofs.Outputs.{jump_keeps, low_text_keeps, mark_keeps, naming_keeps, used_keeps}
 
 -- Pieces of code put together
 
@@ -23,25 +24,11 @@ pub sound_then : {limits : Limits} {u : Out} {P : Type 0} {c d : Code} → Sound
 sound_then {limits} {u} {P} {c} {d} first second =
     record { keeps = λ o. if_then u P o (c o) (d (c o)) (first.keeps o) (second.keeps (c o)) }
 
-pub sound_if : {limits : Limits} {u : Out} {P : Type 0} {c d : Code} (b : Bool) → Sound limits u P c → Sound limits u P d
-    → Sound limits u P (if b then c else d)
-sound_if true first second = first
-sound_if false first second = second
-
-pub sound_label : {limits : Limits} {u : Out} {P : Type 0} (body : Label → Code) → ((label : Label) → Sound limits u P (body label))
-    → Sound limits u P (with_label body)
-sound_label {limits} {u} {P} body each = record { keeps = λ o. (each (next_label o)).keeps (record o { next = behind o.next }) }
-
-pub sound_instruction : {limits : Limits} {u : Out} {P : Type 0} (opcode : Opcode) (operands : List Simple) (store : Option ℕ)
+sound_instruction : {limits : Limits} {u : Out} {P : Type 0} (opcode : Opcode) (operands : List Simple) (store : Option ℕ)
     (branch : Option Branch)
     → SimplesStand u P operands → Sound limits u P (instruction limits opcode operands store branch)
 sound_instruction {limits} {u} {P} opcode operands store branch s =
     record { keeps = instruction_keeps limits u P opcode operands store branch s }
-
-pub sound_naming : {limits : Limits} {u : Out} {P : Type 0} (opcode : Opcode) (variable : ℕ) (operands : List Simple) (store : Option ℕ)
-    (branch : Option Branch) → SimplesStand u P operands → Sound limits u P (naming limits opcode variable operands store branch)
-sound_naming {limits} {u} {P} opcode variable operands store branch s =
-    record { keeps = naming_keeps limits u P opcode variable operands store branch s }
 
 pub sound_mark : {limits : Limits} {u : Out} {P : Type 0} (label : Label) → Sound limits u P (marked limits label)
 sound_mark {limits} {u} {P} label = record { keeps = mark_keeps limits u P label }
@@ -109,25 +96,26 @@ pub made_sound : {limits : Limits} {u : Out} {P : Type 0} {c : Code} {needs give
     → Sound limits u P c
 made_sound Nothing = sound_nothing
 made_sound (Then f g) = sound_then (made_sound f) (made_sound g)
-made_sound (Handed {body} f) = sound_label body (λ l. made_sound (f l))
+made_sound (Handed f) = record { keeps = λ o. (made_sound (f (next_label o))).keeps (record o { next = behind o.next }) }
 made_sound (Wide h f) = made_sound f
 made_sound (As h f) = made_sound f
 made_sound (Instructs op operands store branch m) = sound_instruction op operands store branch m
-made_sound (Names op v operands store branch m) = sound_naming op v operands store branch m
+made_sound {limits} {u} {P} (Names op v operands store branch m) = record {
+  keeps = naming_keeps limits u P op v operands store branch m;
+}
 made_sound {limits} (Asks v arguments store m) = asked_sound limits v arguments store m
 made_sound (Marks l) = sound_mark l
 made_sound (Jumps l) = sound_jump l
+made_sound {limits} {u} {P} Packs = record { keeps = λ o. if_nowhere u P o }
+made_sound {limits} {u} {P} (Prints op text) = record {
+  keeps = λ o. item_keeps limits u P (Item.Instruction (record (bare op) { text = text o })) (λ p. tt) o;
+}
+made_sound {limits} {u} {P} (Lows text body f) = record {
+  keeps = λ o.
+      let v = with_low_text limits text o in
+      let g = low_text_keeps limits u text o in
+      if_then u P o v (body (low_string_at o) v) (g.0, (λ x. g.1)) ((made_sound (f o)).keeps v);
+}
 
--- Instructions and calls whose operands are parts
-
-pub worked_sound : {u : Out} {P : Type 0} (limits : Limits) (opcode : Opcode) (ps : List Part) (store : Option ℕ) (branch : Option Branch)
-    → PartsMade limits (There u P) ps → Sound limits u P (worked limits opcode ps store branch)
-worked_sound {u} {P} limits opcode ps store branch h = made_sound (worked_made limits (There u P) opcode ps h store branch)
-
-pub call_sound : {u : Out} {P : Type 0} (limits : Limits) (routine : Part) (arguments : List Part) (store : Option ℕ)
-    → PartMade limits (There u P) routine → PartsMade limits (There u P) arguments → Sound limits u P (call limits routine arguments store)
-call_sound {u} {P} limits routine arguments store h k = made_sound (call_made limits (There u P) routine arguments h k store)
-
-pub ask_sound : {u : Out} {P : Type 0} (limits : Limits) (v : Veneer) (arguments : List Part) (store : Option ℕ)
-    → PartsMade limits (There u P) arguments → Sound limits u P (call_routine limits v arguments store)
-ask_sound {u} {P} limits v arguments store k = made_sound (ask_made limits (There u P) v arguments k store)
+pub fixed_stand : (u : Out) (P : Type 0) → FixedMeet (There u P)
+fixed_stand u P = record { place = λ area offset p. tt; system = λ constant p. tt }

@@ -1,9 +1,9 @@
 -- Operands and trees of a unit whose targets stand, once something is given: the output behind their use comes before the one at hand.
-use Rattle.std.proofs.Common.{List, [], ◌∷◌, Option}
+use Rattle.std.proofs.Common.{List, [], ◌∷◌}
 use Rattle.inf_area.specs.declared.targets.Target.{Target}
 use Rattle.inf_expressions.specs.{Rooted.Rooted, Trees.Tree, declared.operators.Operand.Operand}
 use Rattle.inf_output.specs.{Output.Out, declared.operands.Simple.Simple}
-use Rattle.inf_code_walk.specs.Made.{AllMeet, LeafMeets, MaybeMeets, Meets, TreeMeets}
+use Rattle.inf_code_walk.specs.Made.{AllMeet, LeafMeets, Meets, TreeMeets, TreesMeet}
 use Rattle.inf_target_laws.specs.Standing.{TargetStands}
 
 abbrev pub There : Out → Type 0 → Target → Type 0
@@ -22,16 +22,12 @@ SimpleStands u P s = Meets (There u P) s
 abbrev pub SimplesStand : Out → Type 0 → List Simple → Type 0
 SimplesStand u P simples = AllMeet (There u P) simples
 
-abbrev pub MaybeStands : Out → Type 0 → Option Simple → Type 0
-MaybeStands u P x = MaybeMeets (There u P) x
-
 -- the leaves of a tree
 abbrev pub TreeStands : Out → Type 0 → Tree → Type 0
 TreeStands u P e = TreeMeets (There u P) e
 
 abbrev pub TreesStand : Out → Type 0 → List Tree → Type 0
-TreesStand u P [] = Unit {0}
-TreesStand u P (e ∷ trees) = TreeStands u P e × TreesStand u P trees
+TreesStand u P trees = TreesMeet (There u P) trees
 
 abbrev pub RootsStand : Out → Type 0 → List Rooted → Type 0
 RootsStand u P [] = Unit {0}

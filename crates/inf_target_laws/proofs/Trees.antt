@@ -2,7 +2,7 @@
 use Rattle.std.proofs.Common.{ℕ, zero, suc, List, [], ◌∷◌, ◌++◌, Bool, true, false, Option, Some, None, sym, subst}
 use Rattle.std.proofs.lemmas.List.{reverse-append}
 use Rattle.std.specs.Prelude.{◌==◌, ◌-◌, map, reverse, if◌then◌else◌}
-use Rattle.inf_expressions.specs.{Questions.children_of, Questions.is_list, Questions.range_of, Rooted.Rooted, Rooted.bracketed_latest}
+use Rattle.inf_expressions.specs.{Questions.children_of, Questions.is_list, Rooted.Rooted, Rooted.bracketed_latest}
 use Rattle.inf_expressions.specs.{Rooted.with_two, Rooted.with_unary, Trees.Leaf, Trees.One, Trees.Tree, Trees.Two}
 use Rattle.inf_expressions.specs.declared.{operators.Binary.Binary, operators.Function.Function, operators.Operand.Operand}
 use Rattle.inf_expressions.specs.declared.{operators.Test.Test, operators.Unary.Unary, symbols.Symbol.Symbol, units.Wanted.Wanted}
@@ -124,14 +124,6 @@ trees_stand u P [] h = tt
 trees_stand u P (r ∷ trees) h = (h.0, trees_stand u P trees h.1)
 
 -- Parts of trees
-
-abbrev pub EndsStand : Out → Type 0 → Option (Tree × Tree) → Type 0
-EndsStand u P None = Unit {0}
-EndsStand u P (Some ends) = TreeStands u P ends.0 × TreeStands u P ends.1
-
-pub range_stands : (u : Out) (P : Type 0) (t : Tree) → TreeStands u P t → EndsStand u P (range_of t)
-range_stands u P (Two Binary.To a b) h = h
-range_stands u P t h = tt
 
 abbrev pub ChildStands : Out → Type 0 → Option Tree → Type 0
 ChildStands u P None = Unit {0}
