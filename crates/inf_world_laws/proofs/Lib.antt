@@ -1,5 +1,9 @@
 pub mod Attributes
 pub mod Lists
+pub mod Lookup
+pub mod Classes
+pub mod Given
+pub mod Whole
 pub mod Order
 pub mod Properties
 pub mod Rows

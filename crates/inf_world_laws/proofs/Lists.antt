@@ -69,12 +69,12 @@ all_found seen (p ∷ ps) a =
 -- The two lists
 
 module _ (additive : ℕ → Bool) where
-  fold_map : (above : List Property) (givers : List Properties)
+  pub fold_map : (above : List Property) (givers : List Properties)
       → fold (λ above g. inherited above g) above (map (as_properties additive) givers) ≡ inherited_above additive above givers
   fold_map above [] = refl
   fold_map above (g ∷ givers) = fold_map (inherited above (as_properties additive g)) givers
 
-  numbers_are : (g : Properties) → numbers_of (as_properties additive g) ≡ map (λ p. p.0) g
+  pub numbers_are : (g : Properties) → numbers_of (as_properties additive g) ≡ map (λ p. p.0) g
   numbers_are [] = refl
   numbers_are (p ∷ g) = ap (λ l. p.0 ∷ l) (numbers_are g)
 

@@ -5,7 +5,7 @@ use Rattle.inf_properties.specs.declared.values.Property.{Property}
 use Rattle.inf_properties.specs.Properties.{found, has, inherited, lacked, with_joined}
 use Rattle.inf_world_laws.specs.{Laws.AreSingle, Laws.OrderAgrees, Laws.numbers_of, Things.contains, Things.distinct}
 
-abbrev without : List ℕ → List ℕ → List ℕ
+abbrev pub without : List ℕ → List ℕ → List ℕ
 without s [] = []
 without s (n ∷ ns) = if contains s n then without s ns else n ∷ without s ns
 
@@ -17,10 +17,10 @@ found_or : (b : Bool) (p : Property) (o : Option Property) → is_some (cond b (
 found_or true p o = refl
 found_or false p o = refl
 
-turned : (m n : ℕ) → (m == n) ≡ nat_eq n m
+pub turned : (m n : ℕ) → (m == n) ≡ nat_eq n m
 turned m n = grind arith
 
-has_is : (n : ℕ) (own : List Property) → has n own ≡ contains (numbers_of own) n
+pub has_is : (n : ℕ) (own : List Property) → has n own ≡ contains (numbers_of own) n
 has_is n [] = refl
 has_is n (p ∷ own) =
     found_or (p.number == n) p (found n own) ∙ ap (λ b. b || has n own) (turned p.number n)
@@ -40,7 +40,7 @@ numbers_lacked own (p ∷ above) =
 
 -- Lists without repeats
 
-same_seen : (s t xs : List ℕ) → ((n : ℕ) → contains s n ≡ contains t n) → distinct s xs ≡ distinct t xs
+pub same_seen : (s t xs : List ℕ) → ((n : ℕ) → contains s n ≡ contains t n) → distinct s xs ≡ distinct t xs
 same_seen s t [] h = refl
 same_seen s t (x ∷ xs) h =
     ap (λ b. cond b (distinct s xs) (x ∷ distinct (x ∷ s) xs)) (h x)
@@ -48,19 +48,19 @@ same_seen s t (x ∷ xs) h =
     ∙ ap (λ l. cond (contains t x) (distinct t xs) (x ∷ l)) (same_seen (x ∷ s) (x ∷ t) xs (λ n. ap (λ b. nat_eq n x || b) (h n)))
 
 -- a number that is in a list is in it when it comes again
-again : (s : List ℕ) (x n : ℕ) → contains s x ≡ true → contains s n ≡ (nat_eq n x || contains s n)
+pub again : (s : List ℕ) (x n : ℕ) → contains s x ≡ true → contains s n ≡ (nat_eq n x || contains s n)
 again s x n h = by (nat_eq n x) refl
   where
     by : (b : Bool) → nat_eq n x ≡ b → contains s n ≡ (b || contains s n)
     by true e = let same : n ≡ x = grind arith in ap (contains s) same ∙ h
     by false e = refl
 
-or_swapped : (a b c : Bool) → (a || (b || c)) ≡ (b || (a || c))
+pub or_swapped : (a b c : Bool) → (a || (b || c)) ≡ (b || (a || c))
 or_swapped true true c = refl
 or_swapped true false c = refl
 or_swapped false b c = refl
 
-turn : (a b c : Bool) → ((a || b) || c) ≡ (b || (a || c))
+pub turn : (a b c : Bool) → ((a || b) || c) ≡ (b || (a || c))
 turn true true c = refl
 turn true false c = refl
 turn false b c = refl
@@ -82,7 +82,7 @@ join_by : (s t xs ys : List ℕ) (x : ℕ) → ((n : ℕ) → contains t n ≡ (
 join_by s t xs ys x h rest more true e = rest (λ n. h n ∙ out n x s xs e)
 join_by s t xs ys x h rest more false e = ap (λ l. x ∷ l) (more (λ n. h n ∙ turn (nat_eq n x) (contains xs n) (contains s n)))
 
-join : (s t xs ys : List ℕ) → ((n : ℕ) → contains t n ≡ (contains xs n || contains s n))
+pub join : (s t xs ys : List ℕ) → ((n : ℕ) → contains t n ≡ (contains xs n || contains s n))
     → distinct s (xs ++ ys) ≡ distinct s xs ++ distinct t ys
 join s t [] ys h = same_seen s t ys (λ n. sym (h n))
 join s t (x ∷ xs) ys h = join_by s t xs ys x h (join s t xs ys) (join (x ∷ s) t xs ys) (contains s x) refl
@@ -95,15 +95,15 @@ in_by s xs x n rest more true e = rest ∙ sym (out n x s xs e)
 in_by s xs x n rest more false e =
     turn (nat_eq n x) (contains (distinct (x ∷ s) xs) n) (contains s n) ∙ more ∙ sym (turn (nat_eq n x) (contains xs n) (contains s n))
 
-kept : (s xs : List ℕ) (n : ℕ) → (contains (distinct s xs) n || contains s n) ≡ (contains xs n || contains s n)
+pub kept : (s xs : List ℕ) (n : ℕ) → (contains (distinct s xs) n || contains s n) ≡ (contains xs n || contains s n)
 kept s [] n = refl
 kept s (x ∷ xs) n = in_by s xs x n (kept s xs n) (kept (x ∷ s) xs n) (contains s x) refl
 
-or_true : (a : Bool) → a || true ≡ true
+pub or_true : (a : Bool) → a || true ≡ true
 or_true true = refl
 or_true false = refl
 
-abbrev Joins : List ℕ → List ℕ → List ℕ → Type 0
+abbrev pub Joins : List ℕ → List ℕ → List ℕ → Type 0
 Joins s t u = (n : ℕ) → contains u n ≡ (contains s n || contains t n)
 
 drop_by : (s t u xs : List ℕ) (x : ℕ) → Joins s t u
@@ -125,7 +125,7 @@ drop_by s t u xs x h rest one two false false e f =
     ap (λ b. cond b (without s (distinct (x ∷ t) xs)) (x ∷ without s (distinct (x ∷ t) xs))) f
     ∙ ap (λ l. x ∷ l) (two (λ n. ap (λ b. nat_eq n x || b) (h n) ∙ or_swapped (nat_eq n x) (contains s n) (contains t n)))
 
-drop_out : (s t u xs : List ℕ) → Joins s t u → without s (distinct t xs) ≡ distinct u xs
+pub drop_out : (s t u xs : List ℕ) → Joins s t u → without s (distinct t xs) ≡ distinct u xs
 drop_out s t u [] h = refl
 drop_out s t u (x ∷ xs) h =
     drop_by s t u xs x h (drop_out s t u xs h) (drop_out s (x ∷ t) u xs) (drop_out s (x ∷ t) (x ∷ u) xs)
@@ -138,7 +138,7 @@ numbers_both : (xs ys : List Property) → numbers_of (xs ++ ys) ≡ numbers_of 
 numbers_both [] ys = refl
 numbers_both (p ∷ xs) ys = ap (λ l. p.number ∷ l) (numbers_both xs ys)
 
-or_nothing : (a : Bool) → a ≡ (a || false)
+pub or_nothing : (a : Bool) → a ≡ (a || false)
 or_nothing true = refl
 or_nothing false = refl
 

@@ -16,10 +16,10 @@ or_none : (a : Option ℕ) → or_latest a None ≡ a
 or_none None = refl
 or_none (Some n) = refl
 
-abbrev here : Bool → ℕ → Option ℕ
+abbrev pub here : Bool → ℕ → Option ℕ
 here b n = if b then Some n else None
 
-from_end : (a k : ℕ) (xs : List Object) (o : Object)
+pub from_end : (a k : ℕ) (xs : List Object) (o : Object)
     → latest_from a k (xs ++ o ∷ []) ≡ or_latest (here (has_arrows a o) (k + length xs)) (latest_from a k xs)
 from_end a k [] o = ap (here (has_arrows a o)) (let h : k ≡ k + 0 = omega arith in h) ∙ sym (or_none (here (has_arrows a o) (k + 0)))
 from_end a k (x ∷ xs) o =
@@ -34,12 +34,12 @@ last_length additive name (t ∷ before) =
     length-append (latest_last additive name before) (object_of additive name t ∷ [])
     ∙ ap (λ n. n + 1) (last_length additive name before) ∙ (let h : length before + 1 ≡ length (t ∷ before) = omega arith in h)
 
-has_is : (additive : ℕ → Bool) (name : List ℕ) (a : ℕ) (t : Thing) (b : Bool) → t.is_class ≡ b
+pub has_is : (additive : ℕ → Bool) (name : List ℕ) (a : ℕ) (t : Thing) (b : Bool) → t.is_class ≡ b
     → has_arrows a (object_of additive name t) ≡ (not t.is_class && t.arrows == a)
 has_is additive name a t true e = let h : has_arrows a (object_of additive name t) ≡ (not t.is_class && t.arrows == a) = cc in h
 has_is additive name a t false e = let h : has_arrows a (object_of additive name t) ≡ (not t.is_class && t.arrows == a) = cc in h
 
-choose : (b : Bool) (n m : ℕ) → or_latest (here b (5 + n)) (number_or_none m) ≡ number_or_none (if b then 5 + n else m)
+pub choose : (b : Bool) (n m : ℕ) → or_latest (here b (5 + n)) (number_or_none m) ≡ number_or_none (if b then 5 + n else m)
 choose true n m = let h : Some (5 + n) ≡ number_or_none (5 + n) = grind arith in h
 choose false n m = refl
 

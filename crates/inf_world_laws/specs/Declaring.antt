@@ -1,5 +1,5 @@
 -- The world that the tables of a story have: each declaration by the operations of `inf_tables`, in their order.
-use Rattle.std.specs.Prelude.{◌≡◌, ℕ, ◌+◌, ◌∷◌, [], List, map, Bool, true, false, Some, None, nat_lt, if◌then◌else◌}
+use Rattle.std.specs.Prelude.{◌≡◌, ℕ, ◌+◌, ◌==◌, ◌∷◌, [], List, map, Bool, true, false, Option, Some, None, if◌then◌else◌}
 use Rattle.std.specs.List.{fold, range_with_len}
 use Rattle.inf_area.specs.declared.targets.Value.{Value}
 use Rattle.inf_properties.specs.{declared.sizes.Owner.Owner, declared.values.Property.Property}
@@ -7,8 +7,7 @@ use Rattle.inf_objects.specs.declared.objects.Object.{Object}
 use Rattle.inf_tables.specs.declared.kinds.Parent.{Parent}
 use Rattle.inf_tables.specs.World.{WorldOf, with_class_header, with_class_of, with_end, with_further_value, with_given_property}
 use Rattle.inf_tables.specs.World.{with_individual, with_object_header, with_set_attribute}
-use Rattle.inf_world_laws.specs.Things.{Arrows, Declaration, Declared, Individual, Inside, Place, PropertyName, Thing, all_names}
-use Rattle.inf_world_laws.specs.Things.{number_of, things}
+use Rattle.inf_world_laws.specs.Things.{Arrows, Declaration, Declared, Individual, Inside, Place, PropertyName, Thing, things}
 
 abbrev pub owner_of : Bool → Owner
 owner_of is_class = if is_class then Owner.Class else Owner.Object
@@ -38,12 +37,6 @@ headed true place name w = with_class_header name w
 headed false (Arrows n) name w = with_object_header (Parent.Arrows n) name w
 headed false (Inside number) name w = with_object_header (Parent.Object number) name w
 
--- An individual property that comes for the first time is numbered before it is given.
-abbrev pub numbered : PropertyName → List ℕ → WorldOf → WorldOf
-numbered (Declared n) names w = w
-numbered (Individual name) names w =
-    if nat_lt (number_of names (Individual name)) (64 + w.individuals) then w else with_individual w
-
 abbrev pub with_values : List Value → WorldOf → WorldOf
 with_values values w = fold (λ w v. with_further_value v w) w values
 
@@ -51,22 +44,47 @@ abbrev pub given_values : ℕ → List Value → WorldOf → WorldOf
 given_values n [] w = with_given_property n None w
 given_values n (v ∷ values) w = with_values values (with_given_property n (Some v) w)
 
-abbrev pub given : List ℕ → PropertyName × List Value → WorldOf → WorldOf
-given names p w = given_values (number_of names p.0) p.1 (numbered p.0 names w)
+-- the world, and the numbers that names of individual properties have so far
+pub record Run : Type 0 where
+  pub world : WorldOf
+  pub numbers : List (ℕ × ℕ)
 
-abbrev pub declared : List ℕ → List ℕ → Declaration → WorldOf → WorldOf
-declared names name d w =
-    let headed = headed d.is_class d.place name w in
-    let classed = fold (λ w c. with_class_of c w) headed d.classes in
-    let said = fold (λ w h. with_set_attribute h.0 h.1 w) classed d.has in
-    with_end (fold (λ w p. given names p w) said d.with)
+abbrev pub number_in : ℕ → List (ℕ × ℕ) → Option ℕ
+number_in name [] = None
+number_in name (n ∷ numbers) = if n.0 == name then Some n.1 else number_in name numbers
 
-abbrev pub all_declared : List ℕ → List (List ℕ) → List Declaration → WorldOf → WorldOf
-all_declared names [] declarations w = w
-all_declared names (name ∷ shorts) [] w = w
-all_declared names (name ∷ shorts) (d ∷ declarations) w = all_declared names shorts declarations (declared names name d w)
+-- An individual property that comes for the first time has the next number of the world.
+abbrev pub given_as : Option ℕ → ℕ → List Value → Run → Run
+given_as (Some number) name values r = record r { world = given_values number values r.world }
+given_as None name values r = record {
+  world = given_values (64 + r.world.individuals) values (with_individual r.world);
+  numbers = (name, 64 + r.world.individuals) ∷ r.numbers;
+}
+
+abbrev pub given : PropertyName × List Value → Run → Run
+given (Declared n, values) r = record r { world = given_values n values r.world }
+given (Individual name, values) r = given_as (number_in name r.numbers) name values r
+
+-- a declaration up to its last class, up to its last attribute, and as a whole
+
+abbrev pub with_classes : List ℕ → Declaration → WorldOf → WorldOf
+with_classes name d w = fold (λ w c. with_class_of c w) (headed d.is_class d.place name w) d.classes
+
+abbrev pub with_attributes : List ℕ → Declaration → WorldOf → WorldOf
+with_attributes name d w = fold (λ w h. with_set_attribute h.0 h.1 w) (with_classes name d w) d.has
+
+abbrev pub ended : Run → Run
+ended r = record r { world = with_end r.world }
+
+abbrev pub declared : List ℕ → Declaration → Run → Run
+declared name d r = ended (fold (λ r p. given p r) (record r { world = with_attributes name d r.world }) d.with)
+
+abbrev pub all_declared : List (List ℕ) → List Declaration → Run → Run
+all_declared [] declarations r = r
+all_declared (name ∷ shorts) [] r = r
+all_declared (name ∷ shorts) (d ∷ declarations) r = all_declared shorts declarations (declared name d r)
 
 -- The tables have the things that the declarations make, each with its short name.
 abbrev pub WorldIsThings : (ℕ → Bool) → List (List ℕ) → List Declaration → WorldOf → Type 0
 WorldIsThings additive shorts declarations w =
-    (all_declared (all_names declarations) shorts declarations w).objects ≡ objects_of additive shorts (things additive declarations)
+    (all_declared shorts declarations (record { world = w; numbers = [] })).world.objects ≡ objects_of additive shorts (things additive declarations)

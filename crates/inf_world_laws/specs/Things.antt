@@ -125,7 +125,7 @@ properties_of additive givers =
 abbrev pub thing : (ℕ → Bool) → List ℕ → Declaration → List Thing → Thing
 thing additive names d before = let above = giving before [] d.classes in record {
   is_class = d.is_class;
-  arrows = arrows_of d.place;
+  arrows = if d.is_class then 0 else arrows_of d.place;
   parent = if d.is_class then 1 else parent_by d.place before;
   classes = distinct [] (flat_map (with_own before) d.classes);
   has = λ a. said a (list_any (λ c. c.has a) above) d.has;

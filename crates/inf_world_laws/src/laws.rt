@@ -1,6 +1,7 @@
 //! Objects and classes are those that the declarations of a source describe.
 ghost use Rattle.inf_world_laws.specs.Laws.{AttributesAgree, ChildAgrees, ChildrenAgree, LatestAgree, OrderAgrees};
 ghost use Rattle.inf_world_laws.specs.Laws.{PropertiesAgree, SiblingAgrees, ValuesAgree};
+ghost use Rattle.inf_world_laws.specs.Whole.{WorldsAgree};
 ghost use Rattle.inf_world_laws.specs.Rows.{ClassesAgree, LinksAreShown, TablesAreShown};
 
 /// States that an object has of each property the values of its own body and its classes in order where the property is
@@ -24,6 +25,12 @@ pub fn trees_agree()
     ensures children { ChildrenAgree }
     ensures child { ChildAgrees }
     ensures sibling { SiblingAgrees }
+{}
+
+/// States that the operations of the tables, one for each entry of the declarations in any list, come to the things of the
+/// description, where they refuse none.
+pub fn worlds_agree()
+    ensures { WorldsAgree }
 {}
 
 /// States of three small stories that the tables have the things of the description. Of two of them the bytes are shown
