@@ -3,3 +3,4 @@ pub mod First
 pub mod Flags
 pub mod Lines
 pub mod Rows
+pub mod Saying

@@ -1,4 +1,5 @@
 pub mod Verbs
 pub mod Reading
 pub mod Laws
+pub mod Saying
 pub mod Rows

@@ -1,5 +1,6 @@
 //! Words and lines of verbs are those that a source describes.
 ghost use Rattle.inf_verb_laws.specs.Laws.{ActionsAgree, ExtendAgrees, FlagsAgree, LinesAreRead, RoutinesAgree};
+ghost use Rattle.inf_verb_laws.specs.Saying.{LinesAgree, WordsAgree};
 ghost use Rattle.inf_verb_laws.specs.Rows.{LinesAreShown, WordsAreShown};
 
 /// States that the flags of a word are the bits of all its uses together.
@@ -24,6 +25,13 @@ pub fn extended_lines_agree()
 /// action, whether its nouns change places, and the type and the word of each token.
 pub fn lines_are_read()
     ensures { LinesAreRead }
+{}
+
+/// States that behind all that a source says of verbs, where no word is one of two, each verb has the lines of the
+/// description, and each word its verb.
+pub fn verbs_agree()
+    ensures lines { LinesAgree }
+    ensures words { WordsAgree }
 {}
 
 /// States of a small source with a verb that is extended that its grammar has the lines, and its words have the flags and
