@@ -4,3 +4,4 @@ pub mod Numbers
 pub mod Rows
 pub mod Statements
 pub mod Constructs
+pub mod Layings

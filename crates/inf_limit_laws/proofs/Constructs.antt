@@ -1,5 +1,5 @@
 -- The code of statements that hold others, and the names, texts and words that a unit uses, keep an output counted.
-use Rattle.std.proofs.Common.{ℕ, zero, suc, List, [], ◌∷◌, Bool, true, false, Option, Some, None, if◌then◌else◌, unwrap_or}
+use Rattle.std.proofs.Common.{ℕ, zero, suc, List, [], ◌∷◌, Bool, true, false, Option, Some, None, if◌then◌else◌}
 use Rattle.inf_settings.specs.{Bounds.Limits, Bounds.unbounded, declared.setting.Setting.Setting}
 use Rattle.inf_characters.specs.{declared.characters.CharSet.CharSet, declared.texts.TextItem.TextItem}
 use Rattle.inf_text.specs.Packing.{packed}
@@ -7,30 +7,30 @@ use Rattle.inf_dictionary.specs.declared.uses.WordUse.{WordUse}
 use Rattle.inf_scanner.specs.declared.tokens.Place.{Place}
 use Rattle.inf_gathering.specs.declared.gathering.Leaf.{Leaf}
 use Rattle.inf_opcode.specs.declared.instructions.Label.{Label}
-use Rattle.inf_expressions.specs.{Questions.children_of, Rooted.Rooted, Trees.Tree, declared.operators.Operand.Operand}
+use Rattle.inf_expressions.specs.{Rooted.Rooted, Trees.Tree, declared.operators.Operand.Operand}
 use Rattle.inf_names.specs.{Spellings.Name, Symbols.declare_fault, declared.symbols.DeclareFault.DeclareFault}
 use Rattle.inf_names.specs.Locals.{Local, local_number}
 use Rattle.inf_output.specs.{Texts.used_in, declared.items.Item.Item}
 use Rattle.inf_output.specs.Actions.{action_by, action_of, appeared, fake_number, faked, faked_by, first_seen, key_of, numbered_as}
 use Rattle.inf_output.specs.Actions.{numbered_by, one_fake, routine_name, routine_referred, seen_by}
-use Rattle.inf_output.specs.Output.{Out, behind, items_of, laid_all}
+use Rattle.inf_output.specs.Output.{Out, items_of, laid_all}
 use Rattle.inf_unit.specs.{Tokens.SourceToken, Units.bytes_at, Units.name_at}
 use Rattle.inf_verbs.specs.{Routines.action_fault, declared.routines.ActionFault.ActionFault}
-use Rattle.inf_constructs.specs.declared.{constructs.Case.Case, constructs.Construct.Construct, constructs.Kind.Kind, constructs.Over.Over}
+use Rattle.inf_constructs.specs.declared.{constructs.Case.Case, constructs.Construct.Construct, constructs.Kind.Kind}
 use Rattle.inf_constructs.specs.Cases.{case_code}
-use Rattle.inf_constructs.specs.Constructs.{Laying, all_ended, begun, between, case_closed, case_entered, cases_begun, changed, closed}
-use Rattle.inf_constructs.specs.Constructs.{ended, ending, entered, entered_by, front, joint, looped, looped_by, looped_over}
-use Rattle.inf_constructs.specs.Constructs.{opened, with_labels}
+use Rattle.inf_constructs.specs.Constructs.{Laying, all_ended, begun, between, case_closed, cases_begun, changed, closed}
+use Rattle.inf_constructs.specs.Constructs.{ended, ending, entered, looped, looped_over}
 use Rattle.inf_operands.specs.Operands.{Settled, is_stack, leaf_added, one_added, settled, settled_action, settled_alone, settled_by}
 use Rattle.inf_operands.specs.Operands.{settled_leaf, settled_name, settled_text, with_settled}
 use Rattle.inf_operands.specs.Texts.{text_at, text_packed}
 use Rattle.inf_code_walk.proofs.{Leaves.Any, Leaves.any_tree, Leaves.any_trees, Statements.any_fixed}
-use Rattle.inf_code_walk.proofs.Constructs.{all_made, case_closed_made, case_made, children_made, looped_on_made}
+use Rattle.inf_code_walk.proofs.Constructs.{case_closed_made, case_made, looped_on_made}
+use Rattle.inf_code_walk.proofs.Layings.{between_laid, entered_laid, looped_laid, opened_laid}
 use Rattle.inf_limit_laws.specs.Rooms.{Before, Counted, Keeps, Sound}
 use Rattle.inf_limit_laws.proofs.Outputs.{declare_keeps, items_keep, refer_keeps, table_keeps, text_keeps, word_keeps}
 use Rattle.inf_limit_laws.proofs.Pieces.{made_sound, sound_jump, sound_mark}
-use Rattle.inf_limit_laws.proofs.Pieces.{sound_nothing, sound_then}
-use Rattle.inf_limit_laws.proofs.Statements.{Gives, gives_code}
+use Rattle.inf_limit_laws.proofs.Pieces.{sound_then}
+use Rattle.inf_limit_laws.proofs.Statements.{Gives, laid_gives}
 
 pub case_sound : {was : Before} (limits : Limits) (next : Option Label) (values : List Tree) →
     Sound limits was (case_code limits next values)
@@ -38,44 +38,8 @@ case_sound {was} limits next values = made_sound (case_made limits Any next valu
 
 -- Statements that hold others
 
-front_sound : {was : Before} (limits : Limits) (k : Kind) (c : Construct) → Sound limits was (front limits k c)
-front_sound {was} limits Kind.While c = sound_mark c.next
-front_sound {was} limits Kind.Do c = sound_mark c.top
-front_sound {was} limits Kind.If c = sound_nothing
-front_sound {was} limits Kind.Else c = sound_nothing
-front_sound {was} limits Kind.For c = sound_nothing
-front_sound {was} limits (Kind.Objects how v) c = sound_nothing
-front_sound {was} limits (Kind.Switch old had_default) c = sound_nothing
-front_sound {was} limits (Kind.Cases old had_default) c = sound_nothing
-
-opened_gives : {was : Before} (limits : Limits) (k : Kind) → Gives limits was (opened limits k)
-unfolding opened
-opened_gives {was} limits k = record { keeps = λ o h. let c = with_labels k o in (front_sound limits k c.0).keeps c.1 h }
-
-joint_sound : {was : Before} (limits : Limits) (c : Construct) (k : Kind) → Sound limits was (joint limits c k)
-joint_sound {was} limits c Kind.If = sound_then (sound_jump c.end) (sound_mark c.next)
-joint_sound {was} limits c Kind.Do = sound_mark c.next
-joint_sound {was} limits c Kind.For = sound_mark c.top
-joint_sound {was} limits c (Kind.Objects Over.Nothing v) = sound_mark c.top
-joint_sound {was} limits c (Kind.Objects Over.Children v) = sound_nothing
-joint_sound {was} limits c (Kind.Objects Over.All v) = sound_nothing
-joint_sound {was} limits c Kind.Else = sound_nothing
-joint_sound {was} limits c Kind.While = sound_nothing
-joint_sound {was} limits c (Kind.Switch old had_default) = sound_nothing
-joint_sound {was} limits c (Kind.Cases old had_default) = sound_nothing
-
 pub between_gives : {was : Before} (limits : Limits) (c : Construct) → Gives limits was (between limits c)
-unfolding between
-between_gives {was} limits c = record { keeps = λ o h. (joint_sound limits c c.kind).keeps o h }
-
-looped_by_gives : {was : Before} (limits : Limits) (parent : Option Tree) (e : Tree) (v : ℕ) (c : Construct) →
-    Gives limits was (looped_by limits parent e v c)
-looped_by_gives {was} limits (Some parent) e v c = gives_code _ (made_sound (children_made limits Any parent (any_tree parent) v c))
-looped_by_gives {was} limits None e v c = gives_code _ (made_sound (all_made limits Any e (any_tree e) v c))
-
-looped_gives : {was : Before} (limits : Limits) (r : Rooted) (c : Construct) → Gives limits was (looped limits r c)
-unfolding looped
-looped_gives {was} limits r c = looped_by_gives limits (children_of r.tree) r.tree (unwrap_or r.origin.lead.variable 0) c
+between_gives {was} limits c = laid_gives (between_laid limits Any c)
 
 case_closed_sound : {was : Before} (limits : Limits) (c : Case) (end : Label) → Sound limits was (case_closed limits c end)
 case_closed_sound {was} limits c end = made_sound (case_closed_made limits Any c end)
@@ -100,34 +64,13 @@ closed_sound : {was : Before} (limits : Limits) (c : Construct) → Sound limits
 unfolding closed
 closed_sound {was} limits c = ending_sound limits c c.kind
 
-case_entered_gives : {was : Before} (limits : Limits) (are_own is_default : Bool) (old : Case) (had_default : Bool) (c : Construct)
-    → Gives limits was (case_entered limits are_own is_default old had_default c)
-case_entered_gives {was} limits are_own true old had_default c = record { keeps = λ o h. (case_closed_sound limits old c.end).keeps o h }
-case_entered_gives {was} limits are_own false old had_default c = record {
-  keeps = λ o h. (case_closed_sound limits old c.end).keeps (record o { next = behind o.next }) h;
-}
-
-entered_by_gives : {was : Before} (limits : Limits) (k : Kind) (is_default : Bool) (c : Construct) →
-    Gives limits was (entered_by limits k is_default c)
-entered_by_gives {was} limits (Kind.Switch old had_default) is_default c =
-    record { keeps = λ o h. (case_entered_gives limits false is_default old had_default c).keeps o h }
-entered_by_gives {was} limits (Kind.Cases old had_default) is_default c =
-    record { keeps = λ o h. (case_entered_gives limits true is_default old had_default c).keeps o h }
-entered_by_gives {was} limits Kind.If is_default c = record { keeps = λ o h. h }
-entered_by_gives {was} limits Kind.Else is_default c = record { keeps = λ o h. h }
-entered_by_gives {was} limits Kind.While is_default c = record { keeps = λ o h. h }
-entered_by_gives {was} limits Kind.Do is_default c = record { keeps = λ o h. h }
-entered_by_gives {was} limits Kind.For is_default c = record { keeps = λ o h. h }
-entered_by_gives {was} limits (Kind.Objects how v) is_default c = record { keeps = λ o h. h }
-
 pub entered_gives : {was : Before} (limits : Limits) (is_default : Bool) (c : Construct) → Gives limits was (entered limits is_default c)
-unfolding entered
-entered_gives {was} limits is_default c = record { keeps = λ o h. (entered_by_gives limits c.kind is_default c).keeps o h }
+entered_gives {was} limits is_default c = laid_gives (entered_laid limits Any is_default c)
 
 -- Open statements
 
 pub begun_gives : {was : Before} (limits : Limits) (k : Kind) (constructs : List Construct) → Gives limits was (begun limits k constructs)
-begun_gives {was} limits k constructs = record { keeps = λ o h. (opened_gives limits k).keeps o h }
+begun_gives {was} limits k constructs = record { keeps = λ o h. (laid_gives (opened_laid limits Any k)).keeps o h }
 
 pub changed_gives : {was : Before} (limits : Limits) (change : Construct → Laying Construct) →
     ((c : Construct) → Gives limits was (change c))
@@ -153,7 +96,10 @@ pub looped_over_gives : {was : Before} (limits : Limits) (trees : List Rooted) (
     Gives limits was (looped_over limits trees constructs)
 looped_over_gives {was} limits [] constructs = record { keeps = λ o h. h }
 looped_over_gives {was} limits (r ∷ trees) constructs =
-    record { keeps = λ o h. (changed_gives limits (looped limits r) (looped_gives limits r) constructs).keeps o h }
+    record {
+      keeps = λ o h. (changed_gives limits (looped limits r) (λ c. laid_gives (looped_laid limits Any r (any_tree r.tree) c))
+          constructs).keeps o h;
+    }
 
 -- Actions
 

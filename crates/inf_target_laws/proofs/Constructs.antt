@@ -5,20 +5,20 @@ use Rattle.inf_settings.specs.Bounds.{Limits}
 use Rattle.inf_opcode.specs.declared.instructions.Label.{Label}
 use Rattle.inf_expressions.specs.{Questions.children_of, Rooted.Rooted, Trees.Tree}
 use Rattle.inf_output.specs.declared.items.Item.{Item}
-use Rattle.inf_output.specs.Output.{Out, behind, items_of, laid_all}
-use Rattle.inf_constructs.specs.declared.{constructs.Case.Case, constructs.Construct.Construct, constructs.Kind.Kind, constructs.Over.Over}
+use Rattle.inf_output.specs.Output.{Out, items_of, laid_all}
+use Rattle.inf_constructs.specs.declared.{constructs.Case.Case, constructs.Construct.Construct, constructs.Kind.Kind}
 use Rattle.inf_constructs.specs.Cases.{case_code}
-use Rattle.inf_constructs.specs.Constructs.{Laying, all_ended, begun, between, case_closed, case_entered, cases_begun, changed, closed}
-use Rattle.inf_constructs.specs.Constructs.{ended, ending, entered, entered_by, front, joint, looped, looped_by, looped_over}
-use Rattle.inf_constructs.specs.Constructs.{opened, with_labels}
-use Rattle.inf_code_walk.proofs.Constructs.{all_made, case_closed_made, case_made, children_made, looped_on_made}
+use Rattle.inf_constructs.specs.Constructs.{Laying, all_ended, begun, between, case_closed, cases_begun, changed, closed}
+use Rattle.inf_constructs.specs.Constructs.{ended, ending, entered, entered_by, looped, looped_by, looped_over}
+use Rattle.inf_constructs.specs.Constructs.{opened}
+use Rattle.inf_code_walk.proofs.Constructs.{case_closed_made, case_made, looped_on_made}
+use Rattle.inf_code_walk.proofs.Layings.{between_laid, entered_laid, looped_laid, opened_laid}
 use Rattle.inf_target_laws.specs.Lists.{ItemsStand, StepsStand}
-use Rattle.inf_target_laws.proofs.{Outputs.GoesIf, Outputs.Sound, Outputs.if_nowhere, Outputs.items_keep, Statements.Gives}
-use Rattle.inf_target_laws.proofs.Statements.{gives_code}
-use Rattle.inf_target_laws.proofs.{Trees.ChildStands, Trees.child_stands}
+use Rattle.inf_target_laws.proofs.{Outputs.GoesIf, Outputs.Sound, Outputs.items_keep, Statements.Gives}
+use Rattle.inf_target_laws.proofs.Statements.{laid_gives}
 use Rattle.inf_target_laws.proofs.Pieces.{fixed_stand, made_sound, sound_jump, sound_mark}
-use Rattle.inf_target_laws.proofs.Pieces.{sound_nothing, sound_then}
-use Rattle.inf_target_laws.proofs.Premises.{RootsStand, There, TreeStands, TreesStand}
+use Rattle.inf_target_laws.proofs.Pieces.{sound_then}
+use Rattle.inf_target_laws.proofs.Premises.{RootsStand, There, TreesStand}
 
 pub case_sound : {u : Out} {P : Type 0} (limits : Limits) (next : Option Label) (values : List Tree) → TreesStand u P values
     → Sound limits u P (case_code limits next values)
@@ -26,46 +26,8 @@ case_sound {u} {P} limits next values h = made_sound (case_made limits (There u 
 
 -- Statements that hold others
 
-front_sound : {u : Out} {P : Type 0} (limits : Limits) (k : Kind) (c : Construct) → Sound limits u P (front limits k c)
-front_sound {u} {P} limits Kind.While c = sound_mark c.next
-front_sound {u} {P} limits Kind.Do c = sound_mark c.top
-front_sound {u} {P} limits Kind.If c = sound_nothing
-front_sound {u} {P} limits Kind.Else c = sound_nothing
-front_sound {u} {P} limits Kind.For c = sound_nothing
-front_sound {u} {P} limits (Kind.Objects how v) c = sound_nothing
-front_sound {u} {P} limits (Kind.Switch old had_default) c = sound_nothing
-front_sound {u} {P} limits (Kind.Cases old had_default) c = sound_nothing
-
-opened_gives : {u : Out} {P : Type 0} (limits : Limits) (k : Kind) → Gives limits u P (opened limits k)
-unfolding opened
-opened_gives {u} {P} limits k = record { keeps = λ o. let c = with_labels k o in (front_sound limits k c.0).keeps c.1 }
-
-joint_sound : {u : Out} {P : Type 0} (limits : Limits) (c : Construct) (k : Kind) → Sound limits u P (joint limits c k)
-joint_sound {u} {P} limits c Kind.If = sound_then (sound_jump c.end) (sound_mark c.next)
-joint_sound {u} {P} limits c Kind.Do = sound_mark c.next
-joint_sound {u} {P} limits c Kind.For = sound_mark c.top
-joint_sound {u} {P} limits c (Kind.Objects Over.Nothing v) = sound_mark c.top
-joint_sound {u} {P} limits c (Kind.Objects Over.Children v) = sound_nothing
-joint_sound {u} {P} limits c (Kind.Objects Over.All v) = sound_nothing
-joint_sound {u} {P} limits c Kind.Else = sound_nothing
-joint_sound {u} {P} limits c Kind.While = sound_nothing
-joint_sound {u} {P} limits c (Kind.Switch old had_default) = sound_nothing
-joint_sound {u} {P} limits c (Kind.Cases old had_default) = sound_nothing
-
 pub between_gives : {u : Out} {P : Type 0} (limits : Limits) (c : Construct) → Gives limits u P (between limits c)
-unfolding between
-between_gives {u} {P} limits c = record { keeps = λ o. (joint_sound limits c c.kind).keeps o }
-
-looped_by_gives : {u : Out} {P : Type 0} (limits : Limits) (parent : Option Tree) (e : Tree) (v : ℕ) (c : Construct)
-    → ChildStands u P parent → TreeStands u P e → Gives limits u P (looped_by limits parent e v c)
-looped_by_gives {u} {P} limits (Some parent) e v c k h = gives_code _ (made_sound (children_made limits (There u P) parent k v c))
-looped_by_gives {u} {P} limits None e v c k h = gives_code _ (made_sound (all_made limits (There u P) e h v c))
-
-looped_gives : {u : Out} {P : Type 0} (limits : Limits) (r : Rooted) → TreeStands u P r.tree → (c : Construct)
-    → Gives limits u P (looped limits r c)
-unfolding looped
-looped_gives {u} {P} limits r h c =
-    looped_by_gives limits (children_of r.tree) r.tree (unwrap_or r.origin.lead.variable 0) c (child_stands u P r.tree h) h
+between_gives {u} {P} limits c = laid_gives (between_laid limits (There u P) c)
 
 case_closed_sound : {u : Out} {P : Type 0} (limits : Limits) (c : Case) (end : Label) → Sound limits u P (case_closed limits c end)
 case_closed_sound {u} {P} limits c end = made_sound (case_closed_made limits (There u P) c end)
@@ -94,30 +56,9 @@ closed_sound : {u : Out} {P : Type 0} (limits : Limits) (c : Construct) → (P �
 unfolding closed
 closed_sound {u} {P} limits c h = ending_sound limits c h c.kind
 
-case_entered_gives : {u : Out} {P : Type 0} (limits : Limits) (are_own is_default : Bool) (old : Case) (had_default : Bool) (c : Construct)
-    → Gives limits u P (case_entered limits are_own is_default old had_default c)
-case_entered_gives {u} {P} limits are_own true old had_default c = record { keeps = λ o. (case_closed_sound limits old c.end).keeps o }
-case_entered_gives {u} {P} limits are_own false old had_default c = record {
-  keeps = λ o. (case_closed_sound limits old c.end).keeps (record o { next = behind o.next });
-}
-
-entered_by_gives : {u : Out} {P : Type 0} (limits : Limits) (k : Kind) (is_default : Bool) (c : Construct)
-    → Gives limits u P (entered_by limits k is_default c)
-entered_by_gives {u} {P} limits (Kind.Switch old had_default) is_default c =
-    record { keeps = λ o. (case_entered_gives limits false is_default old had_default c).keeps o }
-entered_by_gives {u} {P} limits (Kind.Cases old had_default) is_default c =
-    record { keeps = λ o. (case_entered_gives limits true is_default old had_default c).keeps o }
-entered_by_gives {u} {P} limits Kind.If is_default c = record { keeps = if_nowhere u P }
-entered_by_gives {u} {P} limits Kind.Else is_default c = record { keeps = if_nowhere u P }
-entered_by_gives {u} {P} limits Kind.While is_default c = record { keeps = if_nowhere u P }
-entered_by_gives {u} {P} limits Kind.Do is_default c = record { keeps = if_nowhere u P }
-entered_by_gives {u} {P} limits Kind.For is_default c = record { keeps = if_nowhere u P }
-entered_by_gives {u} {P} limits (Kind.Objects how v) is_default c = record { keeps = if_nowhere u P }
-
 pub entered_gives : {u : Out} {P : Type 0} (limits : Limits) (is_default : Bool) (c : Construct)
     → Gives limits u P (entered limits is_default c)
-unfolding entered
-entered_gives {u} {P} limits is_default c = record { keeps = λ o. (entered_by_gives limits c.kind is_default c).keeps o }
+entered_gives {u} {P} limits is_default c = laid_gives (entered_laid limits (There u P) is_default c)
 
 -- Open statements: with a change of these their steps stand, too.
 pub record Moves (limits : Limits) (u : Out) (P : Type 0) (constructs : List Construct) (laying : Laying (List Construct)) : Type 0 where
@@ -168,7 +109,7 @@ step_stands u a b same h = subst (λ (s : Option (List Item)). ItemsStand u (ite
 pub begun_moves : {u : Out} {P : Type 0} (limits : Limits) (k : Kind) (constructs : List Construct)
     → Moves limits u P constructs (begun limits k constructs)
 begun_moves {u} {P} limits k constructs = record {
-  keeps = λ o. let g = (opened_gives {u = u} {P = P} limits k).keeps o in (g.0, (λ p. g.1 p.0));
+  keeps = λ o. let g = (laid_gives {limits = limits} {u = u} {P = P} (opened_laid limits (There u P) k)).keeps o in (g.0, (λ p. g.1 p.0));
   steps = λ h o. (step_stands u (opened limits k o).0.step None (opened_step limits k o) tt, h);
 }
 
@@ -221,5 +162,5 @@ pub looped_over_moves : {u : Out} {P : Type 0} (limits : Limits) (trees : List R
 looped_over_moves {u} {P} limits [] k constructs = record { keeps = λ o. ((λ e. e), (λ p e h. h)); steps = λ h o. h }
 looped_over_moves {u} {P} limits (r ∷ trees) k constructs =
     let m : Moves limits u P constructs (changed (looped limits r) constructs) =
-    changed_moves limits (looped limits r) (looped_gives limits r k.0) (looped_leaves limits r) constructs in
+    changed_moves limits (looped limits r) (λ c. laid_gives (looped_laid limits (There u P) r k.0 c)) (looped_leaves limits r) constructs in
     record { keeps = m.keeps; steps = m.steps }

@@ -2,10 +2,10 @@
 use Rattle.std.proofs.Common.{ℕ, zero, suc, List, [], ◌∷◌, ◌++◌, Bool, true, false, Option, Some, None, sym, subst}
 use Rattle.std.proofs.lemmas.List.{reverse-append}
 use Rattle.std.specs.Prelude.{◌==◌, ◌-◌, map, reverse, if◌then◌else◌}
-use Rattle.inf_expressions.specs.{Questions.children_of, Questions.is_list, Rooted.Rooted, Rooted.bracketed_latest}
-use Rattle.inf_expressions.specs.{Rooted.with_two, Rooted.with_unary, Trees.Leaf, Trees.One, Trees.Tree, Trees.Two}
+use Rattle.inf_expressions.specs.{Rooted.Rooted, Rooted.bracketed_latest}
+use Rattle.inf_expressions.specs.{Rooted.with_two, Rooted.with_unary, Trees.One, Trees.Tree}
 use Rattle.inf_expressions.specs.declared.{operators.Binary.Binary, operators.Function.Function, operators.Operand.Operand}
-use Rattle.inf_expressions.specs.declared.{operators.Test.Test, operators.Unary.Unary, symbols.Symbol.Symbol, units.Wanted.Wanted}
+use Rattle.inf_expressions.specs.declared.{operators.Unary.Unary, symbols.Symbol.Symbol, units.Wanted.Wanted}
 use Rattle.inf_expressions.specs.Folding.{built, folded, folded_single, function_of, known, number_or}
 use Rattle.inf_expressions.specs.Units.{Gathered, acted, call_joined, called, gathered, listed, nothing_gathered, operand_at, parted}
 use Rattle.inf_expressions.specs.Units.{trees_of, with_unary_of}
@@ -122,17 +122,3 @@ roots_stand u P w unit operands symbols all =
 pub trees_stand : (u : Out) (P : Type 0) (trees : List Rooted) → RootsStand u P trees → TreesStand u P (map tree_in trees)
 trees_stand u P [] h = tt
 trees_stand u P (r ∷ trees) h = (h.0, trees_stand u P trees h.1)
-
--- Parts of trees
-
-abbrev pub ChildStands : Out → Type 0 → Option Tree → Type 0
-ChildStands u P None = Unit {0}
-ChildStands u P (Some e) = TreeStands u P e
-
-pub child_stands : (u : Out) (P : Type 0) (t : Tree) → TreeStands u P t → ChildStands u P (children_of t)
-child_stands u P (Two (Binary.Test Test.In) (Leaf v) e) h = by_list (is_list e)
-  where
-    by_list : (b : Bool) → ChildStands u P (if b then None else Some e)
-    by_list true = tt
-    by_list false = h.1
-child_stands u P t h = tt
