@@ -1,3 +1,5 @@
 pub mod Names
 pub mod Keeping
 pub mod Directives
+pub mod Staying
+pub mod Arrays

@@ -3,11 +3,13 @@ use Rattle.std.proofs.Common.{◌≡◌, List, [], ◌∷◌, ℕ, Option, Some,
 use Rattle.std.proofs.lemmas.Slice.Eq.{bytes_eq-Decides}
 use Rattle.inf_settings.specs.Bounds.{Limits}
 use Rattle.inf_scanner.specs.declared.tokens.Place.{Place}
-use Rattle.inf_names.specs.declared.{meanings.Meaning.Meaning, symbols.Found.Found, symbols.ReferFault.ReferFault}
+use Rattle.inf_names.specs.{Spellings.Name, declared.meanings.Meaning.Meaning, declared.symbols.DeclareFault.DeclareFault}
+use Rattle.inf_names.specs.declared.symbols.{Found.Found, ReferFault.ReferFault}
 use Rattle.inf_names.specs.SystemNames.{meaning_if, name_of, system_meaning, system_names}
 use Rattle.inf_names.specs.Symbols.{IsDeclared, IsUsed, Named, Standing, declare_fault, folded, found_as, found_in, put, refer_fault}
 use Rattle.inf_names.specs.Symbols.{standing_of, with_declared, with_used_by}
 use Rattle.inf_output.specs.Output.{Out, declared, declared_by, referred, referred_by}
+use Rattle.inf_named_values.specs.Declarations.{name_declared}
 use Rattle.inf_declaration_laws.specs.Laws.{Declares, Keeps, meaning_told, names_of}
 
 same_key : (a b : List ℕ) → bytes_eq a b ≡ true → a ≡ b
@@ -66,6 +68,26 @@ is_declared limits name place m o free =
           (bytes_eq (folded t) (folded name));
       counts = refl;
     })
+
+-- a name that is free has its meaning, and no table changes
+pub found_declared : (limits : Limits) (n : Name) (m : Meaning) (o : Out) → declare_fault limits n.bytes o.names ≡ None
+    → found_in n.bytes (name_declared limits n m o).names ≡ Found.Declared m n.place
+found_declared limits n m o free =
+    let key = folded n.bytes in
+    let same : bytes_eq key key ≡ true = (bytes_eq-Decides key key).1 refl in
+    ap (λ f. found_in n.bytes (declared_by limits f n.bytes n.place m o).names) free
+    ∙ ap (found_as (system_meaning o.names.is_debugging n.bytes))
+    (standing_put key key (IsDeclared o.names.declared m n.place) o.names.names
+    ∙ ap (λ b. cond b (Some (IsDeclared o.names.declared m n.place)) (standing_of key o.names.names)) same)
+
+pub declared_tables : (limits : Limits) (n : Name) (m : Meaning) (o : Out) → (name_declared limits n m o).tables ≡ o.tables
+declared_tables limits n m o = by (declare_fault limits n.bytes o.names)
+  where
+    by : (f : Option (DeclareFault Place)) → (declared_by limits f n.bytes n.place m o).tables ≡ o.tables
+    by None = refl
+    by (Some DeclareFault.Full) = refl
+    by (Some (DeclareFault.Present place)) = refl
+    by (Some DeclareFault.Memory) = refl
 
 -- Uses
 
