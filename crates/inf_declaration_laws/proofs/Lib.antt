@@ -3,3 +3,4 @@ pub mod Keeping
 pub mod Directives
 pub mod Staying
 pub mod Arrays
+pub mod Bytes

@@ -1,3 +1,4 @@
 pub mod Declarations
 pub mod Laws
 pub mod Arrays
+pub mod Bytes

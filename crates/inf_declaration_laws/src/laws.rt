@@ -1,5 +1,6 @@
 //! Numbers and names are those that the directives of a source describe.
 ghost use Rattle.inf_declaration_laws.specs.Arrays.{EntriesAgree, HeadersOpen};
+ghost use Rattle.inf_declaration_laws.specs.Bytes.{BytesAgree};
 ghost use Rattle.inf_declaration_laws.specs.Laws.{CountsAgree, NamesAgree};
 
 /// States that behind directives with which nothing is wrong each name has the meaning of the description, and that there
@@ -10,8 +11,10 @@ pub fn numbers_are_counts()
 {}
 
 /// States that the header of an array with which nothing is wrong opens an array of its kind, whose name stands for the
-/// place behind the arrays before it, and that behind its entries the array has those of the description.
+/// place behind the arrays before it; that behind its entries the array has those of the description; and that these are
+/// written as the description has the bytes of its kind.
 pub fn arrays_are_described()
     ensures entries { EntriesAgree }
     ensures headers { HeadersOpen }
+    ensures bytes { BytesAgree }
 {}
