@@ -15,8 +15,9 @@ use Rattle.inf_compilation.specs.{Actions.Compilation, Actions.settled_of, Actio
 use Rattle.inf_named_values.specs.{Declarations.name_declared, Declarations.plainly_known, Values.value_of}
 use Rattle.inf_declarations.specs.Arrays.{added, adding, array_opened_by, bare_text, codes_of, entry_added, entry_added_by, entry_ended}
 use Rattle.inf_declarations.specs.Arrays.{entry_with, is_alone, kind_in, listed, lost_added, one_more, story_added, text_added, with_arrays}
-use Rattle.inf_declaration_laws.specs.Arrays.{EntriesAgree, Entry, Follow, HeadersOpen, IsRight, Item, Later, Number, SaysItem, Text, adding_of}
-use Rattle.inf_declaration_laws.specs.Arrays.{all_ended, alone, ended, entries, is_last, value, with_open}
+use Rattle.inf_declaration_laws.specs.ArrayLaws.{EntriesAgree, Entry, Follow, HeadersOpen, IsRight, SaysItem, adding_of, all_ended, ended}
+use Rattle.inf_declaration_laws.specs.ArrayLaws.{is_last, with_open}
+use Rattle.inf_declaration_laws.specs.Arrays.{Item, Later, Number, Text, alone, value}
 use Rattle.inf_declaration_laws.proofs.{Names.declared_tables, Names.found_declared, Staying.settled_stays}
 
 characters_are : (t : List ℕ) → characters t ≡ map Value.Known t

@@ -4,7 +4,7 @@ use Rattle.inf_area.specs.declared.targets.{Target.Target, Value.Value}
 use Rattle.inf_area.specs.Cells.{values_cells}
 use Rattle.inf_arrays.specs.{Kinds.bytes_cells, declared.kinds.ArrayKind.ArrayKind}
 use Rattle.inf_objects.specs.Reading.{filled}
-use Rattle.inf_declaration_laws.specs.Bytes.{AreBytes, BytesAgree, as_bytes, as_words, two_bytes}
+use Rattle.inf_declaration_laws.specs.{ArrayLaws.AreBytes, ArrayLaws.BytesAgree, Arrays.as_bytes, Arrays.as_words, Arrays.two_bytes}
 
 bytes_are : (address : Target → ℕ) (values : List Value) → AreBytes values → filled address (bytes_cells values) ≡ as_bytes address values
 bytes_are address [] fit = refl

@@ -1,4 +1,4 @@
 pub mod Declarations
 pub mod Laws
 pub mod Arrays
-pub mod Bytes
+pub mod ArrayLaws

@@ -1,6 +1,5 @@
 //! Numbers and names are those that the directives of a source describe.
-ghost use Rattle.inf_declaration_laws.specs.Arrays.{EntriesAgree, HeadersOpen};
-ghost use Rattle.inf_declaration_laws.specs.Bytes.{BytesAgree};
+ghost use Rattle.inf_declaration_laws.specs.ArrayLaws.{BytesAgree, EntriesAgree, HeadersOpen};
 ghost use Rattle.inf_declaration_laws.specs.Laws.{CountsAgree, NamesAgree};
 
 /// States that behind directives with which nothing is wrong each name has the meaning of the description, and that there
