@@ -1,0 +1,4 @@
+pub mod Calling
+pub mod Counting
+pub mod Endings
+pub mod Joining
