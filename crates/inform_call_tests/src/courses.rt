@@ -1,0 +1,509 @@
+//! Courses of calls: a source, the calls with their answers, the messages, and the code of the story.
+use crate::playing::play;
+use inf_area::{Target, Value};
+use inf_calls::cx::Closed;
+use inf_output::Simple;
+use inf_settings::settings::Settings;
+use std::alloc::Global;
+use std::marker::Brand;
+use std::process::Abort;
+use std::test::Fail;
+
+/// A call.
+#[derive(Clone, Copy, Debug, PartialEq, Eq)]
+pub enum Call {
+    Directive,
+    Header,
+    /// An expression, of which nothing is wanted.
+    Alone,
+    /// An expression that is an operand.
+    Stack,
+    /// An expression whose value goes to a variable.
+    Into(u8),
+    /// A condition that branches where it is true, and one that branches where it is false.
+    When,
+    Unless,
+    Constant,
+    Line,
+    Mark,
+    Close,
+    Routine,
+}
+
+/// The answer to a call.
+#[derive(Clone, Copy, Debug, PartialEq, Eq)]
+pub enum Answer {
+    Done,
+    Left(Option<Simple>),
+    Is(Value),
+    Stands(Closed),
+    Syntax,
+    Semantic,
+    Wrong,
+    Fatal,
+}
+
+/// A source, the calls and their answers, the messages, and the code of the story from the source's first routine on: none, where
+/// there is no story, or it is not looked at.
+pub struct Course {
+    pub source: &'static [u8],
+    pub rows: &'static [(Call, Answer)],
+    pub lines: &'static str,
+    pub code: &'static [u8],
+}
+
+/// A condition that branches where it is false.
+static BRANCH: Course = Course {
+    source: b"[ Main x; x == 1 or 2 or 3 or 4; @new_line; ];",
+    rows: &[
+        (Call::Header, Answer::Done),
+        (Call::Unless, Answer::Done),
+        (Call::Line, Answer::Done),
+        (Call::Mark, Answer::Done),
+        (Call::Close, Answer::Done),
+    ],
+    lines: "",
+    code: b"\x01\xC1\x95\x01\x01\x02\x03\xC6A\x01\x04C\xBB\xB0",
+};
+
+/// A condition that branches where it is true.
+static TAKEN: Course = Course {
+    source: b"[ Main x y; x && y > 2; @quit; @new_line; ];",
+    rows: &[
+        (Call::Header, Answer::Done),
+        (Call::When, Answer::Done),
+        (Call::Line, Answer::Done),
+        (Call::Mark, Answer::Done),
+        (Call::Line, Answer::Done),
+        (Call::Close, Answer::Done),
+    ],
+    lines: "",
+    code: b"\x02\xA0\x01\xC6C\x02\x02\xC3\xBA\xBB\xB0",
+};
+
+/// Expressions, and the operands that they leave.
+static EXPRESSIONS: Course = Course {
+    source: b"[ Main x y; x = y - 1 - 2 * 3; y; x + y; x + 1; 7; ];",
+    rows: &[
+        (Call::Header, Answer::Done),
+        (Call::Alone, Answer::Left(None)),
+        (Call::Stack, Answer::Left(Some(Simple::Variable(2)))),
+        (Call::Stack, Answer::Left(Some(Simple::Variable(0)))),
+        (Call::Into(16), Answer::Left(Some(Simple::Variable(16)))),
+        (Call::Alone, Answer::Left(None)),
+        (Call::Close, Answer::Done),
+    ],
+    lines: "",
+    code: b"\x02U\x02\x01\x00U\x00\x06\x01t\x01\x02\x00T\x01\x01\x10\xB0",
+};
+
+/// Constants, of which one is a name that is declared nowhere.
+static CONSTANTS: Course = Course {
+    source: b"Constant K = 3; [ Main; ]; K; K + 4 * 2; 'x'; later; 1/0;",
+    rows: &[
+        (Call::Directive, Answer::Done),
+        (
+            Call::Routine,
+            Answer::Stands(Closed {
+                start: 8,
+                len: 4,
+                refs: 0,
+            }),
+        ),
+        (Call::Constant, Answer::Is(Value::Known(3))),
+        (Call::Constant, Answer::Is(Value::Known(11))),
+        (Call::Constant, Answer::Is(Value::Known(120))),
+        (Call::Constant, Answer::Is(Value::Later(Target::Name(2)))),
+        (Call::Constant, Answer::Semantic),
+    ],
+    lines: "t.inf(1): Error: Constant out of range\n",
+    code: b"",
+};
+
+/// A constant that is declared behind its use.
+static LATER: Course = Course {
+    source: b"[ Main x; x = L; ]; L; Constant L = 9;",
+    rows: &[
+        (Call::Header, Answer::Done),
+        (Call::Alone, Answer::Left(None)),
+        (Call::Close, Answer::Done),
+        (Call::Constant, Answer::Is(Value::Later(Target::Name(1)))),
+        (Call::Directive, Answer::Done),
+    ],
+    lines: "",
+    code: b"\x01\xCDO\x01\x00\x09\xB0",
+};
+
+/// A line of assembly.
+static LINES: Course = Course {
+    source: b"[ Main x; @add x 1 -> x; ];",
+    rows: &[
+        (Call::Header, Answer::Done),
+        (Call::Line, Answer::Done),
+        (Call::Close, Answer::Done),
+    ],
+    lines: "",
+    code: b"\x01T\x01\x01\x01\xB0",
+};
+
+/// Calls of a routine with each number of arguments.
+static CALLS: Course = Course {
+    source: b"[ F; ]; [ Main; F(); F(1); F(1,2,3); F(1,2,3,4); F(1,2,3,4,5,6,7); ];",
+    rows: &[
+        (
+            Call::Routine,
+            Answer::Stands(Closed {
+                start: 8,
+                len: 4,
+                refs: 0,
+            }),
+        ),
+        (Call::Header, Answer::Done),
+        (Call::Alone, Answer::Left(None)),
+        (Call::Alone, Answer::Left(None)),
+        (Call::Alone, Answer::Left(None)),
+        (Call::Alone, Answer::Left(None)),
+        (Call::Alone, Answer::Left(None)),
+        (Call::Close, Answer::Done),
+    ],
+    lines: "",
+    code: b"\x00\xB0\x00\x00\x00\x8F\x00\xF2\xDA\x1F\x00\xF2\x01\xF9\x15\x00\xF2\x01\x02\x03\xFA\x15\x7F\x00\xF2\x01\x02\x03\x04\xFA\x15U\x00\xF2\x01\x02\x03\x04\x05\x06\x07\xB0",
+};
+
+/// Units with an error, which have no effect, and one behind them.
+static ERRORS: Course = Course {
+    source: b"[ F; ]; [ Main x;\x0AF(1,2,3,4,5,6,7,8);\x0A5 = 1;\x0Ax = 1/0; x = 2; ];",
+    rows: &[
+        (
+            Call::Routine,
+            Answer::Stands(Closed {
+                start: 8,
+                len: 4,
+                refs: 0,
+            }),
+        ),
+        (Call::Header, Answer::Done),
+        (Call::Alone, Answer::Semantic),
+        (Call::Unless, Answer::Semantic),
+        (Call::Stack, Answer::Semantic),
+        (Call::Alone, Answer::Left(None)),
+        (Call::Close, Answer::Done),
+    ],
+    lines: "t.inf(2): Error: Too many arguments\nt.inf(3): Error: Wrong kind: \"5\"\nt.inf(4): Error: Constant out of range\n",
+    code: b"",
+};
+
+/// Bad tokens: what follows them is passed over up to its semicolon. Behind the end of the source nothing is told again.
+static BAD: Course = Course {
+    source: b"[ Main x;\x0Ax = ) 7; x = 1;\x0A); @add x;\x0A1, 2; x = 1",
+    rows: &[
+        (Call::Header, Answer::Done),
+        (Call::Alone, Answer::Syntax),
+        (Call::Alone, Answer::Left(None)),
+        (Call::Unless, Answer::Syntax),
+        (Call::Line, Answer::Wrong),
+        (Call::Constant, Answer::Syntax),
+        (Call::Alone, Answer::Syntax),
+        (Call::Alone, Answer::Syntax),
+        (Call::Constant, Answer::Syntax),
+        (Call::Line, Answer::Syntax),
+        (Call::Header, Answer::Syntax),
+        (Call::Close, Answer::Syntax),
+        (Call::Routine, Answer::Syntax),
+    ],
+    lines: "t.inf(2): Error: Syntax error at \")\"\nt.inf(3): Error: Syntax error at \")\"\nt.inf(3): Error: Wrong opcode or operands: \"add\"\nt.inf(4): Error: Syntax error at \",\"\nt.inf(4): Error: Syntax error at end of file\n",
+    code: b"",
+};
+
+/// Conditionals inside of a text, and two that a text opens and does not end.
+static SIDES: Course = Course {
+    source: b"Constant K; [ Main x; x = #Ifdef K; 1 #Ifnot; 2 #Endif; ; x\x0A#Ifdef L; + 1 #Endif; ;\x0A#Ifdef K; x = 3; #Endif; x = 4; ];",
+    rows: &[
+        (Call::Directive, Answer::Done),
+        (Call::Header, Answer::Done),
+        (Call::Alone, Answer::Left(None)),
+        (Call::Stack, Answer::Left(Some(Simple::Variable(1)))),
+        (Call::Alone, Answer::Left(None)),
+        (Call::Alone, Answer::Left(None)),
+        (Call::Close, Answer::Done),
+    ],
+    lines: "t.inf(3): Error: Conditional without its other end\nt.inf(3): Error: Conditional without its other end\n",
+    code: b"",
+};
+
+/// Values that need code, and such as need none.
+static VALUES: Course = Course {
+    source: b"Global g; Constant K = 3; [ F a b; a = b; ]; [ Main x y; x + y * 2; K + 2; x == 1 || y; K; y; x = 1, y++; F(x, y + 1); ];",
+    rows: &[
+        (Call::Directive, Answer::Done),
+        (Call::Directive, Answer::Done),
+        (
+            Call::Routine,
+            Answer::Stands(Closed {
+                start: 8,
+                len: 8,
+                refs: 0,
+            }),
+        ),
+        (Call::Header, Answer::Done),
+        (Call::Stack, Answer::Left(Some(Simple::Variable(0)))),
+        (Call::Stack, Answer::Left(Some(Simple::Known(5)))),
+        (Call::Into(16), Answer::Left(Some(Simple::Variable(16)))),
+        (Call::Into(16), Answer::Left(Some(Simple::Variable(16)))),
+        (Call::Into(16), Answer::Left(Some(Simple::Variable(16)))),
+        (Call::Alone, Answer::Left(None)),
+        (Call::Alone, Answer::Left(None)),
+        (Call::Close, Answer::Done),
+    ],
+    lines: "",
+    code: b"\x02-\x01\x02\xB0\x00\x00\x00\x02V\x02\x02\x00t\x01\x00\x00A\x01\x01\xC5\xA0\x02\xC8\x0D\x10\x01\x8C\x00\x05\x0D\x10\x00\x0D\x10\x03-\x10\x02\x0D\x01\x01\x9E\x02\xFF\x95\x02T\x02\x01\x00\xF9+\x00\xF2\x01\x00\xB0",
+};
+
+/// Conditions whose truth is known, and one in which something is wrong.
+static KNOWN: Course = Course {
+    source: b"[ Main x; 1; (x has 5); @quit; later; ];",
+    rows: &[
+        (Call::Header, Answer::Done),
+        (Call::Unless, Answer::Done),
+        (Call::Unless, Answer::Done),
+        (Call::Line, Answer::Done),
+        (Call::Mark, Answer::Done),
+        (
+            Call::Stack,
+            Answer::Left(Some(Simple::Later(Target::Name(1)))),
+        ),
+        (Call::Close, Answer::Done),
+    ],
+    lines: "",
+    code: b"",
+};
+
+/// Texts that are no expressions, a word of a statement, and a label that is nowhere.
+static UNFIT: Course = Course {
+    source: b"[ Main x; x = \x22a@x\x22; x or 1; x == 1 == 2; if (x) quit; x = ; @je x 1 ?~L; ];",
+    rows: &[
+        (Call::Header, Answer::Done),
+        (Call::Alone, Answer::Syntax),
+        (Call::Alone, Answer::Syntax),
+        (Call::Unless, Answer::Syntax),
+        (Call::Alone, Answer::Syntax),
+        (Call::Stack, Answer::Syntax),
+        (Call::Line, Answer::Done),
+        (Call::Close, Answer::Wrong),
+    ],
+    lines: "t.inf(1): Error: Unknown escape\nt.inf(1): Error: Syntax error at \"or\"\nt.inf(1): Error: Syntax error at \"==\"\nt.inf(1): Error: Syntax error at \"quit\"\nt.inf(1): Error: Syntax error at \";\"\nt.inf(1): Error: Label \"L\" is missing\n",
+    code: b"",
+};
+
+/// A routine by its header, its units and its end.
+static PIECEWISE: Course = Course {
+    source: b"[ Main x; x = 1; @add x 1 -> x; x++; ];",
+    rows: &[
+        (Call::Header, Answer::Done),
+        (Call::Alone, Answer::Left(None)),
+        (Call::Line, Answer::Done),
+        (Call::Alone, Answer::Left(None)),
+        (Call::Close, Answer::Done),
+    ],
+    lines: "",
+    code: b"\x01\x0D\x01\x01T\x01\x01\x01\x95\x01\xB0",
+};
+
+/// That routine as a whole.
+static WHOLE: Course = Course {
+    source: b"[ Main x; x = 1; @add x 1 -> x; x++; ];",
+    rows: &[(
+        Call::Routine,
+        Answer::Stands(Closed {
+            start: 8,
+            len: 12,
+            refs: 0,
+        }),
+    )],
+    lines: "",
+    code: b"\x01\x0D\x01\x01T\x01\x01\x01\x95\x01\xB0",
+};
+
+/// A routine with an error, another directive, and a routine with a reference.
+static ROUTINES: Course = Course {
+    source: b"[ F x; x = ); ]; Constant K; [ Main x; x = \x22a\x22; ];",
+    rows: &[
+        (Call::Routine, Answer::Wrong),
+        (
+            Call::Routine,
+            Answer::Stands(Closed {
+                start: 8,
+                len: 0,
+                refs: 0,
+            }),
+        ),
+        (
+            Call::Routine,
+            Answer::Stands(Closed {
+                start: 8,
+                len: 8,
+                refs: 1,
+            }),
+        ),
+    ],
+    lines: "t.inf(1): Error: Syntax error at \")\"\n",
+    code: b"",
+};
+
+/// The end of all reading, and behind it.
+static OVER: Course = Course {
+    source: b"[ Main; ]; End; x;",
+    rows: &[
+        (
+            Call::Routine,
+            Answer::Stands(Closed {
+                start: 8,
+                len: 4,
+                refs: 0,
+            }),
+        ),
+        (Call::Directive, Answer::Done),
+        (Call::Constant, Answer::Syntax),
+        (Call::Alone, Answer::Syntax),
+    ],
+    lines: "",
+    code: b"\x00\xB0\x00\x00",
+};
+
+/// One token more than an expression may have.
+static LONG: Course = Course {
+    source: b"[ Main x; x = 1; x = 1 + 1; x = 2; x; ]; [ F;",
+    rows: &[
+        (Call::Header, Answer::Done),
+        (Call::Alone, Answer::Left(None)),
+        (Call::Alone, Answer::Fatal),
+        (Call::Unless, Answer::Fatal),
+        (Call::Constant, Answer::Fatal),
+        (Call::Line, Answer::Fatal),
+        (Call::Close, Answer::Fatal),
+        (Call::Routine, Answer::Fatal),
+        (Call::Header, Answer::Fatal),
+    ],
+    lines: "t.inf(1): Fatal error: MAX_EXPRESSION_NODES is exceeded\n",
+    code: b"",
+};
+
+/// As many brackets as there may be, and one more.
+static DEEP: Course = Course {
+    source: b"[ Main x; ((((((((((((((((((((((((((((((((((((((((((((((((((((((((((((((((x)))))))))))))))))))))))))))))))))))))))))))))))))))))))))))))))); (((((((((((((((((((((((((((((((((((((((((((((((((((((((((((((((((x)))))))))))))))))))))))))))))))))))))))))))))))))))))))))))))))));",
+    rows: &[
+        (Call::Header, Answer::Done),
+        (Call::Stack, Answer::Left(Some(Simple::Variable(1)))),
+        (Call::Stack, Answer::Fatal),
+    ],
+    lines: "t.inf(1): Fatal error: Nesting over 64\n",
+    code: b"",
+};
+
+/// Makes the calls of a course with the usual settings.
+fn play_usual(rt: &impl Abort, alloc: Global, course: &Course) -> Result<(), Fail> {
+    let settings = Settings::new();
+    play::<Brand>(rt, alloc, &settings, course)
+}
+
+/// Makes the calls of a course where an expression may have `most` tokens.
+fn play_with(rt: &impl Abort, alloc: Global, most: u32, course: &Course) -> Result<(), Fail> {
+    let mut settings = Settings::new();
+    settings.set(b"MAX_EXPRESSION_NODES", most)?;
+    play::<Brand>(rt, alloc, &settings, course)
+}
+
+#[test]
+fn branch(rt: HostRuntime) -> Result<(), Fail> {
+    play_usual(&rt, rt.alloc(), &BRANCH)
+}
+
+#[test]
+fn taken(rt: HostRuntime) -> Result<(), Fail> {
+    play_usual(&rt, rt.alloc(), &TAKEN)
+}
+
+#[test]
+fn expressions(rt: HostRuntime) -> Result<(), Fail> {
+    play_usual(&rt, rt.alloc(), &EXPRESSIONS)
+}
+
+#[test]
+fn constants(rt: HostRuntime) -> Result<(), Fail> {
+    play_usual(&rt, rt.alloc(), &CONSTANTS)
+}
+
+#[test]
+fn later(rt: HostRuntime) -> Result<(), Fail> {
+    play_usual(&rt, rt.alloc(), &LATER)
+}
+
+#[test]
+fn lines(rt: HostRuntime) -> Result<(), Fail> {
+    play_usual(&rt, rt.alloc(), &LINES)
+}
+
+#[test]
+fn calls(rt: HostRuntime) -> Result<(), Fail> {
+    play_usual(&rt, rt.alloc(), &CALLS)
+}
+
+#[test]
+fn errors(rt: HostRuntime) -> Result<(), Fail> {
+    play_usual(&rt, rt.alloc(), &ERRORS)
+}
+
+#[test]
+fn bad(rt: HostRuntime) -> Result<(), Fail> {
+    play_usual(&rt, rt.alloc(), &BAD)
+}
+
+#[test]
+fn sides(rt: HostRuntime) -> Result<(), Fail> {
+    play_usual(&rt, rt.alloc(), &SIDES)
+}
+
+#[test]
+fn values(rt: HostRuntime) -> Result<(), Fail> {
+    play_usual(&rt, rt.alloc(), &VALUES)
+}
+
+#[test]
+fn known(rt: HostRuntime) -> Result<(), Fail> {
+    play_usual(&rt, rt.alloc(), &KNOWN)
+}
+
+#[test]
+fn unfit(rt: HostRuntime) -> Result<(), Fail> {
+    play_usual(&rt, rt.alloc(), &UNFIT)
+}
+
+#[test]
+fn piecewise(rt: HostRuntime) -> Result<(), Fail> {
+    play_usual(&rt, rt.alloc(), &PIECEWISE)
+}
+
+#[test]
+fn whole(rt: HostRuntime) -> Result<(), Fail> {
+    play_usual(&rt, rt.alloc(), &WHOLE)
+}
+
+#[test]
+fn routines(rt: HostRuntime) -> Result<(), Fail> {
+    play_usual(&rt, rt.alloc(), &ROUTINES)
+}
+
+#[test]
+fn over(rt: HostRuntime) -> Result<(), Fail> {
+    play_usual(&rt, rt.alloc(), &OVER)
+}
+
+#[test]
+fn long(rt: HostRuntime) -> Result<(), Fail> {
+    play_with(&rt, rt.alloc(), 3, &LONG)
+}
+
+#[test]
+fn deep(rt: HostRuntime) -> Result<(), Fail> {
+    play_with(&rt, rt.alloc(), 1000, &DEEP)
+}

@@ -1,0 +1,7 @@
+//! Tests of calls that read a text by itself: their answers, the messages and the bytes of the code.
+#![tactic(auto)]
+
+#[cfg(test)]
+mod courses;
+#[cfg(test)]
+mod playing;
