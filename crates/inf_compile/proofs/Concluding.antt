@@ -1,7 +1,7 @@
 -- The bytes written up to the end of a compilation, or up to where it was given up.
 use Rattle.std.proofs.Common.{◌≡◌, ℕ, ◌+◌, ◌≤◌, List, [], ◌∷◌, ◌++◌, length, length-append, map, reverse, get_or, unwrap_or, cond, drop}
 use Rattle.std.proofs.Common.{Bool, true, false, Option, Some, None, arith, Result, Ok, Err, IfOk, IfErr, OnErr, refl, sym, ap, subst, ◌∙◌}
-use Rattle.std.proofs.Common.{append_assoc, OnOk}
+use Rattle.std.proofs.Common.{append_assoc, IsErrOf, OnOk}
 use Rattle.inf_settings.specs.Bounds.{limits_of, Limits}
 use Rattle.inf_devices.specs.{Files.Opening, Files.Openings, Files.Sources, Files.opened, Sinks.Takes}
 use Rattle.inf_lexer.specs.{Readers.Reader, Unread.View, Unread.innermost_place, Unread.unread_of}
@@ -19,10 +19,12 @@ use Rattle.inf_session.specs.Leading.{CutsShort, Writes}
 use Rattle.inf_session.specs.Session.{IsRead, State, begun_with, first_state, has_ended, run, start}
 use Rattle.inf_ending.specs.{Delivered.Delivers, Delivered.IsFront, Delivered.TakesFront, Ending.Outcome, Ending.finished, Ending.missing}
 use Rattle.inf_ending.specs.{Faults.Caused, Faults.IfRead, declared.compiled.Compiled.Compiled, declared.faults.Fault.Fault}
-use Rattle.inf_session.proofs.{Leadings.end_begins, Leadings.front_more, Leadings.front_then, Leadings.same_end, Supplying.supplied_begins}
+use Rattle.inf_session.proofs.{Leadings.end_begins, Leadings.front_more, Leadings.front_same, Leadings.front_then, Leadings.same_end}
+use Rattle.inf_session.proofs.{Supplying.supplied_begins}
 use Rattle.inf_ending.proofs.Delivering.{takes_none, takes_then}
 use Rattle.inf_compile.specs.Comes.{AreAt, AreNear, Begins, BreaksOff, BreaksOffAll, Comes, Concludes, Ends, EndsAll, OpenedBy, Stops}
-use Rattle.inf_compile.specs.Comes.{SuppliesAll, SuppliesPart, WereOpened, numbers_of}
+use Rattle.inf_compile.specs.Comes.{StopsEarly, SuppliesAll, SuppliesPart, WereOpened, numbers_of}
+use Rattle.inf_compile.specs.Compiling.{IfMemory}
 use Rattle.inf_compile.specs.Outcome.{IsCompiled, IsOutcomeOf, ending_of}
 
 -- fronts of two texts behind the same text are fronts
@@ -215,6 +217,97 @@ stops_ending limits sources o serial was now old mid new turns w over t = record
       ∙ read.leads in
       subst (λ (x : State). IsFront (w.lines ++ t.front) (ending_of limits o serial x).messages) same (t.begins w.lines);
 }
+
+-- where the messages of the veneer were not all written, or nothing behind them
+
+pub supplies_early : {B : Type 0} (limits : Limits) (o : Choices) (was now : Session B) (old new : Option (List ℕ))
+    → SuppliesAll limits o was now old new → SuppliesPart limits o was old new
+unfolding SuppliesAll SuppliesPart
+supplies_early limits o was now old new all = λ sources start opened.
+    let w = all sources start opened in
+    record {
+      front = w.lines;
+      takes = w.takes;
+      begins = λ told. subst (λ (t : State). IsFront (told ++ w.lines) t.told) (w.same told) (front_same (told ++ w.lines));
+    }
+
+pub early_reading : (limits : Limits) (sources : Sources) (o : Choices) (was : List ℕ → State) (old new : Option (List ℕ)) (turns : ℕ)
+    → CutsShort (run limits sources o turns) was old new → StopsEarly limits sources o (was []) old new
+early_reading limits sources o was old new turns cut = record {
+  front = cut.front;
+  takes = cut.takes;
+  begins = λ final read.
+      let s = was [] in
+      let some : IsFront (run limits sources o turns s).told final.told =
+      subst (λ (t : State). IsFront (run limits sources o turns s).told t.told) read.leads
+      (end_begins limits sources o turns read.turns s (ap has_ended read.leads ∙ read.ends)) in
+      let v = supplied limits o final in
+      front_then cut.front final.told v.told
+      (front_then cut.front (run limits sources o turns s).told final.told (cut.begins []) some) (supplied_begins limits o final);
+}
+
+pub early_none : (limits : Limits) (sources : Sources) (o : Choices) (s : State) (old : Option (List ℕ))
+    → StopsEarly limits sources o s old old
+early_none limits sources o s old = record {
+  front = [];
+  takes = takes_none old;
+  begins = λ final read. record { rest = (supplied limits o final).told; is_cut = refl };
+}
+
+pub early_ending : {B : Type 0} (limits : Limits) (sources : Sources) (o : Choices) (was : List ℕ → State) (session : Session B)
+    (start opened : Openings) (old mid new : Option (List ℕ)) (turns : ℕ)
+    → Writes (run limits sources o turns) was (state sources start opened session) old mid
+    → ((told : List ℕ) → has_ended (state sources start opened session told) ≡ true)
+    → SuppliesPart limits o session mid new → StopsEarly limits sources o (was []) old new
+unfolding SuppliesPart
+early_ending limits sources o was session start opened old mid new turns w over part =
+    let now = state sources start opened session in
+    let t = part sources start opened in
+    record {
+      front = w.lines ++ t.front;
+      takes = takes_then old mid new w.lines t.front w.takes t.takes;
+      begins = λ final read.
+          let s = was [] in
+          let here : run limits sources o turns s ≡ now w.lines = sym (w.same []) in
+          let same : now w.lines ≡ final =
+          sym here ∙ same_end limits sources o turns read.turns s (ap has_ended here ∙ over w.lines) (ap has_ended read.leads ∙ read.ends)
+          ∙ read.leads in
+          subst (λ (x : State). IsFront (w.lines ++ t.front) (supplied limits o x).told) same (t.begins w.lines);
+    }
+
+-- Want of memory
+
+pub memory_any : (f : Fault) (A : Type 0) → A → IfMemory f A
+memory_any Fault.Memory A holds = holds
+memory_any (Fault.Read name) A holds = tt
+memory_any Fault.Messages A holds = tt
+memory_any (Fault.Story n) A holds = tt
+
+memory_more : (f : Fault) (A B : Type 0) → (A → B) → IfMemory f A → IfMemory f B
+memory_more Fault.Memory A B h holds = h holds
+memory_more (Fault.Read name) A B h holds = tt
+memory_more Fault.Messages A B h holds = tt
+memory_more (Fault.Story n) A B h holds = tt
+
+pub if_memory_any : {T : Type 0} (r : Result T Fault) (A : Type 0) → A → IfErr r (λ f. IfMemory f A)
+if_memory_any (Ok x) A holds = tt
+if_memory_any (Err f) A holds = memory_any f A holds
+
+pub if_memory_more : {T : Type 0} (r : Result T Fault) (A B : Type 0) → (A → B) → IfErr r (λ f. IfMemory f A) → IfErr r (λ f. IfMemory f B)
+if_memory_more (Ok x) A B h holds = tt
+if_memory_more (Err f) A B h holds = memory_more f A B h holds
+
+pub if_memory : {T : Type 0} (r : Result T Fault) (A : Type 0) → (IsErrOf r Fault.Memory → A) → IfErr r (λ f. IfMemory f A)
+if_memory (Ok x) A h = tt
+if_memory (Err Fault.Memory) A h = h refl
+if_memory (Err (Fault.Read name)) A h = tt
+if_memory (Err Fault.Messages) A h = tt
+if_memory (Err (Fault.Story n)) A h = tt
+
+-- messages that could not be written are no want of memory
+pub never_memory : {T : Type 0} (r : Result T Fault) (A : Type 0) → IfErr r (λ f. f ≡ Fault.Messages) → IfErr r (λ f. IfMemory f A)
+never_memory (Ok x) A only = tt
+never_memory (Err f) A only = subst (λ (x : Fault). IfMemory x A) (sym only) tt
 
 -- a fault that is none of reading has no name
 unread_none : (f : Fault) (P : List ℕ → Type 0) (Q : Type 0) → Caused f (λ name. ⊥) Q → IfRead f P

@@ -6,7 +6,7 @@ use Rattle.inf_devices.specs.{Files.Openings, Files.Sources, Sinks.Takes}
 use Rattle.inf_session.specs.{Choices.Choices, Session.State}
 use Rattle.inf_compile.specs.Comes.{Begins, Comes, OpenedBy, OpenedPart}
 use Rattle.inf_compile.specs.Compiling.{Compiles, DeliversPart, HasCause, OnlyStory, TakesClean, TakesPart, TakesStory, named_by}
-use Rattle.inf_compile.specs.Compiling.{no_sources}
+use Rattle.inf_compile.specs.Compiling.{IfMemory, no_sources}
 use Rattle.inf_ending.specs.{Ending.Outcome, Ending.missing, Faults.Caused, Faults.IfRead, Faults.IfStory, Faults.UnlessStory}
 use Rattle.inf_ending.specs.{declared.compiled.Compiled.Compiled, declared.compiled.Status.Status, declared.faults.Fault.Fault}
 use Rattle.inf_ending.specs.Delivered.{IsFront, EndsClean, SucceedsClean, TakesFront, story_in}
@@ -197,3 +197,15 @@ pub none_clean : (r : Result Status Fault) (writing A : Type 0) (B : ℕ → Typ
     → MatchResult r (λ s. s ≡ Status.Success → A) (λ fault. IfStory fault B)
 none_clean (Ok s) writing A B is cause = λ success. no_success s A is success
 none_clean (Err fault) writing A B is cause = none_told fault writing B cause
+
+-- a fault of the story alone is no want of memory
+
+story_only : (f : Fault) (P : ℕ → Type 0) (A : Type 0) → OnlyStory f P → IfMemory f A
+story_only Fault.Memory P A only = absurd only
+story_only (Fault.Read name) P A only = tt
+story_only Fault.Messages P A only = tt
+story_only (Fault.Story n) P A only = tt
+
+pub never_story : {T : Type 0} (r : Result T Fault) (P : ℕ → Type 0) (A : Type 0) → IfErr r (λ f. OnlyStory f P) → IfErr r (λ f. IfMemory f A)
+never_story (Ok x) P A only = tt
+never_story (Err f) P A only = story_only f P A only

@@ -128,6 +128,12 @@ pub record Stops (limits : Limits) (sources : Sources) (o : Choices) (serial : L
     pub takes : Takes before after front
     pub begins : (final : State) → IsRead limits sources o s final → IsFront front (ending_of limits o serial final).messages
 
+-- Reading, or that of the veneer behind it, was given up: a front was written of the messages that come before those of the ending.
+pub record StopsEarly (limits : Limits) (sources : Sources) (o : Choices) (s : State) (before after : Option (List ℕ)) : Type 0 where
+  pub front : List ℕ
+  pub takes : Takes before after front
+  pub begins : (final : State) → IsRead limits sources o s final → IsFront front (supplied limits o final).told
+
 -- Reading was given up in a token of the innermost file: the bytes given of its opening, which was not read out, do not end the token; of
 -- a source that has too many bytes, those that it may have do not. The openings are those of the reading up to there.
 pub record StopsReading (failed : Type 0) (sources : Sources) (s : State) (old new : Openings) (told : List ℕ) : Type 0 where

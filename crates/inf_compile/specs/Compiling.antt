@@ -28,6 +28,13 @@ abbrev pub TakesPart : Option (List ℕ) → ℕ → Option (List ℕ) → Optio
 TakesPart None n old new = ⊥
 TakesPart (Some story) n old new = (n < length story) × Takes old new (take n story)
 
+-- a statement about want of memory alone
+abbrev pub IfMemory : Fault → Type 0 → Type 0
+IfMemory Fault.Memory P = P
+IfMemory (Fault.Read name) P = Unit {0}
+IfMemory Fault.Messages P = Unit {0}
+IfMemory (Fault.Story n) P = Unit {0}
+
 -- a fault of the story's sink alone
 abbrev pub OnlyStory : Fault → (ℕ → Type 0) → Type 0
 OnlyStory (Fault.Story n) P = P n

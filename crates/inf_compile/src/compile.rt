@@ -1,11 +1,13 @@
 ghost use Rattle.std.specs.Prelude.{◌≡◌, codes, IsTrue, IfOk, IfErr, MatchResult, Ok, OnOk, OnErr, Some};
 ghost use Rattle.inf_devices.specs.{Files.Rose, Sinks.Takes};
 ghost use Rattle.inf_command.specs.FileNames.{source_name};
-ghost use Rattle.inf_compile.specs.Comes.{Begins, Heard, IsUnread, OpenedBy, OpenedPart};
+ghost use Rattle.inf_compile.specs.Comes.{Begins, Heard, IsUnread, OpenedBy, OpenedPart, StopsEarly};
 ghost use Rattle.inf_compile.specs.Compiling.{Compiles, DeliversPart, HasCause, OnlyStory, TakesClean, TakesPart, TakesStory};
-ghost use Rattle.inf_compile.specs.Compiling.{chosen_by, named_by};
+ghost use Rattle.inf_compile.specs.Compiling.{IfMemory, chosen_by, named_by};
 ghost use Rattle.inf_ending.specs.{Delivered.TakesFront, Delivered.story_in, Ending.missing};
 ghost use Rattle.inf_ending.specs.Faults.{HidesNoFailure, IfRead, IfStory, TellsEachRead, UnlessStory};
+ghost use Rattle.inf_session.specs.Session.{start};
+ghost use Rattle.inf_settings.specs.Bounds.{limits_of};
 
 use crate::translation::translate;
 use inf_command::command_line::{Options, source_name};
@@ -55,6 +57,9 @@ fn compile_named<F: Files, M: Sink, S: Sink>(
     ensures begins { IsTrue (F.is_honest files.old) → OnErr result
         (Begins (F.sources files.old) (chosen_by (F.sources files.old) options.now) date (source_name options.now.source)
         (M.taken messages.old) (M.taken messages.new)) }
+    ensures early { let name = source_name options.now.source in let o = chosen_by (F.sources files.old) options.now in
+        IsTrue (F.is_honest files.old) → IfErr result (λ fault. IfMemory fault (StopsEarly (limits_of o.settings) (F.sources files.old) o
+        (start (F.sources files.old) o name) (M.taken messages.old) (M.taken messages.new))) }
     ensures heard { let name = source_name options.now.source in
         IsTrue (F.is_honest files.old) → IfErr result (λ fault. IfRead fault (λ told. Heard (Rose (F.faults files.old) (F.faults files.new))
         (F.sources files.old) (chosen_by (F.sources files.old) options.now) name (F.openings files.old) (F.openings files.new)
@@ -95,6 +100,7 @@ fn refuse<M: Sink>(alloc: Global, messages: &mut M) -> Result<Status, Fault>
         (missing (codes ".inf")).messages) }
     ensures err { OnErr result (TakesFront (missing (codes ".inf")).messages (M.taken messages.old) (M.taken messages.new)) }
     ensures fault { IfErr result (λ fault. HasCause fault (λ name. ⊥) (Rose (M.failures messages.old) (M.failures messages.new)) (λ n. ⊥)) }
+    ensures memory { IfErr result (λ fault. IfMemory fault (messages.new ≡ messages.old)) }
     ensures quiet { HidesNoFailure result (M.failures messages.old) (M.failures messages.new) }
 {
     let ending = no_file(alloc, b".inf")?;
@@ -149,6 +155,12 @@ pub fn compile<F: Files, M: Sink, S: Sink>(
     ensures begins { IsTrue (F.is_honest files.old) → OnErr result
         (Begins (named_by options.now.source (F.sources files.old)) (chosen_by (F.sources files.old) options.now) date
         (source_name options.now.source) (M.taken messages.old) (M.taken messages.new)) }
+
+    // Where memory lacks, none of the last messages was written, of which the closing line is one.
+    ensures early { let name = source_name options.now.source in let s = named_by options.now.source (F.sources files.old) in
+        let o = chosen_by (F.sources files.old) options.now in
+        IsTrue (F.is_honest files.old) → IfErr result (λ fault. IfMemory fault (StopsEarly (limits_of o.settings) s o (start s o name)
+        (M.taken messages.old) (M.taken messages.new))) }
 
     // After a fault of reading it is all that comes with the tokens that were read, of some number of turns from the start, and behind them
     // there is a cause: the device failed, the innermost file is too long, or its inclusion names one file too many. In the head of the

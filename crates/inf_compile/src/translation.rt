@@ -4,13 +4,13 @@ ghost use Rattle.inf_devices.specs.Files.{Rose};
 ghost use Rattle.inf_sources.specs.Calls.{Honestly, IsUnreadable, Kept, StaysFit, Went};
 ghost use Rattle.inf_sources.specs.Open.{nesting, opened_since};
 ghost use Rattle.inf_session.specs.{Choices.chosen, Choices.most_quoted, Leading.GivenUp, Leading.OpensAll, Session.first_state};
-ghost use Rattle.inf_session.specs.{Session.run, Standing.IsSet, Standing.state};
+ghost use Rattle.inf_session.specs.{Session.run, Session.start, Standing.IsSet, Standing.state};
 ghost use Rattle.inf_ending.specs.Delivered.{Appends, SucceedsClean};
 ghost use Rattle.inf_ending.specs.Faults.{Caused, HidesNoFailure, IfRead, TellsEachRead};
 ghost use Rattle.inf_settings.specs.Bounds.{limits_of};
 ghost use Rattle.inf_compile.specs.Chosen.{begun_at, chosen_at, chosen_for};
 ghost use Rattle.inf_compile.specs.Comes.{Begins, BreaksOffAll, Comes, Concludes, EndsAll, GivenUpFrom, Heard, IsUnread, OpenedPart, Stops};
-ghost use Rattle.inf_compile.specs.Comes.{SuppliesAll, SuppliesPart};
+ghost use Rattle.inf_compile.specs.{Comes.StopsEarly, Comes.SuppliesAll, Comes.SuppliesPart, Compiling.IfMemory};
 
 use crate::heads::read_head;
 use inf_command::command_line::Options;
@@ -52,6 +52,10 @@ pub fn translate<F: Files, M: Sink>(
         (F.openings files.old) (F.openings files.new) (M.taken messages.old) (M.taken messages.new) compiled) }
     ensures begins { IsTrue (F.is_honest files.old) → OnErr result (Begins (F.sources files.old)
         (chosen_for (F.sources files.old) name.now options.now) serial.now name.now (M.taken messages.old) (M.taken messages.new)) }
+    // At want of memory none of the last messages was written, of which the closing line is one.
+    ensures early { let o = chosen_for (F.sources files.old) name.now options.now in
+        IsTrue (F.is_honest files.old) → IfErr result (λ fault. IfMemory fault (StopsEarly (limits_of o.settings) (F.sources files.old) o
+        (start (F.sources files.old) o name.now) (M.taken messages.old) (M.taken messages.new))) }
     // At any fault the openings are those of a part of the reading.
     ensures opened { IsTrue (F.is_honest files.old) → OnErr result (OpenedPart (F.sources files.old)
         (chosen_for (F.sources files.old) name.now options.now) name.now (F.openings files.old) (F.openings files.new)) }
@@ -111,6 +115,10 @@ fn translate_opened<F: Files, M: Sink>(
         let was = nesting (F.sources files.old) start (F.openings files.old) open_files in
         Stops (limits_of (chosen_at was options.now).settings) (F.sources files.old) (chosen_at was options.now) serial.now
         (begun_at was options.now []) (M.taken messages.old) (M.taken messages.new))) }
+    ensures early { Honestly F.Files files.old open_files (λ start. IfErr result.1 (λ fault. IfMemory fault (
+        let was = nesting (F.sources files.old) start (F.openings files.old) open_files in
+        StopsEarly (limits_of (chosen_at was options.now).settings) (F.sources files.old) (chosen_at was options.now)
+        (begun_at was options.now []) (M.taken messages.old) (M.taken messages.new)))) }
     ensures heard { Honestly F.Files files.old open_files (λ start. IfErr result.1 (λ fault. IfRead fault (λ name.
         let was = nesting (F.sources files.old) start (F.openings files.old) open_files in
         GivenUpFrom (limits_of (chosen_at was options.now).settings) (Rose (F.faults files.old) (F.faults files.new)) (F.sources files.old)
@@ -175,6 +183,10 @@ fn translate_under<F: Files, M: Sink, B: Bounds>(
         OnErr result.1 (Stops (limits_of setup.entry.settings.now) (F.sources files.old) (chosen setup.entry) serial.now
         (first_state (chosen setup.entry) (nesting (F.sources files.old) start (F.openings files.old) open_files) [])
         (M.taken messages.old) (M.taken messages.new))) }
+    ensures early { Honestly F.Files files.old open_files (λ start. IfErr result.1 (λ fault. IfMemory fault (
+        StopsEarly (limits_of setup.entry.settings.now) (F.sources files.old) (chosen setup.entry)
+        (first_state (chosen setup.entry) (nesting (F.sources files.old) start (F.openings files.old) open_files) [])
+        (M.taken messages.old) (M.taken messages.new)))) }
     ensures heard { Honestly F.Files files.old open_files (λ start.
         IfErr result.1 (λ fault. IfRead fault (λ name. GivenUp (limits_of setup.entry.settings.now)
         (Rose (F.faults files.old) (F.faults files.new)) (F.sources files.old) (chosen setup.entry)
@@ -218,6 +230,9 @@ fn read_out<F: Files, M: Sink, B: Bounds>(
     ensures stops { Honestly F.Files files.old session.entry.open_files (λ start.
         OnErr result.1 (Stops B.most (F.sources files.old) (chosen session.entry.setup) serial.now
         (state (F.sources files.old) start (F.openings files.old) session.entry []) (M.taken messages.old) (M.taken messages.new))) }
+    ensures early { Honestly F.Files files.old session.entry.open_files (λ start.
+        IfErr result.1 (λ fault. IfMemory fault (StopsEarly B.most (F.sources files.old) (chosen session.entry.setup)
+        (state (F.sources files.old) start (F.openings files.old) session.entry []) (M.taken messages.old) (M.taken messages.new)))) }
     ensures heard { Honestly F.Files files.old session.entry.open_files (λ start.
         IfErr result.1 (λ fault. IfRead fault (λ name. GivenUp B.most (Rose (F.faults files.old) (F.faults files.new)) (F.sources files.old)
         (chosen session.entry.setup)
@@ -270,6 +285,8 @@ fn supply_out<M: Sink, B: Bounds>(
         (M.taken messages.old) (M.taken messages.new)) }
     ensures err { OnErr result.1 (BreaksOffAll B.most (chosen session.entry.setup) serial.now session.entry (M.taken messages.old)
         (M.taken messages.new)) }
+    ensures early { IfErr result.1 (λ fault. IfMemory fault (SuppliesPart B.most (chosen session.entry.setup) session.entry
+        (M.taken messages.old) (M.taken messages.new))) }
     ensures files { result.0 ≡ session.entry.open_files }
     ensures errors { IfOk result.1 (λ compiled. compiled.status ≡ Status.Errors → compiled.story ≡ None) }
     ensures clean { IfOk result.1 (λ compiled. SucceedsClean serial.now compiled (M.taken messages.old) (M.taken messages.new)) }

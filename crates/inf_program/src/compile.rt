@@ -2,8 +2,10 @@ ghost use Rattle.std.specs.Prelude.{◌≡◌, IsTrue, IfOk, IfErr, MatchResult,
 ghost use Rattle.inf_devices.specs.{Files.Rose, Sinks.Takes};
 ghost use Rattle.inf_command.specs.FileNames.{source_name};
 ghost use Rattle.inf_ending.specs.Faults.{HidesNoFailure, IfRead, IfStory, TellsEachRead, UnlessStory};
-ghost use Rattle.inf_compile.specs.Comes.{Heard, IsUnread, OpenedBy, OpenedPart};
-ghost use Rattle.inf_compile.specs.Compiling.{HasCause, TakesClean, TakesPart, chosen_by, named_by};
+ghost use Rattle.inf_session.specs.Session.{start};
+ghost use Rattle.inf_settings.specs.Bounds.{limits_of};
+ghost use Rattle.inf_compile.specs.Comes.{Heard, IsUnread, OpenedBy, OpenedPart, StopsEarly};
+ghost use Rattle.inf_compile.specs.Compiling.{HasCause, IfMemory, TakesClean, TakesPart, chosen_by, named_by};
 ghost use Rattle.inf_program.specs.Compiling.{Begins, Compiles, DeliversPart};
 
 use inf_command::command_line::Options;
@@ -59,6 +61,12 @@ pub fn compile<F: Files, M: Sink, S: Sink>(
     ensures begins { IsTrue (F.is_honest files.old) → OnErr result
         (Begins (named_by options.now.source (F.sources files.old)) (chosen_by (F.sources files.old) options.now) date
         (source_name options.now.source) (M.taken messages.old) (M.taken messages.new)) }
+
+    // Where memory lacks, none of the last messages was written, of which the closing line is one.
+    ensures early { let name = source_name options.now.source in let s = named_by options.now.source (F.sources files.old) in
+        let o = chosen_by (F.sources files.old) options.now in
+        IsTrue (F.is_honest files.old) → IfErr result (λ fault. IfMemory fault (StopsEarly (limits_of o.settings) s o (start s o name)
+        (M.taken messages.old) (M.taken messages.new))) }
 
     // After a fault of reading it is all that comes with the tokens that were read, of some number of turns from the start, and behind them
     // there is a cause: the device failed, the innermost file is too long, or its inclusion names one file too many. In the head of the

@@ -1,10 +1,13 @@
-use Rattle.std.proofs.Common.{IfOk, IfErr, OnOk, OnErr, ◌≡◌, ◌==◌, inl, ℕ, List, codes, length, true, false, refl, sym, ◌∙◌}
+use Rattle.std.proofs.Common.{IfOk, IfErr, OnOk, OnErr, ◌≡◌, ◌==◌, inl, ℕ, List, Option, ap, codes, length, true, false, refl, subst, sym, ◌∙◌}
 use Rattle.std.proofs.lemmas.Result.{IfErr-weaker, IfOk-weaker, on_err_weaker}
 use Rattle.inf_opcode.proofs.Growing.{on_err}
 use Rattle.inf_devices.specs.{Files.Rose, Files.Sources, Sinks.Takes}
 use Rattle.inf_command.specs.FileNames.{source_name}
-use Rattle.inf_compile.specs.Comes.{Begins, Heard, OpenedBy, OpenedPart}
-use Rattle.inf_compile.specs.Compiling.{Compiles, DeliversPart, HasCause, chosen_by, named_by}
+use Rattle.inf_session.specs.Session.{start}
+use Rattle.inf_settings.specs.Bounds.{limits_of}
+use Rattle.inf_compile.specs.Comes.{Begins, Heard, OpenedBy, OpenedPart, StopsEarly}
+use Rattle.inf_compile.proofs.Concluding.{early_none, if_memory_more}
+use Rattle.inf_compile.specs.Compiling.{Compiles, DeliversPart, HasCause, IfMemory, chosen_by, named_by}
 use Rattle.inf_ending.specs.{Ending.missing, Faults.IfRead, Faults.IfStory, declared.compiled.Status.Status}
 use Rattle.inf_compile.proofs.Delivering.{all_named, more_caused, none_clean, none_read, none_told, refused_begins, refused_compiles}
 use Rattle.inf_compile.proofs.Delivering.{refused_opens, unfailed_always}
@@ -188,3 +191,36 @@ pub returns-then-names_nothing-clause-seen : goal.returns-then-names_nothing-cla
 returns-then-names_nothing-clause-seen g c =
     let faults = g.F.Files.faults c.args.files.now in
     tells_none c.refuse.result faults faults refl
+
+pub returns-clause-early : goal.returns-clause-early
+returns-clause-early g c = λ honest.
+    let files = g.F.Files in
+    let options = c.args.options.now in
+    let s = files.sources c.args.files.now in
+    let o = chosen_by s options in
+    let word = options.source in
+    let name = source_name word in
+    let date = c.args.date in
+    let before = g.M.Sink.taken c.args.messages.now in
+    let story_old = g.S.Sink.taken c.args.story.now in
+    let after = g.M.Sink.taken c.compile_named.new.messages in
+    let story_new = g.S.Sink.taken c.compile_named.new.story in
+    let old = files.openings c.args.files.now in
+    let new = files.openings c.compile_named.new.files in
+    let some = sym c.names_nothing.ensures ∙ c.if-names_nothing.false in
+    all_named (λ (x : Sources). IfErr c.compile_named.result (λ fault. IfMemory fault (StopsEarly (limits_of o.settings) x o (start x o name)
+    before after))) word s some (c.compile_named.ensures.early honest)
+
+pub returns-then-names_nothing-clause-early : goal.returns-then-names_nothing-clause-early
+returns-then-names_nothing-clause-early g c = λ honest.
+    let options = c.args.options.now in
+    let s = g.F.Files.sources c.args.files.now in
+    let o = chosen_by s options in
+    let named = named_by options.source s in
+    let m = g.M.Sink in
+    let before = m.taken c.args.messages.now in
+    let after = m.taken c.refuse.new.messages in
+    let was = start named o (source_name options.source) in
+    if_memory_more c.refuse.result (c.refuse.new.messages ≡ c.args.messages.now) (StopsEarly (limits_of o.settings) named o was before after)
+    (λ same. subst (λ (x : Option (List ℕ)). StopsEarly (limits_of o.settings) named o was before x) (sym (ap m.taken same))
+    (early_none (limits_of o.settings) named o was before)) c.refuse.ensures.memory

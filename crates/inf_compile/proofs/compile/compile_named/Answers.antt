@@ -1,7 +1,12 @@
-use Rattle.std.proofs.Common.{rules, ◌≡◌, ℕ, List, IfErr, refl, ap, ◌∙◌}
+use Rattle.std.proofs.Common.{rules, ◌≡◌, ℕ, List, IfErr, refl, ap, subst, ◌∙◌}
+use Rattle.inf_command.specs.FileNames.{source_name}
+use Rattle.inf_session.specs.Session.{start}
+use Rattle.inf_settings.specs.Bounds.{limits_of}
+use Rattle.inf_compile.specs.Comes.{StopsEarly}
+use Rattle.inf_compile.proofs.Concluding.{early_none, if_memory_any, if_memory_more}
 use Rattle.inf_opcode.proofs.Growing.{on_err}
-use Rattle.inf_compile.specs.{Chosen.chosen_for, Compiling.chosen_by}
-use Rattle.inf_compile.proofs.Delivering.{begins_whole, clean_where_delivered, opened_whole}
+use Rattle.inf_compile.specs.{Chosen.chosen_for, Compiling.IfMemory, Compiling.chosen_by}
+use Rattle.inf_compile.proofs.Delivering.{begins_whole, clean_where_delivered, never_story, opened_whole}
 use Rattle.inf_ending.specs.Faults.{UnlessMessages, UnlessRead}
 use Rattle.inf_ending.proofs.Quiet.{hides_always, hides_behind, hides_none}
 use Rattle.inf_session.proofs.Telling.{tells_behind, tells_none}
@@ -72,3 +77,26 @@ pub returns-clause-seen : goal.returns-clause-seen
 returns-clause-seen g c =
     tells_none c.deliver.result (g.F.Files.faults c.args.files.now) (g.F.Files.faults c.translate.new.files)
     c.in_ok-compiled.ensures.seen.0
+
+-- want of memory
+
+pub returns-in_err-name-clause-early : goal.returns-in_err-name-clause-early
+returns-in_err-name-clause-early g c = λ honest. if_memory_any c.from_residual.result _ (early_none _ _ _ _ _)
+
+pub returns-in_err-compiled-clause-early : goal.returns-in_err-compiled-clause-early
+returns-in_err-compiled-clause-early g c = λ honest.
+    let s = g.F.Files.sources c.args.files.now in
+    let options = c.args.options.now in
+    let before = g.M.Sink.taken c.args.messages.now in
+    let after = g.M.Sink.taken c.translate.new.messages in
+    let named = c.as_str.ensures.value ∙ c.in_ok-name.ensures.bytes in
+    let At : List ℕ → Type 0 =
+    λ name. StopsEarly (limits_of (chosen_for s name options).settings) s (chosen_for s name options)
+    (start s (chosen_for s name options) name) before after in
+    let told : IfErr c.translate.result (λ fault. IfMemory fault (At c.as_str.result.now)) = c.translate.ensures.early honest in
+    let passed : IfErr c.from_residual-in_err-compiled.result (λ fault. IfMemory fault (At c.as_str.result.now)) = search rules in
+    if_memory_more c.from_residual-in_err-compiled.result (At c.as_str.result.now) (At (source_name options.source))
+    (λ early. subst At named early) passed
+
+pub returns-clause-early : goal.returns-clause-early
+returns-clause-early g c = λ honest. never_story c.deliver.result _ _ c.deliver.ensures.story

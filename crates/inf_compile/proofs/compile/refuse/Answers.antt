@@ -1,5 +1,7 @@
 -- Only a fault of writing the messages counts a failure.
 use Rattle.std.proofs.Common.{rules, ◌≡◌, IfErr, refl}
+use Rattle.inf_compile.proofs.Concluding.{if_memory_any, never_memory}
+use Rattle.inf_ending.specs.declared.faults.Fault.{Fault}
 use Rattle.inf_ending.specs.Faults.{UnlessMessages}
 use Rattle.inf_ending.proofs.Quiet.{hides_behind, hides_none}
 use Rattle.inf_compile.proofs.compile.refuse.Goals as goal
@@ -17,3 +19,12 @@ returns-in_err-compiled-clause-quiet g c =
 
 pub returns-clause-quiet : goal.returns-clause-quiet
 returns-clause-quiet g c = (c.in_ok-compiled.ensures.wrote.1.0, tt)
+
+pub returns-in_err-ending-clause-memory : goal.returns-in_err-ending-clause-memory
+returns-in_err-ending-clause-memory g c = if_memory_any c.from_residual.result (c.args.messages.now ≡ c.args.messages.now) refl
+
+pub returns-in_err-compiled-clause-memory : goal.returns-in_err-compiled-clause-memory
+returns-in_err-compiled-clause-memory g c =
+    let only : IfErr c.written.result (λ fault. fault ≡ Fault.Messages) = c.written.ensures.only in
+    let passed : IfErr c.from_residual-in_err-compiled.result (λ fault. fault ≡ Fault.Messages) = search rules in
+    never_memory c.from_residual-in_err-compiled.result (c.written.new.messages ≡ c.args.messages.now) passed

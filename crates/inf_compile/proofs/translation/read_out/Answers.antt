@@ -4,9 +4,9 @@ use Rattle.inf_sources.specs.Open.{Open, opened_since}
 use Rattle.inf_sources.proofs.Calls.{went_as}
 use Rattle.inf_session.specs.{Choices.Choices, Choices.chosen, Standing.state}
 use Rattle.inf_ending.specs.Delivered.{SucceedsClean, story_in}
-use Rattle.inf_compile.specs.Comes.{BreaksOff, Concludes, Ends, Stops}
+use Rattle.inf_compile.specs.Comes.{BreaksOff, Concludes, Ends, Stops, StopsEarly, SuppliesPart}
 use Rattle.inf_compile.proofs.Concluding.{breaks_off_at, concludes, ends_at, if_ok_always, if_read_none, on_err_leads, stops_ending}
-use Rattle.inf_compile.proofs.Concluding.{stops_reading}
+use Rattle.inf_compile.proofs.Concluding.{early_ending, early_reading, if_memory_more, memory_any, stops_reading}
 use Rattle.inf_ending.proofs.{Delivering.ends_behind, Delivering.if_ok_more, Quiet.hides_then}
 use Rattle.inf_session.proofs.{Leadings.opened_behind, Telling.tells_none}
 use Rattle.inf_compile.proofs.translation.read_out.Goals as goal
@@ -114,3 +114,34 @@ pub returns-in-Ok-clause-seen : goal.returns-in-Ok-clause-seen
 returns-in-Ok-clause-seen g c =
     let files = g.F.Files in
     tells_none c.supply_out.result.1 (files.faults c.args.files.now) (files.faults c.read.new.files) c.in-Ok.ensures.seen.0
+
+pub returns-in-Ok-clause-early : goal.returns-in-Ok-clause-early
+returns-in-Ok-clause-early g c = λ honest start nested.
+    let files = g.F.Files in
+    let s = files.sources c.args.files.now in
+    let o = chosen c.args.session.setup in
+    let first = files.openings c.args.files.now in
+    let here = files.openings c.read.new.files in
+    let old = g.M.Sink.taken c.args.messages.now in
+    let mid = g.M.Sink.taken c.read.new.messages in
+    let new = g.M.Sink.taken c.supply_out.new.messages in
+    let read = c.in-Ok.ensures.read honest start nested in
+    let now = c.read.new.self in
+    if_memory_more c.supply_out.result.1 (SuppliesPart g.B.Bounds.most (chosen now.setup) now mid new)
+    (StopsEarly g.B.Bounds.most s o (state s start first c.args.session []) old new)
+    (λ part. early_ending g.B.Bounds.most s o (state s start first c.args.session) now start here old mid new read.0 read.1
+    (λ told. c.in-Ok.ensures.ended)
+    (subst (λ (p : Choices). SuppliesPart g.B.Bounds.most p now mid new) (ap chosen c.in-Ok.ensures.setup) part))
+    c.supply_out.ensures.early
+
+pub returns-in-Err-clause-early : goal.returns-in-Err-clause-early
+returns-in-Err-clause-early g c = λ honest start nested.
+    let files = g.F.Files in
+    let s = files.sources c.args.files.now in
+    let o = chosen c.args.session.setup in
+    let was = state s start (files.openings c.args.files.now) c.args.session in
+    let old = g.M.Sink.taken c.args.messages.now in
+    let new = g.M.Sink.taken c.read.new.messages in
+    let cut = c.in-Err.ensures.cut honest start nested in
+    memory_any c.in-Err.fault (StopsEarly g.B.Bounds.most s o (was []) old new)
+    (early_reading g.B.Bounds.most s o was old new cut.0 cut.1)

@@ -1,11 +1,11 @@
-use Rattle.std.proofs.Common.{◌≡◌}
+use Rattle.std.proofs.Common.{◌≡◌, Option, List, ℕ, ap, subst, sym}
 use Rattle.inf_compilation.specs.Works.{work as work_of}
 use Rattle.inf_session.specs.Choices.{chosen}
 use Rattle.inf_ending.specs.{Ending.finished, declared.compiled.Status.Status}
 use Rattle.inf_ending.specs.Delivered.{Delivers, EndsCleanOf, SucceedsClean, TakesFront, story_in}
 use Rattle.inf_ending.proofs.{Delivering.ends_behind, Delivering.if_ok_more, Quiet.hides_then}
-use Rattle.inf_compile.specs.Comes.{BreaksOffAll, EndsAll}
-use Rattle.inf_compile.proofs.Concluding.{breaks_off_all, breaks_off_part, ends_all, on_err_leads}
+use Rattle.inf_compile.specs.Comes.{BreaksOffAll, EndsAll, SuppliesPart}
+use Rattle.inf_compile.proofs.Concluding.{breaks_off_all, breaks_off_part, ends_all, if_memory, memory_any, on_err_leads, supplies_early}
 use Rattle.inf_compile.proofs.translation.supply_out.Goals as goal
 
 pub returns-in-Ok-clause-ok : goal.returns-in-Ok-clause-ok
@@ -57,3 +57,21 @@ returns-in-Ok-clause-quiet g c =
     let m = g.M.Sink in
     hides_then c.finish.result.1 (m.failures c.args.messages.now) (m.failures c.supply_all.new.messages) (m.failures c.finish.new.messages)
     c.in-Ok.ensures.wrote.1.0 c.finish.ensures.wrote.1
+
+pub returns-in-Ok-clause-early : goal.returns-in-Ok-clause-early
+returns-in-Ok-clause-early g c =
+    let m = g.M.Sink in
+    let o = chosen c.args.session.setup in
+    let old = m.taken c.args.messages.now in
+    let mid = m.taken c.supply_all.new.messages in
+    let new = m.taken c.finish.new.messages in
+    if_memory c.finish.result.1 (SuppliesPart g.B.Bounds.most o c.args.session old new)
+    (λ is. subst (λ (x : Option (List ℕ)). SuppliesPart g.B.Bounds.most o c.args.session old x)
+    (sym (ap m.taken (c.finish.ensures.memory is)))
+    (supplies_early g.B.Bounds.most o c.args.session c.supply_all.new.session old mid c.in-Ok.ensures.supplied))
+
+pub returns-in-Err-clause-early : goal.returns-in-Err-clause-early
+returns-in-Err-clause-early g c =
+    let m = g.M.Sink in
+    memory_any c.in-Err.fault (SuppliesPart g.B.Bounds.most (chosen c.args.session.setup) c.args.session (m.taken c.args.messages.now)
+    (m.taken c.supply_all.new.messages)) c.in-Err.ensures.cut

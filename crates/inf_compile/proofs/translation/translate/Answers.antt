@@ -13,7 +13,8 @@ use Rattle.inf_ending.proofs.{Delivering.if_ok_more, Quiet.hides_none}
 use Rattle.inf_session.proofs.{Standings.if_caused_more, Telling.tells_none, Telling.tells_then}
 use Rattle.inf_settings.specs.Bounds.{limits_of}
 use Rattle.inf_compile.specs.Chosen.{begun_at, chosen_at, chosen_for}
-use Rattle.inf_compile.specs.Comes.{Begins, Comes, Concludes, GivenUpFrom, Heard, IsUnread, Stops}
+use Rattle.inf_compile.specs.Comes.{Begins, Comes, Concludes, GivenUpFrom, Heard, IsUnread, Stops, StopsEarly}
+use Rattle.inf_compile.proofs.Concluding.{early_none, if_memory_any, if_memory_more, never_memory}
 use Rattle.inf_compile.proofs.Concluding.{begins_missing, begins_none, begins_of, comes_of, if_ok_both, on_err_leads}
 use Rattle.inf_compile.proofs.GivingUp.{counted_at_front, given_up_from_between, heard_from, heard_none, opened_some, unread_by}
 use Rattle.inf_compile.proofs.translation.translate.Goals as goal
@@ -271,3 +272,43 @@ pub returns-in_err-told-clause-seen : goal.returns-in_err-told-clause-seen
 returns-in_err-told-clause-seen g c =
     let faults = g.F.Files.faults c.args.files.now in
     tells_none c.from_residual.result faults faults refl
+
+-- want of memory
+
+pub returns-clause-early : goal.returns-clause-early
+returns-clause-early g c = λ honest.
+    let files = g.F.Files in
+    let s = files.sources c.args.files.now in
+    let y = files.sources c.enter_main.new.files in
+    let old = files.openings c.args.files.now in
+    let mid = files.openings c.enter_main.new.files in
+    let name = c.args.name.now in
+    let options = c.args.options.now in
+    let o = chosen_for s name options in
+    let main = c.in-Ok.open_files in
+    let before = g.M.Sink.taken c.args.messages.now in
+    let after = g.M.Sink.taken c.translate_opened-open_files.new.messages in
+    let still = subst (λ b. IsTrue b) (sym c.enter_main.ensures.kept.honesty) honest in
+    let there : Nesting = nesting y old mid main in
+    if_memory_more c.translate_opened-open_files.result.1
+    (StopsEarly (limits_of (chosen_at there options).settings) y (chosen_at there options) (begun_at there options []) before after)
+    (StopsEarly (limits_of o.settings) s o (start s o name) before after)
+    (λ k. subst (λ (n : Nesting). StopsEarly (limits_of (chosen_at n options).settings) s (chosen_at n options) (begun_at n options [])
+    before after) (c.in-Ok.ensures.nesting honest)
+    (subst (λ (x : Sources). StopsEarly (limits_of (chosen_at (nesting x old mid main) options).settings) x
+    (chosen_at (nesting x old mid main) options) (begun_at (nesting x old mid main) options []) before after)
+    c.enter_main.ensures.kept.sources k))
+    (c.translate_opened-open_files.ensures.early still old (c.in-Ok.ensures.nested honest))
+
+pub returns-in_err-told-clause-early : goal.returns-in_err-told-clause-early
+returns-in_err-told-clause-early g c = λ honest. if_memory_any c.from_residual.result _ (early_none _ _ _ _ _)
+
+pub returns-in_err-no_file-in-Err-Absent-clause-early : goal.returns-in_err-no_file-in-Err-Absent-clause-early
+returns-in_err-no_file-in-Err-Absent-clause-early g c = λ honest.
+    if_memory_any c.from_residual-in_err-no_file-in-Err-Absent.result _ (early_none _ _ _ _ _)
+
+pub returns-in-Err-Memory-clause-early : goal.returns-in-Err-Memory-clause-early
+returns-in-Err-Memory-clause-early g c = λ honest. early_none _ _ _ _ _
+
+pub returns-in-Err-Absent-clause-early : goal.returns-in-Err-Absent-clause-early
+returns-in-Err-Absent-clause-early g c = λ honest. never_memory c.written.result _ c.written.ensures.only

@@ -12,7 +12,8 @@ use Rattle.inf_ending.proofs.{Delivering.if_ok_more, Quiet.hides_none}
 use Rattle.inf_settings.specs.Bounds.{limits_of}
 use Rattle.inf_command.specs.{Directories.directories_of, Spoken.settings_of}
 use Rattle.inf_compile.specs.{Chosen.begun_at, Chosen.chosen_at, Chosen.read_as, Comes.Concludes, Comes.GivenUpFrom, Comes.Stops}
-use Rattle.inf_compile.proofs.{Concluding.stops_none, GivingUp.given_up_between}
+use Rattle.inf_compile.specs.Comes.{StopsEarly}
+use Rattle.inf_compile.proofs.{Concluding.early_none, Concluding.if_memory_more, Concluding.stops_none, GivingUp.given_up_between}
 use Rattle.inf_compile.proofs.Heading.{chosen_is, chosen_over_is, given_up_there, made, read_as_is, unread_there, went_chosen}
 use Rattle.inf_compile.proofs.translation.translate_opened.Goals as goal
 
@@ -85,6 +86,42 @@ returns-clause-stops g c = λ honest start nested.
     (subst (λ (y : Sources). Stops (limits_of p.settings) y p serial (first_state p (nesting y start mid c.choose.new.self) []) before
     after) c.read_head.ensures.went.sources k)))
     (c.translate_under.ensures.stops still start here)
+
+pub returns-clause-early : goal.returns-clause-early
+returns-clause-early g c = λ honest start nested.
+    let files = g.F.Files in
+    let s = files.sources c.args.files.now in
+    let old = files.openings c.args.files.now in
+    let mid = files.openings c.read_head.new.files in
+    let now = files.openings c.translate_under.new.files in
+    let was = nesting s start old c.args.open_files in
+    let o = chosen_at was c.args.options.now in
+    let p = made c.letters.result c.settings-settings.result (map (λ d. d.now) c.as_slice.result.now) in
+    let options = c.with_head-options.result in
+    let before = g.M.Sink.taken c.args.messages.now in
+    let after = g.M.Sink.taken c.translate_under.new.messages in
+    let r = c.translate_under.result in
+    let still = subst (λ b. IsTrue b) (sym c.read_head.ensures.went.honesty) honest in
+    let here = c.choose.ensures.nested start mid (c.read_head.ensures.went.nested honest start nested) in
+    let chosen : p ≡ o = chosen_over_is was c.in-Ok-read_head.head c.args.options.now options p (c.in-Ok-read_head.ensures.head honest start nested)
+    c.with_head-options.ensures
+    (chosen_is c.letters.result options.letters c.settings-settings.result (settings_of options.settings)
+    (map (λ d. d.now) c.as_slice.result.now) (directories_of options.path)
+    c.letters.ensures c.settings-settings.ensures (ap (map (λ d. d.now)) c.as_slice.ensures.value ∙ c.in-Ok-directories.ensures)) in
+    let read : nesting s start mid c.choose.new.self ≡ read_as o was =
+    read_as_is o c.set.result c.of.result was (nesting s start mid c.read_head.new.open_files) (nesting s start mid c.choose.new.self)
+    (c.in-Ok-read_head.ensures.nesting honest start nested) (c.choose.ensures.nesting s start mid)
+    (c.set.ensures ∙ ap set_of (sym c.letters.ensures) ∙ ap (λ (x : Choices). set_of x.letters) chosen)
+    (c.of.ensures.value ∙ ap most_quoted chosen) in
+    if_memory_more r.1 (StopsEarly (limits_of p.settings) (files.sources c.read_head.new.files) p
+    (first_state p (nesting (files.sources c.read_head.new.files) start mid c.choose.new.self) []) before after)
+    (StopsEarly (limits_of o.settings) s o (begun_at was c.args.options.now []) before after)
+    (λ k. subst (λ (n : Nesting). StopsEarly (limits_of o.settings) s o (first_state o n []) before after) read
+    (subst (λ (q : Choices). StopsEarly (limits_of q.settings) s q (first_state q (nesting s start mid c.choose.new.self) []) before
+    after) chosen
+    (subst (λ (y : Sources). StopsEarly (limits_of p.settings) y p (first_state p (nesting y start mid c.choose.new.self) []) before
+    after) c.read_head.ensures.went.sources k)))
+    (c.translate_under.ensures.early still start here)
 
 pub returns-clause-opened : goal.returns-clause-opened
 returns-clause-opened g c = λ honest start nested.
@@ -281,3 +318,11 @@ returns-clause-seen g c =
     let files = g.F.Files in
     tells_then c.translate_under.result.1 (files.faults c.args.files.now) (files.faults c.read_head.new.files)
     (files.faults c.translate_under.new.files) c.in-Ok-read_head.ensures.seen c.translate_under.ensures.seen
+
+-- want of memory
+
+pub returns-in_default-clause-early : goal.returns-in_default-clause-early
+returns-in_default-clause-early g c = λ honest start nested. early_none _ _ _ _ _
+
+pub returns-in_default-directories-clause-early : goal.returns-in_default-directories-clause-early
+returns-in_default-directories-clause-early g c = λ honest start nested. early_none _ _ _ _ _

@@ -3,12 +3,13 @@ use Rattle.std.proofs.lemmas.Result.{on_err_weaker}
 use Rattle.inf_devices.specs.Files.{Rose}
 use Rattle.inf_sources.specs.{Calls.IsUnreadable, Calls.StaysFit, Calls.Went, Open.IsNested, Open.Open, Open.nesting, Open.opened_since}
 use Rattle.inf_sources.proofs.Calls.{went_as, went_none}
-use Rattle.inf_session.specs.{Choices.chosen, Leading.GivenUp, Leading.OpensAll, Session.State, Session.run, Standing.state}
+use Rattle.inf_session.specs.{Choices.chosen, Leading.GivenUp, Leading.OpensAll, Session.State, Session.first_state, Session.run}
+use Rattle.inf_session.specs.{Standing.state}
 use Rattle.inf_session.specs.{declared.setup.Setup.Setup}
 use Rattle.inf_ending.specs.Faults.{Caused, IfRead}
 use Rattle.inf_settings.specs.Bounds.{Limits, limits_of}
-use Rattle.inf_compile.specs.Comes.{Concludes, Stops}
-use Rattle.inf_compile.proofs.Concluding.{begun_is, stops_none}
+use Rattle.inf_compile.specs.Comes.{Concludes, Stops, StopsEarly}
+use Rattle.inf_compile.proofs.Concluding.{begun_is, early_none, if_memory_more, stops_none}
 use Rattle.inf_compile.proofs.translation.translate_under.Goals as goal
 
 pub returns-in-Ok-clause-concludes : goal.returns-in-Ok-clause-concludes
@@ -131,3 +132,30 @@ returns-in-Err-clause-went g c =
 
 pub new-requires : goal.new-requires
 new-requires g c = λ s. ap (λ (l : Limits). l s) c.requires.limits
+
+pub returns-in-Ok-clause-early : goal.returns-in-Ok-clause-early
+returns-in-Ok-clause-early g c = λ honest start nested.
+    let files = g.F.Files in
+    let s = files.sources c.args.files.now in
+    let old = files.openings c.args.files.now in
+    let o = chosen c.args.setup in
+    let session = c.in-Ok.session in
+    let before = g.M.Sink.taken c.args.messages.now in
+    let after = g.M.Sink.taken c.read_out.new.messages in
+    let here = subst (λ (x : Open). IsNested start old x) (sym c.in-Ok.ensures.files) nested in
+    let was = nesting s start old c.args.open_files in
+    let begun = begun_is s o start old was session []
+    (ap (λ (x : Open). nesting s start old x) c.in-Ok.ensures.files) c.in-Ok.ensures.standing c.in-Ok.ensures.going
+    c.in-Ok.ensures.conditionals c.in-Ok.ensures.quoted c.in-Ok.ensures.passed in
+    if_memory_more c.read_out.result.1
+    (StopsEarly g.B.Bounds.most s (chosen session.setup) (state s start old session []) before after)
+    (StopsEarly (limits_of c.args.setup.settings.now) s o (first_state o was []) before after)
+    (λ k. subst (λ (t : State). StopsEarly (limits_of c.args.setup.settings.now) s o t before after) begun
+    (subst (λ (p : Setup). StopsEarly (limits_of c.args.setup.settings.now) s (chosen p) (state s start old session []) before after)
+    c.in-Ok.ensures.setup
+    (subst (λ (limits : Limits). StopsEarly limits s (chosen session.setup) (state s start old session []) before after)
+    c.requires.limits k)))
+    (c.read_out.ensures.early honest start here)
+
+pub returns-in-Err-clause-early : goal.returns-in-Err-clause-early
+returns-in-Err-clause-early g c = λ honest start nested. early_none _ _ _ _ _
