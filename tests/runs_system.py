@@ -6,7 +6,7 @@ import subprocess
 import tempfile
 from pathlib import Path
 
-from runs_compare import CLEAN, FAULT, HELLO
+from runs_compare import CLEAN, FAULT, HELLO, HELLO_CODE, coded
 
 # The number of a user who owns nothing.
 NOBODY = 65534
@@ -65,3 +65,28 @@ def sources_are_kept(runs):
             got = runs.run(["t", story], folder=folder)
         reason = story.encode() + b": is a source of this story; nothing was written\n"
         runs.expect(f"a source is kept, {name}", (got[:3], got[3]["t.inf"]), ((CLEAN + FAULT, 3, reason), HELLO))
+
+
+def older_stories(runs):
+    """Writes a story over a longer file: none of its bytes stays, and no other file changes."""
+    with tempfile.TemporaryDirectory() as folder:
+        files = {"t.inf": HELLO, "t.z5": bytes(5000), "other.z5": b"other"}
+        got = runs.run(["t"], files, folder=folder)
+    story = got[3]["t.z5"]
+    runs.expect("an older story", (got[0], got[3]["other.z5"], story), (CLEAN, b"other", coded(HELLO_CODE)(story[18:24])))
+
+
+# Two file systems in memory, in which the first files have the same number.
+TWO_SYSTEMS = """mkdir one two && mount -t tmpfs none one && mount -t tmpfs none two || exit 9
+cp t.inf one/t.inf; echo old > two/s; test $(stat -c %i one/t.inf) = $(stat -c %i two/s) || exit 9
+"$0" one/t two/s && cat two/s"""
+
+
+def devices_differ(runs):
+    """A file of another device that has the number of a source is none. It is not tried where no file system can be made."""
+    with tempfile.TemporaryDirectory() as folder:
+        (Path(folder) / "t.inf").write_bytes(HELLO)
+        words = ["unshare", "-rm", "sh", "-c", TWO_SYSTEMS, runs.program]
+        done = subprocess.run(words, cwd=folder, capture_output=True, check=False)
+    if done.returncode not in (1, 9):
+        runs.expect("the same number on two devices", (done.returncode, done.stdout[: len(CLEAN)]), (0, CLEAN))

@@ -1,6 +1,7 @@
 ghost use Rattle.std.specs.{Io.KnownBytes.ReadConsumes, Io.KnownBytes.WriteAppends, IoError.error_kind, IoError.raw_os_error};
+ghost use Rattle.std.specs.String.{string_bytes};
 ghost use Rattle.std.specs.Prelude.{◌≡◌, ◌==◌, ◌&&◌, IsTrue, ◌+◌, ◌<◌, ◌≤◌, [], ◌∷◌, ◌++◌, None, Some, Ok, Err, true, false, IsErr, IsOk};
-ghost use Rattle.std.specs.Prelude.{IsSome, IsErrOf, IfOk, OnOk, OnErr, is_ok, length, min, if◌then◌else◌};
+ghost use Rattle.std.specs.Prelude.{IsSome, IsErrOf, IfOk, IfSome, OnOk, OnErr, is_ok, length, min, if◌then◌else◌};
 ghost use Rattle.inf_devices.specs.Files.{Rose, counts_closed, counts_given, counts_opened, last_count, nothing_given, tells_failure};
 ghost use Rattle.inf_devices.specs.Files.{with_name};
 ghost use Rattle.inf_disk.specs.Disk.{fault_of_kind, is_named_as_source, story_options, OpensFile, ReadsLast, WritesMade};
@@ -220,6 +221,7 @@ fn story_options(name: &str) -> OpenOptions
 /// Files of the system, by their paths. Their contents are not stated.
 #[derive(Drop)]
 pub struct DiskFiles<'r, R: rt::Files> {
+    alloc: Global,
     system: &'r R,
     story: &'r StoryPlace<'r>,
     open_files: Vec<R::File>,
@@ -228,6 +230,8 @@ pub struct DiskFiles<'r, R: rt::Files> {
     given: GivenBytes,
     /// The different names under which files were opened so far.
     pub names: OpenedNames,
+    /// The name of the file that the latest opening asked for, if the device did not open it: none without memory for the name.
+    pub refused: Option<String>,
 }
 
 impl<'r, R: rt::Files> DiskFiles<'r, R> {
@@ -240,15 +244,28 @@ impl<'r, R: rt::Files> DiskFiles<'r, R> {
         ensures number { result.trouble.number ≡ None }
         ensures given { result.given ≡ nothing_given }
         ensures opened { result.names ≡ [] }
+        ensures refused { result.refused ≡ None }
     {
         DiskFiles {
+            alloc,
             system,
             story,
             open_files: Vec::new(alloc),
             trouble: Trouble::none(),
             given: GivenBytes::none(alloc),
             names: OpenedNames::none(alloc),
+            refused: None,
         }
+    }
+}
+
+/// Returns a copy of the `name` of a file, if it was not opened by a `fault` of the device. Without memory for the copy there is none.
+fn refused_name(alloc: Global, fault: OpenFault, name: &str) -> Option<String>
+    ensures { IfSome result (λ kept. string_bytes kept ≡ name.now) }
+{
+    match fault {
+        OpenFault::Device => String::from_str(alloc, name).ok(),
+        OpenFault::Absent | OpenFault::Memory => None,
     }
 }
 
@@ -326,7 +343,9 @@ impl<R: rt::Files> Files for DiskFiles<'_, R> {
         ensures faults { (self.old.trouble.failures ≤ self.new.trouble.failures)
             × (tells_failure result ≡ false → self.new.trouble.failures ≡ self.old.trouble.failures) }
         ensures counts { self.new.given ≡ (if is_ok result then counts_opened self.old.given else self.old.given) }
+        ensures refused { IfSome self.new.refused (λ kept. string_bytes kept ≡ name.now) }
     {
+        self.refused = None;
         self.open_files.reserve(1)?;
         self.given.open()?;
         let is_new = !self.names.has(name);
@@ -345,7 +364,9 @@ impl<R: rt::Files> Files for DiskFiles<'_, R> {
             }
             Err(error) => {
                 self.given.close();
-                Err(self.trouble.refused(&error))
+                let fault = self.trouble.refused(&error);
+                self.refused = refused_name(self.alloc, fault, name);
+                Err(fault)
             }
         }
     }

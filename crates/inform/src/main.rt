@@ -196,14 +196,19 @@ const MOST_BYTES: u64 = 16_777_216;
 /// The greatest number of names that the files of a run may have.
 const MOST_NAMES: usize = 65_535;
 
-/// Says on standard error why a source was not read. Where the system gave no reason, its name is one too many, or it is too long. Returns
-/// the failure of the run, whose reason is shown then.
+/// Says on standard error why a source was not read, by its `name` or, if the system did not open it, by the name under which it was looked
+/// for. Where the system gave no reason, its name is one too many, or it is too long. Returns the failure of the run, whose reason is shown
+/// then.
 fn tell_source<R: Files + Eprint>(
     rt: &R,
     limits: Limits,
     name: &str,
     files: &DiskFiles<'_, R>,
 ) -> Failure {
+    let name = match &files.refused {
+        Some(refused) => refused.as_str(),
+        None => name,
+    };
     if !may_tell(rt, limits, name) {
         return Failure::Told;
     }
