@@ -1,10 +1,12 @@
 //! Courses of calls: a source, the calls with their answers, the messages, and the code of the story.
-use crate::playing::play;
+use crate::playing::{assert_code, play};
 use inf_area::{Target, Value};
 use inf_calls::cx::Closed;
+use inf_devices::memory_files::MemoryFiles;
 use inf_output::Simple;
 use inf_settings::settings::Settings;
-use std::alloc::Global;
+use inform_trials::devices::{folder, folder_of};
+use std::alloc::{AllocError, Global};
 use std::marker::Brand;
 use std::process::Abort;
 use std::test::Fail;
@@ -295,33 +297,43 @@ static UNFIT: Course = Course {
     code: b"",
 };
 
-/// A routine by its header, its units and its end.
+/// A routine of which each unit is a statement.
+const ROUTINE: &[u8] =
+    b"[ Main x y; x = y - 1 - 2 * 3; @add x 1 -> x; x++; y = x / 2; @print_num y; ];";
+
+/// The code of this routine.
+const ROUTINE_CODE: &[u8] =
+    b"\x02U\x02\x01\x00U\x00\x06\x01T\x01\x01\x01\x95\x01W\x01\x02\x02\xE6\xBF\x02\xB0\x00";
+
+/// This routine by its header, its units and its end, each by a call.
 static PIECEWISE: Course = Course {
-    source: b"[ Main x; x = 1; @add x 1 -> x; x++; ];",
+    source: ROUTINE,
     rows: &[
         (Call::Header, Answer::Done),
         (Call::Alone, Answer::Left(None)),
         (Call::Line, Answer::Done),
         (Call::Alone, Answer::Left(None)),
+        (Call::Alone, Answer::Left(None)),
+        (Call::Line, Answer::Done),
         (Call::Close, Answer::Done),
     ],
     lines: "",
-    code: b"\x01\x0D\x01\x01T\x01\x01\x01\x95\x01\xB0",
+    code: ROUTINE_CODE,
 };
 
-/// That routine as a whole.
+/// This routine by one call, from its bracket to its semicolon.
 static WHOLE: Course = Course {
-    source: b"[ Main x; x = 1; @add x 1 -> x; x++; ];",
+    source: ROUTINE,
     rows: &[(
         Call::Routine,
         Answer::Stands(Closed {
             start: 8,
-            len: 12,
+            len: 24,
             refs: 0,
         }),
     )],
     lines: "",
-    code: b"\x01\x0D\x01\x01T\x01\x01\x01\x95\x01\xB0",
+    code: ROUTINE_CODE,
 };
 
 /// A routine with an error, another directive, and a routine with a reference.
@@ -370,47 +382,104 @@ static OVER: Course = Course {
     code: b"\x00\xB0\x00\x00",
 };
 
-/// One token more than an expression may have.
-static LONG: Course = Course {
-    source: b"[ Main x; x = 1; x = 1 + 1; x = 2; x; ]; [ F;",
+/// Headers with an error, each with the calls behind it.
+static HEADERS: [Course; 2] = [
+    Course {
+        source: b"[ F x x;",
+        rows: &[(Call::Header, Answer::Wrong)],
+        lines: "t.inf(1): Error: \"x\" was declared at t.inf(1)\n",
+        code: b"",
+    },
+    Course {
+        source: b"[ ); [ Main; ];",
+        rows: &[
+            (Call::Header, Answer::Wrong),
+            (Call::Header, Answer::Done),
+            (Call::Close, Answer::Done),
+        ],
+        lines: "t.inf(1): Error: Syntax error at \")\"\n",
+        code: b"",
+    },
+];
+
+/// A file that is included between calls, and the calls that read it: its directive, and its end.
+static INCLUDING: Course = Course {
+    source: b"Include \x22c.h\x22; [ Main x; x = K; ];",
     rows: &[
+        (Call::Directive, Answer::Done),
+        (Call::Directive, Answer::Done),
+        (Call::Directive, Answer::Done),
         (Call::Header, Answer::Done),
         (Call::Alone, Answer::Left(None)),
-        (Call::Alone, Answer::Fatal),
-        (Call::Unless, Answer::Fatal),
-        (Call::Constant, Answer::Fatal),
-        (Call::Line, Answer::Fatal),
-        (Call::Close, Answer::Fatal),
-        (Call::Routine, Answer::Fatal),
-        (Call::Header, Answer::Fatal),
+        (Call::Close, Answer::Done),
     ],
-    lines: "t.inf(1): Fatal error: MAX_EXPRESSION_NODES is exceeded\n",
+    lines: "",
+    code: b"\x01\x0D\x01\x03\xB0",
+};
+
+/// A file that is included and ends inside of a text. Reading goes on in the file that includes it.
+static BROKEN_OFF: Course = Course {
+    source: b"Include \x22c.h\x22; [ Main x; x = 1; ];",
+    rows: &[
+        (Call::Directive, Answer::Done),
+        (Call::Header, Answer::Done),
+        (Call::Alone, Answer::Syntax),
+        (Call::Header, Answer::Done),
+        (Call::Alone, Answer::Left(None)),
+        (Call::Close, Answer::Done),
+    ],
+    lines: "c.h(2): Error: Syntax error at end of file\n",
     code: b"",
 };
 
-/// As many brackets as there may be, and one more.
-static DEEP: Course = Course {
-    source: b"[ Main x; ((((((((((((((((((((((((((((((((((((((((((((((((((((((((((((((((x)))))))))))))))))))))))))))))))))))))))))))))))))))))))))))))))); (((((((((((((((((((((((((((((((((((((((((((((((((((((((((((((((((x)))))))))))))))))))))))))))))))))))))))))))))))))))))))))))))))));",
-    rows: &[
-        (Call::Header, Answer::Done),
-        (Call::Stack, Answer::Left(Some(Simple::Variable(1)))),
-        (Call::Stack, Answer::Fatal),
-    ],
-    lines: "t.inf(1): Fatal error: Nesting over 64\n",
-    code: b"",
-};
+/// Makes the calls of a course with the usual settings among these files.
+fn play_among(
+    rt: &impl Abort,
+    alloc: Global,
+    files: MemoryFiles,
+    course: &Course,
+) -> Result<Option<Vec<u8>>, Fail> {
+    let settings = Settings::new();
+    let story = play::<Brand>(rt, alloc, &settings, files, course)?;
+    assert_code(rt, &story, course.code);
+    Ok(story)
+}
 
 /// Makes the calls of a course with the usual settings.
 fn play_usual(rt: &impl Abort, alloc: Global, course: &Course) -> Result<(), Fail> {
-    let settings = Settings::new();
-    play::<Brand>(rt, alloc, &settings, course)
+    let files = folder(alloc, course.source)?;
+    play_among(rt, alloc, files, course)?;
+    Ok(())
 }
 
-/// Makes the calls of a course where an expression may have `most` tokens.
-fn play_with(rt: &impl Abort, alloc: Global, most: u32, course: &Course) -> Result<(), Fail> {
-    let mut settings = Settings::new();
-    settings.set(b"MAX_EXPRESSION_NODES", most)?;
-    play::<Brand>(rt, alloc, &settings, course)
+/// Makes the calls of two courses of a source, of which each makes a story, and asserts that these are the same.
+fn play_alike(
+    rt: &impl Abort,
+    alloc: Global,
+    source: &[u8],
+    first: &Course,
+    second: &Course,
+) -> Result<(), Fail> {
+    let Some(one) = play_among(rt, alloc, folder(alloc, source)?, first)? else {
+        return Err(AllocError.into());
+    };
+    let Some(other) = play_among(rt, alloc, folder(alloc, source)?, second)? else {
+        return Err(AllocError.into());
+    };
+    assert_eq!(rt; one.as_slice(), other.as_slice());
+    Ok(())
+}
+
+/// Makes the calls of a course that includes `c.h` with these bytes.
+fn play_including(
+    rt: &impl Abort,
+    alloc: Global,
+    included: &[u8],
+    course: &Course,
+) -> Result<(), Fail> {
+    let files = folder_of(alloc, &[("t.inf", course.source), ("c.h", included)])?;
+    play_among(rt, alloc, files, course)?;
+    Ok(())
 }
 
 #[test]
@@ -479,16 +548,6 @@ fn unfit(rt: HostRuntime) -> Result<(), Fail> {
 }
 
 #[test]
-fn piecewise(rt: HostRuntime) -> Result<(), Fail> {
-    play_usual(&rt, rt.alloc(), &PIECEWISE)
-}
-
-#[test]
-fn whole(rt: HostRuntime) -> Result<(), Fail> {
-    play_usual(&rt, rt.alloc(), &WHOLE)
-}
-
-#[test]
 fn routines(rt: HostRuntime) -> Result<(), Fail> {
     play_usual(&rt, rt.alloc(), &ROUTINES)
 }
@@ -499,11 +558,24 @@ fn over(rt: HostRuntime) -> Result<(), Fail> {
 }
 
 #[test]
-fn long(rt: HostRuntime) -> Result<(), Fail> {
-    play_with(&rt, rt.alloc(), 3, &LONG)
+fn piecewise(rt: HostRuntime) -> Result<(), Fail> {
+    play_alike(&rt, rt.alloc(), ROUTINE, &PIECEWISE, &WHOLE)
 }
 
 #[test]
-fn deep(rt: HostRuntime) -> Result<(), Fail> {
-    play_with(&rt, rt.alloc(), 1000, &DEEP)
+fn headers(rt: HostRuntime) -> Result<(), Fail> {
+    for course in &HEADERS {
+        play_usual(&rt, rt.alloc(), course)?;
+    }
+    Ok(())
+}
+
+#[test]
+fn including(rt: HostRuntime) -> Result<(), Fail> {
+    play_including(&rt, rt.alloc(), b"Constant K = 3;", &INCLUDING)
+}
+
+#[test]
+fn broken_off(rt: HostRuntime) -> Result<(), Fail> {
+    play_including(&rt, rt.alloc(), b"[ F x;\x0Ax = 1", &BROKEN_OFF)
 }

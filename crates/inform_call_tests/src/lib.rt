@@ -4,4 +4,8 @@
 #[cfg(test)]
 mod courses;
 #[cfg(test)]
+mod limits;
+#[cfg(test)]
+mod losing;
+#[cfg(test)]
 mod playing;

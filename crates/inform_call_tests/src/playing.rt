@@ -8,8 +8,10 @@ use crate::courses::{Answer, Call, Course};
 use inf_area::Value;
 use inf_calls::cx::{Branch, Closed, Cx, Want};
 use inf_calls::faults::UnitFault;
+use inf_devices::files::Files;
 use inf_devices::memory_files::MemoryFiles;
 use inf_devices::memory_sink::MemorySink;
+use inf_ending::compiled::Compiled;
 use inf_letters::Letters;
 use inf_names::hashing::NameHashing;
 use inf_opcode::Label;
@@ -21,7 +23,6 @@ use inf_settings::setting::Setting;
 use inf_settings::settings::Settings;
 use inf_sources::open_files::OpenFiles;
 use inf_text::CharSet;
-use inform_trials::devices::folder;
 use std::alloc::{AllocError, Global};
 use std::process::Abort;
 use std::test::Fail;
@@ -87,29 +88,48 @@ fn closed(answer: &Result<Closed, UnitFault>) -> Result<Answer, Fail>
     }
 }
 
+/// Makes a session at the front of `t.inf`, of which texts are read.
+pub fn begin<'a, B: Bounds, F: Files>(
+    alloc: Global,
+    settings: &'a Settings,
+    files: &mut F,
+) -> Result<Cx<'a, B>, Fail>
+    requires { AreSet B.most settings.now }
+    ensures is_open { IfOk result (λ cx. length cx.session.open_files.outer < F.depth files.new) }
+    ensures goes { IfOk result (λ cx. cx.session.open_files.lexer.has_failed ≡ false) }
+    ensures set { IfOk result (λ cx. IsSet cx.session) }
+    ensures known { IfOk result (λ cx. (chosen cx.session.setup).settings ≡ cx.settings.now) }
+{
+    let limit = settings.of(Setting::QuotedText);
+    let open_files = OpenFiles::enter_main(alloc, CharSet::Latin1, limit, files, "t.inf")?;
+    let setup = Setup {
+        letters: Letters::none(),
+        settings,
+        directories: &[],
+        hashing: NameHashing::new(b""),
+    };
+    let Ok(session) = Session::new(alloc, setup, open_files) else {
+        return Err(AllocError.into());
+    };
+    Ok(Cx { settings, session })
+}
+
 impl<'a, B: Bounds> Run<'a, B> {
-    /// Makes a session at the front of a source.
-    fn begin(alloc: Global, settings: &'a Settings, source: &[u8]) -> Result<Run<'a, B>, Fail>
+    /// Makes a session at the front of `t.inf` among these files.
+    fn begin(
+        alloc: Global,
+        settings: &'a Settings,
+        mut files: MemoryFiles,
+    ) -> Result<Run<'a, B>, Fail>
         requires { AreSet B.most settings.now }
         ensures is_open { IfOk result (λ run. length run.cx.session.open_files.outer < length run.files.openings.open_places) }
         ensures goes { IfOk result (λ run. run.cx.session.open_files.lexer.has_failed ≡ false) }
         ensures set { IfOk result (λ run. IsSet run.cx.session) }
         ensures known { IfOk result (λ run. (chosen run.cx.session.setup).settings ≡ run.cx.settings.now) }
     {
-        let mut files = folder(alloc, source)?;
-        let limit = settings.of(Setting::QuotedText);
-        let open_files = OpenFiles::enter_main(alloc, CharSet::Latin1, limit, &mut files, "t.inf")?;
-        let setup = Setup {
-            letters: Letters::none(),
-            settings,
-            directories: &[],
-            hashing: NameHashing::new(b""),
-        };
-        let Ok(session) = Session::new(alloc, setup, open_files) else {
-            return Err(AllocError.into());
-        };
+        let cx = begin::<B, MemoryFiles>(alloc, settings, &mut files)?;
         Ok(Run {
-            cx: Cx { settings, session },
+            cx,
             files,
             messages: MemorySink::new(alloc),
             label: Label { number: 0 },
@@ -247,8 +267,13 @@ impl<'a, B: Bounds> Run<'a, B> {
         Ok(())
     }
 
-    /// Ends the session behind calls that were `made`. Asserts these messages and the front of this code; none where there is no story.
-    fn end(self, rt: &impl Abort, course: &Course, made: Result<(), Fail>) -> Result<(), Fail>
+    /// Ends the session behind calls that were `made`, of which these are the messages. Returns the story, where there is one.
+    fn end(
+        self,
+        rt: &impl Abort,
+        lines: &str,
+        made: Result<(), Fail>,
+    ) -> Result<Option<Vec<u8>>, Fail>
         requires is_open { length self.cx.session.open_files.outer < length self.files.openings.open_places }
     {
         let Run {
@@ -259,31 +284,37 @@ impl<'a, B: Bounds> Run<'a, B> {
         } = self;
         let Cx { session, .. } = cx;
         if made.is_ok() {
-            assert_eq!(rt; messages.bytes(), course.lines.as_bytes());
+            assert_eq!(rt; messages.bytes(), lines.as_bytes());
         }
         let (open_files, compiled) = session.finish(b"260307", &mut messages);
         open_files.close(&mut files);
         made?;
-        if let Some(story) = &compiled?.story {
-            let code = story.as_slice().iter().skip(FIRST_CODE);
-            assert!(rt; code.zip(course.code).all(|(is, wanted)| is == wanted));
-        } else {
-            assert!(rt; course.code.is_empty());
-        }
-        Ok(())
+        let Compiled { story, .. } = compiled?;
+        Ok(story)
     }
 }
 
-/// Makes the calls of a course with these settings.
+/// Makes the calls of a course with these settings among these files. Returns the story, where there is one.
 pub fn play<B: Bounds>(
     rt: &impl Abort,
     alloc: Global,
     settings: &Settings,
+    files: MemoryFiles,
     course: &Course,
-) -> Result<(), Fail>
+) -> Result<Option<Vec<u8>>, Fail>
     requires { AreSet B.most settings.now }
 {
-    let mut run = Run::<B>::begin(alloc, settings, course.source)?;
+    let mut run = Run::<B>::begin(alloc, settings, files)?;
     let made = run.make_all(rt, course.rows);
-    run.end(rt, course, made)
+    run.end(rt, course.lines, made)
+}
+
+/// Asserts that a story has this code; none where there is no story.
+pub fn assert_code(rt: &impl Abort, story: &Option<Vec<u8>>, code: &[u8]) {
+    if let Some(story) = story {
+        let bytes = story.as_slice().iter().skip(FIRST_CODE);
+        assert!(rt; bytes.zip(code).all(|(is, wanted)| is == wanted));
+    } else {
+        assert!(rt; code.is_empty());
+    }
 }

@@ -1,0 +1,3 @@
+pub mod BadTexts
+pub mod Laid
+pub mod Texts
