@@ -1,29 +1,25 @@
 -- Headers and lines of verbs are one operation of the verbs each.
-use Rattle.std.proofs.Common.{◌≡◌, ℕ, zero, suc, ◌+◌, length, List, [], ◌∷◌, Option, Some, None, Bool, true, false, cond, refl, sym, ap, ◌∙◌}
+use Rattle.std.proofs.Common.{◌≡◌, ℕ, zero, suc, ◌+◌, length, List, Option, Some, None, Bool, cond, refl, sym, ap, ◌∙◌}
 use Rattle.std.proofs.Common.{subst, nat_lt}
-use Rattle.inf_settings.specs.Bounds.{Limits, unbounded}
-use Rattle.inf_scanner.specs.{declared.tokens.DictionaryWord.DictionaryWord, declared.tokens.Place.Place}
-use Rattle.inf_scanner.specs.{declared.tokens.Mark.Mark, declared.tokens.TokenKind.TokenKind}
-use Rattle.inf_dictionary.specs.{Texts.Text, Words.Words, Words.add_fault as word_fault, Words.word_of}
+use Rattle.inf_settings.specs.Bounds.{Limits}
+use Rattle.inf_scanner.specs.declared.tokens.DictionaryWord.{DictionaryWord}
+use Rattle.inf_dictionary.specs.{Texts.Text, Words.add_fault as word_fault, Words.word_of}
 use Rattle.inf_dictionary.specs.{declared.dictionary.AddFault.AddFault as WordFault, declared.uses.WordUse.WordUse}
-use Rattle.inf_names.specs.{Spellings.Name, Symbols.declare_fault, Symbols.found_in, Symbols.refer_fault}
-use Rattle.inf_names.specs.declared.symbols.{DeclareFault.DeclareFault, ReferFault.ReferFault}
-use Rattle.inf_unit.specs.{Tokens.SourceToken, Units.bytes_at, Units.kind_at, Units.name_at, Units.name_order, Units.next_place}
-use Rattle.inf_output.specs.Output.{Out, referred, referred_as, referred_by, with_word, with_word_by}
-use Rattle.inf_output.specs.Actions.{action_by as action_of_by, appeared, fake_number, key_of, numbered_as, numbered_by, routine_name, routine_of}
-use Rattle.inf_output.specs.Actions.{routine_referred, seen_by}
-use Rattle.inf_compilation.specs.{Actions.Compilation, Context.Context}
-use Rattle.inf_verbs.specs.{Lines.LineOf, Routines.action_fault, declared.lines.LineToken.LineToken, declared.lines.Noun.Noun}
-use Rattle.inf_verbs.specs.{declared.routines.ActionFault.ActionFault, declared.verbs.LinePlace.LinePlace}
-use Rattle.inf_verbs.specs.Verbs.{AllVerbs, add_fault, line_fault_of, with_extended, with_line_of, with_verb}
-use Rattle.inf_verb_lines.specs.declared.{lines.Named.Named, verbs.Opened.Opened, verbs.VerbHead.VerbHead}
-use Rattle.inf_verb_lines.specs.Verbs.{action_by, arrow_in, attribute_in, extend_with, header_opened, head_finding, like_used, line_added}
-use Rattle.inf_verb_lines.specs.Verbs.{line_kept_by, line_laid, line_token, line_token_by, line_tokens, lines_of, lone_by, name_token}
-use Rattle.inf_verb_lines.specs.Verbs.{named_at, new_verb_by, noun_named, one_line, one_line_by, parsing_as, parsing_of, parsing_routine}
-use Rattle.inf_verb_lines.specs.Verbs.{place_named, verb_begun, verb_extended, verb_named, verb_opened, verb_use, with_next, with_verbs, word_at}
+use Rattle.inf_names.specs.Spellings.{Name}
+use Rattle.inf_unit.specs.{Tokens.SourceToken, Units.bytes_at, Units.name_at, Units.name_order, Units.next_place}
+use Rattle.inf_output.specs.Output.{Out, with_word, with_word_by}
+use Rattle.inf_compilation.specs.Actions.{Compilation}
+use Rattle.inf_verbs.specs.declared.verbs.LinePlace.{LinePlace}
+use Rattle.inf_verbs.specs.Verbs.{add_fault, line_fault_of, with_extended, with_line_of, with_verb}
+use Rattle.inf_verb_lines.specs.declared.{verbs.Opened.Opened, verbs.VerbHead.VerbHead}
+use Rattle.inf_verb_lines.specs.Verbs.{action_by, arrow_in, header_opened, head_finding, like_used}
+use Rattle.inf_verb_lines.specs.Verbs.{line_kept_by, line_laid, line_tokens, lines_of}
+use Rattle.inf_verb_lines.specs.Verbs.{new_verb_by, one_line_by}
+use Rattle.inf_verb_lines.specs.Verbs.{place_named, verb_begun, verb_extended, verb_named, verb_opened, verb_use, with_verbs, word_at}
 use Rattle.inf_verb_lines.specs.Verbs.{word_used, words_given, words_used}
-use Rattle.inf_entry_laws.specs.Verbs.{VerbsChangeTables, WordFits, WordsFit, head_of, line_of, taken, use_of, verbs_of, word_with, words_of}
+use Rattle.inf_entry_laws.specs.Verbs.{VerbsChangeTables, WordFits, WordsFit, head_of, line_of, taken, use_of, verbs_of, word_with}
 use Rattle.inf_entry_laws.specs.Verbs.{words_with}
+use Rattle.inf_entry_laws.proofs.Lines.{action_stays, tokens_stay}
 
 module _ (limits : Limits) where
   -- Words leave the verbs.
@@ -80,71 +76,13 @@ module _ (limits : Limits) where
 
   -- Tokens and actions leave the verbs.
 
-  referred_stays : (name : List ℕ) (at : Place) (o : Out) → (referred limits name at o).tables.verbs ≡ o.tables.verbs
-  referred_stays name at o = by (refer_fault limits name o.names)
-    where
-      by : (r : Option ReferFault) → (referred_by limits r name at o).tables.verbs ≡ o.tables.verbs
-      by None = refl
-      by (Some fault) = refl
+  tokens_leave : (at : ℕ) (tokens : List SourceToken) (o : Out) → (line_tokens limits at tokens o).0.tables.verbs ≡ o.tables.verbs
+  tokens_leave =
+      tokens_stay limits (λ t. t.verbs) (λ text p o. word_stays text WordUse.Preposition p o) (λ routines t. refl) (λ all t. refl)
 
-  parsed_stays : (routine : Option ℕ) (o : Out) → (parsing_as routine o).0.tables.verbs ≡ o.tables.verbs
-  parsed_stays None o = refl
-  parsed_stays (Some routine) o = refl
-
-  routine_stays : (name : Option Name) (o : Out) → (parsing_routine limits name o).0.tables.verbs ≡ o.tables.verbs
-  routine_stays None o = refl
-  routine_stays (Some n) o =
-      parsed_stays (routine_of (referred_as limits n.bytes o)) (referred limits n.bytes n.place o) ∙ referred_stays n.bytes n.place o
-
-  lone_stays : (noun : Option Noun) (attribute : Option ℕ) (name : Option Name) (o : Out)
-      → (lone_by limits noun attribute name o).0.tables.verbs ≡ o.tables.verbs
-  lone_stays (Some n) attribute name o = refl
-  lone_stays None (Some number) name o = refl
-  lone_stays None None name o = routine_stays name o
-
-  name_stays : (n : Named) (tokens : List SourceToken) (at : ℕ) (o : Out) → (name_token limits n tokens at o).0.tables.verbs ≡ o.tables.verbs
-  name_stays Named.Sign tokens at o = refl
-  name_stays Named.Filter tokens at o = routine_stays (name_at tokens at) o
-  name_stays Named.Scope tokens at o = routine_stays (name_at tokens at) o
-  name_stays Named.Alone tokens at o =
-      lone_stays (noun_named (bytes_at tokens at)) (attribute_in (found_in (bytes_at tokens at) o.names)) (name_at tokens at) o
-
-  token_stays : (k : Option TokenKind) (tokens : List SourceToken) (at : ℕ) (o : Out)
-      → (line_token_by limits k tokens at o).0.tables.verbs ≡ o.tables.verbs
-  token_stays (Some (TokenKind.Word word)) tokens at o = word_stays word.text WordUse.Preposition word.is_plural o
-  token_stays (Some TokenKind.Name) tokens at o = name_stays (named_at tokens at) tokens at o
-  token_stays _ tokens at o = refl
-
-  tokens_stay : (at : ℕ) (tokens : List SourceToken) (o : Out) → (line_tokens limits at tokens o).0.tables.verbs ≡ o.tables.verbs
-  tokens_stay zero tokens o = refl
-  tokens_stay (suc at) tokens o =
-      token_stays (kind_at tokens at) tokens at (line_tokens limits at tokens o).0 ∙ tokens_stay at tokens o
-
-  numbered_stays_by : (f : Option ActionFault) (routine : ℕ) (o : Out) → (numbered_by limits f routine o).0.tables.verbs ≡ o.tables.verbs
-  numbered_stays_by None routine o = refl
-  numbered_stays_by (Some fault) routine o = refl
-
-  numbered_stays : (routine : Option ℕ) (o : Out) → (numbered_as limits routine o).0.tables.verbs ≡ o.tables.verbs
-  numbered_stays None o = refl
-  numbered_stays (Some routine) o = numbered_stays_by (action_fault limits routine o.tables.actions) routine o
-
-  appeared_stays : (f : Option (DeclareFault Place)) (key : List ℕ) (at : Place) (o : Out)
-      → (seen_by f key at o).tables.verbs ≡ o.tables.verbs
-  appeared_stays None key at o = refl
-  appeared_stays (Some fault) key at o = refl
-
-  action_stays_by : (fake : Option ℕ) (name : List ℕ) (at : Place) (o : Out)
-      → (action_of_by limits fake name at o).0.tables.verbs ≡ o.tables.verbs
-  action_stays_by (Some fake) name at o = refl
-  action_stays_by None name at o =
-      let p = appeared (key_of name) at o in
-      numbered_stays (routine_of (referred_as limits (routine_name name) p)) (referred limits (routine_name name) at p)
-      ∙ referred_stays (routine_name name) at p
-      ∙ appeared_stays (declare_fault unbounded (key_of name) o.seen) (key_of name) at o
-
-  action_stays : (name : Option Name) (o : Out) → (action_by limits name o).0.tables.verbs ≡ o.tables.verbs
-  action_stays None o = refl
-  action_stays (Some n) o = action_stays_by (fake_number (key_of n.bytes) o) n.bytes n.place o
+  action_leaves : (name : Option Name) (o : Out) → (action_by limits name o).0.tables.verbs ≡ o.tables.verbs
+  action_leaves =
+      action_stays limits (λ t. t.verbs) (λ text p o. word_stays text WordUse.Preposition p o) (λ routines t. refl) (λ all t. refl)
 
   -- Headers
 
@@ -238,7 +176,7 @@ verbs_change limits context place w =
           let l = line_of limits w in
           let how = w.extending.place in
           let stays : o.tables.verbs ≡ verbs_of w =
-          action_stays limits name (taken limits w).0 ∙ tokens_stay limits arrow tokens w.output in
+          action_leaves limits name (taken limits w).0 ∙ tokens_leave limits arrow tokens w.output in
           ap (λ f. verbs_of (line_laid limits f arrow w)) untold
           ∙ ap (λ v. (line_kept_by limits v how l o).tables.verbs) verb
           ∙ ap (λ b. (cond b (one_line_by limits (line_fault_of limits (length l.tokens) o.tables.verbs) n how l o) o).tables.verbs)

@@ -1,136 +1,142 @@
--- The units of a declaration one behind the other: they do to the world what the declaration does by `inf_world_laws`.
-use Rattle.std.specs.Prelude.{◌≡◌, ℕ, List, [], ◌∷◌, ◌++◌, map, Bool, true, false, Option, Some, None, option_to_list}
-use Rattle.std.specs.List.{fold}
+-- The units of declarations one behind the other, each from its header to its end, as a chain of compilations. `Chains` says when
+-- nothing is wrong with any of them.
+use Rattle.std.specs.Prelude.{ℕ, List, [], ◌∷◌, ◌++◌, map, Bool, true, false, Option, Some, None}
 use Rattle.inf_settings.specs.Bounds.{Limits}
-use Rattle.inf_area.specs.declared.targets.Value.{Value}
+use Rattle.inf_area.specs.declared.{targets.Target.Target, targets.Value.Value}
+use Rattle.inf_characters.specs.declared.texts.TextItem.{TextItem}
 use Rattle.inf_scanner.specs.declared.tokens.Place.{Place}
+use Rattle.inf_names.specs.{Locals.no_locals, Spellings.Name}
+use Rattle.inf_text.specs.Packing.{dictionary_bytes}
 use Rattle.inf_compilation.specs.{Actions.Compilation, Actions.body_ended, Context.Context}
-use Rattle.inf_tables.specs.World.{WorldOf, further_value_fault, individual_fault, no_body_fault, set_attribute_fault, with_class_of, with_set_attribute}
-use Rattle.inf_bodies.specs.Objects.{class_of, found_at}
-use Rattle.inf_bodies.specs.Bodies.{attribute_of, attribute_read, class_read, further, further_found, given, given_finding, is_given, last_at}
-use Rattle.inf_bodies.specs.Bodies.{property_of}
-use Rattle.inf_world_laws.specs.Declaring.{Run, declared, given as given_in, headed, number_in}
-use Rattle.inf_world_laws.specs.Things.{Declaration, Declared, Individual, PropertyName}
-use Rattle.inf_world_laws.specs.Whole.{ClassesFit, DeclarationFits, PropertyFits, first_value}
-use Rattle.inf_entry_laws.specs.Laws.{with_first_class, world_of}
+use Rattle.inf_tables.specs.declared.kinds.Parent.{Parent}
+use Rattle.inf_named_values.specs.Values.{value_of}
+use Rattle.inf_bodies.specs.Objects.{class_header, class_of_word, object_header}
+use Rattle.inf_bodies.specs.Bodies.{attribute_read, class_read, property_read}
+use Rattle.inf_bodies.specs.Values.{bracket_in, embedded_read, name_place, next_routine, place_before, settled_work, takes_words}
+use Rattle.inf_bodies.specs.Values.{value_read, word_text}
+use Rattle.inf_world_laws.specs.Parts.{Body, Gives, Has, InClass, Part}
+use Rattle.inf_world_laws.specs.Things.{Arrows, Inside, Place as WorldPlace, PropertyName}
+use Rattle.inf_entry_laws.specs.Laws.{class_short, object_short, parent_of}
 
--- a unit that is read: all that was compiled before its end, and a place
+-- Units. Each is there with all that was compiled before its end, and with the place of its end.
+
 pub record Piece : Type 0 where
   pub work : Compilation
   pub place : Place
 
--- Classes and attributes: each with the unit that says it
+-- a value of a property: an expression or a word of the dictionary, or a routine, whose unit is its header
+pub data ValueUnit : Type 0 where
+  Plain : Piece → ValueUnit
+  Routine : Piece → ValueUnit
 
-abbrev pub classes_behind : Limits → Context → List (ℕ × Piece) → WorldOf → WorldOf
-classes_behind limits context [] v = v
-classes_behind limits context ((c, u) ∷ units) v = classes_behind limits context units (world_of (class_read limits context u.place u.work))
+-- a part of a body: a class, an attribute that is given or taken away, a property without values, and one with a first value and others
+pub data PartUnits : Type 0 where
+  ClassNamed : ℕ → Piece → PartUnits
+  AttributeNamed : ℕ → Bool → Piece → PartUnits
+  PropertyNamed : PropertyName → Piece → PartUnits
+  Valued : PropertyName → ValueUnit → List ValueUnit → PartUnits
 
-abbrev pub AreClasses : Limits → Context → List (ℕ × Piece) → WorldOf → Type 0
-AreClasses limits context [] v = Unit {0}
-AreClasses limits context ((c, u) ∷ units) v =
-    (world_of u.work ≡ v) × (class_of (found_at (last_at u.work.unit.tokens) u.work) ≡ Some c)
-    × AreClasses limits context units (world_of (class_read limits context u.place u.work))
+pub data HeaderUnit : Type 0 where
+  ClassHeader : Name → Piece → HeaderUnit
+  ObjectHeader : Piece → HeaderUnit
 
-abbrev pub attributes_behind : Limits → Context → List ((ℕ × Bool) × Piece) → WorldOf → WorldOf
-attributes_behind limits context [] v = v
-attributes_behind limits context ((h, u) ∷ units) v =
-    attributes_behind limits context units (world_of (attribute_read limits context u.place u.work))
-
-abbrev pub AreAttributes : Limits → Context → List ((ℕ × Bool) × Piece) → WorldOf → Type 0
-AreAttributes limits context [] v = Unit {0}
-AreAttributes limits context ((h, u) ∷ units) v =
-    (world_of u.work ≡ v) × (attribute_of (found_at (last_at u.work.unit.tokens) u.work) ≡ Some h.0)
-    × (is_given u.work.unit.tokens (last_at u.work.unit.tokens) ≡ h.1) × (set_attribute_fault h.0 v ≡ None)
-    × AreAttributes limits context units (world_of (attribute_read limits context u.place u.work))
-
--- Properties: the name with a first value or none, and each further value. A name has the number that it has in the run.
-
-pub record PropertyUnits : Type 0 where
-  pub at : ℕ
-  pub work : Compilation
-  pub more : List (Value × Compilation)
-
-abbrev pub values_behind : Limits → List (Value × Compilation) → WorldOf → WorldOf
-values_behind limits [] v = v
-values_behind limits ((x, w) ∷ more) v = values_behind limits more (world_of (further limits x None w))
-
-abbrev pub AreValues : Limits → List (Value × Compilation) → WorldOf → Type 0
-AreValues limits [] v = Unit {0}
-AreValues limits ((x, w) ∷ more) v =
-    (world_of w ≡ v) × (further_found limits x None w ≡ None) × (further_value_fault limits x v ≡ None)
-    × AreValues limits more (world_of (further limits x None w))
-
-abbrev pub values_of : Option Value → List (Value × Compilation) → List Value
-values_of first more = option_to_list first ++ map (λ x. x.0) more
-
-abbrev pub number_of : PropertyName → Run → Option ℕ
-number_of (Declared n) r = Some n
-number_of (Individual name) r = number_in name r.numbers
-
-pub record IsGiven (limits : Limits) (p : PropertyName × List Value) (u : PropertyUnits) (r : Run) : Type 0 where
-  pub starts : world_of u.work ≡ r.world
-  pub number : property_of (found_at u.at u.work) ≡ number_of p.0 r
-  pub untold : given_finding limits u.at (first_value p.1) None u.work ≡ None
-  pub room : individual_fault r.world ≡ None
-  pub all : p.1 ≡ values_of (first_value p.1) u.more
-  pub values : AreValues limits u.more (world_of (given limits u.at (first_value p.1) None u.work))
-
-abbrev pub given_behind : Limits → PropertyName × List Value → PropertyUnits → WorldOf
-given_behind limits p u = values_behind limits u.more (world_of (given limits u.at (first_value p.1) None u.work))
-
--- Unit by unit the classes, the attributes and a property of a body do to the world what they do by `inf_world_laws`.
-
-abbrev pub ClassesRun : Type 0
-ClassesRun =
-    (limits : Limits) (context : Context) (units : List (ℕ × Piece)) (v : WorldOf) → AreClasses limits context units v →
-    ClassesFit limits (map (λ u. u.0) units) v →
-    classes_behind limits context units v
-    ≡ fold (λ w c. with_class_of c w) v (map (λ u. u.0) units)
-
-abbrev pub AttributesRun : Type 0
-AttributesRun =
-    (limits : Limits) (context : Context) (units : List ((ℕ × Bool) × Piece)) (v : WorldOf) → AreAttributes limits context units v →
-    attributes_behind limits context units v
-    ≡ fold (λ w h. with_set_attribute h.0 h.1 w) v (map (λ u. u.0) units)
-
-abbrev pub PropertiesRun : Type 0
-PropertiesRun =
-    (limits : Limits) (context : Context) (place : Place) (p : PropertyName × List Value) (u : PropertyUnits) (r : Run) →
-    IsGiven limits p u r → PropertyFits limits p r →
-    given_behind limits p u ≡ (given_in p r).world
-
--- A whole declaration: its header, the units of its body in their order, and its end
-
-abbrev pub properties_behind : Limits → List ((PropertyName × List Value) × PropertyUnits) → WorldOf → WorldOf
-properties_behind limits [] v = v
-properties_behind limits ((p, u) ∷ units) v = properties_behind limits units (given_behind limits p u)
-
-abbrev pub AreProperties : Limits → List ((PropertyName × List Value) × PropertyUnits) → Run → Type 0
-AreProperties limits [] r = Unit {0}
-AreProperties limits ((p, u) ∷ units) r = IsGiven limits p u r × AreProperties limits units (given_in p r)
-
-pub record DeclarationUnits (limits : Limits) (context : Context) (name : List ℕ) (d : Declaration) (r : Run) : Type 0 where
-  pub header : Compilation
-  pub first : Option ℕ
-  pub heads : world_of header ≡ with_first_class first (headed d.is_class d.place name r.world)
-  pub classes : List (ℕ × Piece)
-  pub classes_are : d.classes ≡ option_to_list first ++ map (λ u. u.0) classes
-  pub of_classes : AreClasses limits context classes (world_of header)
-  pub attributes : List ((ℕ × Bool) × Piece)
-  pub attributes_are : d.has ≡ map (λ u. u.0) attributes
-  pub of_attributes : AreAttributes limits context attributes (classes_behind limits context classes (world_of header))
-  pub properties : List ((PropertyName × List Value) × PropertyUnits)
-  pub properties_are : d.with ≡ map (λ u. u.0) properties
-  pub of_properties : AreProperties limits properties
-      (record r { world = attributes_behind limits context attributes (classes_behind limits context classes (world_of header)) })
+-- a declaration; `last` is what was compiled before its semicolon
+pub record DeclarationUnits : Type 0 where
+  pub header : HeaderUnit
+  pub body : List PartUnits
   pub last : Compilation
-  pub ends : world_of last
-      ≡ properties_behind limits properties (attributes_behind limits context attributes
-      (classes_behind limits context classes (world_of header)))
-  pub is_open : no_body_fault (world_of last) ≡ None
 
-abbrev pub DeclarationsRun : Type 0
-DeclarationsRun =
-    (limits : Limits) (context : Context) (place : Place) (name : List ℕ) (d : Declaration) (r : Run) →
-    (u : DeclarationUnits limits context name d r) → DeclarationFits limits name d r →
-    world_of (body_ended u.last) ≡ (declared name d r).world
+-- The compilation behind each of them
+
+abbrev pub value_behind : Limits → Context → ValueUnit → Compilation
+value_behind limits context (Plain u) = value_read limits context u.place u.work
+value_behind limits context (Routine u) = embedded_read limits context u.place u.work
+
+abbrev pub values_behind : Limits → Context → List ValueUnit → Compilation → Compilation
+values_behind limits context [] before = before
+values_behind limits context (u ∷ more) before = values_behind limits context more (value_behind limits context u)
+
+abbrev pub part_behind : Limits → Context → PartUnits → Compilation
+part_behind limits context (ClassNamed c u) = class_read limits context u.place u.work
+part_behind limits context (AttributeNamed a is_given u) = attribute_read limits context u.place u.work
+part_behind limits context (PropertyNamed p u) = property_read limits context u.place u.work
+part_behind limits context (Valued p u more) = values_behind limits context more (value_behind limits context u)
+
+abbrev pub parts_behind : Limits → Context → List PartUnits → Compilation → Compilation
+parts_behind limits context [] before = before
+parts_behind limits context (u ∷ body) before = parts_behind limits context body (part_behind limits context u)
+
+abbrev pub header_behind : Limits → Context → HeaderUnit → Compilation
+header_behind limits context (ClassHeader n u) = class_header limits context u.place n u.work
+header_behind limits context (ObjectHeader u) = object_header limits context u.place u.work
+
+abbrev pub all_behind : Limits → Context → List DeclarationUnits → Compilation → Compilation
+all_behind limits context [] before = before
+all_behind limits context (d ∷ units) before = all_behind limits context units (body_ended d.last)
+
+-- A value: the place of the name of its property, if that comes before it; the value; and what was compiled when it goes to the property
+
+pub record Taken : Type 0 where
+  pub name : Option ℕ
+  pub value : Value
+  pub work : Compilation
+
+abbrev pub text_in : Context → Compilation → Option (List TextItem)
+text_in context w = word_text context (takes_words (name_place w.unit.outer) w) w
+
+abbrev pub plain_taken : Limits → Context → Option (List TextItem) → Compilation → Taken
+plain_taken limits context (Some items) w = record {
+  name = name_place w.unit.outer;
+  value = Value.Later (Target.Word (dictionary_bytes items));
+  work = w;
+}
+plain_taken limits context None w = record {
+  name = name_place w.unit.outer;
+  value = value_of limits context w;
+  work = settled_work limits context w;
+}
+
+-- the locals of a routine go with it
+abbrev pub headless : Compilation → Compilation
+headless w = record w { unit = record w.unit { headed = no_locals } }
+
+abbrev pub taken : Limits → Context → ValueUnit → Taken
+taken limits context (Plain u) = plain_taken limits context (text_in context u.work) u.work
+taken limits context (Routine u) = record {
+  name = place_before (bracket_in u.work.unit.tokens);
+  value = next_routine (headless u.work);
+  work = headless u.work;
+}
+
+abbrev pub value_in : Limits → Context → ValueUnit → Value
+value_in limits context u = (taken limits context u).value
+
+-- The body that the units of a declaration are
+
+abbrev pub part_of : Limits → Context → PartUnits → Part
+part_of limits context (ClassNamed c u) = InClass c
+part_of limits context (AttributeNamed a is_given u) = Has a is_given
+part_of limits context (PropertyNamed p u) = Gives p []
+part_of limits context (Valued p u more) = Gives p (value_in limits context u ∷ map (value_in limits context) more)
+
+-- a class that heads an object is its first
+abbrev pub first_part : Option ℕ → List Part
+first_part None = []
+first_part (Some c) = InClass c ∷ []
+
+abbrev pub place_by : Parent → WorldPlace
+place_by (Parent.Arrows n) = Arrows n
+place_by (Parent.Object n) = Inside n
+
+abbrev pub body_by : Context → HeaderUnit → List Part → Body
+body_by context (ClassHeader n u) parts =
+    record { is_class = true; place = Arrows 0; short = class_short context n u.work; parts = parts }
+body_by context (ObjectHeader u) parts = record {
+  is_class = false;
+  place = place_by (parent_of u.work);
+  short = object_short context u.work;
+  parts = first_part (class_of_word u.work) ++ parts;
+}
+
+abbrev pub body_of : Limits → Context → DeclarationUnits → Body
+body_of limits context d = body_by context d.header (map (part_of limits context) d.body)

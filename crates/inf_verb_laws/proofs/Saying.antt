@@ -56,7 +56,7 @@ verb_chosen true known how p = verb_joined known how p
 verb_chosen false known how p = refl
 
 -- the verb of a word behind one use
-one_used : (how : WordUse) (p : Bool) (u t : Text) (words : Words)
+pub one_used : (how : WordUse) (p : Bool) (u t : Text) (words : Words)
     → verb_of t (with_use u how p words).list ≡ cond (same_text t u) (or_verb (verb_in how) (verb_of t words.list)) (verb_of t words.list)
 one_used how p u t words =
     ap verb_in_word (known_by_all (lists_total nat_cmp_total) (record { text = u; how = how; is_plural = p } ∷ []) t words)
@@ -67,14 +67,14 @@ same_by true x = refl
 same_by false x = refl
 
 -- a use that names no verb
-other_used : (how : WordUse) (p : Bool) (u t : Text) (words : Words) → verb_in how ≡ None
+pub other_used : (how : WordUse) (p : Bool) (u t : Text) (words : Words) → verb_in how ≡ None
     → verb_of t (with_use u how p words).list ≡ verb_of t words.list
 other_used how p u t words none =
     one_used how p u t words
     ∙ ap (λ o. cond (same_text t u) (or_verb o (verb_of t words.list)) (verb_of t words.list)) none
     ∙ same_by (same_text t u) (verb_of t words.list)
 
-others_used : (how : WordUse) (texts : List Text) (t : Text) (s : Tables) → verb_in how ≡ None
+pub others_used : (how : WordUse) (texts : List Text) (t : Text) (s : Tables) → verb_in how ≡ None
     → verb_of t (with_words how texts s).words.list ≡ verb_of t s.words.list
 others_used how [] t s none = refl
 others_used how (u ∷ texts) t s none = others_used how texts t (with_word how false u s) none ∙ other_used how false u t s.words none
@@ -85,7 +85,7 @@ either true false x y = refl
 either false true x y = refl
 either false false x y = refl
 
-verbs_used : (how : WordUse) (n : ℕ) (texts : List Text) (t : Text) (s : Tables) → verb_in how ≡ Some n
+pub verbs_used : (how : WordUse) (n : ℕ) (texts : List Text) (t : Text) (s : Tables) → verb_in how ≡ Some n
     → verb_of t (with_words how texts s).words.list ≡ cond (has_word t texts) (Some n) (verb_of t s.words.list)
 verbs_used how n [] t s is = refl
 verbs_used how n (u ∷ texts) t s is =
@@ -94,11 +94,11 @@ verbs_used how n (u ∷ texts) t s is =
     ∙ ap (λ o. cond (same_text t u) (or_verb o (verb_of t s.words.list)) (verb_of t s.words.list)) is)
     ∙ either (has_word t texts) (same_text t u) (Some n) (verb_of t s.words.list)
 
-words_keep_verbs : (how : WordUse) (texts : List Text) (s : Tables) → (with_words how texts s).verbs ≡ s.verbs
+pub words_keep_verbs : (how : WordUse) (texts : List Text) (s : Tables) → (with_words how texts s).verbs ≡ s.verbs
 words_keep_verbs how [] s = refl
 words_keep_verbs how (u ∷ texts) s = words_keep_verbs how texts (with_word how false u s)
 
-use_is : (is_meta : Bool) (n : ℕ) → verb_in (verb_use is_meta n) ≡ Some n
+pub use_is : (is_meta : Bool) (n : ℕ) → verb_in (verb_use is_meta n) ≡ Some n
 use_is true n = refl
 use_is false n = refl
 
@@ -178,7 +178,7 @@ or_grouped : (a b c : Bool) → ((a || b) || c) ≡ (a || (b || c))
 or_grouped true b c = refl
 or_grouped false b c = refl
 
-has_both : (t : Text) (xs ys : List Text) → has_word t (xs ++ ys) ≡ (has_word t xs || has_word t ys)
+pub has_both : (t : Text) (xs ys : List Text) → has_word t (xs ++ ys) ≡ (has_word t xs || has_word t ys)
 has_both t [] ys = refl
 has_both t (x ∷ xs) ys = ap (λ b. same_text t x || b) (has_both t xs ys) ∙ sym (or_grouped (same_text t x) (has_word t xs) (has_word t ys))
 

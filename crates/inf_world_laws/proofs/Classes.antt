@@ -2,7 +2,6 @@
 use Rattle.std.proofs.Common.{◌≡◌, ◌<◌, ℕ, ◌+◌, ◌==◌, ◌||◌, List, [], ◌∷◌, ◌++◌, append_assoc, append-nil, length, map, Option, Some, None}
 use Rattle.std.proofs.Common.{option_map, Bool, true, false, cond, refl, sym, ap, ◌∙◌, subst, arith, nat_eq, flat_map, fold}
 use Rattle.std.specs.List.{list_any, range_with_len}
-use Rattle.inf_settings.specs.Bounds.{Limits}
 use Rattle.inf_properties.specs.{Properties.inherited, declared.values.Property.Property}
 use Rattle.inf_objects.specs.Attributes.{together}
 use Rattle.inf_objects.specs.Objects.{has_number, is_lost, joined_classes, new_classes, with_joined_class}
@@ -225,19 +224,19 @@ module _ (additive : ℕ → Bool) where
   Joined all v named l xs seen f above =
       JoinedBy all v named l f above (xs ++ flat_map (with_own (things_in all)) named) (giving (things_in all) seen named)
 
-  module _ (limits : Limits) (all : List Named) (v : WorldOf) (are : v.objects ≡ told additive all)
+  module _ (all : List Named) (v : WorldOf) (are : v.objects ≡ told additive all)
       (owned : is_lost v.body.properties.owner ≡ false) (whole : AreWhole (things_in all)) where
     abbrev Rest : List ℕ → Type 0
     Rest named =
         (l xs seen : List ℕ) (f : ℕ → Bool) (above : List Property) → l ≡ distinct [] xs → ((n : ℕ) → contains seen n ≡ contains l n)
-        → IsClosed (things_in all) l → ClassesFit limits named (classed v l (flags f) above) → Joined all v named l xs seen f above
+        → IsClosed (things_in all) l → ClassesFit named v.objects → Joined all v named l xs seen f above
 
     class_more : (named : List ℕ) (c : ℕ) (l xs seen : List ℕ) (f : ℕ → Bool) (above : List Property) → Rest named → l ≡ distinct [] xs
         → ((n : ℕ) → contains seen n ≡ contains l n) → IsClosed (things_in all) l → (j : IsClass additive c all v) → (b : Bool)
         → contains l c ≡ b
         → with_class_of c (classed v l (flags f) above)
         ≡ cond b (classed v l (flags f) above) (joined_to v l (flags f) above c j.named.1)
-        → ClassesFit limits named (cond b (classed v l (flags f) above) (joined_to v l (flags f) above c j.named.1))
+        → ClassesFit named v.objects
         → Joined all v (c ∷ named) l xs seen f above
     class_more named c l xs seen f above rest e same closed j true there step fits =
         let before = things_in all in
@@ -275,7 +274,7 @@ module _ (additive : ℕ → Bool) where
         (λ n. contains_both own seen n ∙ ap (λ b. contains own n || b) (same n) ∙ or_exchanged (contains own n) (contains l n)
         ∙ sym (has_own n))
         (closed_joined before l k c t at below closed w.classes (λ n. has_own n ∙ ap (λ o. contains l n || contains o n) own_is))
-        (subst (λ a. ClassesFit limits named (classed v k a higher)) flags_are fits) in
+        fits in
         let others = flat_map (with_own before) named in
         let givers = giving before (own ++ seen) named in
         let taken : giving before seen (c ∷ named) ≡ t ∷ givers =
@@ -307,9 +306,7 @@ module _ (additive : ℕ → Bool) where
           single = tt;
         }
     all_classes (c ∷ named) l xs seen f above e same closed fits =
-        let w = classed v l (flags f) above in
-        let i = class_there additive limits c all w are fits.0 fits.1 in
-        let j : IsClass additive c all v = record { named = i.named; there = i.there; found = i.found } in
-        let step = class_step all v l (flags f) above c owned fits.0 j in
+        let j = class_there additive c all v are fits.0.1 in
+        let step = class_step all v l (flags f) above c owned fits.0.0 j in
         class_more named c l xs seen f above (all_classes named) e same closed j (contains l c) refl step
-        (subst (λ w. ClassesFit limits named w) step fits.2)
+        fits.1

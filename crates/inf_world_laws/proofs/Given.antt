@@ -1,20 +1,18 @@
 -- Properties of a body, one by one: they are those of the description, and names of individual properties have its numbers.
 use Rattle.std.proofs.Common.{◌≡◌, ℕ, ◌+◌, ◌==◌, ◌||◌, List, [], ◌∷◌, ◌++◌, append_assoc, append-nil, length, map, option_map, Option, Some, None}
-use Rattle.std.proofs.Common.{Bool, true, false, cond, not, refl, sym, ap, ◌∙◌, subst, arith, nat_eq, fold}
+use Rattle.std.proofs.Common.{Bool, true, false, cond, not, refl, sym, ap, ◌∙◌, subst, arith, nat_eq, fold, is_some}
 use Rattle.std.proofs.lemmas.List.{length_push}
 use Rattle.std.specs.List.{position_or_len}
 use Rattle.inf_area.specs.declared.targets.Value.{Value}
-use Rattle.inf_settings.specs.Bounds.{Limits}
-use Rattle.inf_properties.specs.{Open.give_fault, Open.given_first, Open.with_given, Properties.has, Values.with_last_value}
-use Rattle.inf_properties.specs.{declared.open.GiveFault.GiveFault, declared.values.Property.Property}
+use Rattle.inf_properties.specs.{Open.given_first, Open.with_given, Properties.has, Values.with_last_value}
+use Rattle.inf_properties.specs.declared.values.Property.{Property}
 use Rattle.inf_objects.specs.Objects.{is_lost}
-use Rattle.inf_tables.specs.{Faults.given_fault, declared.faults.WorldFault.WorldFault}
-use Rattle.inf_tables.specs.World.{WorldOf, given_fault_of, given_of, kind_of, room_of, with_given_property, with_individual}
+use Rattle.inf_tables.specs.World.{WorldOf, given_of, kind_of, with_given_property, with_individual}
 use Rattle.inf_tables.specs.World.{lost_given, with_properties}
 use Rattle.inf_world_laws.specs.Declaring.{Run, given, given_as, given_values, number_in, property, with_values}
 use Rattle.inf_world_laws.specs.{Laws.as_properties, Laws.numbers_of}
 use Rattle.inf_world_laws.specs.Things.{Declared, Individual, PropertyName, contains, distinct, names_in, number_of}
-use Rattle.inf_world_laws.specs.Whole.{AreKinds, GivenFits, IndividualFits, PropertiesFit, PropertyFits, first_value}
+use Rattle.inf_world_laws.specs.Whole.{AreKinds, GivenFits, IndividualFits, PropertiesFit, PropertyFits}
 use Rattle.inf_world_laws.proofs.Order.{again, has_is, or_nothing}
 use Rattle.inf_world_laws.proofs.Classes.{contains_both, distinct_both, distinct_has, is_same, or_exchanged, or_false, same_number}
 
@@ -101,23 +99,7 @@ last_value [] q x = refl
 last_value (p ∷ []) q x = refl
 last_value (p ∷ r ∷ own) q x = ap (λ l. p ∷ l) (last_value (r ∷ own) q x)
 
-fit_open : (b : Bool) (g : Option WorldFault) (f : WorldFault) → cond b g (Some f) ≡ None → g ≡ None
-fit_open true g f e = e
-fit_open false g f e = absurd (cc e)
-
-fit_kept : (b : Bool) (f g : Option WorldFault) → b ≡ false → cond b f g ≡ None → g ≡ None
-fit_kept true f g h e = absurd (cc h)
-fit_kept false f g h e = e
-
-fit_given : (o : Option GiveFault) → option_map given_fault o ≡ None → o ≡ None
-fit_given None e = refl
-fit_given (Some f) e = absurd (cc e)
-
-fit_new : (b : Bool) (g : Option GiveFault) → cond b (Some GiveFault.Given) g ≡ None → b ≡ false
-fit_new true g e = absurd (cc e)
-fit_new false g e = refl
-
-module _ (limits : Limits) (additive : ℕ → Bool) (v : WorldOf) (kinds : AreKinds additive v)
+module _ (additive : ℕ → Bool) (v : WorldOf) (kinds : AreKinds additive v)
     (owned : is_lost v.body.properties.owner ≡ false) where
   -- the body with properties of its own, where a number of individual ones was declared
   abbrev pub placed : ℕ → List Property → Bool → WorldOf
@@ -131,20 +113,14 @@ module _ (limits : Limits) (additive : ℕ → Bool) (v : WorldOf) (kinds : AreK
     pub kind : kind_of n w ≡ Some (additive n)
     pub new : has n w.body.properties.own ≡ false
 
-  fits_by : (n count : ℕ) (own : List Property) (takes : Bool) (first : Option Value) (k : Option Bool)
-      → kind_of n (placed count own takes) ≡ k → given_fault_of limits k n first (placed count own takes) ≡ None
-      → Fits n (placed count own takes)
-  fits_by n count own takes first None e h = absurd (cc h)
-  fits_by n count own takes first (Some b) e h = record {
-    kind = e ∙ ap Some (kinds count n b e);
-    new = fit_new (has n own) _ (fit_given (give_fault (given_first n b first) (room_of limits (placed count own takes))
-        (placed count own takes).body.properties) (fit_kept (is_lost v.body.properties.owner) _ _ owned h));
-  }
+  kind_by : (n count : ℕ) (own : List Property) (takes : Bool) (k : Option Bool) → kind_of n (placed count own takes) ≡ k
+      → is_some k ≡ true → kind_of n (placed count own takes) ≡ Some (additive n)
+  kind_by n count own takes None e h = absurd (cc h)
+  kind_by n count own takes (Some b) e h = e ∙ ap Some (kinds count n b e)
 
-  given_fits : (n count : ℕ) (own : List Property) (takes : Bool) (values : List Value)
-      → GivenFits limits n values (placed count own takes) → Fits n (placed count own takes)
-  given_fits n count own takes values h =
-      fits_by n count own takes (first_value values) (kind_of n (placed count own takes)) refl (fit_open v.is_open _ _ h)
+  given_fits : (n count : ℕ) (own : List Property) (takes : Bool) → GivenFits n (placed count own takes) → Fits n (placed count own takes)
+  given_fits n count own takes h =
+      record { kind = kind_by n count own takes (kind_of n (placed count own takes)) refl h.0; new = h.1 }
 
   values_placed : (n count : ℕ) (own : List Property) (us values : List Value)
       → with_values values (placed count (own ++ property additive n us ∷ []) true)
@@ -199,11 +175,11 @@ module _ (limits : Limits) (additive : ℕ → Bool) (v : WorldOf) (kinds : AreK
   individual_by : (names done rest : List ℕ) (x : ℕ) (values : List Value) (count : ℕ) (own : List Property) (takes : Bool)
       (numbers : List (ℕ × ℕ)) → names ≡ distinct [] (done ++ x ∷ rest) → Numbered names done count numbers
       → (b : Bool) → contains done x ≡ b
-      → IndividualFits limits (cond b (Some (number_of names (Individual x))) None) values (placed count own takes)
+      → IndividualFits (cond b (Some (number_of names (Individual x))) None) (placed count own takes)
       → One names done own (Individual x, values) (record { world = placed count own takes; numbers = numbers })
   individual_by names done rest x values count own takes numbers e i true there h =
       let n = number_of names (Individual x) in
-      let f = given_fits n count own takes values h in
+      let f = given_fits n count own takes h in
       record {
         count = count;
         numbers = numbers;
@@ -218,7 +194,7 @@ module _ (limits : Limits) (additive : ℕ → Bool) (v : WorldOf) (kinds : AreK
       let n = number_of names (Individual x) in
       let number : 64 + count ≡ n =
       ap (λ k. 64 + k) (i.counted ∙ sym (new_place x done rest new)) ∙ ap (λ l. 64 + position_or_len (nat_eq x) l) (sym e) in
-      let f = given_fits (64 + count) (count + 1) own takes values h in
+      let f = given_fits (64 + count) (count + 1) own takes h in
       record {
         count = count + 1;
         numbers = (x, 64 + count) ∷ numbers;
@@ -234,10 +210,10 @@ module _ (limits : Limits) (additive : ℕ → Bool) (v : WorldOf) (kinds : AreK
 
   given_one : (names done rest : List ℕ) (p : PropertyName × List Value) (count : ℕ) (own : List Property) (takes : Bool)
       (numbers : List (ℕ × ℕ)) → names ≡ distinct [] (done ++ (names_in (p ∷ []) ++ rest)) → Numbered names done count numbers
-      → PropertyFits limits p (record { world = placed count own takes; numbers = numbers })
+      → PropertyFits p.0 (record { world = placed count own takes; numbers = numbers })
       → One names done own p (record { world = placed count own takes; numbers = numbers })
   given_one names done rest (Declared n, values) count own takes numbers e i h =
-      let f = given_fits n count own takes values h in
+      let f = given_fits n count own takes h in
       record {
         count = count;
         numbers = numbers;
@@ -247,7 +223,7 @@ module _ (limits : Limits) (additive : ℕ → Bool) (v : WorldOf) (kinds : AreK
       }
   given_one names done rest (Individual x, values) count own takes numbers e i h =
       individual_by names done rest x values count own takes numbers e i (contains done x) refl
-      (subst (λ o. IndividualFits limits o values (placed count own takes)) (i.known x) h)
+      (subst (λ o. IndividualFits o (placed count own takes)) (i.known x) h)
 
   abbrev pub as_given : List ℕ → List (PropertyName × List Value) → List Property
   as_given names with = as_properties additive (map (λ p. (number_of names p.0, p.1)) with)
@@ -267,7 +243,7 @@ module _ (limits : Limits) (additive : ℕ → Bool) (v : WorldOf) (kinds : AreK
 
   pub all_given : (with : List (PropertyName × List Value)) (names done rest : List ℕ) (count : ℕ) (own : List Property) (takes : Bool)
       (numbers : List (ℕ × ℕ)) → names ≡ distinct [] (done ++ (names_in with ++ rest)) → Numbered names done count numbers → IsSingle own
-      → PropertiesFit limits with (record { world = placed count own takes; numbers = numbers })
+      → PropertiesFit with (record { world = placed count own takes; numbers = numbers })
       → All names done own with (record { world = placed count own takes; numbers = numbers })
   all_given [] names done rest count own takes numbers e i single h = record {
     count = count;
@@ -286,7 +262,7 @@ module _ (limits : Limits) (additive : ℕ → Bool) (v : WorldOf) (kinds : AreK
       let a = all_given with names (done ++ first) rest o.count (own ++ q ∷ []) true o.numbers
       (e ∙ ap (distinct []) (parts ∙ sym (append_assoc done first (names_in with ++ rest)))) o.numbered
       (single_push own (number_of names p.0) p.1 single o.new)
-      (subst (λ r. PropertiesFit limits with r) o.is h.1) in
+      (subst (PropertiesFit with) o.is h.1) in
       let owns : (own ++ q ∷ []) ++ as_given names with ≡ own ++ as_given names (p ∷ with) = append_assoc own (q ∷ []) (as_given names with) in
       record {
         count = a.count;

@@ -9,3 +9,4 @@ pub mod Properties
 pub mod Rows
 pub mod Siblings
 pub mod Tree
+pub mod Parts

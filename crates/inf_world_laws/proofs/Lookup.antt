@@ -1,6 +1,6 @@
 -- Things that have names, the latest first, as the tables have them: what is found by a number and by arrows, and headers.
 use Rattle.std.proofs.Common.{◌≡◌, ◌<◌, ℕ, zero, suc, ◌+◌, ◌-◌, ◌==◌, ◌&&◌, not, List, [], ◌∷◌, ◌++◌, length, length-append, map, Option, Some, None}
-use Rattle.std.proofs.Common.{option_map, Bool, true, false, cond, refl, sym, ap, ◌∙◌, subst, arith, nat_le, Result, Ok, Err}
+use Rattle.std.proofs.Common.{option_map, Bool, true, false, cond, refl, sym, ap, ◌∙◌, subst, arith, is_some, nat_le, Result, Ok, Err}
 use Rattle.std.proofs.lemmas.{Bool.Decides.nat_tests, Option.slice_get_past}
 use Rattle.std.specs.Prelude.{slice_get}
 use Rattle.inf_properties.specs.declared.sizes.Owner.{Owner}
@@ -8,7 +8,7 @@ use Rattle.inf_objects.specs.{Objects.begun, declared.objects.Object.Object}
 use Rattle.inf_settings.specs.Bounds.{Limits}
 use Rattle.inf_tables.specs.Objects.{class_at, class_in, declared_at, has_arrows, is_class, is_object, latest_with, or_latest, parent_above}
 use Rattle.inf_tables.specs.{declared.faults.Misfit.Misfit, declared.faults.WorldFault.WorldFault, declared.kinds.Parent.Parent}
-use Rattle.inf_tables.specs.World.{WorldOf, class_by_fault, class_of_fault, hung_fault, with_body, with_hung}
+use Rattle.inf_tables.specs.World.{WorldOf, hung_fault, with_body, with_hung}
 use Rattle.inf_world_laws.specs.{Declaring.headed, Declaring.object_of, Declaring.owner_of, Laws.number_or_none, Whole.HeadFits}
 use Rattle.inf_world_laws.specs.Things.{Arrows, Inside, Place, Thing, arrows_of, latest, parent_by, thing_at}
 use Rattle.inf_world_laws.proofs.Tree.{choose, from_end, has_is, here}
@@ -165,25 +165,18 @@ module _ (additive : ℕ → Bool) where
     pub there : named_at c all ≡ Some named
     pub found : class_at c w.objects ≡ Some (object_in named)
 
-  class_by : (limits : Limits) (c : ℕ) (all : List Named) (w : WorldOf) (p : Named) (b : Bool) → named_at c all ≡ Some p
-      → class_at c w.objects ≡ cond (is_class (owner_of b)) (Some (object_in p)) None
-      → class_by_fault limits (class_at c w.objects) c w ≡ None → IsClass c all w
-  class_by limits c all w p true at e fits = record { named = p; there = at; found = e }
-  class_by limits c all w p false at e fits = absurd (cc (ap (λ o. class_by_fault limits o c w) (sym e) ∙ fits))
-
-  class_in_all : (limits : Limits) (c : ℕ) (all : List Named) (w : WorldOf) (o : Option Named) → named_at c all ≡ o
-      → class_at c w.objects ≡ class_in (option_map object_in o) → class_by_fault limits (class_at c w.objects) c w ≡ None
+  class_by : (c : ℕ) (all : List Named) (w : WorldOf) (p : Named) (b : Bool) → named_at c all ≡ Some p
+      → class_at c w.objects ≡ cond (is_class (owner_of b)) (Some (object_in p)) None → is_some (class_at c w.objects) ≡ true
       → IsClass c all w
-  class_in_all limits c all w None at e fits = absurd (cc (ap (λ o. class_by_fault limits o c w) (sym e) ∙ fits))
-  class_in_all limits c all w (Some p) at e fits = class_by limits c all w p p.1.is_class at e fits
+  class_by c all w p true at e fits = record { named = p; there = at; found = e }
+  class_by c all w p false at e fits = absurd (cc (ap is_some (sym e) ∙ fits))
 
-  open_fits : (b c : Bool) (f : WorldFault) (g : Option WorldFault) → c ≡ false → cond b (cond c None g) (Some f) ≡ None → g ≡ None
-  open_fits true true f g h e = absurd (cc h)
-  open_fits true false f g h e = e
-  open_fits false c f g h e = absurd (cc e)
+  class_in_all : (c : ℕ) (all : List Named) (w : WorldOf) (o : Option Named) → named_at c all ≡ o
+      → class_at c w.objects ≡ class_in (option_map object_in o) → is_some (class_at c w.objects) ≡ true → IsClass c all w
+  class_in_all c all w None at e fits = absurd (cc (ap is_some (sym e) ∙ fits))
+  class_in_all c all w (Some p) at e fits = class_by c all w p p.1.is_class at e fits
 
-  pub class_there : (limits : Limits) (c : ℕ) (all : List Named) (w : WorldOf) → w.objects ≡ told all → (c == 0) ≡ false
-      → class_of_fault limits c w ≡ None → IsClass c all w
-  class_there limits c all w are some fits =
-      class_in_all limits c all w (named_at c all) refl (ap (class_at c) are ∙ ap class_in (declared_is c all))
-      (open_fits w.is_open (c == 0) _ _ some fits)
+  pub class_there : (c : ℕ) (all : List Named) (w : WorldOf) → w.objects ≡ told all → is_some (class_at c w.objects) ≡ true
+      → IsClass c all w
+  class_there c all w are fits =
+      class_in_all c all w (named_at c all) refl (ap (class_at c) are ∙ ap class_in (declared_is c all)) fits

@@ -13,7 +13,7 @@ use Rattle.inf_world_laws.specs.Declaring.{Run, all_declared, declared, ended as
 use Rattle.inf_world_laws.specs.{Laws.AreSingle, Laws.as_properties, Laws.inherited_above, Laws.inherited_all, Laws.numbers_of}
 use Rattle.inf_world_laws.specs.Things.{Declaration, Thing, all_names, classes_in, contains, distinct, giving, made, names_in, number_of}
 use Rattle.inf_world_laws.specs.Things.{properties_of, thing, thing_at, things, with_own}
-use Rattle.inf_world_laws.specs.Whole.{AreKinds, ClassesFit, DeclarationFits, NoneRefused, PropertiesFit, WorldsAgree}
+use Rattle.inf_world_laws.specs.Whole.{AreKinds, DeclarationFits, NoneRefused, PropertiesFit, WorldsAgree}
 use Rattle.inf_world_laws.proofs.{Attributes.attributes_agree, Lists.numbers_are, Lists.fold_map, Lists.properties_agree}
 use Rattle.inf_world_laws.proofs.Order.{order_agrees}
 use Rattle.inf_world_laws.proofs.Lookup.{Named, begun_as, headed_is, object_in, things_in, things_length, told}
@@ -119,8 +119,8 @@ module _ (limits : Limits) (additive : ℕ → Bool) (names : List ℕ) where
       let owned = owned_by d.is_class in
       let head = headed_is additive limits d.is_class d.place name all r.world s.objects fits.head in
       let opens : v ≡ classed additive v [] (flags (λ a. false)) [] = ap (λ a. classed additive v [] a []) none_given in
-      let j = all_classes additive limits all v s.objects owned s.whole d.classes [] [] [] (λ a. false) [] refl (λ n. refl)
-      (nothing_closed before) (subst (ClassesFit limits d.classes) (head ∙ opens) fits.classes) in
+      let j = all_classes additive all v s.objects owned s.whole d.classes [] [] [] (λ a. false) [] refl (λ n. refl)
+      (nothing_closed before) fits.classes in
       let l = distinct [] (flat_map named_with d.classes) in
       let joined = inherited_above additive [] lists in
       let w = classed additive v l (flags above) joined in
@@ -132,10 +132,10 @@ module _ (limits : Limits) (additive : ℕ → Bool) (names : List ℕ) where
       ∙ all_said d.has w in
       let kind_there : AreKinds additive u =
       subst (λ k. AreKinds additive (record u { declared = k })) (sym s.kinds) (λ n m b h. are n m b h) in
-      let g = all_given limits additive u kind_there owned d.with names done rest r.world.individuals [] false r.numbers e s.numbered refl
-      (subst (λ w. PropertiesFit limits d.with (record { world = w; numbers = r.numbers })) attributes fits.properties) in
+      let g = all_given additive u kind_there owned d.with names done rest r.world.individuals [] false r.numbers e s.numbered refl
+      (subst (λ w. PropertiesFit d.with (record { world = w; numbers = r.numbers })) attributes fits.properties) in
       let ends : declared name d r ≡ run_ended (record {
-        world = placed limits additive u kind_there owned g.count (as_given limits additive u kind_there owned names d.with) g.takes;
+        world = placed additive u kind_there owned g.count (as_given additive u kind_there owned names d.with) g.takes;
         numbers = g.numbers;
       }) =
       ap (λ w. run_ended (fold (λ r p. given p r) (record { world = w; numbers = r.numbers }) d.with))
@@ -144,7 +144,7 @@ module _ (limits : Limits) (additive : ℕ → Bool) (names : List ℕ) where
       let single : AreSingle (map (as_properties additive) (own ∷ lists)) = (g.single, j.single) in
       let t = thing additive names d before in
       let object : ended
-      (placed limits additive u kind_there owned g.count (as_given limits additive u kind_there owned names d.with) g.takes).body
+      (placed additive u kind_there owned g.count (as_given additive u kind_there owned names d.with) g.takes).body
       ≡ object_of additive name t =
       ap (λ a. record (object_of additive name t) { attributes = a; properties = inherited_all additive own lists })
       (attributes_agree above d.has)
@@ -152,7 +152,7 @@ module _ (limits : Limits) (additive : ℕ → Bool) (names : List ℕ) where
       subst (λ r. Stands additive names (done ++ names_in d.with) kinds ((name, t) ∷ all) r) (sym ends) (record {
         objects =
             ap (λ b. r.world.objects ++ cond b [] (ended
-            (placed limits additive u kind_there owned g.count (as_given limits additive u kind_there owned names d.with) g.takes).body
+            (placed additive u kind_there owned g.count (as_given additive u kind_there owned names d.with) g.takes).body
             ∷ [])) owned
             ∙ ap (λ o. r.world.objects ++ o ∷ []) object
             ∙ ap (λ l. l ++ object_of additive name t ∷ []) s.objects;

@@ -4,3 +4,4 @@ pub mod Declaring
 pub mod Laws
 pub mod Whole
 pub mod Rows
+pub mod Parts

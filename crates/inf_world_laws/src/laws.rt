@@ -1,6 +1,7 @@
 //! Objects and classes are those that the declarations of a source describe.
 ghost use Rattle.inf_world_laws.specs.Laws.{AttributesAgree, ChildAgrees, ChildrenAgree, LatestAgree, OrderAgrees};
 ghost use Rattle.inf_world_laws.specs.Laws.{PropertiesAgree, SiblingAgrees, ValuesAgree};
+ghost use Rattle.inf_world_laws.specs.Parts.{BodiesAgree};
 ghost use Rattle.inf_world_laws.specs.Whole.{WorldsAgree};
 ghost use Rattle.inf_world_laws.specs.Rows.{ClassesAgree, LinksAreShown, TablesAreShown};
 
@@ -31,6 +32,12 @@ pub fn trees_agree()
 /// description, where they refuse none.
 pub fn worlds_agree()
     ensures { WorldsAgree }
+{}
+
+/// States that the parts of bodies in any order, each by its operation of the tables, come to the things of the description,
+/// where none is refused.
+pub fn bodies_agree()
+    ensures { BodiesAgree }
 {}
 
 /// States of three small stories that the tables have the things of the description. Of two of them the bytes are shown

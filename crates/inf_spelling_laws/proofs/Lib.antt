@@ -1,0 +1,5 @@
+pub mod Marks
+pub mod Cutting
+pub mod Parting
+pub mod Scanned
+pub mod Spelling
