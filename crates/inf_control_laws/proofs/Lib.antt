@@ -6,7 +6,7 @@ mod Pieces
 pub mod Plain
 pub mod Premises
 mod Settling
-mod Reaching
+pub mod Reaching
 pub mod Statements
 mod Turning
 pub mod Units

@@ -25,7 +25,7 @@ use Rattle.inf_control_laws.specs.Runs as runs
 use Rattle.inf_control_laws.proofs.{Laying.lays_code, Reaching.SameEnd, Reaching.ends_as}
 
 -- Nothing is done.
-stays_done : (w : World) (x : Exits) → Always w nothing (Runs w x (λ s. Some (Done, s)))
+pub stays_done : (w : World) (x : Exits) → Always w nothing (Runs w x (λ s. Some (Done, s)))
 stays_done w x =
     so (λ at from to place stack temp s r t e.
     ends_as w x at from to (state stack temp s) stack temp Done r s t e (moved place (here w at from (state stack temp s))))
@@ -64,12 +64,12 @@ continue_runs w limits x (Some l) same =
     (jumped_ limits l)
 
 -- an instruction that returns a value, behind some code
-leaves_at : (w : World) (at : Label → Place) (from m to : Place) (item : Item) (start now : State) (n : ℕ) (t : Store) →
+pub leaves_at : (w : World) (at : Label → Place) (from m to : Place) (item : Item) (start now : State) (n : ℕ) (t : Store) →
     Comes w at from start m now → Lies item at m to → runs.returned w item now ≡ Some (n, t) → Leaves w at from start n t
 leaves_at w at from m to item start now n t c place e =
     record { item = item; rest = to; now = now; comes = moved place c; returns = e }
 
-fixed_runs : (w : World) (limits : Limits) (x : Exits) →
+pub fixed_runs : (w : World) (limits : Limits) (x : Exits) →
     Always w (plain limits Opcode.Rtrue) (Runs w x (λ s. Some (Returned 1, s)))
     × Always w (plain limits Opcode.Rfalse) (Runs w x (λ s. Some (Returned 0, s)))
 fixed_runs w limits x = (

@@ -21,7 +21,7 @@ use Rattle.inf_control_laws.specs.{Runs.exits, Units.IsSound, Units.kept_value, 
 use Rattle.inf_control_laws.proofs.{Laying.none_both, Laying.none_then, Laying.then_none, Units.units_run}
 
 -- A whole part lays what the end of its unit lays.
-part_lays : (w : World) (limits : Limits) (context : Context) (p : Part) (e : Ending) (q : Quiet) (v : Compilation)
+pub part_lays : (w : World) (limits : Limits) (context : Context) (p : Part) (e : Ending) (q : Quiet) (v : Compilation)
     (x : Ends limits context p e q v) (P : Claim) →
     let unit = run limits context x.front.all v in
     Lays w P unit.output (act limits context x.at.place x.last unit).output → Lays w P v.output (run limits context q.all v).output

@@ -34,7 +34,7 @@ use Rattle.inf_control_laws.proofs.{Cases.case_begins, Loops.looped_laid, Plain.
 use Rattle.inf_control_laws.proofs.Laying.{lays_code, lays_so, none_alike, none_both, none_then}
 
 -- the output where the code of a unit begins
-abbrev begun_in : Limits → Context → Place → Compilation → Out
+abbrev pub begun_in : Limits → Context → Place → Compilation → Out
 begun_in limits context first v = record (settled_of limits context (named (part_prepared v))).out { first = first }
 
 none_settled : (limits : Limits) (context : Context) (first : Place) (u : Compilation) →
@@ -45,15 +45,16 @@ none_settled limits context first u =
     (settled_none limits context.set u.locals u.unit.tokens u.unit.gathering.leaves (record { out = u.output; operands = [] }))
     (none_alike s (record s { first = first }) refl refl refl refl)
 
-none_begun : (limits : Limits) (context : Context) (first : Place) (v : Compilation) → LaysNone v.output (begun_in limits context first v)
+pub none_begun : (limits : Limits) (context : Context) (first : Place) (v : Compilation) →
+    LaysNone v.output (begun_in limits context first v)
 none_begun limits context first v = none_settled limits context first (named (part_prepared v))
 
 -- A sound unit is carried out.
-unit_is : (limits : Limits) (context : Context) (place : Place) (p : Part) (v : Compilation) (after : Compilation) →
+pub unit_is : (limits : Limits) (context : Context) (place : Place) (p : Part) (v : Compilation) (after : Compilation) →
     v.is_replaced ≡ false → (if v.is_replaced then passed (has_last p) v else after).output ≡ after.output
 unit_is limits context place p v after stays = ap (λ b. (if b then passed (has_last p) v else after).output) stays
 
-carried_is : (limits : Limits) (context : Context) (first : Place) (p : Part) (f : Option Finding) (u : Compilation) → f ≡ None →
+pub carried_is : (limits : Limits) (context : Context) (first : Place) (p : Part) (f : Option Finding) (u : Compilation) → f ≡ None →
     (part_carried limits context first p f u).output ≡ (part_carried limits context first p None u).output
 carried_is limits context first p f u e = ap (λ g. (part_carried limits context first p g u).output) e
 
@@ -312,7 +313,7 @@ case_ends w limits context place v sound c around inner old had_default which h 
     subst (λ (z : List Construct × Out). CaseBegins w holds v.constructs z.0 v.output z.1) (sym is)
     (subst (λ l. CaseBegins w holds l u.constructs v.output (case_code limits (next_case u.constructs) trees o)) (sym inner) begins)
 
-by_role : (w : World) (limits : Limits) (context : Context) (place : Place) (v : Compilation) (P : Claim) (r e : Role) → r ≡ e →
+pub by_role : (w : World) (limits : Limits) (context : Context) (place : Place) (v : Compilation) (P : Claim) (r e : Role) → r ≡ e →
     Lays w P v.output (played limits context place e v).output → Lays w P v.output (played limits context place r v).output
 by_role w limits context place v P r e same h = subst (λ z. Lays w P v.output (played limits context place z v).output) (sym same) h
 

@@ -4,7 +4,7 @@ use Rattle.inf_opcode.specs.{Instructions.Parts, declared.instructions.Label.Lab
 use Rattle.inf_constructs.specs.{Constructs.left_to, declared.constructs.Construct.Construct}
 use Rattle.inf_output.specs.{Output.Out, Output.items_of, declared.items.Item.Item}
 use Rattle.inf_interpreter.specs.{Claims.Claim, Claims.Comes, Claims.Laid, Claims.state, Supplied.NamesStay, Supplied.Supplies}
-use Rattle.inf_interpreter.specs.Machine.{World, Store, State, Place, Stands, ◌then◌, operand_values, popped}
+use Rattle.inf_interpreter.specs.Machine.{LineEnd, World, Store, State, Place, Stands, ◌then◌, operand_values, popped, tells, text_told}
 use Rattle.inf_control_laws.specs.Control.{Broke, Continued, Done, Effect, Outcome, Returned}
 
 -- An instruction that leaves the routine, with the value that it returns and the store (Z-Machine Standard 1.1, section 15).
@@ -16,6 +16,7 @@ abbrev pub returned_by : World → Opcode → Parts → State → Option (ℕ ×
 returned_by w Opcode.Rtrue i s = Some (1, s.store)
 returned_by w Opcode.Rfalse i s = Some (0, s.store)
 returned_by w Opcode.Ret i s = operand_values w i.operands s then λ p. only_value p.0 p.1.store
+returned_by w Opcode.PrintRet i s = Some (1, tells LineEnd (text_told w i.text s.store))
 returned_by w Opcode.RetPopped i s = popped s.stack s then λ p. Some (p.0, p.1.store)
 returned_by w _ i s = None
 

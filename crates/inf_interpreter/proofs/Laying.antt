@@ -245,7 +245,7 @@ nothing_ o = record {
   runs = λ at rest k s. refl;
 }
 
-laid_ : {w : World} (limits : Limits) (i : Parts) → Always w (laid limits (Item.Instruction i)) (Lies (Item.Instruction i))
+pub laid_ : {w : World} (limits : Limits) (i : Parts) → Always w (laid limits (Item.Instruction i)) (Lies (Item.Instruction i))
 laid_ limits i o = record {
   items = Item.Instruction i ∷ [];
   laid = item_laid limits (Item.Instruction i) o;

@@ -1,7 +1,10 @@
--- A machine that runs the items of a routine, by the Z-Machine Standard 1.1 (sections 6, 14 and 15). It knows the opcodes that expressions
--- and loops are laid with; at any other one, and at one whose operands do not fit, it has no next step.
+-- A machine that runs the items of a routine, by the Z-Machine Standard 1.1 (sections 6, 14 and 15). It knows the opcodes that expressions,
+-- loops, and statements that print or change objects are laid with; at any other one, and at one whose operands do not fit, it has no next
+-- step.
 use Rattle.std.specs.Prelude.{◌≡◌, ◌-◌, ℕ, zero, suc, ◌+◌, ◌*◌, ◌/◌, ◌%◌, nat_lt, not, ◌==◌, ◌||◌, Bool, true, false, List, [], ◌∷◌, ◌++◌}
 use Rattle.std.specs.Prelude.{bit_and, bit_or, Option, Some, None, if◌then◌else◌}
+use Rattle.inf_characters.specs.declared.texts.TextItem.{TextItem}
+use Rattle.inf_text.specs.Unpacking.{unpacked}
 use Rattle.inf_area.specs.declared.targets.Target.{Target}
 use Rattle.inf_opcode.specs.{Instructions.Parts, declared.instructions.Branch.Branch, declared.instructions.Destination.Destination}
 use Rattle.inf_opcode.specs.{declared.instructions.Label.Label, declared.instructions.Operand.Operand, declared.opcodes.Opcode.Opcode}
@@ -14,12 +17,26 @@ abbrev pub ◌then◌ : {A B : Type 0} → Option A → (A → Option B) → Opt
 (None then next) = None
 ((Some a) then next) = next a
 
--- A store, which expressions read and write: each variable by its number (a local by 1 to 15, a global from 16 on), each byte of memory by
--- its address, and the number on which the next random number depends. Globals are held apart from the bytes that they are in a story.
+-- An output: a text; a number, which has a sign; the character of a code; the text at an address, or at a packed one; the short name of an
+-- object; the end of a line; and a style, in which the text behind it is shown.
+pub data Told : Type 0 where
+  Text : List TextItem → Told
+  Number : ℕ → Told
+  Character : ℕ → Told
+  AtAddress : ℕ → Told
+  AtPacked : ℕ → Told
+  ShortName : ℕ → Told
+  LineEnd : Told
+  Style : ℕ → Told
+
+-- A store, which code reads and writes: each variable by its number (a local by 1 to 15, a global from 16 on), each byte of memory by
+-- its address, the number on which the next random number depends, and all outputs, the latest first. Globals are held apart from the
+-- bytes that they are in a story.
 pub record Store : Type 0 where
   pub variables : ℕ → ℕ
   pub bytes : ℕ → ℕ
   pub chance : ℕ
+  pub told : List Told
 
 -- A store with the stack of the code, its top first, and with variable 255 (`temp_global`), in which the compiler keeps values.
 pub record State : Type 0 where
@@ -31,8 +48,9 @@ pub record State : Type 0 where
 -- a store, the random number up to another one, with the number on which the next one depends, and the outcome of a call of a routine: its
 -- result, the number of variable 255 behind it, and the store. A call that does not return has none. And the number by which each routine
 -- that the compiler supplies is called, and the answers and changes of these routines: the value, the address and the length of an
--- object's property, its value written, the outcome of a message to an object, the number of an object's children, its class, and whether
--- it has a property.
+-- object's property, its value written, the outcome of a message to an object, the number of an object's children, its class, whether
+-- it has a property, and the outcome of those that print or process an action. And the strings of the abbreviations that the source
+-- declares; the store in which an object has an attribute or has it not, is the first child of another one, or has no parent.
 pub record World : Type 0 where
   pub later : Target → ℕ
   pub has : Store → ℕ → ℕ → Bool
@@ -52,6 +70,11 @@ pub record World : Type 0 where
   pub children : Store → ℕ → ℕ
   pub of_class : Store → ℕ → ℕ → Bool
   pub provides : Store → ℕ → ℕ → Bool
+  pub prints : Veneer → List ℕ → Store → Option (ℕ × Store)
+  pub abbreviations : List (List ℕ)
+  pub with_attribute : ℕ → ℕ → Bool → Store → Store
+  pub inserted : ℕ → ℕ → Store → Store
+  pub removed : ℕ → Store → Store
 
 abbrev pub with_variable : ℕ → ℕ → Store → Store
 with_variable v n s = record s { variables = λ u. if u == v then n else s.variables u }
@@ -61,6 +84,9 @@ with_byte at n s = record s { bytes = λ a. if a == at then n % 256 else s.bytes
 
 abbrev pub with_word : ℕ → ℕ → Store → Store
 with_word at n s = with_byte ((at + 1) % 65536) (n % 256) (with_byte at (n / 256) s)
+
+abbrev pub tells : Told → Store → Store
+tells t s = record s { told = t ∷ s.told }
 
 -- an element of an array, by its number
 abbrev pub byte_at : Store → ℕ → ℕ → ℕ
@@ -126,6 +152,7 @@ pub data Action : Type 0 where
   Draws : Action
   Tests : (Store → List ℕ → Option Bool) → Action
   Writes : (List ℕ → Store → Option Store) → Action
+  Prints : Action
   Pushes : Action
   Loads : Action
   Puts : Action
@@ -158,6 +185,18 @@ is_any x (y ∷ ys) = (x == y) || is_any x ys
 abbrev pub first_is_any : List ℕ → Option Bool
 first_is_any [] = None
 first_is_any (x ∷ ys) = Some (is_any x ys)
+
+abbrev pub write_of_none : (Store → Store) → List ℕ → Store → Option Store
+write_of_none f [] s = Some (f s)
+write_of_none f _ s = None
+
+abbrev pub write_of_one : (ℕ → Store → Store) → List ℕ → Store → Option Store
+write_of_one f (x ∷ []) s = Some (f x s)
+write_of_one f _ s = None
+
+abbrev pub write_of_two : (ℕ → ℕ → Store → Store) → List ℕ → Store → Option Store
+write_of_two f (x ∷ y ∷ []) s = Some (f x y s)
+write_of_two f _ s = None
 
 abbrev pub write_of_three : (ℕ → ℕ → ℕ → Store → Store) → List ℕ → Store → Option Store
 write_of_three f (x ∷ y ∷ z ∷ []) s = Some (f x y z s)
@@ -202,6 +241,18 @@ action_of w Opcode.Jin = Tests (λ s. test_of_two (λ a b. w.inside s a b))
 action_of w Opcode.TestAttr = Tests (λ s. test_of_two (λ a b. w.has s a b))
 action_of w Opcode.Storeb = Writes (write_of_three (λ a i n. with_byte ((a + i) % 65536) n))
 action_of w Opcode.Storew = Writes (write_of_three (λ a i n. with_word ((a + 2 * i) % 65536) n))
+action_of w Opcode.SetAttr = Writes (write_of_two (λ o a. w.with_attribute o a true))
+action_of w Opcode.ClearAttr = Writes (write_of_two (λ o a. w.with_attribute o a false))
+action_of w Opcode.InsertObj = Writes (write_of_two w.inserted)
+action_of w Opcode.RemoveObj = Writes (write_of_one w.removed)
+action_of w Opcode.PrintNum = Writes (write_of_one (λ n. tells (Number n)))
+action_of w Opcode.PrintChar = Writes (write_of_one (λ n. tells (Character n)))
+action_of w Opcode.PrintAddr = Writes (write_of_one (λ n. tells (AtAddress n)))
+action_of w Opcode.PrintPaddr = Writes (write_of_one (λ n. tells (AtPacked n)))
+action_of w Opcode.PrintObj = Writes (write_of_one (λ n. tells (ShortName n)))
+action_of w Opcode.SetTextStyle = Writes (write_of_one (λ n. tells (Style n)))
+action_of w Opcode.NewLine = Writes (write_of_none (tells LineEnd))
+action_of w Opcode.Print = Prints
 action_of w Opcode.Push = Pushes
 action_of w Opcode.Load = Loads
 action_of w Opcode.Store = Puts
@@ -284,6 +335,10 @@ abbrev pub returned : Option ℕ → ℕ → Place → State → Option Machine
 returned None n rest s = Some (rest, s)
 returned (Some d) n rest s = Some (rest, given d n s)
 
+-- the text that an instruction has
+abbrev pub text_told : World → List ℕ → Store → Store
+text_told w bytes = tells (Text (unpacked w.abbreviations bytes))
+
 abbrev pub acted : World → (Label → Place) → Action → Parts → Place → State → Option Machine
 acted w at (Computes f) i rest s = operand_values w i.operands s then λ p. f p.1.store p.0 then λ n. delivered i.store n rest p.1
 acted w at (Finds f) i rest s =
@@ -292,6 +347,7 @@ acted w at Draws i rest s =
     operand_values w i.operands s then λ p. drawn w p.0 p.1.store then λ r. delivered i.store r.0 rest (record p.1 { store = r.1 })
 acted w at (Tests f) i rest s = operand_values w i.operands s then λ p. f p.1.store p.0 then λ b. branched i.branch b at rest p.1
 acted w at (Writes f) i rest s = operand_values w i.operands s then λ p. f p.0 p.1.store then λ t. Some (rest, record p.1 { store = t })
+acted w at Prints i rest s = Some (rest, record s { store = text_told w i.text s.store })
 acted w at Pushes i rest s = operand_values w i.operands s then λ p. pushed p.0 rest p.1
 acted w at Loads i rest s = naming i.operands λ v operands. named v s then λ n. delivered i.store n rest s
 acted w at Puts i rest s = naming i.operands λ v operands. operand_values w operands s then λ p. first_put v p.0 rest p.1

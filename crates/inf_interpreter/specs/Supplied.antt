@@ -34,8 +34,8 @@ byte_written a i n = with_byte ((a + i) % 65536) n
 abbrev pub word_written : ℕ → ℕ → ℕ → Store → Store
 word_written a i n = with_word ((a + 2 * i) % 65536) n
 
--- The outcome of a call of a routine with some arguments: its result, and the store behind it. The routines that statements call have no
--- contract here.
+-- The outcome of a call of a routine with some arguments: its result, and the store behind it. Of the routines that print, and of the one
+-- that processes an action, the world has the outcome.
 abbrev pub supplied : World → Veneer → List ℕ → Store → Option (ℕ × Store)
 supplied w Veneer.ReadProperty = told (λ s. of_two (λ o p. Some (w.property s o p)))
 supplied w Veneer.WriteProperty = wrote w.with_property
@@ -50,7 +50,7 @@ supplied w Veneer.StepWord = made_step word_at word_written
 supplied w Veneer.Children = told (λ s. of_one (λ o. Some (w.children s o)))
 supplied w Veneer.OfClass = told (λ s. of_two (λ o c. Some (truth (w.of_class s o c))))
 supplied w Veneer.Provides = told (λ s. of_two (λ o p. Some (truth (w.provides s o p))))
-supplied w _ = λ ns s. None
+supplied w v = w.prints v
 
 -- The world has these contracts: a call of the routine's number comes to that, with any value of variable 255 behind it.
 pub record Contracts (w : World) : Type 0 where

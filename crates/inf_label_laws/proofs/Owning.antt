@@ -12,7 +12,7 @@ use Rattle.inf_output.specs.Output.{Code, Out, behind, fitted, full_item, in_rou
 use Rattle.inf_output.specs.Output.{next_label, nothing, routine, used, used_by, with_label, with_routine, ◌▸◌}
 use Rattle.inf_assembler.specs.declared.routines.Limit.{Limit}
 use Rattle.inf_names.specs.{Symbols.refer_fault, declared.symbols.ReferFault.ReferFault}
-use Rattle.inf_code_walk.{proofs.Numbers.one_needed, proofs.Numbers.times_first, proofs.Numbers.times_joined, proofs.Numbers.times_other}
+use Rattle.inf_code_walk.{proofs.Making.one_needed, proofs.Making.times_first, proofs.Making.times_joined, proofs.Making.times_other}
 use Rattle.inf_code_walk.{specs.Labels.branch_labels, specs.Labels.times}
 use Rattle.inf_label_laws.specs.{Programs.marks, Programs.operand_labels, Programs.uses}
 use Rattle.inf_interpreter.specs.Claims.{Laid, code_behind, kept_behind}

@@ -53,6 +53,11 @@ bare = record {
   children = λ s a. 0;
   of_class = λ s a b. false;
   provides = λ s a b. false;
+  prints = λ v ns s. None;
+  abbreviations = [];
+  with_attribute = λ o a b s. s;
+  inserted = λ o d s. s;
+  removed = λ o s. s;
 }
 
 -- the bytes of the words 10, 20, 30 and 40, from address 0 on
@@ -60,7 +65,7 @@ abbrev pub byte_of : ℕ → ℕ
 byte_of a = if a == 1 then 10 else if a == 3 then 20 else if a == 5 then 30 else if a == 7 then 40 else 0
 
 abbrev pub store : Store
-store = record { variables = λ v. if v == 1 then 2 else if v == 2 then 4 else 0; bytes = byte_of; chance = 0 }
+store = record { variables = λ v. if v == 1 then 2 else if v == 2 then 4 else 0; bytes = byte_of; chance = 0; told = [] }
 
 abbrev pub x : Tree
 x = Leaf (Operand.Variable 1)

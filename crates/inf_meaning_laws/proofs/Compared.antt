@@ -125,7 +125,7 @@ read_all w p = settled_all w p.0 p.1 then with_store p.1
 abbrev with_number : ℕ → List Worked × Store → Option (List Worked × Store)
 with_number n p = Some (Reads (Operand.Known n) ∷ p.0, p.1)
 
-number_first : (w : World) (n : ℕ) (args : List Arg) (s : Store) (ns : List ℕ) (u : Store) →
+pub number_first : (w : World) (n : ℕ) (args : List Arg) (s : Store) (ns : List ℕ) (u : Store) →
     values.values w (number n ∷ args) s ≡ Some (ns, u) → (ms : List ℕ) × (values.values w args s ≡ Some (ms, u)) × (n ∷ ms ≡ ns)
 number_first w n args s ns u e = by_worked (worked_all args s) e
   where

@@ -220,7 +220,7 @@ two_means {keeps} w limits Binary.Then a b h k l kept =
     then_means {keeps = keeps} w limits (meaning limits a) (meaning limits b) (sense w a) (sense w b) k l
 two_means w limits Binary.To a b h k l kept = absurd h
 
-means : (keeps : Bool) (w : World) (limits : Limits) (t : Tree) → Covered keeps t → Means keeps w limits (meaning limits t) (sense w t)
+pub means : (keeps : Bool) (w : World) (limits : Limits) (t : Tree) → Covered keeps t → Means keeps w limits (meaning limits t) (sense w t)
 means keeps w limits (Leaf x) h = leaf_means {keeps = keeps} w limits x
 means keeps w limits (One op a) h = one_means {keeps = keeps} w limits op a h.0 (means keeps w limits a h.1)
 means keeps w limits (Two op a b) h =

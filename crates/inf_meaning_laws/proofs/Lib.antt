@@ -1,12 +1,12 @@
 mod Assigned
-mod Called
-mod Compared
+pub mod Called
+pub mod Compared
 mod Conditions
 mod Counting
 pub mod Expressions
 mod Groups
 pub mod Instructions
-mod Meant
+pub mod Meant
 mod Messages
-mod Supplying
+pub mod Supplying
 pub mod Working

@@ -13,7 +13,8 @@ use Rattle.inf_veneer_laws.specs.{Classes.TellsRegion, Classes.region_of, Messag
 use Rattle.inf_veneer_laws.specs.{Routines.assigned, Sources.Evaluate, Sources.Return, Sources.Statement, Worlds.HasObjects}
 use Rattle.inf_veneer_laws.specs.Running.{Calls, Numbers, control, ended, entered, left, printed}
 use Rattle.inf_veneer_laws.specs.Sending.{HasMessages, IsOuter, KeepsLocals, MessageMeets, MessagesAreSent, Sends, SendsMessage}
-use Rattle.inf_veneer_laws.specs.Sending.{answered_by, five, message_by, message_called, with_action, with_object, with_object_of}
+use Rattle.inf_veneer_laws.specs.Sending.{answered_by, five, message_by, message_called, string_told, with_action, with_object}
+use Rattle.inf_veneer_laws.specs.Sending.{with_object_of}
 use Rattle.inf_veneer_laws.specs.Message as named
 use Rattle.inf_veneer_laws.specs.Routines as routines
 use Rattle.inf_veneer_laws.proofs.Flow.{both_done, both_returns, comes_to, guard_passes, guard_returns, is_found, or_false, returns_with}
@@ -230,19 +231,20 @@ sent_by : (w : World) (numbers : Numbers) → Calls w numbers (codes "Z__Region"
     (next : Effect) (o p v : ℕ) (ns : List ℕ) (s : Store) → v < 65536 → (is_text is_routine : Bool) →
     (region_of w v == 3) ≡ is_text → (region_of w v == 2) ≡ is_routine → (n : ℕ) (u : Store) (m : Option (ℕ × Store)) →
     (m ≡ Some (n, u) → Answers next s (placed o (s.variables 253) (held v (s.variables 253) (s.variables 252) (o ∷ p ∷ ns) s)) n u) →
-    (if is_text then Some (1, s) else if is_routine then m else Some (v, s)) ≡ Some (n, u) →
+    (if is_text then Some (1, string_told v s) else if is_routine then m else Some (v, s)) ≡ Some (n, u) →
     Answers (both_run (by_value w numbers x turns) next) s (with_variable 8 v (entered (o ∷ p ∷ ns) s)) n u
 sent_by w numbers calls x turns next o p v ns s few true is_routine e f n u m answers known =
     let now = with_variable 8 v (entered (o ∷ p ∷ ns) s) in
+    let told = string_told v now in
     let r = same_some known in
-    let ends : by_value w numbers x turns now ≡ comes_to (Returned 1) now =
-    guard_returns (is_string w numbers) (printed w (Leaf (Operand.Variable 8))) (by_routine w numbers x turns) now now 1
+    let ends : by_value w numbers x turns now ≡ comes_to (Returned 1) told =
+    guard_returns (is_string w numbers) (printed w (Leaf (Operand.Variable 8))) (by_routine w numbers x turns) now told 1
     (string_is w numbers calls now few ∙ ap (is_found now) e) refl in
     record {
-      behind = now;
-      runs = both_returns (by_value w numbers x turns) next now now 1 ends
-          ∙ ap (λ (k : ℕ × Store). comes_to (Returned k.0) now) r;
-      same = one_local (o ∷ p ∷ ns) s 8 v refl ∙ ap (λ (k : ℕ × Store). k.1) r;
+      behind = told;
+      runs = both_returns (by_value w numbers x turns) next now told 1 ends
+          ∙ ap (λ (k : ℕ × Store). comes_to (Returned k.0) told) r;
+      same = ap (string_told v) (one_local (o ∷ p ∷ ns) s 8 v refl) ∙ ap (λ (k : ℕ × Store). k.1) r;
     }
 sent_by w numbers calls x turns next o p v ns s few false false e f n u m answers known =
     let now = with_variable 8 v (entered (o ∷ p ∷ ns) s) in

@@ -4,7 +4,7 @@ use Rattle.inf_area.specs.declared.targets.Target.{Target}
 use Rattle.inf_expressions.specs.{Folding.joined, Folding.joined_single, Trees.Tree, declared.operators.Operand.Operand}
 use Rattle.inf_expressions.specs.Trees as tree
 use Rattle.inf_output.specs.declared.veneer.Veneer.{Veneer}
-use Rattle.inf_interpreter.specs.Machine.{Store, World, ◌then◌, of_one, of_two, with_variable}
+use Rattle.inf_interpreter.specs.Machine.{AtPacked, LineEnd, Store, World, ◌then◌, of_one, of_two, tells, with_variable}
 use Rattle.inf_interpreter.specs.Supplied.{supplied}
 use Rattle.inf_meaning_laws.specs.Values.{read, sense, truth_of, value_of}
 use Rattle.inf_control_laws.specs.Control.{Both, Broke, Continued, Control, Does, Done, Effect, ForEach, IfTrue, Outcome, Returned}
@@ -67,9 +67,9 @@ abbrev pub asked : World → (List ℕ → Operand) → Question → List Expres
 asked w known q operands variable s =
     read_all w known operands s then λ ns. answer_of q s.bytes ns then λ n. stored (known variable) n s
 
--- Printing changes nothing of a store, and `print_ret` returns 1. What is printed is not spoken of.
+-- `print_ret (string)` prints the text at a packed address, ends the line and returns 1.
 abbrev pub printed : World → Tree → Effect
-printed w t s = value_of w t s then λ p. Some (Returned 1, p.1)
+printed w t s = value_of w t s then λ p. Some (Returned 1, tells LineEnd (tells (AtPacked p.0) p.1))
 
 -- Statements as control flow
 

@@ -3,7 +3,7 @@
 use Rattle.std.specs.Prelude.{◌≡◌, ℕ, ◌<◌, ◌==◌, true, false, List, [], ◌∷◌, Option, Some, None, codes, if◌then◌else◌}
 use Rattle.inf_expressions.specs.declared.operators.Operand.{Operand}
 use Rattle.inf_output.specs.declared.veneer.Veneer.{Veneer}
-use Rattle.inf_interpreter.specs.Machine.{Store, World, ◌then◌, with_variable}
+use Rattle.inf_interpreter.specs.Machine.{AtPacked, LineEnd, Store, World, ◌then◌, tells, with_variable}
 use Rattle.inf_meaning_laws.specs.Values.{read}
 use Rattle.inf_veneer_laws.specs.{Message.message_names, Message.send_message, Properties.any_value, Sources.on_side, Worlds.HasObjects}
 use Rattle.inf_veneer_laws.specs.Classes.{HasClasses, TellsRegion, region_of}
@@ -40,11 +40,15 @@ abbrev pub answered_by : World → Option Operand → Store → ℕ → ℕ → 
 answered_by w action s o f ns =
     with_action w action (with_object o s) then λ u. w.called u f (five ns) then λ r. Some (r.0, with_object_of s r.2)
 
--- The outcome of a message, by the property's value: a string is printed, of which a store tells nothing, and the result is 1; a routine
--- is called; and any other value is the result.
+-- the store behind a string that is printed, with the end of a line
+abbrev pub string_told : ℕ → Store → Store
+string_told n s = tells LineEnd (tells (AtPacked n) s)
+
+-- The outcome of a message, by the property's value: a string is printed, and the result is 1; a routine is called; and any other value is
+-- the result.
 abbrev pub message_by : World → Option Operand → Store → ℕ → ℕ → List ℕ → Option (ℕ × Store)
 message_by w action s o n ns =
-    if region_of w n == 3 then Some (1, s)
+    if region_of w n == 3 then Some (1, string_told n s)
     else if region_of w n == 2 then answered_by w action s o n ns
     else Some (n, s)
 

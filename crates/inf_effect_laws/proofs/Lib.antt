@@ -1,0 +1,7 @@
+mod Changes
+mod Giving
+mod Printing
+mod Settled
+pub mod Statements
+mod Texts
+pub mod Units

@@ -1,0 +1,4 @@
+pub mod Described
+pub mod Laws
+pub mod Units
+pub mod Written
