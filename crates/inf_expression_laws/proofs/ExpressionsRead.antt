@@ -3,7 +3,7 @@ use Rattle.std.proofs.Common.{◌≡◌, ℕ, ◌+◌, ◌≤◌, ◌<◌, List,
 use Rattle.std.proofs.Common.{subst, append_assoc, append-nil, arith, option_map, slice_get}
 use Rattle.std.proofs.{lemmas.Bool.cond-false, lemmas.List.length-append}
 use Rattle.inf_machine.specs.declared.symbols.Symbol.{Symbol}
-use Rattle.inf_machine.specs.Grammar.{Event, IsOneOf, Leads, first, later, here, token, action, row}
+use Rattle.inf_machine.specs.Grammar.{Event, IsOneOf, IsText, Leads, first, later, here, token, action, row}
 use Rattle.inf_machine.proofs.Sets.{has_within}
 use Rattle.inf_syntax.specs.declared.actions.Action.{Action}
 use Rattle.inf_expressions.specs.{Sources.Source, declared.operators.Binary.Binary, declared.operators.Unary.Unary}
@@ -11,7 +11,7 @@ use Rattle.inf_gathering.specs.Gatherings.{Gathering, with_prefix, with_suffix, 
 use Rattle.inf_unit.specs.{Steps.step_of, Tokens.SourceToken, declared.steps.GatherStep.GatherStep}
 use Rattle.inf_unit.specs.Units.{Unit, acted, depth_behind, stepped, taken}
 use Rattle.inf_grammar.specs.Language.{grammar}
-use Rattle.inf_expression_laws.specs.{Gathered.AreSeen, Gathered.IsSeen, Gathered.read_by, Laws.ExpressionsAreRead}
+use Rattle.inf_expression_laws.specs.{Gathered.AreSeen, Gathered.IsSeen, Gathered.read_by, Gathered.with_source, Laws.ExpressionsAreRead}
 use Rattle.inf_expression_laws.specs.Precedence.{Written, sign_behind, sign_between, sign_in_front, sign_of_test}
 use Rattle.inf_expression_laws.proofs.{ActionSteps.acted_step, Items.Item, Items.Whole}
 use Rattle.inf_expression_laws.proofs.Leaves.{At, action_stands, leaf_stands, opened_stands, system_stands}
@@ -226,10 +226,20 @@ at_start u tokens ready early few = record {
   few = few;
 }
 
-pub expressions_are_read : ExpressionsAreRead
-expressions_are_read symbols level form atoms events t u tokens seen ready early few =
-    let p = form_passes symbols level form in
+-- an expression whose symbols lead to one that binds at a level
+pub passed_are_read : (symbols : List (Symbol Action)) (level : ℕ) → Passes [] symbols (Whole level ∷ []) →
+    (atoms : List ℕ) (events : List (Event Action)) → IsText grammar symbols atoms events →
+    (u : Unit) (tokens : List SourceToken) → AreSeen atoms tokens → u.is_over ≡ false → u.begun ≤ length u.tokens →
+    length (u.tokens ++ tokens) < 4294967295 →
+    (a : Source)
+    × Written level (length u.tokens) (length u.gathering.leaves) atoms a
+    × ((read_by events tokens u).gathering ≡ with_source u.outer u.begun (u.tokens ++ tokens) a u.gathering)
+    × ((read_by events tokens u).tokens ≡ u.tokens ++ tokens)
+passed_are_read symbols level p atoms events t u tokens seen ready early few =
     let r =
     reads t refl {f = frame u tokens} {seen = []} p u tokens seen (record { stands = start; at = at_start u tokens ready early few }) in
     let w = only_whole r.stands in
     (w.0, w.1, w.2, sym (append-nil (read_by events tokens u).tokens) ∙ sym r.at.all)
+
+pub expressions_are_read : ExpressionsAreRead
+expressions_are_read symbols level form = passed_are_read symbols level (form_passes symbols level form)

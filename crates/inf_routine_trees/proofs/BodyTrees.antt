@@ -9,35 +9,23 @@ use Rattle.inf_statement_laws.specs.{Laid.laid, Nested.Plain, Nested.Then as Aft
 use Rattle.inf_statement_laws.proofs.Rules.{body_rows, number}
 use Rattle.inf_language.specs.Texts.{atoms_of, happenings_before}
 use Rattle.inf_language.proofs.Derivations.{texts_take_all}
-use Rattle.inf_trees.specs.Statements.{other_items as items_beside}
-use Rattle.inf_trees.proofs.{RuleRows.of_rows, TopTexts.item_text, UnitsRead.place_before, UnitsRead.seen_parts}
-use Rattle.inf_simple_trees.specs.Simple.{other_items}
-use Rattle.inf_simple_trees.proofs.{SimpleRead.beside_item, SimpleRead.simple_text, Symbols.parts_of, TopItems.top_item_text}
-use Rattle.inf_simple_trees.proofs.SimpleTexts.{Another, OneUnit, SimpleText}
+use Rattle.inf_trees.proofs.{RuleRows.of_rows, UnitsRead.place_before, UnitsRead.seen_parts}
+use Rattle.inf_simple_trees.proofs.{ItemTexts.top_item_text, Symbols.parts_of}
 use Rattle.inf_routine_trees.specs.Bodies.{AtTop, BodiesAreLaidAsTrees, Nothing, Then, tree_laid, tree_seen, with_effects}
-use Rattle.inf_routine_trees.proofs.{Effects.put, Endings.end_so, Endings.ends, Endings.text_ends, Loops.nonempty, StatementTrees.Smaller}
+use Rattle.inf_routine_trees.proofs.{Effects.put, Endings.end_so, Endings.ends, Endings.text_ends, Loops.nonempty}
 use Rattle.inf_routine_trees.proofs.{StatementTrees.item_tree, StatementTrees.smaller}
-use Rattle.inf_routine_trees.proofs.Trees.{AreAll, IsTree, moved_seen, plain_runs, simple_tree, tree_closed, tree_opening}
+use Rattle.inf_routine_trees.proofs.Trees.{AreAll, IsTree, moved_seen, plain_runs, tree_closed, tree_opening}
 
 item_ends : end_so false (top_item ∷ []) ≡ true
 unfolding ends
 item_ends = refl
 
-by_text : (limits : Limits) (n : ℕ) → Smaller limits n → (next : Place) (seen : List Seen) (events : List (Event Action)) → AreAll seen
-    → length seen + 1 < 4294967295 → length seen ≤ suc n → SimpleText other_items (atoms_of seen) events
-    → IsTree true limits next seen events
-by_text limits n below next seen events are_seen few fewer (OneUnit front reading text) =
-    simple_tree limits next seen events front reading text are_seen few
-by_text limits n below next seen events are_seen few fewer (Another symbols is_other text) =
-    item_tree limits n below next seen events are_seen few fewer AtTop (top_item_text symbols is_other text)
-
 top_tree : (limits : Limits) (next : Place) (seen : List Seen) (events : List (Event Action))
     → IsText grammar (top_item ∷ []) (atoms_of seen) events → AreAll seen → length seen + 1 < 4294967295
     → IsTree true limits next seen events
 top_tree limits next seen events text are_seen few =
-    by_text limits (length seen) (smaller limits (length seen)) next seen events are_seen few (omega arith)
-    (simple_text items_beside other_items (atoms_of seen) events (beside_item (atoms_of seen) events)
-    (item_text (atoms_of seen) events text))
+    item_tree limits (length seen) (smaller limits (length seen)) next seen events are_seen few (omega arith) AtTop
+    (top_item_text limits seen events text)
 
 -- Items one behind the other
 

@@ -1,11 +1,11 @@
 -- A case is a tree: the way in which it begins, its values, and its colon.
 use Rattle.std.proofs.Common.{◌≡◌, ◌+◌, ◌≤◌, ◌<◌, List, [], ◌∷◌, ◌++◌, length, Bool, true, false, None, refl, sym, ◌∙◌, ap, subst}
 use Rattle.std.proofs.Common.{append_assoc, arith, nat_lt, not, ◌&&◌}
-use Rattle.std.proofs.lemmas.Bool.{and_parts, ltb-false, ltb-true}
+use Rattle.std.proofs.{lemmas.Bool.and_parts, lemmas.Bool.ltb-false, lemmas.Bool.ltb-true, lemmas.List.length-append}
 use Rattle.inf_settings.specs.Bounds.{Limits}
 use Rattle.inf_scanner.specs.declared.tokens.Place.{Place}
-use Rattle.inf_machine.specs.{Grammar.Event, Grammar.IsText, declared.symbols.Symbol.Symbol}
-use Rattle.inf_syntax.specs.{Parts.'colon', declared.actions.Action.Action}
+use Rattle.inf_machine.specs.{Grammar.Did, Grammar.Event, Grammar.IsText, Grammar.Took, declared.symbols.Symbol.Symbol}
+use Rattle.inf_syntax.specs.{declared.actions.Action.Action}
 use Rattle.inf_grammar.specs.Language.{grammar}
 use Rattle.inf_unit.specs.Units.{Unit as UnitAtHand, no_unit}
 use Rattle.inf_compilation.specs.{Actions.Compilation, Context.Context}
@@ -13,13 +13,16 @@ use Rattle.inf_reader.specs.Acting.{act}
 use Rattle.inf_expression_laws.specs.Gathered.{AreSeen}
 use Rattle.inf_statement_laws.specs.{Laid.run, Nested.Case, Nested.Plain, Nested.Then as After, Readings.Seen, Readings.plainly_at}
 use Rattle.inf_statement_laws.specs.Happenings.{Acts, Happening, Quiet, Takes, happen_quietly}
-use Rattle.inf_language.specs.Texts.{atoms_of, happenings_before, tokens_of}
+use Rattle.inf_language.specs.{Texts.atoms_of, Texts.happenings_before, Texts.tokens_of, Units.TakeAll}
+use Rattle.inf_language.proofs.Derivations.{seen_front, texts_take_all}
 use Rattle.inf_trees.specs.Trees.{AreWritten, Part, all_seen, parts_told, with_parts}
-use Rattle.inf_trees.proofs.UnitsRead.{place_before, ready, seen_parts}
+use Rattle.inf_trees.specs.Ends.{case_first}
+use Rattle.inf_trees.proofs.{UnitStates.Ended, UnitStates.Free, UnitStates.Typed, UnitWalks.OfCase, UnitWalks.declared}
+use Rattle.inf_trees.proofs.UnitsRead.{before-append, place_before, ready, seen_parts}
 use Rattle.inf_simple_trees.specs.Room.{have_room}
-use Rattle.inf_simple_trees.proofs.{SimpleTexts.Reading, UnitsGo.AreQuiet, UnitsGo.Going}
-use Rattle.inf_simple_trees.proofs.CaseTexts.{Begun, CaseStart, Directly, SwitchWord, TopWord, case_symbols}
-use Rattle.inf_simple_trees.proofs.Symbols.{act_first, nothing_left, parts_of, token_first}
+use Rattle.inf_simple_trees.proofs.{SimpleRead.take_front, UnitsGo.AreQuiet, UnitsGo.Going, UnitsTyped.OfFree, UnitsTyped.units_typed}
+use Rattle.inf_simple_trees.proofs.ItemTexts.{Begun, CaseStart, Directly, SwitchWord, TopWord}
+use Rattle.inf_simple_trees.proofs.Symbols.{act_first}
 use Rattle.inf_routine_trees.specs.Bodies.{AtTop, Case as CaseTree, OfSwitch, Standing, Start, WithNext, WithUnit, WithWord, count_of, fits}
 use Rattle.inf_routine_trees.specs.Bodies.{start_seen, started, token_done}
 use Rattle.inf_routine_trees.proofs.Pieces.{word_happens, worded}
@@ -34,6 +37,7 @@ record Starts (symbols : List (Symbol Action)) (seen : List Seen) (events : List
   same : start_seen start ++ rest ≡ seen
   text : IsText grammar symbols (atoms_of rest) late
   fewer : length rest ≤ length seen
+  ends : case_first late ≡ case_first events
   happens : Place → List Happening
   happen : (next : Place) → happenings_before next events seen ≡ happens next ++ happenings_before next late rest
   quiet : (next : Place) → happen_quietly (happens next) ≡ true
@@ -43,12 +47,13 @@ record Starts (symbols : List (Symbol Action)) (seen : List Seen) (events : List
 
 with_word : (stands : Standing) (symbols : List (Symbol Action)) (seen : List Seen) (events : List (Event Action)) (word : Seen)
     (rest : List Seen) (late : List (Event Action)) → word ∷ rest ≡ seen → IsText grammar symbols (atoms_of rest) late
+    → case_first late ≡ case_first events
     → ((next : Place) → happenings_before next events seen ≡ word_happens stands word ++ happenings_before next late rest)
     → happen_quietly (word_happens stands word) ≡ true
     → ((limits : Limits) (context : Context) (w : Compilation)
     → run limits context (word_happens stands word) w ≡ started limits context (WithWord stands word) w)
     → Starts symbols seen events
-with_word stands symbols seen events word rest late same text happen quiet runs =
+with_word stands symbols seen events word rest late same text ends happen quiet runs =
     let count = ap length same in
     record {
       start = WithWord stands word;
@@ -57,6 +62,7 @@ with_word stands symbols seen events word rest late same text happen quiet runs 
       same = same;
       text = text;
       fewer = omega (arith, count);
+      ends = ends;
       happens = λ next. word_happens stands word;
       happen = happen;
       quiet = λ next. quiet;
@@ -75,6 +81,7 @@ starts Begun limits symbols seen events text =
       same = refl;
       text = b.text;
       fewer = omega arith;
+      ends = sym (ap case_first b.are);
       happens = λ next. Acts (plainly_at (place_before seen next)) Action.Begin ∷ [];
       happen = b.happen;
       quiet = λ next. refl;
@@ -88,6 +95,7 @@ starts Directly limits symbols seen events text = record {
   same = refl;
   text = text;
   fewer = omega arith;
+  ends = refl;
   happens = λ next. [];
   happen = λ next. refl;
   quiet = λ next. refl;
@@ -96,10 +104,10 @@ starts Directly limits symbols seen events text = record {
 }
 starts (TopWord {class}) limits symbols seen events text =
     let wd = worded limits AtTop class symbols seen events text in
-    with_word AtTop symbols seen events wd.word wd.rest wd.late wd.same wd.text wd.happen wd.quiet (λ l context w. refl)
+    with_word AtTop symbols seen events wd.word wd.rest wd.late wd.same wd.text wd.ends wd.happen wd.quiet (λ l context w. refl)
 starts (SwitchWord {class}) limits symbols seen events text =
     let wd = worded limits OfSwitch class symbols seen events text in
-    with_word OfSwitch symbols seen events wd.word wd.rest wd.late wd.same wd.text wd.happen wd.quiet (λ l context w. refl)
+    with_word OfSwitch symbols seen events wd.word wd.rest wd.late wd.same wd.text wd.ends wd.happen wd.quiet (λ l context w. refl)
 
 -- The values, behind any unit
 
@@ -159,47 +167,48 @@ module _ (limits : Limits) (seen : List Seen) (events : List (Event Action)) (go
   valued : (u : UnitAtHand) → Valued limits seen events u
   valued u = valued_by u (fits (length seen) u) refl
 
-pub case_tree : {begins : List (Symbol Action)} → CaseStart begins → (limits : Limits) (next : Place) (front : List (Symbol Action))
-    → Reading front → (seen : List Seen) (events : List (Event Action))
-    → IsText grammar (begins ++ (front ++ case_symbols)) (atoms_of seen) events → AreAll seen → length seen + 1 < 4294967295
+pub case_tree : {begins : List (Symbol Action)} → CaseStart begins → (limits : Limits) (next : Place) (symbols : List (Symbol Action))
+    → Typed declared Action.EndCase Free symbols Ended → {events : List (Event Action)} → case_first events ≡ true → (seen : List Seen)
+    → IsText grammar (begins ++ symbols) (atoms_of seen) events → AreAll seen → length seen + 1 < 4294967295
     → IsTree true limits next seen events
-case_tree is limits next front reading seen events text are_seen few =
-    let s = starts is limits (front ++ case_symbols) seen events text in
+case_tree is limits next symbols typed {events} kind seen text are_seen few =
+    let s = starts is limits symbols seen events text in
     let parts = seen_parts (start_seen s.start) s.rest (moved_seen (sym s.same) are_seen) in
-    let p = parts_of front case_symbols s.rest s.late s.text in
-    let inside = seen_parts p.front p.rest (moved_seen (sym p.same) parts.1) in
-    let e = act_first Action.EndCase ('colon' ∷ []) p.rest p.late p.of_rest in
-    let c = token_first [] p.rest e.late e.text in
-    let n = nothing_left c.rest c.late c.text in
-    let place = c.s.token.place in
-    let hs = happenings_before place p.early p.front in
-    let v = valued limits p.front p.early (reading limits p.front p.early p.of_front) inside.0 (omega (arith, few, s.fewer, p.count)) in
-    let q : Quiet = record { all = hs; are = happen_quiet place p.early p.front (v no_unit).quiet } in
-    let first : Quiet = record { all = s.happens next; are = s.quiet next } in
-    let last : Quiet = record { all = Takes c.s.token c.s.behind ∷ []; are = refl } in
+    let u = units_typed limits OfCase s.text refl s.rest refl typed refl (s.ends ∙ kind) [] [] OfFree in
+    let c = u.last in
+    let late : List (Event Action) = Did Action.EndCase ∷ Took u.atom ∷ [] in
+    let place = c.token.place in
     let ends = plainly_at place in
-    let values = λ (u : UnitAtHand). (v u).parts in
-    let count : count_of values ≡ length p.front = ap length (v no_unit).same in
+    let hs = happenings_before place u.acts u.body in
+    let end : List Happening = Acts ends Action.EndCase ∷ Takes c.token c.behind ∷ [] in
+    let all_rest = texts_take_all s.text s.rest refl in
+    let all =
+    take_front Action.EndCase u.atom u.acts u.body c
+    (subst (λ l. TakeAll l (u.body ++ c ∷ [])) (sym u.are) (subst (λ l. TakeAll s.late l) (sym u.same) all_rest)) in
+    let happen : happenings_before next s.late s.rest ≡ hs ++ end =
+    ap (λ l. happenings_before next l s.rest) (sym u.are)
+    ∙ (ap (λ l. happenings_before next (u.acts ++ late) l) (sym u.same) ∙ before-append next u.acts late u.body (c ∷ []) all) in
+    let inside = seen_front u.body c (moved_seen (sym u.same) parts.1) in
+    let body_count : length u.body + 1 ≡ length s.rest = sym (length-append u.body (c ∷ [])) ∙ ap length u.same in
+    let v = valued limits u.body u.acts u.going inside (omega (arith, few, s.fewer, body_count)) in
+    let q : Quiet = record { all = hs; are = happen_quiet place u.acts u.body (v no_unit).quiet } in
+    let first : Quiet = record { all = s.happens next; are = s.quiet next } in
+    let last : Quiet = record { all = Takes c.token c.behind ∷ []; are = refl } in
+    let values = λ (x : UnitAtHand). (v x).parts in
+    let count : count_of values ≡ length u.body = ap length (v no_unit).same in
     record {
-      tree = CaseTree s.start values q c.s;
-      all =
-          ap (λ x. start_seen s.start ++ (x ++ c.s ∷ [])) (v no_unit).same
-          ∙ (ap (λ x. start_seen s.start ++ (p.front ++ c.s ∷ x)) (sym n.none)
-          ∙ (ap (λ x. start_seen s.start ++ (p.front ++ x)) c.same ∙ (ap (λ x. start_seen s.start ++ x) p.same ∙ s.same)));
-      written = λ u fit. (v u).written (ap (λ m. fits m u) (sym count) ∙ fit);
+      tree = CaseTree s.start values q c;
+      all = ap (λ x. start_seen s.start ++ (x ++ c ∷ [])) (v no_unit).same ∙ (ap (λ x. start_seen s.start ++ x) u.same ∙ s.same);
+      written = λ x fit. (v x).written (ap (λ m. fits m x) (sym count) ∙ fit);
       nested = After (Plain first) (After (Case q ends) (Plain last));
       same =
           sym (s.happen next
-          ∙ ap (λ x. s.happens next ++ x) (p.happen next
-          ∙ (ap (λ x. happenings_before x p.early p.front ++ happenings_before next p.late p.rest) (c.place next)
-          ∙ (ap (λ x. hs ++ x) (e.happen next
-          ∙ (ap (λ x. Acts (plainly_at x) Action.EndCase ∷ happenings_before next e.late p.rest) (c.place next)
-          ∙ ap (λ x. Acts ends Action.EndCase ∷ x) (c.happen next ∙ ap (λ x. Takes c.s.token c.s.behind ∷ x) (n.happen next))))
-          ∙ sym (append_assoc hs (Acts ends Action.EndCase ∷ []) (Takes c.s.token c.s.behind ∷ []))))));
+          ∙ ap (λ x. s.happens next ++ x) (happen
+          ∙ sym (append_assoc hs (Acts ends Action.EndCase ∷ []) (Takes c.token c.behind ∷ []))));
       rests = λ effects. refl;
       lays = λ effects context w ahead none.
           let x = started limits context s.start w in
-          let behind = λ (z : Compilation). token_done context c.s (act limits context place Action.EndCase z) in
+          let behind = λ (z : Compilation). token_done context c (act limits context place Action.EndCase z) in
           let values_done_by = record (parts_told context x.unit (values x.unit) x) { unit = with_parts (values x.unit) x.unit } in
           ap (λ z. behind (run limits context hs z)) (s.runs limits context next w)
           ∙ ap behind (room_lays (fits (count_of values) x.unit && have_room limits x.unit (values x.unit)) values_done_by

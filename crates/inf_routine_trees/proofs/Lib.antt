@@ -12,4 +12,3 @@ pub mod StatementTrees
 pub mod BodyTrees
 pub mod Headers
 pub mod RoutineTrees
-pub mod Examples

@@ -17,6 +17,7 @@ use Rattle.inf_statement_laws.proofs.{Laying.run_then, Nesting.quiet_parts, Nest
 use Rattle.inf_statement_laws.proofs.{Texts.OfRule, Texts.deep}
 use Rattle.inf_language.specs.{Texts.atoms_of, Texts.happenings_before, Texts.tokens_of, Units.TakeAll}
 use Rattle.inf_language.proofs.Derivations.{texts_take_all}
+use Rattle.inf_trees.specs.Ends.{case_first}
 use Rattle.inf_trees.specs.Trees.{all_seen}
 use Rattle.inf_trees.proofs.{StatementsRead.bracketed_units_are_trees, UnitsRead.place_before, UnitsRead.seen_parts}
 use Rattle.inf_routine_trees.specs.Bodies.{AtTop, Bracketed, Inner, OfSwitch, Standing, UnitWritten, bracketed_done, bracketed_seen}
@@ -179,6 +180,7 @@ pub record Worded (limits : Limits) (stands : Standing) (symbols : List (Symbol 
   pub quiet : happen_quietly (word_happens stands word) ≡ true
   pub runs : (context : Context) (w : Compilation)
       → run limits context (word_happens stands word) w ≡ word_done limits context stands word w
+  pub ends : case_first late ≡ case_first events
 
 pub worded : (limits : Limits) (stands : Standing) (class : ℕ) (symbols : List (Symbol Action)) (seen : List Seen)
     (events : List (Event Action)) → IsText grammar (before_word stands ++ Symbol.Token class ∷ symbols) (atoms_of seen) events
@@ -194,6 +196,7 @@ worded limits AtTop class symbols seen events text =
       happen = t.happen;
       quiet = refl;
       runs = λ context w. refl;
+      ends = sym (ap case_first t.are);
     }
 worded limits Inner class symbols seen events text =
     let d = act_first Action.Deeper (Symbol.Token class ∷ symbols) seen events text in
@@ -210,6 +213,7 @@ worded limits Inner class symbols seen events text =
           ∙ ap (λ l. Acts (plainly_at t.s.token.place) Action.Deeper ∷ l) (t.happen next));
       quiet = refl;
       runs = λ context w. refl;
+      ends = sym (ap case_first d.are ∙ ap case_first t.are);
     }
 worded limits OfSwitch class symbols seen events text =
     let d = act_first Action.MaybeDeeper (Symbol.Token class ∷ symbols) seen events text in
@@ -226,6 +230,7 @@ worded limits OfSwitch class symbols seen events text =
           ∙ ap (λ l. Acts (plainly_at t.s.token.place) Action.MaybeDeeper ∷ l) (t.happen next));
       quiet = refl;
       runs = λ context w. refl;
+      ends = sym (ap case_first d.are ∙ ap case_first t.are);
     }
 
 -- The end of such a statement

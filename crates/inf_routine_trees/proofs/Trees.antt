@@ -19,7 +19,7 @@ use Rattle.inf_statement_laws.specs.Nested.{If, IfElse, Nested, Plain, While, ha
 use Rattle.inf_statement_laws.proofs.{Acts.quiet_run, Laying.laid_as, Rules.number}
 use Rattle.inf_language.specs.{Texts.atoms_of, Texts.happenings_before, Texts.tokens_of, Units.TakeAll}
 use Rattle.inf_trees.specs.Statements.{statement_done}
-use Rattle.inf_trees.proofs.{RuleRows.of_rows, StatementTexts.Rows, StatementTexts.unit_end, StatementsRead.behind, StatementsRead.parted}
+use Rattle.inf_trees.proofs.{RuleRows.of_rows, StatementTexts.Rows, StatementsRead.behind, StatementsRead.parted}
 use Rattle.inf_trees.proofs.{UnitsRead.place_before, UnitsRead.seen_parts}
 use Rattle.inf_routine_trees.specs.Bodies.{Simple, Standing, Tree, TreeWritten, bracketed_done, bracketed_seen, later_effects, next_effect}
 use Rattle.inf_routine_trees.specs.Bodies.{opening_of, token_done, tree_laid, tree_seen, with_effect, with_effects, word_done, If as IfTree}
@@ -29,7 +29,7 @@ use Rattle.inf_routine_trees.proofs.Effects.{Effects, given, none_behind, none_e
 use Rattle.inf_routine_trees.proofs.Endings.{last_took}
 use Rattle.inf_routine_trees.proofs.Pieces.{BracketedText, bracketed_text, Worded, closed_text, test_happen, test_happens, test_quiet}
 use Rattle.inf_routine_trees.proofs.Pieces.{test_runs, before_word, word_happens, worded}
-use Rattle.inf_simple_trees.proofs.{SimpleRead.IsRead, SimpleRead.is_simple, SimpleRead.parted_quiet, SimpleTexts.Reading, UnitsGo.AreQuiet}
+use Rattle.inf_simple_trees.proofs.{SimpleRead.BegunUnit, SimpleRead.is_simple, SimpleRead.parted_quiet, UnitsGo.AreQuiet}
 use Rattle.inf_simple_trees.proofs.Symbols.{PartsOf, act_first, parts_of, token_first}
 
 -- Tokens are a tree, which lays what the happenings of some events lay, nested by their words, before another token at a place.
@@ -98,17 +98,15 @@ pub room_lays : (b : Bool) (done one_by_one : Compilation) → (b ≡ true → o
 room_lays true done one_by_one same = same refl
 room_lays false done one_by_one same = refl
 
-pub simple_tree : {b : Bool} (limits : Limits) (next : Place) (seen : List Seen) (events : List (Event Action)) (front : List (Symbol Action))
-    → Reading front → IsText grammar (!begin ∷ (front ++ unit_end)) (atoms_of seen) events → AreSeen (atoms_of seen) (tokens_of seen)
-    → length seen + 1 < 4294967295 → IsTree b limits next seen events
-simple_tree limits next seen events front reading text are_seen few =
-    let b = behind Action.Begin (front ++ unit_end) (atoms_of seen) events text in
-    let p = parted (IsRead limits) front seen b.rest b.text (λ tokens early t. reading limits tokens early t) in
-    let simple = λ (u : UnitAtHand). is_simple limits u seen events b.rest b.are p are_seen few in
+pub simple_tree : {b : Bool} (limits : Limits) (next : Place) (seen : List Seen) (events : List (Event Action)) → BegunUnit limits seen events
+    → AreSeen (atoms_of seen) (tokens_of seen) → length seen + 1 < 4294967295 → IsTree b limits next seen events
+simple_tree limits next seen events b are_seen few =
+    let p = b.parted in
+    let simple = λ (u : UnitAtHand). is_simple limits u seen events b.behind b.are p are_seen few in
     let late : List (Event Action) = Did Action.EndStatement ∷ Took p.atom ∷ [] in
     let are : events ≡ Did Action.Begin ∷ (p.early ++ late) = b.are ∙ ap (λ l. Did Action.Begin ∷ l) p.are in
     let quiet : AreQuiet events =
-    subst AreQuiet (sym are) (refl, quiet_joined p.early late (parted_quiet limits seen b.rest p are_seen few) (refl, tt)) in
+    subst AreQuiet (sym are) (refl, quiet_joined p.early late (parted_quiet limits seen b.behind p are_seen few) (refl, tt)) in
     let q : Quiet = record { all = happenings_before next events seen; are = happen_quiet next events seen quiet } in
     record {
       tree = Simple (λ u. (simple u).tree) q;

@@ -4,29 +4,25 @@ use Rattle.std.proofs.Common.{append_assoc, append-nil, arith, subst}
 use Rattle.std.proofs.lemmas.List.{length-append, map-append}
 use Rattle.inf_settings.specs.Bounds.{Limits}
 use Rattle.inf_scanner.specs.declared.tokens.Place.{Place}
-use Rattle.inf_machine.specs.Grammar.{Did, Event, IsOneOf, IsText, Took, first, later}
-use Rattle.inf_machine.specs.declared.symbols.Symbol.{Symbol}
-use Rattle.inf_syntax.specs.{Parts.!outer_sure, Parts.!text, Parts.TEXT, Parts.prim, declared.actions.Action.Action}
-use Rattle.inf_grammar.specs.Language.{grammar}
+use Rattle.inf_machine.specs.Grammar.{Did, Event, Took, first}
+use Rattle.inf_syntax.specs.{declared.actions.Action.Action}
 use Rattle.inf_expressions.specs.Sources.{Source}
 use Rattle.inf_gathering.specs.Gatherings.{Gathering}
 use Rattle.inf_unit.specs.Tokens.{SourceToken}
 use Rattle.inf_unit.specs.Units.{Unit as UnitAtHand, acted, depth_behind, long_at, outer_tokens, taken}
 use Rattle.inf_compilation.specs.{Actions.Compilation, Actions.stopped, Context.Context, Context.longest}
 use Rattle.inf_reader.specs.Acting.{act}
-use Rattle.inf_expression_laws.specs.{Laws.forms, Precedence.Written, Precedence.primaries}
+use Rattle.inf_expression_laws.specs.{Precedence.Written}
 use Rattle.inf_expression_laws.specs.Gathered.{AreSeen, read_by, with_source}
-use Rattle.inf_expression_laws.proofs.ExpressionsRead.{expressions_are_read}
 use Rattle.inf_statement_laws.specs.{Laid.passed, Laid.run, Readings.Seen}
 use Rattle.inf_statement_laws.proofs.Laying.{run_then}
 use Rattle.inf_language.specs.{Constants.brackets_behind, Constants.length_told, Units.AllSteps, Units.TakeAll}
 use Rattle.inf_language.specs.Texts.{atoms_of, happenings_before, tokens_of}
-use Rattle.inf_language.proofs.{Derivations.texts_take_all, ExpressionsTold.fields_stay, TextsSplit.split}
+use Rattle.inf_language.proofs.{ExpressionsTold.fields_stay}
 use Rattle.inf_trees.specs.Trees.{Doubtful, front_told, told_at, tokens_told, with_front, with_outer, with_value, without_outer}
-use Rattle.inf_trees.proofs.{Beside.acted_gathers, StatementTexts.OnlySteps, StatementsRead.behind}
+use Rattle.inf_trees.proofs.{Beside.acted_gathers, StatementsRead.behind}
 use Rattle.inf_trees.proofs.UnitsRead.{at, before-append, note_first, place_before, ready, seen_parts, told_beside, tokens_count}
 use Rattle.inf_trees.proofs.UnitsRead.{tokens_opening, value_reads}
-use Rattle.inf_trees.proofs.ValueForms.{form_of, other_prim_text}
 use Rattle.inf_simple_trees.proofs.UnitsGo.{Going, steps_quiet}
 
 -- Reading by two lists of events
@@ -264,68 +260,3 @@ apart (a ∷ early) late (s ∷ seen) are =
 
     both_of : {x y : ℕ} {xs ys : List ℕ} → x ≡ y → xs ≡ ys → x ∷ xs ≡ y ∷ ys
     both_of e f = cc
-
--- Tokens of a form in which the action stands that makes sure of the expression
-pub record Doubt (seen : List Seen) (events : List (Event Action)) : Type 0 where
-  pub front : List Seen
-  pub tokens : List Seen
-  pub early : List (Event Action)
-  pub steps : List (Event Action)
-  pub same : front ++ tokens ≡ seen
-  pub are : events ≡ early ++ Did Action.OuterSure ∷ steps
-  pub is : IsDoubted front tokens early steps
-
-form_valued : (symbols : List (Symbol Action)) (level : ℕ) → IsOneOf (form_of symbols level) forms
-    → (atoms : List ℕ) (events : List (Event Action)) → IsText grammar symbols atoms events → (u : UnitAtHand) (tokens : List SourceToken)
-    → AreSeen atoms tokens → u.is_over ≡ false → u.begun ≤ length u.tokens → length (u.tokens ++ tokens) < 4294967295
-    → Valued level atoms events tokens u
-form_valued symbols level is_form atoms events text u tokens are over begun few =
-    let e = expressions_are_read symbols level is_form atoms events text u tokens are over begun few in
-    record { value = e.0; written = e.1; gathered = e.2; all = e.3 }
-
-pub formed_doubt : (xs ys : List (Symbol Action)) (level : ℕ) → IsOneOf (form_of (xs ++ !outer_sure ∷ ys) level) forms
-    → OnlySteps xs → OnlySteps ys → (seen : List Seen) (events : List (Event Action))
-    → IsText grammar (xs ++ !outer_sure ∷ ys) (atoms_of seen) events → Doubt seen events
-formed_doubt xs ys level is_form only_xs only_ys seen events text =
-    let parts = split text refl xs (!outer_sure ∷ ys) refl in
-    let b = behind Action.OuterSure ys parts.rest parts.late parts.of_rest in
-    let l = apart parts.front parts.rest seen parts.atoms_are in
-    let are : events ≡ parts.early ++ Did Action.OuterSure ∷ b.rest = parts.events_are ∙ ap (λ x. parts.early ++ x) b.are in
-    record {
-      front = l.front;
-      tokens = l.tokens;
-      early = parts.early;
-      steps = b.rest;
-      same = l.same;
-      are = are;
-      is = record {
-        level = level;
-        all_early = texts_take_all parts.of_front l.front l.front_are;
-        all_steps = texts_take_all b.text l.tokens l.tokens_are;
-        only_early = only_xs parts.front parts.early parts.of_front;
-        only_steps = only_ys parts.rest b.rest b.text;
-        valued = λ u are_seen over begun few.
-            form_valued (xs ++ !outer_sure ∷ ys) level is_form (atoms_of (l.front ++ l.tokens))
-            (parts.early ++ Did Action.OuterSure ∷ b.rest)
-            (subst (λ es. IsText grammar (xs ++ !outer_sure ∷ ys) (atoms_of (l.front ++ l.tokens)) es) are
-            (subst (λ x. IsText grammar (xs ++ !outer_sure ∷ ys) (atoms_of x) events) (sym l.same) text)) u
-            (tokens_of (l.front ++ l.tokens)) are_seen over begun few;
-      };
-    }
-
--- A text that is an operand
-pub text_doubt : (s : Seen) (atom : ℕ) → IsText grammar (TEXT ∷ !text ∷ []) (s.atom ∷ []) (Took atom ∷ Did Action.Text ∷ [])
-    → IsDoubted (s ∷ []) [] (Took atom ∷ []) (Did Action.Text ∷ [])
-text_doubt s atom text = record {
-  level = primaries;
-  all_early = tt;
-  all_steps = tt;
-  only_early = tt;
-  only_steps = (refl, tt);
-  valued = λ u are_seen over begun few.
-      let e =
-      form_valued (prim ∷ []) primaries (later (later (later (later first)))) (s.atom ∷ []) (Took atom ∷ Did Action.Text ∷ [])
-      (other_prim_text (TEXT ∷ !text ∷ []) (s.atom ∷ []) (Took atom ∷ Did Action.Text ∷ []) (later first) text) u (s.token ∷ []) are_seen
-      over begun few in
-      record { value = e.value; written = e.written; gathered = e.gathered; all = e.all };
-}

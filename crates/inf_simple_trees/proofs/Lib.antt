@@ -1,13 +1,8 @@
 pub mod UnitsGo
 pub mod Doubts
-pub mod Symbols
 pub mod PrintRules
-pub mod Items
-pub mod SimpleTexts
-pub mod SimpleRead
+pub mod Symbols
 pub mod Values
-pub mod CommaLists
-pub mod CaseTexts
-pub mod SwitchItems
-pub mod TopItems
-pub mod FirstCases
+pub mod UnitsTyped
+pub mod ItemTexts
+pub mod SimpleRead

@@ -1,122 +1,23 @@
 -- Statements of one unit, and items at the top of a routine, are trees.
-use Rattle.std.proofs.Common.{◌≡◌, ℕ, ◌+◌, ◌<◌, List, [], ◌∷◌, ◌++◌, length, sym, ◌∙◌, ap, subst, arith}
-use Rattle.std.proofs.lemmas.List.{length-append}
+use Rattle.std.proofs.Common.{◌≡◌, ℕ, ◌+◌, ◌<◌, List, [], ◌∷◌, ◌++◌, length, Bool, true, false, refl, sym, ◌∙◌, ap, subst, arith}
+use Rattle.std.proofs.{lemmas.Bool.eqb-true, lemmas.List.length-append}
 use Rattle.inf_settings.specs.Bounds.{Limits}
 use Rattle.inf_machine.specs.declared.symbols.Symbol.{Symbol}
-use Rattle.inf_machine.specs.Grammar.{Did, Event, IsOneOf, IsText, first, later}
-use Rattle.inf_syntax.specs.{Rows.row, declared.actions.Action.Action}
-use Rattle.inf_syntax.specs.Parts.{ !begin, !deeper, 'close_brace', 'double_greater', 'double_less', 'give', 'greater', 'less'}
-use Rattle.inf_syntax.specs.Parts.{'open_brace', 'string', act, mark_statement_1, statement_3, string_rest, top_item_11, top_item_12}
-use Rattle.inf_syntax.specs.Parts.{ !name, !outer, !outer_maybe, !outer_word, !print_text, 'comma', 'default', 'do', 'else', 'for', 'if'}
-use Rattle.inf_syntax.specs.Parts.{'jump', 'move', 'objectloop', 'return', 'style', 'switch', 'while', CASENAME, TEXT, case_end}
-use Rattle.inf_syntax.specs.Parts.{plain_word, print_rest, statement_4, top_item_10, top_item_18, top_item_2, top_item_20, top_item_5}
-use Rattle.inf_syntax.specs.Parts.{top_item_6, top_item_7, top_item_8, top_item_9, top_next, top_range, top_values, top_word}
+use Rattle.inf_machine.specs.Grammar.{Did, Event, IsText, Took, first, has, later}
+use Rattle.inf_syntax.specs.{Parts.!begin, Parts.!deeper, declared.actions.Action.Action}
 use Rattle.inf_grammar.specs.Language.{grammar}
 use Rattle.inf_unit.specs.Units.{Unit as UnitAtHand, begun, no_unit}
 use Rattle.inf_expression_laws.specs.Gathered.{AreSeen}
 use Rattle.inf_statement_laws.specs.{Laid.run, Readings.Seen}
-use Rattle.inf_statement_laws.proofs.Rules.{number}
-use Rattle.inf_language.specs.Texts.{atoms_of, happenings_before, tokens_of}
-use Rattle.inf_language.proofs.Derivations.{seen_front}
-use Rattle.inf_trees.specs.Statements.{other_statements, other_items as items_beside}
-use Rattle.inf_trees.proofs.{Expanded.with_rows, Semicolons.last_seen, Semicolons.opens_nothing, TopTexts.item_text, UnitTexts.AnyNotes}
-use Rattle.inf_trees.proofs.{UnitTexts.OperandEnds}
-use Rattle.inf_trees.proofs.StatementsRead.{Parted, behind, few_before, parted, statement_runs}
-use Rattle.inf_trees.proofs.StatementTexts.{Flat, Formed, Others, Printed, StatementText, statement_text, unit_end}
-use Rattle.inf_simple_trees.specs.Simple.{IsSimple, IsSimpleOr, Other, Simple, SimpleStatementsAreTrees, holding_statements, other_items}
-use Rattle.inf_simple_trees.proofs.SimpleTexts.{Another, OneUnit, SimpleText, act_flat, act_twice_flat, by_give, by_line, by_print_word}
-use Rattle.inf_simple_trees.proofs.SimpleTexts.{by_string, by_text_more, ended, flat_reading, formed_reading, print_words, printed_reading}
-use Rattle.inf_simple_trees.proofs.SimpleTexts.{top_print_rows, top_print_words, top_string_rows}
-use Rattle.inf_simple_trees.proofs.UnitsGo.{AreQuiet, Going}
-
--- Which text a statement is
-
-module _ (atoms : List ℕ) (events : List (Event Action)) where
-  pub beside_statement : (symbols : List (Symbol Action)) → IsOneOf symbols other_statements → IsText grammar symbols atoms events
-      → SimpleText holding_statements atoms events
-  beside_statement _ first text = Another ('open_brace' ∷ mark_statement_1 ∷ 'close_brace' ∷ []) first text
-  beside_statement _ (later first) text =
-      ended holding_statements atoms events ('less' ∷ act ∷ 'greater' ∷ [])
-      (flat_reading AnyNotes ('less' ∷ act ∷ 'greater' ∷ []) act_flat) text
-  beside_statement _ (later (later first)) text =
-      ended holding_statements atoms events ('double_less' ∷ act ∷ 'double_greater' ∷ [])
-      (flat_reading AnyNotes ('double_less' ∷ act ∷ 'double_greater' ∷ []) act_twice_flat) text
-  beside_statement _ (later (later (later first))) text = by_line holding_statements atoms events text
-  beside_statement _ (later (later (later (later first)))) text = by_text_more holding_statements atoms events text
-  beside_statement _ (later (later (later (later (later first))))) text = Another (!deeper ∷ statement_3 ∷ []) (later first) text
-  beside_statement _ (later (later (later (later (later (later first)))))) text = by_print_word holding_statements atoms events (number statement_4) print_words text
-  beside_statement _ (later (later (later (later (later (later (later first))))))) text = by_string holding_statements atoms events text
-  beside_statement _ (later (later (later (later (later (later (later (later first)))))))) text = by_give holding_statements atoms events text
-  beside_statement _ (later (later (later (later (later (later (later (later (later missing))))))))) text = elim missing [ ]
-
-  by_top_print : IsText grammar (!begin ∷ top_item_11 ∷ top_item_12 ∷ []) atoms events → SimpleText other_items atoms events
-  by_top_print text =
-      with_rows (SimpleText other_items atoms events) (!begin ∷ top_item_11 ∷ []) (number top_item_12) []
-      (row (print_rest ∷ []) ∷ row (top_word ∷ []) ∷ []) atoms events top_print_rows (
-        (λ t. by_print_word other_items atoms events (number top_item_11) top_print_words t),
-        ((λ t. Another (!begin ∷ top_item_11 ∷ top_word ∷ []) (later (later (later (later (later (later (later (later (later (later (later (first)))))))))))) t), tt),
-      )
-      text
-
-  by_top_string : IsText grammar (!begin ∷ 'string' ∷ top_item_20 ∷ []) atoms events → SimpleText other_items atoms events
-  by_top_string text =
-      with_rows (SimpleText other_items atoms events) (!begin ∷ 'string' ∷ []) (number top_item_20) []
-      (row (string_rest ∷ []) ∷ row (top_word ∷ []) ∷ []) atoms events top_string_rows (
-        (λ t. by_string other_items atoms events t),
-        ((λ t. Another (!begin ∷ 'string' ∷ top_word ∷ []) (later (later (later (later (later (later (later (later (later (later (later (later (later (later (later (later (later (later (first))))))))))))))))))) t), tt),
-      )
-      text
-
-  pub beside_item : (symbols : List (Symbol Action)) → IsOneOf symbols items_beside → IsText grammar symbols atoms events
-      → SimpleText other_items atoms events
-  beside_item _ first text = Another ('open_brace' ∷ mark_statement_1 ∷ 'close_brace' ∷ []) first text
-  beside_item _ (later first) text =
-      ended other_items atoms events ('less' ∷ act ∷ 'greater' ∷ []) (flat_reading AnyNotes ('less' ∷ act ∷ 'greater' ∷ []) act_flat) text
-  beside_item _ (later (later first)) text =
-      ended other_items atoms events ('double_less' ∷ act ∷ 'double_greater' ∷ [])
-      (flat_reading AnyNotes ('double_less' ∷ act ∷ 'double_greater' ∷ []) act_twice_flat) text
-  beside_item _ (later (later (later first))) text = by_line other_items atoms events text
-  beside_item _ (later (later (later (later first)))) text = by_text_more other_items atoms events text
-  beside_item _ (later (later (later (later (later first))))) text =
-      Another (!begin ∷ !outer ∷ CASENAME ∷ !name ∷ case_end ∷ []) (later (first)) text
-  beside_item _ (later (later (later (later (later (later first)))))) text =
-      Another (!begin ∷ !outer ∷ CASENAME ∷ !name ∷ top_range ∷ []) (later (later (first))) text
-  beside_item _ (later (later (later (later (later (later (later first))))))) text =
-      Another (!begin ∷ !outer ∷ CASENAME ∷ !name ∷ 'comma' ∷ top_next ∷ []) (later (later (later (first)))) text
-  beside_item _ (later (later (later (later (later (later (later (later first)))))))) text =
-      Another (!begin ∷ !outer ∷ 'default' ∷ top_item_2 ∷ []) (later (later (later (later (first))))) text
-  beside_item _ (later (later (later (later (later (later (later (later (later first))))))))) text =
-      Another ('if' ∷ top_item_5 ∷ []) (later (later (later (later (later (first)))))) text
-  beside_item _ (later (later (later (later (later (later (later (later (later (later first)))))))))) text =
-      Another ('while' ∷ top_item_6 ∷ []) (later (later (later (later (later (later (first))))))) text
-  beside_item _ (later (later (later (later (later (later (later (later (later (later (later first))))))))))) text =
-      Another ('do' ∷ top_item_7 ∷ []) (later (later (later (later (later (later (later (first)))))))) text
-  beside_item _ (later (later (later (later (later (later (later (later (later (later (later (later first)))))))))))) text =
-      Another ('for' ∷ top_item_8 ∷ []) (later (later (later (later (later (later (later (later (first))))))))) text
-  beside_item _ (later (later (later (later (later (later (later (later (later (later (later (later (later first))))))))))))) text =
-      Another ('objectloop' ∷ top_item_9 ∷ []) (later (later (later (later (later (later (later (later (later (first)))))))))) text
-  beside_item _ (later (later (later (later (later (later (later (later (later (later (later (later (later (later first)))))))))))))) text =
-      Another ('switch' ∷ top_item_10 ∷ []) (later (later (later (later (later (later (later (later (later (later (first))))))))))) text
-  beside_item _ (later (later (later (later (later (later (later (later (later (later (later (later (later (later (later first))))))))))))))) text = by_top_print text
-  beside_item _ (later (later (later (later (later (later (later (later (later (later (later (later (later (later (later (later first)))))))))))))))) text =
-      Another (!begin ∷ 'return' ∷ top_word ∷ []) (later (later (later (later (later (later (later (later (later (later (later (later (first))))))))))))) text
-  beside_item _ (later (later (later (later (later (later (later (later (later (later (later (later (later (later (later (later (later first))))))))))))))))) text =
-      Another (!begin ∷ plain_word ∷ top_word ∷ []) (later (later (later (later (later (later (later (later (later (later (later (later (later (first)))))))))))))) text
-  beside_item _ (later (later (later (later (later (later (later (later (later (later (later (later (later (later (later (later (later (later first)))))))))))))))))) text =
-      Another (!begin ∷ 'jump' ∷ !outer_word ∷ !name ∷ top_values ∷ []) (later (later (later (later (later (later (later (later (later (later (later (later (later (later (first))))))))))))))) text
-  beside_item _ (later (later (later (later (later (later (later (later (later (later (later (later (later (later (later (later (later (later (later first))))))))))))))))))) text =
-      Another (!begin ∷ 'give' ∷ top_word ∷ []) (later (later (later (later (later (later (later (later (later (later (later (later (later (later (later (first)))))))))))))))) text
-  beside_item _ (later (later (later (later (later (later (later (later (later (later (later (later (later (later (later (later (later (later (later (later first)))))))))))))))))))) text =
-      Another (!begin ∷ 'move' ∷ top_word ∷ []) (later (later (later (later (later (later (later (later (later (later (later (later (later (later (later (later (first))))))))))))))))) text
-  beside_item _ (later (later (later (later (later (later (later (later (later (later (later (later (later (later (later (later (later (later (later (later (later first))))))))))))))))))))) text =
-      Another (!begin ∷ top_item_18 ∷ top_word ∷ []) (later (later (later (later (later (later (later (later (later (later (later (later (later (later (later (later (later (first)))))))))))))))))) text
-  beside_item _ (later (later (later (later (later (later (later (later (later (later (later (later (later (later (later (later (later (later (later (later (later (later first)))))))))))))))))))))) text = by_top_string text
-  beside_item _ (later (later (later (later (later (later (later (later (later (later (later (later (later (later (later (later (later (later (later (later (later (later (later first))))))))))))))))))))))) text =
-      Another (!begin ∷ 'style' ∷ top_word ∷ []) (later (later (later (later (later (later (later (later (later (later (later (later (later (later (later (later (later (later (later (first)))))))))))))))))))) text
-  beside_item _ (later (later (later (later (later (later (later (later (later (later (later (later (later (later (later (later (later (later (later (later (later (later (later (later first)))))))))))))))))))))))) text =
-      Another (!outer ∷ 'else' ∷ top_word ∷ []) (later (later (later (later (later (later (later (later (later (later (later (later (later (later (later (later (later (later (later (later (first))))))))))))))))))))) text
-  beside_item _ (later (later (later (later (later (later (later (later (later (later (later (later (later (later (later (later (later (later (later (later (later (later (later (later (later first))))))))))))))))))))))))) text = by_give other_items atoms events text
-  beside_item _ (later (later (later (later (later (later (later (later (later (later (later (later (later (later (later (later (later (later (later (later (later (later (later (later (later (later missing)))))))))))))))))))))))))) text = elim missing [ ]
+use Rattle.inf_language.specs.{Texts.atoms_of, Texts.happenings_before, Texts.tokens_of, Units.TakeAll}
+use Rattle.inf_language.proofs.Derivations.{seen_front, texts_take_all}
+use Rattle.inf_trees.specs.Ends.{case_first}
+use Rattle.inf_trees.proofs.{UnitStates.Ended, UnitStates.Free, UnitStates.Typed, UnitWalks.OfStatement, UnitWalks.declared}
+use Rattle.inf_trees.proofs.{Semicolons.last_seen, Semicolons.opens_nothing}
+use Rattle.inf_trees.proofs.StatementsRead.{Parted, behind, few_before, statement_runs}
+use Rattle.inf_simple_trees.specs.Simple.{Case, IsSimple, IsSimpleOr, Other, Simple, SimpleStatementsAreTrees, block}
+use Rattle.inf_simple_trees.proofs.ItemTexts.{ABlock, ACase, AUnit, Holds, ItemText, statement_text, top_item_text}
+use Rattle.inf_simple_trees.proofs.{UnitsGo.AreQuiet, UnitsGo.Going, UnitsTyped.OfFree, UnitsTyped.units_typed}
 
 -- A statement that is one unit
 
@@ -153,32 +54,62 @@ parted_quiet limits seen behind p are_seen few =
     let count : length p.tokens + 1 ≡ length seen = sym (length-append p.tokens (p.semicolon ∷ [])) ∙ ap length p.same in
     (p.read no_unit (seen_front p.tokens p.semicolon seen_again) (omega arith) (omega (arith, few, count))).quiet
 
-by_simple : (limits : Limits) (others : List (List (Symbol Action))) (u : UnitAtHand) (seen : List Seen) (events : List (Event Action))
-    → SimpleText others (atoms_of seen) events → AreSeen (atoms_of seen) (tokens_of seen) → length seen + 1 < 4294967295
-    → IsSimpleOr limits others u seen events
-by_simple limits others u seen events (OneUnit front reading text) are_seen few =
-    let b = behind Action.Begin (front ++ unit_end) (atoms_of seen) events text in
-    Simple (is_simple limits u seen events b.rest b.are
-    (parted (IsRead limits) front seen b.rest b.text (λ tokens early t. reading limits tokens early t)) are_seen few)
-by_simple limits others u seen events (Another symbols is_other text) are_seen few = Other symbols is_other text
+-- The unit of a statement, and its semicolon
 
-pub simple_text : (beside others : List (List (Symbol Action))) (atoms : List ℕ) (events : List (Event Action))
-    → ((symbols : List (Symbol Action)) → IsOneOf symbols beside → IsText grammar symbols atoms events → SimpleText others atoms events)
-    → StatementText beside atoms events → SimpleText others atoms events
-simple_text beside others atoms events on (Flat front flat text) = OneUnit front (flat_reading OperandEnds front flat) text
-simple_text beside others atoms events on (Formed symbols level is_form only text) =
-    OneUnit (!outer ∷ symbols) (formed_reading symbols level is_form only) text
-simple_text beside others atoms events on (Printed text) = OneUnit (!outer_maybe ∷ TEXT ∷ !print_text ∷ []) printed_reading text
-simple_text beside others atoms events on (Others symbols is_other text) = on symbols is_other text
+none_left : (acts : List (Event Action)) (e : Action) (atom : ℕ) → TakeAll (acts ++ Did e ∷ Took atom ∷ []) [] → ⊥
+none_left [] e atom all = all
+none_left (Did a ∷ acts) e atom all = none_left acts e atom all
+none_left (Took n ∷ acts) e atom all = all
+
+pub take_front : (e : Action) (atom : ℕ) (acts : List (Event Action)) (body : List Seen) (last : Seen)
+    → TakeAll (acts ++ Did e ∷ Took atom ∷ []) (body ++ last ∷ []) → TakeAll acts body
+take_front e atom [] [] last all = tt
+take_front e atom [] (x ∷ []) last all = absurd all
+take_front e atom [] (x ∷ y ∷ body) last all = absurd all
+take_front e atom (Did a ∷ acts) body last all = take_front e atom acts body last all
+take_front e atom (Took n ∷ acts) [] last all = absurd (none_left acts e atom all)
+take_front e atom (Took n ∷ acts) (x ∷ body) last all = take_front e atom acts body last all
+
+pub record BegunUnit (limits : Limits) (seen : List Seen) (events : List (Event Action)) : Type 0 where
+  pub behind : List (Event Action)
+  pub are : events ≡ Did Action.Begin ∷ behind
+  pub parted : Parted (IsRead limits) seen behind
+
+pub begun_unit : (limits : Limits) (symbols : List (Symbol Action)) → Typed declared Action.EndStatement Free symbols Ended → (seen : List Seen)
+    (events : List (Event Action)) → case_first events ≡ false → IsText grammar (!begin ∷ symbols) (atoms_of seen) events
+    → BegunUnit limits seen events
+begun_unit limits symbols typed seen events kind text =
+    let b = behind Action.Begin symbols (atoms_of seen) events text in
+    let u = units_typed limits OfStatement b.text refl seen refl typed refl (sym (ap case_first b.are) ∙ kind) [] [] OfFree in
+    let all = texts_take_all b.text seen refl in
+    record {
+      behind = b.rest;
+      are = b.are;
+      parted = record {
+        tokens = u.body;
+        semicolon = u.last;
+        early = u.acts;
+        atom = u.atom;
+        same = u.same;
+        are = sym u.are;
+        is_semicolon = subst (λ c. has (grammar.atoms_of c) u.last.atom ≡ true) (eqb-true u.class 0 u.closes) u.is;
+        all = take_front Action.EndStatement u.atom u.acts u.body u.last
+            (subst (λ l. TakeAll l (u.body ++ u.last ∷ [])) (sym u.are) (subst (λ l. TakeAll b.rest l) (sym u.same) all));
+        read = u.going;
+      };
+    }
+
+by_simple : {cases : Bool} (limits : Limits) (before : List (Symbol Action)) (u : UnitAtHand) (seen : List Seen) (events : List (Event Action))
+    → ItemText before (atoms_of seen) events cases → AreSeen (atoms_of seen) (tokens_of seen) → length seen + 1 < 4294967295
+    → IsSimpleOr limits before u seen events cases
+by_simple limits before u seen events (AUnit symbols typed kind text) are_seen few =
+    let b = begun_unit limits symbols typed seen events kind text in Simple (is_simple limits u seen events b.behind b.are b.parted are_seen few)
+by_simple limits before u seen events (ABlock text) are_seen few = Other block first text
+by_simple limits before u seen events (Holds symbols is text) are_seen few = Other symbols (later is) text
+by_simple limits before u seen events (ACase start symbols is typed kind text) are_seen few = Case kind
 
 pub simple_statements_are_trees : (limits : Limits) → SimpleStatementsAreTrees limits
 simple_statements_are_trees limits = record {
-  statements = λ u seen events text are_seen few.
-      by_simple limits holding_statements u seen events
-      (simple_text other_statements holding_statements (atoms_of seen) events (beside_statement (atoms_of seen) events)
-      (statement_text (atoms_of seen) events text)) are_seen few;
-  items = λ u seen events text are_seen few.
-      by_simple limits other_items u seen events
-      (simple_text items_beside other_items (atoms_of seen) events (beside_item (atoms_of seen) events)
-      (item_text (atoms_of seen) events text)) are_seen few;
+  statements = λ u seen events text are_seen few. by_simple limits (!deeper ∷ []) u seen events (statement_text limits seen events text) are_seen few;
+  items = λ u seen events text are_seen few. by_simple limits [] u seen events (top_item_text limits seen events text) are_seen few;
 }

@@ -17,8 +17,7 @@ use Rattle.inf_language.specs.{Texts.atoms_of, Texts.happenings_before, Texts.to
 use Rattle.inf_language.proofs.Derivations.{texts_take_all}
 use Rattle.inf_trees.specs.Trees.{AreWritten, Named, Noted, Part, Single, Value, all_seen, parts_told, told_at, tokens_told, with_outer, with_parts}
 use Rattle.inf_trees.specs.Trees.{with_value}
-use Rattle.inf_trees.proofs.UnitTexts.{Alone, Expressed, Finished, Kinds, Notes, Reads, is_any, is_noted}
-use Rattle.inf_trees.proofs.UnitTexts.{AnyNotes, NoNotes, OperandEnds, is_end}
+use Rattle.inf_trees.proofs.UnitStates.{is_note}
 use Rattle.inf_trees.proofs.UnitsRead.{expressed_does, gathers, note_first, one_taken, ready, seen_parts, told_at_opening, tokens_count}
 use Rattle.inf_trees.proofs.UnitsRead.{tokens_opening}
 use Rattle.inf_trees.proofs.ValueForms.{HasForm}
@@ -179,6 +178,7 @@ end_acts limits context place u w room =
 pub data IsAny : Action → Type 0 where
   AnEnd : IsAny Action.OuterEnd
   AText : IsAny Action.PrintText
+  AValue : IsAny Action.PrintValue
   ASet : IsAny Action.Set
   AClear : IsAny Action.Clear
   AName : IsAny Action.Action
@@ -186,9 +186,10 @@ pub data IsAny : Action → Type 0 where
   ABranch : IsAny Action.Branch
   ABranchNot : IsAny Action.BranchNot
 
-any_of : (a : Action) → is_any a ≡ true → IsAny a
+pub any_of : (a : Action) → is_note a ≡ true → IsAny a
 any_of Action.OuterEnd is = AnEnd
 any_of Action.PrintText is = AText
+any_of Action.PrintValue is = AValue
 any_of Action.Set is = ASet
 any_of Action.Clear is = AClear
 any_of Action.Action is = AName
@@ -196,15 +197,6 @@ any_of Action.Store is = AStore
 any_of Action.Branch is = ABranch
 any_of Action.BranchNot is = ABranchNot
 any_of _ is = cc
-
-an_end : (a : Action) → is_end a ≡ true → IsAny a
-an_end Action.OuterEnd is = AnEnd
-an_end _ is = cc
-
-noted_is : (notes : Kinds) (a : Action) → is_noted notes a ≡ true → IsAny a
-noted_is NoNotes a is = cc
-noted_is OperandEnds a is = an_end a is
-noted_is AnyNotes a is = any_of a is
 
 -- Behind a note a unit has the same tokens.
 pub note_goes : (limits : Limits) {a : Action} → IsAny a → (u : UnitAtHand) (seen : List Seen) (events : List (Event Action))
@@ -219,6 +211,10 @@ note_goes limits AText u seen events on =
     let v = noted Note.PrintText u in
     noted_goes limits Action.PrintText Note.PrintText u v seen events refl refl
     (λ context place w. text_acts limits context place (ready u) w) (on v.gathering v.items v.code v.outer)
+note_goes limits AValue u seen events on =
+    let v = noted Note.PrintValue u in
+    noted_goes limits Action.PrintValue Note.PrintValue u v seen events refl refl
+    (λ context place w. value_acts limits context place (ready u) w) (on v.gathering v.items v.code v.outer)
 note_goes limits ASet u seen events on =
     let v = noted Note.Set u in
     noted_goes limits Action.Set Note.Set u v seen events refl refl (λ context place w. set_acts limits context place (ready u) w)
@@ -267,16 +263,22 @@ expressed limits tokens rest steps late form on u are_seen begun few =
           (tokens_opening context (with_outer (ready u)) tokens w ∙ none) room;
     }
 
--- Units
+-- Tokens are parts of a unit, whatever parts follow them.
+abbrev pub Leading : Limits → List Seen → List (Event Action) → Type 0
+Leading limits tokens events =
+    (rest : List Seen) (late : List (Event Action)) → Going limits rest late → Going limits (tokens ++ rest) (events ++ late)
 
-pub units_go : (limits : Limits) {notes : Kinds} {seen : List Seen} {events : List (Event Action)} → Reads notes seen events
-    → Going limits seen events
-units_go limits Finished u are_seen begun few = nothing_goes limits u
-units_go limits (Alone s atom {seen} {events} reads) u are_seen begun few =
-    alone limits s atom seen events (units_go limits reads) u are_seen begun few
-units_go limits (Notes {notes} a {seen} {events} is reads) u are_seen begun few =
-    note_goes limits (noted_is notes a is) u seen events
-    (λ g items code outer. units_go limits reads (record u { gathering = g; items = items; code = code; outer = outer }) are_seen begun few)
-units_go limits (Expressed a tokens rest steps late is same are form reads) u are_seen begun few =
-    moved limits same (ap (λ b. Did b ∷ (steps ++ late)) (sym is) ∙ ap (λ es. Did a ∷ es) (sym are))
-    (expressed limits tokens rest steps late form (units_go limits reads)) u are_seen begun few
+-- A text that is printed
+
+pub text_printed : (limits : Limits) (s : Seen) (atom : ℕ) (rest : List Seen) (late : List (Event Action)) → Going limits rest late
+    → Going limits (s ∷ rest) (Did Action.OuterMaybe ∷ Took atom ∷ Did Action.PrintText ∷ late)
+text_printed limits s atom rest late on u are_seen begun few =
+    let v = noted (Note.Outer false) u in
+    let x = record v { tokens = v.tokens ++ s.token ∷ []; depth = depth_behind s.token.kind v.depth } in
+    let count = length-append u.tokens (s.token ∷ []) in
+    noted_goes limits Action.OuterMaybe (Note.Outer false) u v (s ∷ rest) (Took atom ∷ Did Action.PrintText ∷ late) refl refl
+    (λ context place w room. refl)
+    (alone_goes limits s atom v rest (Did Action.PrintText ∷ late)
+    (note_goes limits AText x rest late
+    (λ g items code outer. on (record x { gathering = g; items = items; code = code; outer = outer }) are_seen.1 (omega (arith, begun, count))
+    (omega (arith, few, count)))))

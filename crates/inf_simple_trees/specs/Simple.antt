@@ -1,13 +1,8 @@
 -- Statements of one unit, whichever they are, as trees, and their effects as a whole where there is room for all of their parts.
-use Rattle.std.specs.Prelude.{◌≡◌, ◌+◌, ◌<◌, List, [], ◌∷◌, ◌++◌, length, true, None}
+use Rattle.std.specs.Prelude.{◌≡◌, ◌+◌, ◌<◌, List, [], ◌∷◌, ◌++◌, length, Bool, false, true, None}
 use Rattle.inf_settings.specs.Bounds.{Limits}
 use Rattle.inf_scanner.specs.declared.tokens.Place.{Place}
 use Rattle.inf_machine.specs.{Grammar.Event, Grammar.IsOneOf, Grammar.IsText, declared.symbols.Symbol.Symbol}
-use Rattle.inf_syntax.specs.Parts.{ !begin, !deeper, !name, !outer, !outer_word, 'close_brace', 'comma', 'default', 'do', 'else', 'for'}
-use Rattle.inf_syntax.specs.Parts.{'give', 'if', 'jump', 'move', 'objectloop', 'open_brace', 'return', 'string', 'style', 'switch', 'while'}
-use Rattle.inf_syntax.specs.Parts.{CASENAME, case_end, mark_statement_1, plain_word, statement, statement_3, top_item, top_item_10}
-use Rattle.inf_syntax.specs.Parts.{top_item_11, top_item_18, top_item_2, top_item_5, top_item_6, top_item_7, top_item_8, top_item_9}
-use Rattle.inf_syntax.specs.Parts.{top_next, top_range, top_values, top_word}
 use Rattle.inf_syntax.specs.declared.actions.Action.{Action}
 use Rattle.inf_grammar.specs.Language.{grammar}
 use Rattle.inf_unit.specs.Units.{Unit as UnitAtHand, begun}
@@ -17,6 +12,9 @@ use Rattle.inf_statement_laws.specs.{Laid.run, Readings.Seen}
 use Rattle.inf_language.specs.Texts.{atoms_of, happenings_before, tokens_of}
 use Rattle.inf_trees.specs.{Statements.Statement, Statements.statement_done, Trees.AreWritten, Trees.all_seen}
 use Rattle.inf_simple_trees.specs.Room.{have_room}
+use Rattle.inf_syntax.specs.Parts.{ !deeper, 'close_brace', 'do', 'for', 'if', 'objectloop', 'open_brace', 'switch', 'while', do_rest, for_rest}
+use Rattle.inf_syntax.specs.Parts.{if_rest, mark_statement_1, objectloop_rest, statement, switch_rest, top_item, while_rest}
+use Rattle.inf_trees.specs.Ends.{case_first}
 
 -- Tells whether tokens behind a unit `u` are a statement that is one unit, whose expressions are those of their tokens by the levels
 -- of operators, and whether taking the tokens by some events has the effect of the statement, where there is room for its parts.
@@ -28,49 +26,30 @@ pub record IsSimple (limits : Limits) (u : UnitAtHand) (seen : List Seen) (event
       → run limits context (happenings_before next events seen) (record w { unit = u })
       ≡ statement_done limits context tree (record w { unit = u })
 
--- the statements that hold others
-abbrev pub holding_statements : List (List (Symbol Action))
-holding_statements = ('open_brace' ∷ mark_statement_1 ∷ 'close_brace' ∷ []) ∷ (!deeper ∷ statement_3 ∷ []) ∷ []
+-- a block, and the statements that hold others, with what stands before their words
+abbrev pub block : List (Symbol Action)
+block = 'open_brace' ∷ mark_statement_1 ∷ 'close_brace' ∷ []
 
--- Items at the top of a routine that are no such statement: blocks and statements that hold others, and cases and what may be one.
-abbrev pub other_items : List (List (Symbol Action))
-other_items =
-    ('open_brace' ∷ mark_statement_1 ∷ 'close_brace' ∷ [])
-    ∷ (!begin ∷ !outer ∷ CASENAME ∷ !name ∷ case_end ∷ [])
-    ∷ (!begin ∷ !outer ∷ CASENAME ∷ !name ∷ top_range ∷ [])
-    ∷ (!begin ∷ !outer ∷ CASENAME ∷ !name ∷ 'comma' ∷ top_next ∷ [])
-    ∷ (!begin ∷ !outer ∷ 'default' ∷ top_item_2 ∷ [])
-    ∷ ('if' ∷ top_item_5 ∷ [])
-    ∷ ('while' ∷ top_item_6 ∷ [])
-    ∷ ('do' ∷ top_item_7 ∷ [])
-    ∷ ('for' ∷ top_item_8 ∷ [])
-    ∷ ('objectloop' ∷ top_item_9 ∷ [])
-    ∷ ('switch' ∷ top_item_10 ∷ [])
-    ∷ (!begin ∷ top_item_11 ∷ top_word ∷ [])
-    ∷ (!begin ∷ 'return' ∷ top_word ∷ [])
-    ∷ (!begin ∷ plain_word ∷ top_word ∷ [])
-    ∷ (!begin ∷ 'jump' ∷ !outer_word ∷ !name ∷ top_values ∷ [])
-    ∷ (!begin ∷ 'give' ∷ top_word ∷ [])
-    ∷ (!begin ∷ 'move' ∷ top_word ∷ [])
-    ∷ (!begin ∷ top_item_18 ∷ top_word ∷ [])
-    ∷ (!begin ∷ 'string' ∷ top_word ∷ [])
-    ∷ (!begin ∷ 'style' ∷ top_word ∷ [])
-    ∷ (!outer ∷ 'else' ∷ top_word ∷ [])
-    ∷ []
+abbrev pub holding : List (Symbol Action) → List (List (Symbol Action))
+holding before =
+    (before ++ 'if' ∷ if_rest ∷ []) ∷ (before ++ 'while' ∷ while_rest ∷ []) ∷ (before ++ 'do' ∷ do_rest ∷ [])
+    ∷ (before ++ 'for' ∷ for_rest ∷ []) ∷ (before ++ 'objectloop' ∷ objectloop_rest ∷ []) ∷ (before ++ 'switch' ∷ switch_rest ∷ []) ∷ []
 
--- tokens that are a statement of one unit, or one of some others
-pub data IsSimpleOr (limits : Limits) (others : List (List (Symbol Action))) (u : UnitAtHand) (seen : List Seen)
-    (events : List (Event Action)) : Type 0 where
-  Simple : IsSimple limits u seen events → IsSimpleOr limits others u seen events
-  Other : (symbols : List (Symbol Action)) → IsOneOf symbols others → IsText grammar symbols (atoms_of seen) events
-      → IsSimpleOr limits others u seen events
+-- Tokens that are a statement of one unit, a block or a statement that holds others; or where `cases` says so a case: the first end of a
+-- unit among its events is that of a case.
+pub data IsSimpleOr (limits : Limits) (before : List (Symbol Action)) (u : UnitAtHand) (seen : List Seen) (events : List (Event Action))
+    : (cases : Bool) → Type 0 where
+  Simple : {cases : Bool} → IsSimple limits u seen events → IsSimpleOr limits before u seen events cases
+  Other : {cases : Bool} (symbols : List (Symbol Action)) → IsOneOf symbols (block ∷ holding before)
+      → IsText grammar symbols (atoms_of seen) events → IsSimpleOr limits before u seen events cases
+  Case : case_first events ≡ true → IsSimpleOr limits before u seen events true
 
 -- Each text of a statement, and each item at the top of a routine, is one of these. Each token that has the atom of a mark is that
 -- mark, and there are few enough tokens for their orders to differ.
 pub record SimpleStatementsAreTrees (limits : Limits) : Type 0 where
   pub statements : (u : UnitAtHand) (seen : List Seen) (events : List (Event Action))
       → IsText grammar (statement ∷ []) (atoms_of seen) events → AreSeen (atoms_of seen) (tokens_of seen)
-      → length seen + 1 < 4294967295 → IsSimpleOr limits holding_statements u seen events
+      → length seen + 1 < 4294967295 → IsSimpleOr limits (!deeper ∷ []) u seen events false
   pub items : (u : UnitAtHand) (seen : List Seen) (events : List (Event Action))
       → IsText grammar (top_item ∷ []) (atoms_of seen) events → AreSeen (atoms_of seen) (tokens_of seen)
-      → length seen + 1 < 4294967295 → IsSimpleOr limits other_items u seen events
+      → length seen + 1 < 4294967295 → IsSimpleOr limits [] u seen events true

@@ -12,8 +12,5 @@ pub mod StatementTexts
 pub mod TopTexts
 pub mod StatementEnds
 pub mod StatementsRead
-pub mod Examples
-pub mod Rests
-pub mod Operators
-pub mod CaseValues
-pub mod StepRules
+pub mod UnitStates
+pub mod UnitWalks

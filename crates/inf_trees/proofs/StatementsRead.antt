@@ -29,7 +29,7 @@ use Rattle.inf_trees.proofs.Semicolons.{last_atom, last_seen, opens_nothing, ove
 use Rattle.inf_trees.proofs.StatementTexts.{Flat, Formed, OnlySteps, Others, Printed, StatementText, statement_text, unit_end}
 use Rattle.inf_trees.proofs.UnitTexts.{Expressed, Finished, Kinds, NoNotes, OperandEnds, Reads, parsed}
 use Rattle.inf_trees.proofs.UnitsRead.{NoLine, Read, alone_reads, before-append, note_first, noted_reads, ready, units_read}
-use Rattle.inf_trees.proofs.ValueForms.{HasForm, expression_form, form_of}
+use Rattle.inf_trees.proofs.ValueForms.{HasForm, formed, expression_form, form_of}
 
 -- The tokens between a unit and the one before
 
@@ -168,7 +168,7 @@ outer_parted symbols level is_form only seen events text =
       read =
           begun_read l.tokens (Did Action.Outer ∷ parts.early)
           (expressed OperandEnds l.tokens parts.early
-          (record { symbols = symbols; level = level; is_form = is_form; text = of_front; steps = only (atoms_of l.tokens) parts.early of_front }));
+          (record { symbols = symbols; level = level; passes = formed is_form; text = of_front; steps = only (atoms_of l.tokens) parts.early of_front }));
     }
 
 -- The effect of a statement

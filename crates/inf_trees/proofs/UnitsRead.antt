@@ -14,7 +14,7 @@ use Rattle.inf_unit.specs.Units.{outer_tokens, taken}
 use Rattle.inf_reader.specs.Acting.{act, operands_named}
 use Rattle.inf_compilation.specs.{Actions.Compilation, Actions.took, Context.Context, Context.longest}
 use Rattle.inf_expression_laws.specs.{Gathered.AreSeen, Gathered.read_by, Gathered.with_source, Precedence.Written}
-use Rattle.inf_expression_laws.proofs.ExpressionsRead.{expressions_are_read}
+use Rattle.inf_expression_laws.proofs.ExpressionsRead.{passed_are_read}
 use Rattle.inf_statement_laws.specs.{Happenings.Acts, Happenings.Takes, Readings.Seen, Readings.plainly_at}
 use Rattle.inf_statement_laws.specs.Laid.{next_comes, passed, run}
 use Rattle.inf_statement_laws.proofs.Laying.{run_then}
@@ -175,7 +175,7 @@ gathers u tokens steps f all are_seen begun few =
     let count = tokens_count tokens in
     let all_count = length-append u.tokens (tokens_of tokens) in
     let e =
-    expressions_are_read f.symbols f.level f.is_form (atoms_of tokens) steps f.text x (tokens_of tokens) are_seen refl begun
+    passed_are_read f.symbols f.level f.passes (atoms_of tokens) steps f.text x (tokens_of tokens) are_seen refl begun
     (omega (arith, few, count, all_count)) in
     record {
       level = f.level;

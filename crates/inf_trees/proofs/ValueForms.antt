@@ -13,6 +13,7 @@ use Rattle.inf_expression_laws.specs.Precedence.{assignments, commas, connection
 use Rattle.inf_expression_laws.proofs.OperatorRows.{free}
 use Rattle.inf_statement_laws.proofs.Rules.{number}
 use Rattle.inf_language.specs.Units.{AllSteps}
+use Rattle.inf_expression_laws.proofs.{Items.Whole, Typed.Passes, Typed.form_passes}
 use Rattle.inf_language.proofs.TextsSplit.{is_rule, only_steps}
 use Rattle.inf_trees.proofs.RuleRows.{of_rows}
 
@@ -35,9 +36,12 @@ form_of symbols level = record { symbols = symbols; level = level }
 pub record HasForm (atoms : List ℕ) (events : List (Event Action)) : Type 0 where
   pub symbols : List (Symbol Action)
   pub level : ℕ
-  pub is_form : IsOneOf (form_of symbols level) forms
+  pub passes : Passes [] symbols (Whole level ∷ [])
   pub text : IsText grammar symbols atoms events
   pub steps : AllSteps events
+
+pub formed : {symbols : List (Symbol Action)} {level : ℕ} → IsOneOf (form_of symbols level) forms → Passes [] symbols (Whole level ∷ [])
+formed {symbols} {level} is_form = form_passes symbols level is_form
 
 -- While such a text is read, nothing is noted.
 
@@ -129,7 +133,7 @@ initial_form atoms events text =
       (λ t. record {
         symbols = NOTALIAS ∷ !name ∷ after_prim ∷ [];
         level = assignments;
-        is_form = later (later (later (later (later (later (later (later first)))))));
+        passes = formed (later (later (later (later (later (later (later (later first))))))));
         text = t;
         steps = alias_steps t;
       }),
@@ -137,7 +141,7 @@ initial_form atoms events text =
         (λ t. record {
           symbols = other_assign ∷ [];
           level = assignments;
-          is_form = later (later (later (later (later (later (later (later (later first))))))));
+          passes = formed (later (later (later (later (later (later (later (later (later first)))))))));
           text = t;
           steps = other_steps atoms events t;
         }),
@@ -149,7 +153,7 @@ initial_form atoms events text =
 -- the expression of a statement
 pub expression_form : (atoms : List ℕ) (events : List (Event Action)) → IsText grammar (expression ∷ []) atoms events → HasForm atoms events
 expression_form atoms events text =
-    record { symbols = expression ∷ []; level = commas; is_form = first; text = text; steps = expression_steps text }
+    record { symbols = expression ∷ []; level = commas; passes = formed (first); text = text; steps = expression_steps text }
 
 of_rule : (atoms : List ℕ) (events : List (Event Action)) (rule : ℕ) (x : ℕ) → (rule == x) ≡ true
     → IsText grammar (Symbol.Rule rule ∷ []) atoms events → IsText grammar (Symbol.Rule x ∷ []) atoms events
@@ -203,13 +207,13 @@ other_prim_text parts atoms events is text =
 
 prim_form : (atoms : List ℕ) (events : List (Event Action)) → IsText grammar (prim ∷ []) atoms events → HasForm atoms events
 prim_form atoms events t =
-    record { symbols = prim ∷ []; level = primaries; is_form = later (later (later (later first))); text = t; steps = prim_steps t }
+    record { symbols = prim ∷ []; level = primaries; passes = formed (later (later (later (later first)))); text = t; steps = prim_steps t }
 
 entry_form : (atoms : List ℕ) (events : List (Event Action)) → IsText grammar (entry ∷ []) atoms events → HasForm atoms events
 entry_form atoms events t = record {
   symbols = entry ∷ [];
   level = negations;
-  is_form = later (later (later (later (later first))));
+  passes = formed (later (later (later (later (later first)))));
   text = t;
   steps = entry_steps atoms events t;
 }
@@ -244,7 +248,7 @@ printed_form atoms events text =
       (λ t. record {
         symbols = OPERAND ∷ !name ∷ after_prim ∷ [];
         level = assignments;
-        is_form = later (later (later (later (later (later (later (later (later (later (later (later (later (later (later (later (later (later (later (later (later (later (later (later (later (later (later (later (later (first)))))))))))))))))))))))))))));
+        passes = formed (later (later (later (later (later (later (later (later (later (later (later (later (later (later (later (later (later (later (later (later (later (later (later (later (later (later (later (later (later (first))))))))))))))))))))))))))))));
         text = t;
         steps = named_steps t;
       }),
@@ -252,7 +256,7 @@ printed_form atoms events text =
         (λ t. record {
           symbols = plain_prim ∷ after_prim ∷ [];
           level = assignments;
-          is_form = later (later (later (later (later (later (later (later (later (later (later (later (later (later (later (later (later (later (later (later (later (later (later (later (later (later (later (later (later (later (first))))))))))))))))))))))))))))));
+          passes = formed (later (later (later (later (later (later (later (later (later (later (later (later (later (later (later (later (later (later (later (later (later (later (later (later (later (later (later (later (later (later (first)))))))))))))))))))))))))))))));
           text = t;
           steps = plain_steps t;
         }),
@@ -260,7 +264,7 @@ printed_form atoms events text =
           (λ t. record {
             symbols = prefixed ∷ [];
             level = assignments;
-            is_form = later (later (later (later (later (later (later (later (later (later (later (later (later (later (later (later (later (later (later (later (later (later (later (later (later (later (later (later (later (later (later (first)))))))))))))))))))))))))))))));
+            passes = formed (later (later (later (later (later (later (later (later (later (later (later (later (later (later (later (later (later (later (later (later (later (later (later (later (later (later (later (later (later (later (later (first))))))))))))))))))))))))))))))));
             text = t;
             steps = other_steps_2 t;
           }),
@@ -268,7 +272,7 @@ printed_form atoms events text =
             (λ t. record {
               symbols = 'minus' ∷ neg ∷ !negate ∷ after_unary ∷ [];
               level = assignments;
-              is_form = later (later (later (later (later (later (later (later (later (later (later (later (later (later (later (later (later (later (later (later (later (later (later (later (later (later (later (later (later (later (later (later (first))))))))))))))))))))))))))))))));
+              passes = formed (later (later (later (later (later (later (later (later (later (later (later (later (later (later (later (later (later (later (later (later (later (later (later (later (later (later (later (later (later (later (later (later (first)))))))))))))))))))))))))))))))));
               text = t;
               steps = other_steps_3 t;
             }),
@@ -300,11 +304,11 @@ late_form atoms events rule is text =
       | inr others ↦
           elim (or_cases (rule == number post) ((rule == number prim) || is_other_value rule) others) [
             | inl p ↦ let t = of_rule atoms events rule (number post) p text in
-                record { symbols = post ∷ []; level = members; is_form = later (later (later first)); text = t; steps = post_steps t }
+                record { symbols = post ∷ []; level = members; passes = formed (later (later (later first))); text = t; steps = post_steps t }
             | inr more ↦
                 elim (or_cases (rule == number prim) (is_other_value rule) more) [
                   | inl p ↦ let t = of_rule atoms events rule (number prim) p text in
-                      record { symbols = prim ∷ []; level = primaries; is_form = later (later (later (later first))); text = t; steps = prim_steps t }
+                      record { symbols = prim ∷ []; level = primaries; passes = formed (later (later (later (later first)))); text = t; steps = prim_steps t }
                   | inr e ↦ other_form atoms events rule e text
                 ]
           ]
@@ -316,15 +320,15 @@ value_form atoms events rule is text =
     let late = (rule == number initial_1) || ((rule == number post) || ((rule == number prim) || is_other_value rule)) in
     elim (or_cases (rule == number assign) ((rule == number expression) || ((rule == number logic) || late)) is) [
       | inl a ↦ let t = of_rule atoms events rule (number assign) a text in
-          record { symbols = assign ∷ []; level = assignments; is_form = later first; text = t; steps = assign_steps t }
+          record { symbols = assign ∷ []; level = assignments; passes = formed (later first); text = t; steps = assign_steps t }
       | inr others ↦
           elim (or_cases (rule == number expression) ((rule == number logic) || late) others) [
             | inl e ↦ let t = of_rule atoms events rule (number expression) e text in
-                record { symbols = expression ∷ []; level = commas; is_form = first; text = t; steps = expression_steps t }
+                record { symbols = expression ∷ []; level = commas; passes = formed (first); text = t; steps = expression_steps t }
             | inr more ↦
                 elim (or_cases (rule == number logic) late more) [
                   | inl l ↦ let t = of_rule atoms events rule (number logic) l text in
-                      record { symbols = logic ∷ []; level = connections; is_form = later (later first); text = t; steps = logic_steps atoms events t }
+                      record { symbols = logic ∷ []; level = connections; passes = formed (later (later first)); text = t; steps = logic_steps atoms events t }
                   | inr i ↦ late_form atoms events rule i text
                 ]
           ]

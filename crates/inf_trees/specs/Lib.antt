@@ -1,3 +1,4 @@
 pub mod Trees
 pub mod Directives
 pub mod Statements
+pub mod Ends
