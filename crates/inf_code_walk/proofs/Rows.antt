@@ -19,8 +19,7 @@ use Rattle.inf_code_walk.specs.{Labels.branch_labels, Labels.times}
 use Rattle.inf_code_walk.specs.Made.{AllMeet, Asks, Handed, Instructs, Jumps, LeafMeets, Made, Marks, MaybeMeets, Meets, Names, Nothing}
 use Rattle.inf_code_walk.specs.Made.{Then, TreeMade}
 use Rattle.inf_code_walk.specs.Made.{TreeMeets}
-use Rattle.inf_code_walk.proofs.{Numbers.has_first, Numbers.has_later}
-use Rattle.inf_code_walk.proofs.Making.{at_first, at_second, at_two, before, behind, turned}
+use Rattle.inf_code_walk.proofs.Making.{at_first, at_second, at_two, before, behind, has_first, has_later, turned}
 
 module _ (limits : Limits) (L : Target → Type 0) where
   abbrev pub Built : Code → List ℕ → List ℕ → Type 0

@@ -1,5 +1,5 @@
 -- Code by the pieces that it is put together of. A law that holds of each piece holds of the code, by one induction.
-use Rattle.std.specs.Prelude.{◌≡◌, ℕ, ◌≤◌, Bool, List, [], ◌∷◌, ◌++◌, Option, Some, None, ◌⊎◌}
+use Rattle.std.specs.Prelude.{◌≡◌, ℕ, ◌≤◌, Bool, List, [], ◌∷◌, ◌++◌, Option, Some, None, if◌then◌else◌, ◌⊎◌}
 use Rattle.inf_settings.specs.Bounds.{Limits}
 use Rattle.inf_area.specs.declared.targets.Target.{Target}
 use Rattle.inf_expressions.specs.{Trees.Leaf, Trees.One, Trees.Tree, Trees.Two, declared.operators.Operand.Operand}
@@ -8,6 +8,7 @@ use Rattle.inf_opcode.specs.{declared.opcodes.Opcode.Opcode}
 use Rattle.inf_output.specs.{Texts.late, declared.items.Item.Item, declared.operands.Simple.Simple, declared.veneer.Veneer.Veneer}
 use Rattle.inf_output.specs.Output.{Code, Out, instruction, jumped, laid, low_string_at, marked, naming, nothing, with_label}
 use Rattle.inf_output.specs.Output.{with_low_text, ◌▸◌}
+use Rattle.inf_constructs.specs.Constructs.{Laying}
 use Rattle.inf_templates.specs.{Meaning.meaning, Parts.calling_routine}
 use Rattle.inf_code_walk.specs.Labels.{branch_labels, times}
 
@@ -61,6 +62,17 @@ pub data Made (limits : Limits) (L : Target → Type 0) : Code → List ℕ → 
       → Made limits L (λ o. laid limits (Item.Instruction (record (bare op) { text = text o })) o) [] []
   Lows : {needs given : List ℕ} (text : List ℕ) (body : Target → Code) → ((o : Out) → Made limits L (body (low_string_at o)) needs given)
       → Made limits L (λ o. body (low_string_at o) (with_low_text limits text o)) needs given
+
+-- A laying gives a value with code of pieces; it hands out labels; it is one of two, by a test; or it is one behind another, or one that is
+-- chosen by the output.
+pub data Laid (limits : Limits) (L : Target → Type 0) : (A : Type 0) → Laying A → Type 1 where
+  Lays : {A : Type 0} {c : Code} {needs given : List ℕ} (a : A) → Made limits L c needs given → Laid limits L A (λ o. (a, c o))
+  Takes : {A : Type 0} (x : Out → A) (next : Out → ℕ) → Laid limits L A (λ o. (x o, record o { next = next o }))
+  Either : {A : Type 0} (b : Bool) (f g : Laying A) → Laid limits L A f → Laid limits L A g
+      → Laid limits L A (λ o. if◌then◌else◌ {A = A × Out} b (f o) (g o))
+  Binds : {A B : Type 0} (f : Laying B) (g : B → Laying A) → Laid limits L B f → ((b : B) → Laid limits L A (g b))
+      → Laid limits L A (λ o. g (f o).0 (f o).1)
+  By : {A B : Type 0} (x : Out → B) (g : B → Laying A) → ((b : B) → Laid limits L A (g b)) → Laid limits L A (λ o. g (x o) o)
 
 -- The code of a tree is made so in each use of the tree; as a branch it needs the label to which it leads.
 pub record TreeMade (limits : Limits) (L : Target → Type 0) (t : Tree) : Type 0 where

@@ -1,40 +1,99 @@
--- The code of statements that hold others, and the names, texts and words that a unit uses, keep an output counted.
-use Rattle.std.proofs.Common.{ℕ, zero, suc, List, [], ◌∷◌, Bool, true, false, Option, Some, None, if◌then◌else◌}
-use Rattle.inf_settings.specs.{Bounds.Limits, Bounds.unbounded, declared.setting.Setting.Setting}
-use Rattle.inf_characters.specs.{declared.characters.CharSet.CharSet, declared.texts.TextItem.TextItem}
-use Rattle.inf_text.specs.Packing.{packed}
-use Rattle.inf_dictionary.specs.declared.uses.WordUse.{WordUse}
-use Rattle.inf_scanner.specs.declared.tokens.Place.{Place}
-use Rattle.inf_gathering.specs.declared.gathering.Leaf.{Leaf}
-use Rattle.inf_opcode.specs.declared.instructions.Label.{Label}
-use Rattle.inf_expressions.specs.{Rooted.Rooted, Trees.Tree, declared.operators.Operand.Operand}
-use Rattle.inf_names.specs.{Spellings.Name, Symbols.declare_fault, declared.symbols.DeclareFault.DeclareFault}
-use Rattle.inf_names.specs.Locals.{Local, local_number}
-use Rattle.inf_output.specs.{Texts.used_in, declared.items.Item.Item}
-use Rattle.inf_output.specs.Actions.{action_by, action_of, appeared, fake_number, faked, faked_by, first_seen, key_of, numbered_as}
-use Rattle.inf_output.specs.Actions.{numbered_by, one_fake, routine_name, routine_referred, seen_by}
-use Rattle.inf_output.specs.Output.{Out, items_of, laid_all}
-use Rattle.inf_unit.specs.{Tokens.SourceToken, Units.bytes_at, Units.name_at}
-use Rattle.inf_verbs.specs.{Routines.action_fault, declared.routines.ActionFault.ActionFault}
-use Rattle.inf_constructs.specs.declared.{constructs.Case.Case, constructs.Construct.Construct, constructs.Kind.Kind}
-use Rattle.inf_constructs.specs.Cases.{case_code}
-use Rattle.inf_constructs.specs.Constructs.{Laying, all_ended, begun, between, case_closed, cases_begun, changed, closed}
-use Rattle.inf_constructs.specs.Constructs.{ended, ending, entered, looped, looped_over}
-use Rattle.inf_operands.specs.Operands.{Settled, is_stack, leaf_added, one_added, settled, settled_action, settled_alone, settled_by}
-use Rattle.inf_operands.specs.Operands.{settled_leaf, settled_name, settled_text, with_settled}
-use Rattle.inf_operands.specs.Texts.{text_at, text_packed}
-use Rattle.inf_code_walk.proofs.{Leaves.Any, Leaves.any_tree, Leaves.any_trees, Statements.any_fixed}
-use Rattle.inf_code_walk.proofs.Constructs.{case_closed_made, case_made, looped_on_made}
-use Rattle.inf_code_walk.proofs.Layings.{between_laid, entered_laid, looped_laid, opened_laid}
-use Rattle.inf_limit_laws.specs.Rooms.{Before, Counted, Keeps, Sound}
-use Rattle.inf_limit_laws.proofs.Outputs.{declare_keeps, items_keep, refer_keeps, table_keeps, text_keeps, word_keeps}
-use Rattle.inf_limit_laws.proofs.Pieces.{made_sound, sound_jump, sound_mark}
-use Rattle.inf_limit_laws.proofs.Pieces.{sound_then}
-use Rattle.inf_limit_laws.proofs.Statements.{Gives, laid_gives}
+-- Code that is made of pieces keeps an output counted, and so do statements that hold others; where these begin, go on or end, references
+-- of finished routines and of tables stay as they are.
+use Rattle.std.proofs.Common.{Bool, List, None, Option, Some, [], cond, false, suc, true, zero, ℕ, ◌+◌, ◌∷◌, ◌≤◌}
+use Rattle.inf_area.specs.{Cells.later_count, declared.targets.Target.Target}
+use Rattle.inf_expressions.specs.{Rooted.Rooted, Trees.Tree}
+use Rattle.inf_settings.specs.{Bounds.Limits, declared.setting.Setting.Setting}
+use Rattle.inf_tables.specs.Tables.{references}
+use Rattle.inf_opcode.specs.{Instructions.bare, declared.instructions.Branch.Branch, declared.instructions.Label.Label}
+use Rattle.inf_opcode.specs.{declared.opcodes.Opcode.Opcode}
+use Rattle.inf_assembler.specs.declared.routines.Limit.{Limit as CodeLimit}
+use Rattle.inf_code.specs.Code.{reference_count}
+use Rattle.inf_output.specs.{declared.items.Item.Item, declared.operands.Simple.Simple, declared.past.Past.Past}
+use Rattle.inf_output.specs.{declared.veneer.Veneer.Veneer}
+use Rattle.inf_output.specs.Output.{Code, Out, behind, fitted, full_item, in_routine, instruction, items_of, jumped, laid, laid_all}
+use Rattle.inf_output.specs.Output.{laid_by, marked, naming, next_label, nothing, with_low_text, ◌▸◌}
+use Rattle.inf_templates.specs.Parts.{calling, calling_routine}
+use Rattle.inf_constructs.specs.{declared.constructs.Case.Case, declared.constructs.Construct.Construct, declared.constructs.Kind.Kind}
+use Rattle.inf_constructs.specs.{declared.constructs.Over.Over}
+use Rattle.inf_constructs.specs.Constructs.{Laying, all_ended, begun, between, case_closed, cases_begun, changed, closed, ended, ending}
+use Rattle.inf_constructs.specs.Constructs.{entered, front, joint, looped, looped_on, looped_over, opened, with_labels}
+use Rattle.inf_statements.specs.Statements.{alone}
+use Rattle.inf_code_walk.specs.Made.{As, Asks, Binds, By, Either, Handed, Instructs, Jumps, Laid, Lays, Lows, Made, Marks, Names, Nothing}
+use Rattle.inf_code_walk.specs.Made.{Packs, Prints, Takes, Then, Wide}
+use Rattle.inf_code_walk.proofs.Leaves.{Any, any_tree, any_trees}
+use Rattle.inf_code_walk.proofs.Statements.{alone_made, any_fixed, between_laid, case_closed_made, entered_laid, looped_laid}
+use Rattle.inf_code_walk.proofs.Statements.{looped_on_made, opened_laid}
+use Rattle.inf_limit_laws.specs.Rooms.{Before, Counted, Sound}
+use Rattle.inf_limit_laws.proofs.Outputs.{instruction_keeps, item_keeps, items_keep, jump_keeps, low_text_keeps, mark_keeps, naming_keeps}
+use Rattle.inf_limit_laws.proofs.Outputs.{with_routine_keeps}
 
-pub case_sound : {was : Before} (limits : Limits) (next : Option Label) (values : List Tree) →
-    Sound limits was (case_code limits next values)
-case_sound {was} limits next values = made_sound (case_made limits Any next values (any_trees values))
+-- Pieces of code put together
+
+pub sound_nothing : {limits : Limits} {was : Before} → Sound limits was nothing
+sound_nothing {limits} {was} = record { keeps = λ o h. h }
+
+pub sound_then : {limits : Limits} {was : Before} {c d : Code} → Sound limits was c → Sound limits was d → Sound limits was (c ▸ d)
+sound_then {limits} {was} {c} {d} first second = record { keeps = λ o h. second.keeps (c o) (first.keeps o h) }
+
+pub sound_mark : {limits : Limits} {was : Before} (label : Label) → Sound limits was (marked limits label)
+sound_mark {limits} {was} label = record { keeps = mark_keeps limits label }
+
+pub sound_jump : {limits : Limits} {was : Before} (label : Label) → Sound limits was (jumped limits label)
+sound_jump {limits} {was} label = record { keeps = jump_keeps limits label }
+
+calling_sound : {was : Before} (limits : Limits) (routine : Simple) (arguments : List Simple) (store : Option ℕ)
+    → Sound limits was (calling limits routine arguments store)
+unfolding calling
+calling_sound {was} limits routine arguments store = record { keeps = instruction_keeps limits _ _ store None }
+
+asked_sound : {was : Before} (limits : Limits) (v : Veneer) (arguments : List Simple) (store : Option ℕ)
+    → Sound limits was (calling_routine limits v arguments store)
+unfolding calling_routine
+asked_sound {was} limits v arguments store = record {
+  keeps = with_routine_keeps limits v (λ routine. calling limits routine arguments store)
+      (λ routine. (calling_sound limits routine arguments store).keeps);
+}
+
+pub made_sound : {limits : Limits} {was : Before} {L : Target → Type 0} {c : Code} {needs given : List ℕ} → Made limits L c needs given
+    → Sound limits was c
+made_sound Nothing = sound_nothing
+made_sound (Then f g) = sound_then (made_sound f) (made_sound g)
+made_sound (Handed f) = record { keeps = λ o h. (made_sound (f (next_label o))).keeps (record o { next = behind o.next }) h }
+made_sound (Wide h f) = made_sound f
+made_sound (As h f) = made_sound f
+made_sound {limits} (Instructs op operands store branch m) = record { keeps = instruction_keeps limits op operands store branch }
+made_sound {limits} (Names op v operands store branch m) = record { keeps = naming_keeps limits op v operands store branch }
+made_sound {limits} (Asks v arguments store m) = asked_sound limits v arguments store
+made_sound (Marks l) = sound_mark l
+made_sound (Jumps l) = sound_jump l
+made_sound Packs = record { keeps = λ o h. h }
+made_sound {limits} (Prints op text) = record {
+  keeps = λ o h. item_keeps limits (Item.Instruction (record (bare op) { text = text o })) o h;
+}
+made_sound {limits} (Lows text body f) = record {
+  keeps = λ o h. (made_sound (f o)).keeps (with_low_text limits text o) (low_text_keeps limits text o h);
+}
+
+pub alone_sound : {was : Before} (limits : Limits) (trees : List Tree) → Sound limits was (alone limits trees)
+alone_sound {was} limits trees = made_sound (alone_made limits Any trees (any_trees trees))
+
+-- Layings
+
+-- Code with a result keeps an output counted.
+pub record Gives {A : Type 0} (limits : Limits) (was : Before) (laying : Laying A) : Type 0 where
+  pub keeps : (o : Out) → Counted limits was o → Counted limits was (laying o).1
+
+pub laid_gives : {limits : Limits} {was : Before} {L : Target → Type 0} {A : Type 0} {f : Laying A} → Laid limits L A f
+    → Gives limits was f
+laid_gives (Lays a m) = record { keeps = (made_sound m).keeps }
+laid_gives (Takes x next) = record { keeps = λ o h. h }
+laid_gives (Either true f g a b) = record { keeps = (laid_gives a).keeps }
+laid_gives (Either false f g a b) = record { keeps = (laid_gives b).keeps }
+laid_gives (Binds f g a b) = record { keeps = λ o h. (laid_gives (b (f o).0)).keeps (f o).1 ((laid_gives a).keeps o h) }
+laid_gives (By x g b) = record { keeps = λ o h. (laid_gives (b (x o))).keeps o h }
+
+-- Statements that hold others, and layings
 
 -- Statements that hold others
 
@@ -101,110 +160,141 @@ looped_over_gives {was} limits (r ∷ trees) constructs =
           constructs).keeps o h;
     }
 
--- Actions
+-- References
 
-appeared_keeps : {was : Before} (limits : Limits) (key : List ℕ) (place : Place) → Keeps limits was (appeared key place)
-appeared_keeps {was} limits key place o h = go (declare_fault unbounded key o.seen)
+-- The references of finished routines and of tables are few, with that of the first routine or without it.
+abbrev pub Few : Limits → Bool → Out → Type 0
+Few limits whole o = cond whole (reference_count o.code) (4 + later_count o.code.finished) + references o.tables ≤ limits Setting.References
+
+-- Code keeps them few.
+pub record Leaves (limits : Limits) (whole : Bool) (c : Code) : Type 0 where
+  pub leaves : (o : Out) → Few limits whole o → Few limits whole (c o)
+
+leaves_then : {limits : Limits} {whole : Bool} {c d : Code} → Leaves limits whole c → Leaves limits whole d → Leaves limits whole (c ▸ d)
+leaves_then {limits} {whole} {c} {d} f g = record { leaves = λ o h. g.leaves (c o) (f.leaves o h) }
+
+nothing_leaves : {limits : Limits} {whole : Bool} → Leaves limits whole (λ o. o)
+nothing_leaves = record { leaves = λ o h. h }
+
+item_few : (limits : Limits) (whole : Bool) (item : Item) (o : Out) → Few limits whole o → Few limits whole (laid limits item o)
+unfolding laid
+item_few limits whole item o h = go o.kept
   where
-    go : (fault : Option (DeclareFault Place)) → Counted limits was (seen_by fault key place o)
-    go None = h
-    go (Some fault) = h
+    grown : (item : Item) → Few limits whole (fitted limits None item o)
+    grown (Item.Instruction parts) = h
+    grown (Item.Mark label) = h
 
-numbered_keeps : {was : Before} (limits : Limits) (routine : Option ℕ) (o : Out) → Counted limits was o →
-    Counted limits was (numbered_as limits routine o).0
-numbered_keeps {was} limits None o h = h
-numbered_keeps {was} limits (Some routine) o h = go (action_fault limits routine o.tables.actions)
-  where
-    go : (fault : Option ActionFault) → Counted limits was (numbered_by limits fault routine o).0
-    go None = h
-    go (Some fault) = table_keeps limits Setting.Actions o h
+    fits : (full : Option CodeLimit) → Few limits whole (fitted limits full item o)
+    fits None = grown item
+    fits (Some limit) = h
 
-pub action_keeps : {was : Before} (limits : Limits) (name : List ℕ) (place : Place) (o : Out) → Counted limits was o →
-    Counted limits was (action_of limits name place o).0
-action_keeps {was} limits name place o h = go (fake_number (key_of name) o)
-  where
-    go : (fake : Option ℕ) → Counted limits was (action_by limits fake name place o).0
-    go (Some fake) = h
-    go None =
-        let v = appeared (key_of name) place o in
-        let r = routine_referred limits (routine_name name) place v in
-        numbered_keeps limits r.1 r.0
-        (refer_keeps limits (routine_name name) place v (appeared_keeps limits (key_of name) place o h))
+    within : (past : Option Past) → Few limits whole (in_routine limits past item o)
+    within None = fits (full_item item o.code)
+    within (Some past) = h
 
-pub faked_keeps : {was : Before} (limits : Limits) (name : List ℕ) (place : Place) (o : Out) → Counted limits was o →
-    Counted limits was (faked limits name place o).0
-faked_keeps {was} limits name place o h = go (first_seen (key_of name) o)
-  where
-    go : (first : Option Place) → Counted limits was (faked_by limits first (key_of name) place o).0
-    go (Some first) = h
-    go None = declare_keeps limits (key_of name) place _ (one_fake o) h
+    go : (kept : Option (List Item)) → Few limits whole (laid_by limits kept item o)
+    go None = within o.past
+    go (Some items) = h
 
--- Names, texts and words of a unit
+items_few : (limits : Limits) (whole : Bool) (items : List Item) (o : Out) → Few limits whole o → Few limits whole (laid_all limits items o)
+items_few limits whole [] o h = h
+items_few limits whole (item ∷ items) o h = items_few limits whole items (laid limits item o) (item_few limits whole item o h)
 
-by_keeps : {was : Before} (limits : Limits) (local : Option ℕ) (name : List ℕ) (place : Place) (o : Out) → Counted limits was o
-    → Counted limits was (settled_by limits local name place o).0
-by_keeps {was} limits (Some local) name place o h = h
-by_keeps {was} limits None name place o h = refer_keeps limits name place o h
+items_leave : (limits : Limits) (whole : Bool) (items : List Item) → Leaves limits whole (laid_all limits items)
+items_leave limits whole items = record { leaves = items_few limits whole items }
 
-name_keeps : {was : Before} (limits : Limits) (locals : List Local) (n : Option Name) (o : Out) → Counted limits was o
-    → Counted limits was (settled_name limits locals n o).0
-name_keeps {was} limits locals None o h = h
-name_keeps {was} limits locals (Some n) o h = by_keeps limits (local_number n.bytes locals) n.bytes n.place o h
+mark_leaves : {limits : Limits} {whole : Bool} (label : Label) → Leaves limits whole (marked limits label)
+unfolding marked
+mark_leaves {limits} {whole} label = record { leaves = item_few limits whole (Item.Mark label) }
 
-pick : {A : Type 0} {was : Before} (limits : Limits) (b : Bool) (p q : Out × A) → Counted limits was p.0 → Counted limits was q.0
-    → Counted limits was (if◌then◌else◌ {A = Out × A} b p q).0
-pick limits true p q h k = h
-pick limits false p q h k = k
+jump_leaves : {limits : Limits} {whole : Bool} (label : Label) → Leaves limits whole (jumped limits label)
+unfolding jumped
+jump_leaves {limits} {whole} label = record { leaves = λ o h. item_few limits whole _ o h }
 
-alone_keeps : {was : Before} (limits : Limits) (locals : List Local) (tokens : List SourceToken) (at : ℕ) (o : Out) → Counted limits was o
-    → Counted limits was (settled_alone limits locals tokens at o).0
-alone_keeps limits locals tokens at o h =
-    pick limits (is_stack (bytes_at tokens at) (local_number (bytes_at tokens at) locals)) (o, Operand.Variable 0)
-    (settled_name limits locals (name_at tokens at) o) h (name_keeps limits locals (name_at tokens at) o h)
+instruction_leaves : {limits : Limits} {whole : Bool} (opcode : Opcode) (operands : List Simple) (store : Option ℕ) (branch : Option Branch)
+    → Leaves limits whole (instruction limits opcode operands store branch)
+unfolding instruction
+instruction_leaves {limits} {whole} opcode operands store branch = record { leaves = λ o h. item_few limits whole _ o h }
 
-some_text_keeps : {was : Before} (limits : Limits) (items : Option (List TextItem)) (o : Out) → Counted limits was o
-    → Counted limits was (settled_text limits items o).0
-some_text_keeps {was} limits None o h = h
-some_text_keeps {was} limits (Some items) o h = text_keeps limits (packed items (used_in o.texts)) (text_packed o) h
+naming_leaves : {limits : Limits} {whole : Bool} (opcode : Opcode) (variable : ℕ) (operands : List Simple) (store : Option ℕ)
+    (branch : Option Branch)
+    → Leaves limits whole (naming limits opcode variable operands store branch)
+unfolding naming
+naming_leaves {limits} {whole} opcode variable operands store branch = record { leaves = λ o h. item_few limits whole _ o h }
 
-some_action_keeps : {was : Before} (limits : Limits) (n : Option Name) (o : Out) → Counted limits was o →
-    Counted limits was (settled_action limits n o).0
-some_action_keeps {was} limits None o h = h
-some_action_keeps {was} limits (Some n) o h = action_keeps limits n.bytes n.place o h
+-- Beginnings
 
-leaf_keeps : {was : Before} (limits : Limits) (set : CharSet) (locals : List Local) (tokens : List SourceToken) (l : Leaf) (o : Out) →
-    Counted limits was o
-    → Counted limits was (settled_leaf limits set locals tokens l o).0
-leaf_keeps {was} limits set locals tokens (Leaf.Name at) o h = name_keeps limits locals (name_at tokens at) o h
-leaf_keeps {was} limits set locals tokens (Leaf.Alone at) o h = alone_keeps limits locals tokens at o h
-leaf_keeps {was} limits set locals tokens (Leaf.Number number) o h = h
-leaf_keeps {was} limits set locals tokens (Leaf.Char zscii) o h = h
-leaf_keeps {was} limits set locals tokens (Leaf.Word word) o h = word_keeps limits word.text WordUse.Other word.is_plural o h
-leaf_keeps {was} limits set locals tokens (Leaf.Text at) o h = some_text_keeps limits (text_at set tokens at) o h
-leaf_keeps {was} limits set locals tokens (Leaf.Action at) o h = some_action_keeps limits (name_at tokens at) o h
-leaf_keeps {was} limits set locals tokens (Leaf.System at) o h = h
+front_leaves : (limits : Limits) (whole : Bool) (k : Kind) (c : Construct) → Leaves limits whole (front limits k c)
+front_leaves limits whole Kind.While c = mark_leaves c.next
+front_leaves limits whole Kind.Do c = mark_leaves c.top
+front_leaves limits whole Kind.If c = nothing_leaves
+front_leaves limits whole Kind.Else c = nothing_leaves
+front_leaves limits whole Kind.For c = nothing_leaves
+front_leaves limits whole (Kind.Objects how v) c = nothing_leaves
+front_leaves limits whole (Kind.Switch old had_default) c = nothing_leaves
+front_leaves limits whole (Kind.Cases old had_default) c = nothing_leaves
 
-pub settled_keeps : {was : Before} (limits : Limits) (set : CharSet) (locals : List Local) (tokens : List SourceToken) (leaves : List Leaf)
-    (s : Settled)
-    → Counted limits was s.out → Counted limits was (settled limits set locals tokens leaves s).out
-settled_keeps {was} limits set locals tokens [] s h = h
-settled_keeps {was} limits set locals tokens (l ∷ leaves) s h =
-    settled_keeps limits set locals tokens leaves (with_settled (settled_leaf limits set locals tokens l s.out) s.operands)
-    (leaf_keeps limits set locals tokens l s.out h)
+opened_few : (limits : Limits) (whole : Bool) (k : Kind) (o : Out) → Few limits whole o → Few limits whole (opened limits k o).1
+unfolding opened
+opened_few limits whole k o h = let c = with_labels k o in (front_leaves limits whole k c.0).leaves c.1 h
 
-one_added_keeps : {was : Before} (limits : Limits) (set : CharSet) (tokens : List SourceToken) (l : Leaf) →
-    Keeps limits was (one_added limits set tokens l)
-one_added_keeps {was} limits set tokens (Leaf.Text at) o h = some_text_keeps limits (text_at set tokens at) o h
-one_added_keeps {was} limits set tokens (Leaf.Word word) o h = word_keeps limits word.text WordUse.Other word.is_plural o h
-one_added_keeps {was} limits set tokens (Leaf.Action at) o h = some_action_keeps limits (name_at tokens at) o h
-one_added_keeps {was} limits set tokens (Leaf.Name at) o h = h
-one_added_keeps {was} limits set tokens (Leaf.Alone at) o h = h
-one_added_keeps {was} limits set tokens (Leaf.Number number) o h = h
-one_added_keeps {was} limits set tokens (Leaf.Char zscii) o h = h
-one_added_keeps {was} limits set tokens (Leaf.System at) o h = h
+pub begun_few : (limits : Limits) (whole : Bool) (k : Kind) (constructs : List Construct) (o : Out) → Few limits whole o →
+    Few limits whole (begun limits k constructs o).1
+begun_few limits whole k constructs o h = opened_few limits whole k o h
 
-pub added_keeps : {was : Before} (limits : Limits) (set : CharSet) (tokens : List SourceToken) (leaves : List Leaf)
-    → Keeps limits was (leaf_added limits set tokens leaves)
-added_keeps {was} limits set tokens [] o h = h
-added_keeps {was} limits set tokens (l ∷ leaves) o h =
-    added_keeps limits set tokens leaves (one_added limits set tokens l o) (one_added_keeps limits set tokens l o h)
+-- Joints
+
+joint_leaves : (limits : Limits) (whole : Bool) (c : Construct) (k : Kind) → Leaves limits whole (joint limits c k)
+joint_leaves limits whole c Kind.If = leaves_then (jump_leaves c.end) (mark_leaves c.next)
+joint_leaves limits whole c Kind.Do = mark_leaves c.next
+joint_leaves limits whole c Kind.For = mark_leaves c.top
+joint_leaves limits whole c (Kind.Objects Over.Nothing v) = mark_leaves c.top
+joint_leaves limits whole c (Kind.Objects Over.Children v) = nothing_leaves
+joint_leaves limits whole c (Kind.Objects Over.All v) = nothing_leaves
+joint_leaves limits whole c Kind.Else = nothing_leaves
+joint_leaves limits whole c Kind.While = nothing_leaves
+joint_leaves limits whole c (Kind.Switch old had_default) = nothing_leaves
+joint_leaves limits whole c (Kind.Cases old had_default) = nothing_leaves
+
+between_few : (limits : Limits) (whole : Bool) (c : Construct) (o : Out) → Few limits whole o → Few limits whole (between limits c o).1
+unfolding between
+between_few limits whole c o h = (joint_leaves limits whole c c.kind).leaves o h
+
+pub joined_few : (limits : Limits) (whole : Bool) (constructs : List Construct) (o : Out) → Few limits whole o
+    → Few limits whole (changed (between limits) constructs o).1
+joined_few limits whole [] o h = h
+joined_few limits whole (c ∷ constructs) o h = between_few limits whole c o h
+
+-- Ends
+
+on_leaves : (limits : Limits) (whole : Bool) (how : Over) (v : ℕ) (top : Label) → Leaves limits whole (looped_on limits how v top)
+on_leaves limits whole Over.Nothing v top = nothing_leaves
+on_leaves limits whole Over.Children v top = instruction_leaves Opcode.GetSibling (Simple.Variable v ∷ []) (Some v) _
+on_leaves limits whole Over.All v top = naming_leaves Opcode.IncChk v _ None _
+
+case_leaves : (limits : Limits) (whole : Bool) (c : Case) (end : Label) → Leaves limits whole (case_closed limits c end)
+case_leaves limits whole Case.Nothing end = nothing_leaves
+case_leaves limits whole (Case.Values next) end = leaves_then (jump_leaves end) (mark_leaves next)
+case_leaves limits whole Case.Default end = jump_leaves end
+
+ending_leaves : (limits : Limits) (whole : Bool) (c : Construct) (k : Kind) → Leaves limits whole (ending limits c k)
+ending_leaves limits whole c Kind.If = mark_leaves c.next
+ending_leaves limits whole c Kind.Else = mark_leaves c.end
+ending_leaves limits whole c Kind.While = leaves_then (jump_leaves c.next) (mark_leaves c.end)
+ending_leaves limits whole c Kind.Do = mark_leaves c.end
+ending_leaves limits whole c Kind.For =
+    leaves_then (mark_leaves c.next) (leaves_then (items_leave limits whole (items_of c.step))
+    (leaves_then (jump_leaves c.top) (mark_leaves c.end)))
+ending_leaves limits whole c (Kind.Objects how v) =
+    leaves_then (mark_leaves c.next) (leaves_then (on_leaves limits whole how v c.top) (mark_leaves c.end))
+ending_leaves limits whole c (Kind.Switch old had_default) = leaves_then (case_leaves limits whole old c.end) (mark_leaves c.end)
+ending_leaves limits whole c (Kind.Cases old had_default) = leaves_then (case_leaves limits whole old c.end) (mark_leaves c.end)
+
+closed_few : (limits : Limits) (whole : Bool) (c : Construct) (o : Out) → Few limits whole o → Few limits whole (closed limits c o)
+unfolding closed
+closed_few limits whole c o h = (ending_leaves limits whole c c.kind).leaves o h
+
+pub ended_few : (limits : Limits) (whole : Bool) (constructs : List Construct) (o : Out) → Few limits whole o →
+    Few limits whole (ended limits constructs o).1
+ended_few limits whole [] o h = h
+ended_few limits whole (c ∷ constructs) o h = closed_few limits whole c o h

@@ -1,24 +1,24 @@
 -- The steps by which an output grows keep it counted.
-use Rattle.std.proofs.Common.{◌≡◌, ◌∙◌, ◌+◌, ◌-◌, ◌≤◌, ℕ, List, [], ◌∷◌, ◌++◌, length, take, drop, cond, Bool, true, false, Option, Some}
-use Rattle.std.proofs.Common.{None, refl, sym, ap, subst, arith, is_some}
-use Rattle.inf_settings.specs.{Bounds.Limits, declared.setting.Setting.Setting}
+use Rattle.std.proofs.Common.{Bool, List, None, Option, Some, [], ap, arith, cond, drop, false, is_some, length, refl, subst, sym, take}
+use Rattle.std.proofs.Common.{true, ℕ, ◌++◌, ◌+◌, ◌-◌, ◌∙◌, ◌∷◌, ◌≡◌, ◌≤◌}
+use Rattle.inf_area.specs.{Cells.later_count, Cells.size_of, declared.cells.Cell.Cell as CodeCell, declared.fixups.Fixup.Fixup}
+use Rattle.inf_area.specs.{declared.scale.Scale.Scale}
 use Rattle.inf_scanner.specs.declared.tokens.Place.{Place}
-use Rattle.inf_area.specs.{declared.cells.Cell.Cell as CodeCell, declared.fixups.Fixup.Fixup, declared.scale.Scale.Scale}
-use Rattle.inf_area.specs.Cells.{later_count, size_of}
-use Rattle.inf_assembler.proofs.Finishing.{length-fixups}
-use Rattle.inf_assembler.specs.{declared.routines.CloseFault.CloseFault, declared.routines.Limit.Limit as CodeLimit}
-use Rattle.inf_assembler.specs.{declared.routines.RoutineKind.RoutineKind}
-use Rattle.inf_assembler.specs.Routines.{Contents, body_bytes, long_places, routine_fixups}
+use Rattle.inf_settings.specs.{Bounds.Limits, declared.setting.Setting.Setting}
+use Rattle.inf_dictionary.specs.{Texts.Text, Words.add_fault, Words.word_of, declared.dictionary.AddFault.AddFault as WordFault}
+use Rattle.inf_dictionary.specs.{declared.uses.WordUse.WordUse}
+use Rattle.inf_tables.specs.LowStrings.{low_fits}
 use Rattle.inf_opcode.specs.{Cells.Cell, Cells.fixup_count, Instructions.Parts, Instructions.instruction_cells}
 use Rattle.inf_opcode.specs.{declared.instructions.Branch.Branch, declared.instructions.Label.Label, declared.opcodes.Opcode.Opcode}
+use Rattle.inf_assembler.specs.{Routines.Contents, Routines.body_bytes, Routines.long_places, Routines.routine_fixups}
+use Rattle.inf_assembler.specs.{declared.routines.CloseFault.CloseFault, declared.routines.Limit.Limit as CodeLimit}
+use Rattle.inf_assembler.specs.{declared.routines.RoutineKind.RoutineKind}
+use Rattle.inf_assembler.proofs.Finishing.{length-fixups}
+use Rattle.inf_names.specs.{Symbols.declare_fault, Symbols.refer_fault, declared.meanings.Meaning.Meaning}
+use Rattle.inf_names.specs.{declared.symbols.DeclareFault.DeclareFault, declared.symbols.ReferFault.ReferFault}
 use Rattle.inf_code.specs.Code.{Opened, Routines, begun_unless, cells_from, cells_with, closed_cells, fault_closed, full_begun, full_behind}
-use Rattle.inf_code.specs.Code.{full_marked, full_opened, known, padding, place_behind, references_open, routine_cells}
-use Rattle.inf_code.specs.Code.{whole_bytes, with_item as code_with_item, with_label as with_mark, with_none_open, with_opened}
-use Rattle.inf_code.specs.Code.{zeros_behind}
-use Rattle.inf_dictionary.specs.{Texts.Text, declared.dictionary.AddFault.AddFault as WordFault, declared.uses.WordUse.WordUse}
-use Rattle.inf_dictionary.specs.Words.{add_fault, word_of}
-use Rattle.inf_names.specs.declared.{meanings.Meaning.Meaning, symbols.DeclareFault.DeclareFault, symbols.ReferFault.ReferFault}
-use Rattle.inf_names.specs.Symbols.{declare_fault, refer_fault}
+use Rattle.inf_code.specs.Code.{full_marked, full_opened, known, padding, place_behind, references_open, routine_cells, whole_bytes}
+use Rattle.inf_code.specs.Code.{with_item as code_with_item, with_label as with_mark, with_none_open, with_opened, zeros_behind}
 use Rattle.inf_output.specs.{Strings.fits, Veneer.name_of, declared.items.Item.Item, declared.operands.Simple.Simple}
 use Rattle.inf_output.specs.{declared.past.Past.Past, declared.veneer.Veneer.Veneer}
 use Rattle.inf_output.specs.Output.{Code, Out, begun, begun_by, closed, closed_by, code_closed, declared, declared_by, fitted, full_item}
@@ -26,8 +26,7 @@ use Rattle.inf_output.specs.Output.{full_past, in_routine, instruction, jumped, 
 use Rattle.inf_output.specs.Output.{passed, passed_limit, passed_table, past_by, past_of, referred, referred_by, routine, symbols_passed}
 use Rattle.inf_output.specs.Output.{table_passed, used, used_by, with_labels_left, with_low_text, with_low_text_by, with_routine}
 use Rattle.inf_output.specs.Output.{with_scale, with_text, with_text_by, with_word, with_word_by, without_item}
-use Rattle.inf_tables.specs.LowStrings.{low_fits}
-use Rattle.inf_limit_laws.specs.Rooms.{Before, Counted, IsCounted, LeavesRoom, Keeps}
+use Rattle.inf_limit_laws.specs.Rooms.{Before, Counted, IsCounted, Keeps, LeavesRoom}
 use Rattle.inf_limit_laws.proofs.Rooms.{item_tightens, limit_full, past_room, strings_full, symbols_full, table_full, tight_room}
 
 -- a limit that was passed has no room to speak of

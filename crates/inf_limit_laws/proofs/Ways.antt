@@ -1,26 +1,29 @@
 -- Steps of a compilation put together, and messages: a fatal one stays.
-use Rattle.std.proofs.Common.{◌≡◌, ◌∙◌, ◌+◌, ◌-◌, ◌≤◌, ℕ, zero, suc, List, [], ◌∷◌, length, cond, ltb, Bool, true, false, Option, Some}
-use Rattle.std.proofs.Common.{None, refl, sym, arith, not, if◌then◌else◌, option_map, ◌||◌}
-use Rattle.std.proofs.{Math.Nat.max-le, lemmas.Bool.ltb-false}
 use Rattle.std.specs.List.{slice_get}
-use Rattle.inf_settings.specs.{Bounds.Limits, declared.setting.Setting.Setting}
+use Rattle.std.proofs.{Math.Nat.max-le, lemmas.Bool.ltb-false}
+use Rattle.std.proofs.Common.{Bool, List, None, Option, Some, [], arith, cond, false, if◌then◌else◌, length, ltb, not, option_map, refl}
+use Rattle.std.proofs.Common.{suc, sym, true, zero, ℕ, ◌+◌, ◌-◌, ◌||◌, ◌∙◌, ◌∷◌, ◌≡◌, ◌≤◌}
 use Rattle.inf_scanner.specs.declared.tokens.Place.{Place}
+use Rattle.inf_settings.specs.{Bounds.Limits, declared.setting.Setting.Setting}
 use Rattle.inf_assembler.specs.declared.routines.CloseFault.{CloseFault}
-use Rattle.inf_code.specs.Code.{labels}
-use Rattle.inf_constructs.specs.Labels.{NamedLabel, missing}
 use Rattle.inf_names.specs.Locals.{Local}
+use Rattle.inf_code.specs.Code.{labels}
 use Rattle.inf_output.specs.Output.{Out, begun, full}
-use Rattle.inf_report.specs.{Messages.DeepNesting, Messages.Exceeded, Messages.Location, Messages.Message, Messages.UnusedLocal}
-use Rattle.inf_report.specs.{OwnWords.Words, Reports.Counts, Reports.is_last, Reports.one_warning_more, Reports.with_error as error_counted}
-use Rattle.inf_report.specs.{Reports.with_fatal as fatal_counted, Reports.with_warning as warning_counted, declared.messages.Kind.Kind}
-use Rattle.inf_unit.specs.Messages.{Diagnostic, FileNames, Reported, location, with_error, with_fatal, with_fault, with_full}
-use Rattle.inf_unit.specs.Messages.{with_warning, with_words}
+use Rattle.inf_report.specs.{OwnWords.Words, declared.messages.Kind.Kind}
+use Rattle.inf_report.specs.Messages.{DeepNesting, Exceeded, Location, Message, UnusedLocal}
+use Rattle.inf_report.specs.Reports.{Counts, is_last, one_warning_more, with_error as error_counted, with_fatal as fatal_counted}
+use Rattle.inf_report.specs.Reports.{with_warning as warning_counted}
+use Rattle.inf_unit.specs.Messages.{Diagnostic, FileNames, Reported, location, with_error, with_fatal, with_fault, with_full, with_warning}
+use Rattle.inf_unit.specs.Messages.{with_words}
 use Rattle.inf_unit.specs.Tokens.{SourceToken}
 use Rattle.inf_unit.specs.Units.{Unit, long_at, long_by, long_from, outer_count, outer_tokens, over, place_at}
+use Rattle.inf_constructs.specs.Labels.{NamedLabel, missing}
 use Rattle.inf_compilation.specs.{Context.Context, Context.longest, Findings.Findings, Findings.told_as}
 use Rattle.inf_compilation.specs.Actions.{Compilation, begun_at, nested, passed, sized, stopped, unit_ended, with_all_unused}
 use Rattle.inf_compilation.specs.Actions.{with_branch_fault, with_fault_or, with_routine_fault, with_unused}
-use Rattle.inf_limit_laws.specs.{Rooms.Before, Rooms.Counted, Within.AreFew, Within.AreNear, Within.Ends, Within.Lays, Within.Steps}
+use Rattle.inf_step_walk.specs.Walking.{Remains}
+use Rattle.inf_limit_laws.specs.Rooms.{Before, Counted}
+use Rattle.inf_limit_laws.specs.Within.{AreFew, AreNear, Ends, Lays, Steps}
 use Rattle.inf_limit_laws.proofs.{Outputs.begin_keeps, Rooms.Fits, Rooms.unit_fits}
 
 -- References with that of the first routine are no fewer than those without.
@@ -123,10 +126,6 @@ pub output_lays : {limits : Limits} {context : Context} {was : Before} (w : Comp
 output_lays {limits} {context} {was} w o keeps = record { on = λ e. e; kept = λ e h. (h.0, (h.1.0, keeps h.1.1)) }
 
 -- Messages
-
--- A fatal message stays.
-abbrev pub Remains : (Reported → Reported) → Type 0
-Remains tell = (r : Reported) → (tell r).counts.is_over ≡ false → r.counts.is_over ≡ false
 
 error_stays : (c : Counts) → (error_counted c).is_over ≡ false → c.is_over ≡ false
 error_stays c = go c.is_over refl

@@ -1,29 +1,80 @@
--- Counts keep to their settings from the start of a reading on.
+-- Counts keep to their settings from the start of a reading on, in each state to which it comes.
 use Rattle.std.proofs.{Math.Nat.max-le, lemmas.Bool.ltb-false}
-use Rattle.std.proofs.Common.{◌≡◌, ◌∙◌, ◌+◌, ◌≤◌, ℕ, zero, suc, List, length, cond, ltb, Bool, true, false, Option, Some, None, refl, sym}
-use Rattle.std.proofs.Common.{arith}
-use Rattle.std.specs.Prelude.{if◌then◌else◌}
-use Rattle.inf_settings.specs.{Settings.number_of, declared.setting.Setting.Setting, declared.settings.Settings.Settings}
-use Rattle.inf_settings.specs.Bounds.{Limits, limits_of}
-use Rattle.inf_scanner.specs.declared.tokens.Place.{Place}
-use Rattle.inf_devices.specs.Files.{Sources}
+use Rattle.std.proofs.Common.{Bool, List, None, Option, Some, arith, cond, false, if◌then◌else◌, length, ltb, refl, suc, sym, true, zero, ℕ}
+use Rattle.std.proofs.Common.{◌+◌, ◌-◌, ◌∙◌, ◌≡◌, ◌≤◌}
 use Rattle.inf_area.specs.Cells.{later_count}
-use Rattle.inf_tables.specs.Tables.{more, no_tables, references}
+use Rattle.inf_scanner.specs.declared.tokens.Place.{Place}
 use Rattle.inf_text_lexer.specs.TextReaders.{TextReader}
+use Rattle.inf_settings.specs.{Bounds.Limits, Bounds.limits_of, Settings.number_of, declared.setting.Setting.Setting}
+use Rattle.inf_settings.specs.{declared.settings.Settings.Settings}
+use Rattle.inf_tables.specs.Tables.{more, no_tables, references}
+use Rattle.inf_devices.specs.Files.{Sources}
 use Rattle.inf_output.specs.Output.{Out}
 use Rattle.inf_compilation.specs.{Actions.Compilation, Actions.letters_chosen, Actions.unit_ended, Context.Context, Findings.Findings}
 use Rattle.inf_reader.specs.Reading.{begun_stand}
-use Rattle.inf_session.specs.Choices.{Choices}
-use Rattle.inf_session.specs.Session.{State, context_of, has_ended, rested, start, stepped, tables_full, turn}
-use Rattle.inf_session.specs.Veneer.{in_text, text_begun, text_front, text_read, text_turns, veneer_text}
 use Rattle.inf_ending.specs.Ending.{first_place}
-use Rattle.inf_limit_laws.specs.{Laws.CountsKeepToSettings, Laws.AbbreviationsStay, Laws.StepsKeepCounts, Laws.abbreviations_of}
+use Rattle.inf_session.specs.Choices.{Choices}
+use Rattle.inf_session.specs.Session.{State, context_of, has_ended, is_parted, part, rested, run, start, stepped, tables_full, turn}
+use Rattle.inf_session.specs.Veneer.{in_text, is_wanted, most_texts, next_text, supplied_at, supplied_by, text_begun, text_front, text_read}
+use Rattle.inf_session.specs.Veneer.{text_turns, veneer_text}
+use Rattle.inf_limit_laws.specs.Laws.{AbbreviationsStay, CountsKeepToSettings, StepsKeepCounts, abbreviations_of}
+use Rattle.inf_limit_laws.specs.Reached.{Begins, Goes, Here, IsBehind, IsReached, IsTurned, StatesComeBehind, Supplies, Turns}
 use Rattle.inf_limit_laws.specs.Rooms.{Before, Counted, unfollowed}
-use Rattle.inf_limit_laws.specs.Reached.{Begins, Goes, Here, IsBehind, IsReached, IsTurned, Supplies, Turns}
 use Rattle.inf_limit_laws.specs.Within.{AreFew, AreNear, IsKept, Steps, is_over}
-use Rattle.inf_limit_laws.proofs.{Actions.act_steps, Actions.cut_at_steps, Actions.took_steps, Conditions.NoneRight}
+use Rattle.inf_limit_laws.proofs.{Conditions.NoneRight, Walked.act_steps, Walked.cut_at_steps, Walked.took_steps}
 use Rattle.inf_limit_laws.proofs.Turns.{conditions_few, rested_none, rested_steps, stepped_steps, turn_none, turn_steps}
 use Rattle.inf_limit_laws.proofs.Ways.{begun_ends, near_of, none_full, steps_then, unit_ends}
+
+both_behind : {sources : Sources} {o : Choices} {s t : State} → IsBehind sources o s t → {u : State} → IsBehind sources o t u
+    → IsBehind sources o s u
+both_behind first Here = first
+both_behind first (Turns second) = Turns (both_behind first second)
+both_behind first (Supplies number second) = Supplies number (both_behind first second)
+
+either_behind : {sources : Sources} {o : Choices} {s : State} (b : Bool) (t u : State) → IsBehind sources o s t → IsBehind sources o s u
+    → IsBehind sources o s (if b then t else u)
+either_behind true t u f g = f
+either_behind false t u f g = g
+
+turns_behind : (sources : Sources) (o : Choices) (n : ℕ) (s : State) → IsBehind sources o s (run (limits_of o.settings) sources o n s)
+turns_behind sources o zero s = Here
+turns_behind sources o (suc n) s =
+    let t = turn (limits_of o.settings) sources o s in
+    either_behind (has_ended s) s (run (limits_of o.settings) sources o n t) Here (both_behind (Turns Here) (turns_behind sources o n t))
+
+part_behind : (sources : Sources) (o : Choices) (n : ℕ) (s : State) → IsBehind sources o s (part (limits_of o.settings) sources o n s)
+part_behind sources o zero s = Here
+part_behind sources o (suc n) s =
+    let t = turn (limits_of o.settings) sources o s in
+    let rest = part (limits_of o.settings) sources o n t in
+    either_behind (has_ended s) s (if is_parted t then t else rest) Here
+    (either_behind (is_parted t) t rest (Turns Here) (both_behind (Turns Here) (part_behind sources o n t)))
+
+at_behind : (sources : Sources) (o : Choices) (text : Option ℕ) (s : State)
+    → IsBehind sources o s (supplied_at (limits_of o.settings) o text s)
+at_behind sources o None s = Here
+at_behind sources o (Some number) s = Supplies number Here
+
+by_behind : (sources : Sources) (o : Choices) (left number : ℕ) (s : State)
+    → IsBehind sources o s (supplied_by (limits_of o.settings) o left number s)
+by_behind sources o zero number s = Here
+by_behind sources o (suc left) number s =
+    let wanted = is_wanted (suc number) s.work.output.names in
+    let read = text_read (limits_of o.settings) o (suc number) s in
+    let next = if wanted then read else s in
+    either_behind s.work.report.counts.is_over s (supplied_by (limits_of o.settings) o left (suc number) next) Here
+    (both_behind (either_behind wanted read s (Supplies (suc number) Here) Here) (by_behind sources o left (suc number) next))
+
+pub states_come_behind : (sources : Sources) (o : Choices) → StatesComeBehind sources o
+states_come_behind sources o = record {
+  turns = turns_behind sources o;
+  part = part_behind sources o;
+  next = λ s. at_behind sources o (next_text s.work.report.counts.is_over s.passed s.work.output.names) s;
+  rest = λ s. by_behind sources o (most_texts - s.passed) s.passed s;
+  both = λ s t u first second. both_behind first second;
+}
+
+-- From the start on
 
 -- nothing is known of a compilation before; or that code had begun; or that expressions were within their setting
 abbrev plain : Before

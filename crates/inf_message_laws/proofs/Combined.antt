@@ -1,5 +1,5 @@
 -- Steps of a compilation whose messages grow, put together.
-use Rattle.std.proofs.Common.{◌≡◌, ℕ, List, refl, ◌∙◌, ap}
+use Rattle.std.proofs.Common.{List, ap, refl, ℕ, ◌∙◌, ◌≡◌}
 use Rattle.inf_compilation.specs.Actions.{Compilation}
 use Rattle.inf_message_laws.specs.Growing.{Grows, with_lines_before}
 

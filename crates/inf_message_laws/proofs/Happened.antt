@@ -1,13 +1,13 @@
 -- Messages grow over all happenings of a text, one after the other.
-use Rattle.std.proofs.Common.{List, [], ◌∷◌, refl, ap}
+use Rattle.std.proofs.Common.{List, [], ap, refl, ◌∷◌}
 use Rattle.inf_settings.specs.Bounds.{Limits}
 use Rattle.inf_compilation.specs.{Actions.Compilation, Actions.took, Context.Context}
 use Rattle.inf_reader.specs.Acting.{act}
-use Rattle.inf_statement_laws.specs.Happenings.{Acts, Between, Happening, Takes}
-use Rattle.inf_statement_laws.specs.Laid.{next_comes, passed, run}
+use Rattle.inf_statement_laws.specs.{Happenings.Acts, Happenings.Between, Happenings.Happening, Happenings.Takes, Laid.next_comes}
+use Rattle.inf_statement_laws.specs.{Laid.passed, Laid.run}
 use Rattle.inf_message_laws.specs.Growing.{AllOnlyAdd, Grows, MessagesGrow, OnlyAdds, ReportsGoOn}
-use Rattle.inf_message_laws.proofs.{Combined.nothing_grows, Combined.then_grows, Keeping.asks_nothing, Keeping.goes_on}
-use Rattle.inf_message_laws.proofs.{Tokens.took_grows, Tokens.took_keeps}
+use Rattle.inf_message_laws.proofs.{Combined.nothing_grows, Combined.then_grows, Keeping.asks_nothing, Keeping.goes_on, Tokens.took_grows}
+use Rattle.inf_message_laws.proofs.{Tokens.took_keeps}
 use Rattle.inf_message_laws.proofs.Actions.{act_asks_nothing, act_grows, act_steps, cut_at_grows, cut_at_keeps}
 
 between_grows : (m : Between) → OnlyAdds m → Grows (passed m)

@@ -1,21 +1,20 @@
 -- Messages are added behind the report.
-use Rattle.std.proofs.Common.{arith, ◌≡◌, ℕ, List, Bool, true, false, Option, Some, None, refl, ◌∙◌, ap, sym, append_assoc, append-nil}
-use Rattle.std.specs.Prelude.{[], ◌∷◌, ◌++◌, ◌+◌, ◌≤◌, ◌||◌, not, if◌then◌else◌}
-use Rattle.inf_settings.specs.declared.setting.Setting.{Setting}
+use Rattle.std.specs.Prelude.{[], if◌then◌else◌, not, ◌++◌, ◌+◌, ◌||◌, ◌∷◌, ◌≤◌}
+use Rattle.std.proofs.Common.{Bool, List, None, Option, Some, ap, append-nil, append_assoc, arith, false, refl, sym, true, ℕ, ◌∙◌, ◌≡◌}
 use Rattle.inf_scanner.specs.declared.tokens.Place.{Place}
+use Rattle.inf_settings.specs.declared.setting.Setting.{Setting}
 use Rattle.inf_assembler.specs.declared.routines.CloseFault.{CloseFault}
 use Rattle.inf_names.specs.Locals.{Local}
-use Rattle.inf_constructs.specs.Labels.{NamedLabel, missing}
 use Rattle.inf_report.specs.{OwnWords.Words, declared.messages.Kind.Kind}
 use Rattle.inf_report.specs.Messages.{BranchTooFar, ErrorText, Exceeded, FatalText, LabelMissing, Location, Message, UnusedLocal}
 use Rattle.inf_report.specs.Messages.{WarningText}
 use Rattle.inf_report.specs.Reports.{Counts, error_lines, fatal_lines, is_last, one_warning_more, plain_lines, warning_lines}
-use Rattle.inf_report.specs.Reports.{with_error as error_counted}
-use Rattle.inf_report.specs.Reports.{with_fatal as fatal_counted, with_warning as warning_counted}
-use Rattle.inf_unit.specs.Messages.{Diagnostic, FileNames, Reported, location, with_error, with_fatal, with_fault, with_full, with_plain}
-use Rattle.inf_unit.specs.Messages.{warnings_chosen, with_warning, with_words}
-use Rattle.inf_compilation.specs.Context.{Context}
+use Rattle.inf_report.specs.Reports.{with_error as error_counted, with_fatal as fatal_counted, with_warning as warning_counted}
+use Rattle.inf_unit.specs.Messages.{Diagnostic, FileNames, Reported, location, warnings_chosen, with_error, with_fatal, with_fault}
+use Rattle.inf_unit.specs.Messages.{with_full, with_plain, with_warning, with_words}
+use Rattle.inf_constructs.specs.Labels.{NamedLabel, missing}
 use Rattle.inf_compilation.specs.Actions.{with_all_unused, with_branch_fault, with_fault_or, with_routine_fault, with_unused}
+use Rattle.inf_compilation.specs.Context.{Context}
 use Rattle.inf_message_laws.specs.Growing.{GoesOn, Grows, told_before}
 
 -- Reports that go on

@@ -1,39 +1,103 @@
--- Units of a routine, and what happens while it is read, in the book of labels.
-use Rattle.std.proofs.Common.{arith, ◌≡◌, List, [], ◌∷◌, Bool, true, false, ◌&&◌, Option, Some, None, refl, ap, subst, map, if◌then◌else◌}
+-- The names of a unit are used; the units of a routine, and what happens while it is read, in the book of labels.
+use Rattle.std.proofs.Common.{Bool, List, None, Option, Some, [], ap, arith, false, if◌then◌else◌, map, refl, subst, true, ℕ, ◌&&◌, ◌∷◌}
+use Rattle.std.proofs.Common.{◌≡◌}
 use Rattle.std.proofs.lemmas.Bool.{and_parts}
-use Rattle.inf_settings.specs.Bounds.{Limits}
-use Rattle.inf_scanner.specs.declared.tokens.Place.{Place}
+use Rattle.inf_characters.specs.declared.characters.CharSet.{CharSet}
 use Rattle.inf_expressions.specs.{Findings.is_before, Findings.least_of_both, Rooted.Rooted, declared.findings.Finding.Finding}
+use Rattle.inf_scanner.specs.declared.tokens.Place.{Place}
+use Rattle.inf_gathering.specs.declared.gathering.Leaf.{Leaf}
+use Rattle.inf_settings.specs.Bounds.{Limits, unbounded}
+use Rattle.inf_dictionary.specs.{Texts.Text, Words.add_fault, Words.word_of, declared.dictionary.AddFault.AddFault}
+use Rattle.inf_dictionary.specs.{declared.uses.WordUse.WordUse}
+use Rattle.inf_verbs.specs.{Routines.action_fault, declared.routines.ActionFault.ActionFault}
+use Rattle.inf_names.specs.{Locals.Local, Symbols.declare_fault, Symbols.refer_fault, declared.symbols.DeclareFault.DeclareFault}
+use Rattle.inf_names.specs.{declared.symbols.ReferFault.ReferFault}
 use Rattle.inf_code.specs.Code.{Routines}
-use Rattle.inf_output.specs.Output.{Out}
+use Rattle.inf_output.specs.{Actions.numbered_by, Actions.seen_by, Output.Out, Output.referred_by, Output.with_text_by, Output.with_word_by}
+use Rattle.inf_output.specs.{Strings.fits}
+use Rattle.inf_unit.specs.{Tokens.SourceToken, declared.roles.Ending.Ending, declared.roles.Note.Note, declared.roles.Role.Role}
+use Rattle.inf_unit.specs.Roles.{ends_outer, ends_token, ends_value, is_arrow, is_text, is_verb_word, makes_sure, role_of}
+use Rattle.inf_unit.specs.Units.{bytes_at, is_full, last_passed, long_at, next_place, noted as unit_noted, taken as unit_taken, text_passed}
+use Rattle.inf_unit.proofs.Cases.{of_both}
+use Rattle.inf_constructs.specs.{Cases.case_code, Constructs.are_own, Constructs.cases_begun, Constructs.condition_label}
+use Rattle.inf_constructs.specs.{Constructs.next_case, Labels.NamedLabel, Labels.is_given, Roots.tree_in}
+use Rattle.inf_constructs.specs.{declared.constructs.Construct.Construct}
+use Rattle.inf_operands.specs.Operands.{Settled, settled}
+use Rattle.inf_statements.specs.{Effects.only_if, Effects.statement_finding, Statements.alone, Statements.switched, Statements.tested}
+use Rattle.inf_statements.specs.{declared.statements.Statement.Statement}
 use Rattle.inf_compilation.specs.{Context.Context, Context.longest, Nesting.constructs_laid}
 use Rattle.inf_compilation.specs.Actions.{Compilation, finding_at, is_deep, named, nested, opens, passed, settled_of, sized, stopped, took}
 use Rattle.inf_compilation.specs.Actions.{trees_at}
-use Rattle.inf_unit.proofs.Cases.{of_both}
-use Rattle.inf_unit.specs.{Tokens.SourceToken, declared.roles.Ending.Ending, declared.roles.Note.Note, declared.roles.Role.Role}
-use Rattle.inf_unit.specs.Units.{bytes_at, is_full, last_passed, long_at, next_place, noted as unit_noted, taken as unit_taken, text_passed}
-use Rattle.inf_unit.specs.Roles.{ends_outer, ends_token, ends_value, is_arrow, is_text, is_verb_word, makes_sure, role_of}
-use Rattle.inf_constructs.specs.{Cases.case_code, Roots.tree_in, declared.constructs.Construct.Construct}
-use Rattle.inf_constructs.specs.Constructs.{are_own, cases_begun, condition_label, next_case}
-use Rattle.inf_constructs.specs.Labels.{NamedLabel, is_given}
-use Rattle.inf_statements.specs.{Effects.only_if, Effects.statement_finding, declared.statements.Statement.Statement}
-use Rattle.inf_statements.specs.Statements.{alone, switched, tested}
-use Rattle.inf_verb_lines.specs.Verbs.{token_sifted, word_sifted}
 use Rattle.inf_parts.specs.Parts.{actions_named, case_prepared, found_in, has_last, is_default, order_of, own_finding, part_begun}
 use Rattle.inf_parts.specs.Parts.{part_carried, part_effect, part_ended, part_finished, part_prepared, place_of, site_of, statement_at}
 use Rattle.inf_parts.specs.Parts.{wanted_of}
 use Rattle.inf_parts.specs.declared.parts.Part.{Part}
+use Rattle.inf_verb_lines.specs.Verbs.{token_sifted, word_sifted}
 use Rattle.inf_reader.specs.Acting.{act, ended as ended_as, is_crowded, is_long, is_tall, is_wordy, noted, noted_of, operands_named, played}
 use Rattle.inf_reader.specs.Acting.{value_noted}
 use Rattle.inf_statement_laws.specs.Happenings.{Acts, Happening, Takes, happen_quietly, happens_quietly, is_quiet_end, is_quiet_role}
 use Rattle.inf_statement_laws.specs.Laid.{happens, run}
-use Rattle.inf_routine_laws.specs.{Faults.AllLeave, Leaving.LeavesRoutine}
-use Rattle.inf_routine_laws.proofs.{Booking.Counts, Casing.entered_good, Settling.settled_idle}
-use Rattle.inf_routine_laws.proofs.Balance.{Good, good_still, opened_cases}
 use Rattle.inf_code_walk.proofs.Statements.{label_in}
-use Rattle.inf_label_laws.proofs.OwnCode.{Idle}
-use Rattle.inf_routine_laws.proofs.Codes.{alone_owns, case_code_owns, switched_owns, tested_owns}
-use Rattle.inf_routine_laws.proofs.Stating.{code_good, condition_reached, next_reached, statement_good}
+use Rattle.inf_label_laws.proofs.OwnCode.{Idle, idle_then}
+use Rattle.inf_word_laws.proofs.Settling.{Adds, Appears, Both, Looks, Names, Numbers, Packs, Still, Used, settled_used}
+use Rattle.inf_routine_laws.specs.{Faults.AllLeave, Leaving.LeavesRoutine}
+use Rattle.inf_routine_laws.proofs.{Balance.Good, Balance.good_still, Balance.opened_cases, Booking.Counts, Codes.alone_owns}
+use Rattle.inf_routine_laws.proofs.{Codes.case_code_owns, Codes.switched_owns, Codes.tested_owns, Constructing.entered_good}
+use Rattle.inf_routine_laws.proofs.{Naming.code_good, Naming.condition_reached, Naming.next_reached, Naming.statement_good}
+
+-- Names, texts, words and actions of a unit
+
+no_fault : {A B : Type 0} {a : A} → Some a ≡ None → B
+no_fault e = absurd (cc e)
+
+pub idle_self : (o : Out) → Idle o o
+idle_self o = record { code = refl; next = refl; kept = refl; fits = λ e. e }
+
+by_referred : (limits : Limits) (f : Option ReferFault) (name : List ℕ) (place : Place) (o : Out) →
+    Idle o (referred_by limits f name place o)
+by_referred limits None name place o =
+    record { code = refl; next = refl; kept = refl; fits = λ e. e }
+by_referred limits (Some fault) name place o =
+    record { code = refl; next = refl; kept = refl; fits = λ e. no_fault e }
+
+by_fitting : (limits : Limits) (b : Bool) (text : List ℕ) (o : Out) → Idle o (with_text_by limits b text o)
+by_fitting limits true text o = record { code = refl; next = refl; kept = refl; fits = λ e. e }
+by_fitting limits false text o =
+    record { code = refl; next = refl; kept = refl; fits = λ e. no_fault e }
+
+by_word : (limits : Limits) (f : Option AddFault) (text : Text) (how : WordUse) (is_plural : Bool) (o : Out) →
+    Idle o (with_word_by limits f text how is_plural o)
+by_word limits None text how is_plural o = record { code = refl; next = refl; kept = refl; fits = λ e. e }
+by_word limits (Some AddFault.Full) text how is_plural o =
+    record { code = refl; next = refl; kept = refl; fits = λ e. no_fault e }
+by_word limits (Some AddFault.OtherVerb) text how is_plural o = idle_self o
+by_word limits (Some AddFault.Memory) text how is_plural o = idle_self o
+
+by_seen : (f : Option (DeclareFault Place)) (key : List ℕ) (place : Place) (o : Out) → Idle o (seen_by f key place o)
+by_seen None key place o = record { code = refl; next = refl; kept = refl; fits = λ e. e }
+by_seen (Some fault) key place o = idle_self o
+
+by_number : (limits : Limits) (f : Option ActionFault) (routine : ℕ) (o : Out) → Idle o (numbered_by limits f routine o).0
+by_number limits None routine o = record { code = refl; next = refl; kept = refl; fits = λ e. e }
+by_number limits (Some fault) routine o =
+    record { code = refl; next = refl; kept = refl; fits = λ e. no_fault e }
+
+used_idle : {limits : Limits} {o v : Out} → Used limits o v → Idle o v
+used_idle (Still {o}) = idle_self o
+used_idle (Both {o} {p} {v} f g) = idle_then o p v (used_idle f) (used_idle g)
+used_idle Packs = record { code = refl; next = refl; kept = refl; fits = λ e. e }
+used_idle {limits} (Adds {o} text) = by_fitting limits (fits limits text o.strings) text o
+used_idle {limits} (Looks {o} text how is_plural) =
+    by_word limits (add_fault limits (word_of text o.tables.dictionary.list) how o.tables.dictionary) text how is_plural o
+used_idle {limits} (Names {o} name place) = by_referred limits (refer_fault limits name o.names) name place o
+used_idle (Appears {o} key place) = by_seen (declare_fault unbounded key o.seen) key place o
+used_idle {limits} (Numbers {o} routine within) = by_number limits (action_fault limits routine o.tables.actions) routine o
+
+pub settled_idle : (limits : Limits) (set : CharSet) (locals : List Local) (tokens : List SourceToken) (leaves : List Leaf) (s : Settled) →
+    Idle s.out (settled limits set locals tokens leaves s).out
+settled_idle limits set locals tokens leaves s = used_idle (settled_used {limits = limits} set locals tokens leaves s)
+
+-- Units of a routine
 
 -- The book of a compilation
 abbrev pub Balanced : Counts → Counts → Counts → Compilation → Type 0

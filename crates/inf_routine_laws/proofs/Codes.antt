@@ -9,8 +9,8 @@ use Rattle.inf_constructs.specs.Cases.{case_code}
 use Rattle.inf_statements.specs.{Effects.Site, Effects.statement_code, declared.statements.Statement.Statement}
 use Rattle.inf_statements.specs.Statements.{alone, switched, tested}
 use Rattle.inf_code_walk.specs.Labels.{branch_labels, times}
-use Rattle.inf_code_walk.proofs.{Constructs.case_made, Leaves.Any, Leaves.any_trees, Numbers.times_joined}
-use Rattle.inf_code_walk.proofs.Statements.{alone_made, any_fixed, code_made, label_in, needs_of, switched_made, tested_made}
+use Rattle.inf_code_walk.proofs.{Leaves.Any, Leaves.any_trees, Making.times_joined}
+use Rattle.inf_code_walk.proofs.Statements.{alone_made, any_fixed, case_made, code_made, label_in, needs_of, switched_made, tested_made}
 use Rattle.inf_label_laws.specs.Programs.{marks, operand_labels, uses}
 use Rattle.inf_label_laws.proofs.Owning.{Owned, owned_free, owned_item, owned_nothing, owned_then, owned_wide}
 use Rattle.inf_label_laws.proofs.OwnCode.{owned}

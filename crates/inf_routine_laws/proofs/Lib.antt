@@ -1,14 +1,9 @@
-mod Counting
 mod Booking
 mod Codes
 mod Balance
 mod Constructing
-mod Casing
 mod Naming
-mod Settling
-mod Stating
 mod Acting
 mod Stepping
 mod Nesting
 mod Whole
-mod Reading

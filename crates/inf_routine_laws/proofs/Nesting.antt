@@ -17,8 +17,8 @@ use Rattle.inf_routine_laws.specs.Faults.{AllLeave, LeaveRoutine}
 use Rattle.inf_routine_laws.proofs.{Acting.Balanced, Acting.case_ends_good, Acting.quiet_good, Booking.Counts, Booking.one}
 use Rattle.inf_routine_laws.proofs.Balance.{Good, good_still, loop_due, opened_do, opened_for, opened_if, opened_objects, opened_switch}
 use Rattle.inf_routine_laws.proofs.Balance.{opened_while, top_known}
-use Rattle.inf_routine_laws.proofs.Constructing.{ends_do, ends_else, ends_for, ends_if, ends_objects, ends_while}
-use Rattle.inf_routine_laws.proofs.Casing.{joined_do, joined_for, joined_if, joined_objects, objects_due}
+use Rattle.inf_routine_laws.proofs.Constructing.{ends_do, ends_else, ends_for, ends_if, ends_objects, ends_while, joined_do, joined_for}
+use Rattle.inf_routine_laws.proofs.Constructing.{joined_if, joined_objects, objects_due}
 use Rattle.inf_routine_laws.proofs.Stepping.{IsStepped, case_inside, case_kind, ends_case_kind, loop_ends_good, marks_due, not_stepped}
 use Rattle.inf_routine_laws.proofs.Stepping.{step_ends_good, switch_stays, uses_known}
 

@@ -27,10 +27,10 @@ use Rattle.inf_statement_laws.proofs.{Acts.quiet_run, Laying.laid_as}
 use Rattle.inf_code_walk.specs.Labels.{times}
 use Rattle.inf_label_laws.specs.Programs.{marks, uses}
 use Rattle.inf_label_laws.proofs.Owning.{Owned, Settles, some_of_two}
-use Rattle.inf_routine_laws.proofs.{Acting.settled_good, Codes.alone_owns, Counting.cell_marks, Counting.cell_uses}
-use Rattle.inf_routine_laws.proofs.Booking.{Booked, Counts, booked_as}
+use Rattle.inf_routine_laws.proofs.{Acting.settled_good, Codes.alone_owns}
 use Rattle.inf_routine_laws.proofs.Balance.{Good, cased, cased_in, good_as, loop_due, named_all, named_due, reached, reached_in, top_known}
-use Rattle.inf_routine_laws.proofs.Casing.{IsLooped, ends_cases, ends_switch, looped_good, not_looped}
+use Rattle.inf_routine_laws.proofs.Booking.{Booked, Counts, booked_as, cell_marks, cell_uses}
+use Rattle.inf_routine_laws.proofs.Constructing.{IsLooped, ends_cases, ends_switch, looped_good, not_looped}
 
 -- The step of a `for`: its items are kept apart, and their labels are due from there on.
 

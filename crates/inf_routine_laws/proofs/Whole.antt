@@ -1,39 +1,99 @@
 -- A routine as a whole: where it ends, each label is marked once, and each that is used is marked.
-use Rattle.std.proofs.Common.{arith, ◌≡◌, ℕ, List, [], ◌∷◌, ◌++◌, Bool, true, false, Option, Some, None, refl, ◌∙◌, ap, sym, subst}
-use Rattle.std.specs.Prelude.{is_some, length, ◌+◌, if◌then◌else◌}
-use Rattle.inf_settings.specs.Bounds.{Limits}
-use Rattle.inf_scanner.specs.declared.tokens.Place.{Place}
+use Rattle.std.specs.Prelude.{if◌then◌else◌, is_some, length, ◌+◌}
+use Rattle.std.proofs.Common.{Bool, List, None, Option, Some, [], ap, arith, false, refl, subst, suc, sym, true, zero, ℕ, ◌++◌, ◌∙◌, ◌∷◌}
+use Rattle.std.proofs.Common.{◌≡◌}
 use Rattle.inf_area.specs.{Cells.later_count, declared.cells.Cell.Cell as CodeCell}
+use Rattle.inf_scanner.specs.declared.tokens.Place.{Place}
+use Rattle.inf_settings.specs.Bounds.{Limits}
 use Rattle.inf_opcode.specs.{Cells.Cell, declared.instructions.Label.Label}
 use Rattle.inf_assembler.specs.{Places.twice_behind, declared.routines.CloseFault.CloseFault, declared.routines.Limit.Limit}
-use Rattle.inf_assembler.specs.declared.routines.RoutineKind.{RoutineKind}
+use Rattle.inf_assembler.specs.{declared.routines.RoutineKind.RoutineKind}
 use Rattle.inf_assembler.specs.Routines.{Contents, body_bytes, body_fault, is_full, missing_fault, twice_fault}
-use Rattle.inf_code.specs.Code.{Opened, Routines, begun_unless, code_limits, fault_behind, fault_closed, fault_end, first_fault, full_begun}
-use Rattle.inf_code.specs.Code.{full_opened, limit_fault, padded, place_behind, references_before, routine_cells, unlimited, fault_of_full}
-use Rattle.inf_code.specs.Code.{finished_fault, full_finished}
-use Rattle.inf_code.specs.declared.code.CodeLimits.{CodeLimits}
 use Rattle.inf_names.specs.{Locals.Headed, Spellings.Name, Symbols.declare_fault, declared.meanings.Meaning.Meaning}
-use Rattle.inf_names.specs.declared.symbols.DeclareFault.{DeclareFault}
+use Rattle.inf_names.specs.{declared.symbols.DeclareFault.DeclareFault}
+use Rattle.inf_code.specs.Code.{Opened, Routines, begun_unless, code_limits, fault_behind, fault_closed, fault_end, fault_of_full}
+use Rattle.inf_code.specs.Code.{finished_fault, first_fault, full_begun, full_finished, full_opened, limit_fault, padded, place_behind}
+use Rattle.inf_code.specs.Code.{references_before, routine_cells, unlimited}
+use Rattle.inf_code.specs.declared.code.CodeLimits.{CodeLimits}
 use Rattle.inf_output.specs.Output.{Out, begun_by, declared_by, opened, opened_by}
+use Rattle.inf_machine.specs.{Machine.taken, declared.symbols.Symbol.Symbol}
 use Rattle.inf_syntax.specs.declared.actions.Action.{Action}
+use Rattle.inf_grammar.specs.{Language.grammar, Language.known, Routines.closings}
+use Rattle.inf_unit.specs.{Tokens.SourceToken, Units.first_place, Units.names_in}
 use Rattle.inf_constructs.specs.{Constructs.are_cases, Constructs.ended, Labels.NamedLabel, Labels.missing}
 use Rattle.inf_constructs.specs.{declared.constructs.Construct.Construct, declared.constructs.Kind.Kind}
 use Rattle.inf_compilation.specs.{Context.Context, Findings.Findings, Findings.again_by, Findings.header_findings}
 use Rattle.inf_compilation.specs.Actions.{Compilation, header_of, header_with, is_to_be_replaced, opened_with, passed as passed_over}
 use Rattle.inf_compilation.specs.Actions.{routine_declared}
 use Rattle.inf_reader.specs.Acting.{act}
-use Rattle.inf_unit.specs.Units.{first_place, names_in}
-use Rattle.inf_statement_laws.specs.{Nested.Nested, Nested.happenings, Readings.Routine, Readings.body_laid, Readings.routine_happenings}
-use Rattle.inf_statement_laws.specs.Happenings.{Acts, Between, Happening, Moment}
-use Rattle.inf_statement_laws.specs.Laid.{happens, laid, passed, run}
+use Rattle.inf_statement_laws.specs.{Laid.happens, Laid.laid, Laid.passed, Laid.run, Nested.Nested, Nested.happenings}
+use Rattle.inf_statement_laws.specs.Happenings.{Acts, Between, Happening, Moment, Takes}
+use Rattle.inf_statement_laws.specs.Readings.{Routine, Seen, all_happenings, behind_ends, behind_some, behind_token, body_laid}
+use Rattle.inf_statement_laws.specs.Readings.{routine_happenings, then_between, token_happenings}
 use Rattle.inf_statement_laws.proofs.{Acts.inside_act, Acts.own_alone, Acts.quiet_run, Laying.alone_behind}
 use Rattle.inf_code_walk.specs.Labels.{times}
 use Rattle.inf_routine_laws.specs.{Laws.RoutinesHaveTheirLabels, Laws.headed, Leaving.LeavesRoutine}
-use Rattle.inf_routine_laws.specs.Faults.{AllLeave, HasBegun, HasItsLabels, LeaveRoutine, is_of_labels}
-use Rattle.inf_routine_laws.proofs.{Acting.Balanced, Acting.quiet_good, Booking.Counts, Booking.one, Booking.some_is, Nesting.keeps_all}
-use Rattle.inf_routine_laws.proofs.{Nesting.leave_both, Reading.tokens_leave, Stepping.case_kind, Stepping.ends_case_kind}
-use Rattle.inf_routine_laws.proofs.Counting.{AreWhole, cell_marks, cell_uses, whole_missing, whole_twice}
+use Rattle.inf_routine_laws.specs.Faults.{AllLeave, AllSeenLeave, DirectiveLeaves, HasBegun, HasItsLabels, LeaveRoutine, is_of_labels}
+use Rattle.inf_routine_laws.proofs.{Acting.Balanced, Acting.quiet_good, Nesting.keeps_all, Nesting.leave_both, Stepping.case_kind}
+use Rattle.inf_routine_laws.proofs.{Stepping.ends_case_kind}
 use Rattle.inf_routine_laws.proofs.Balance.{Good, cased, named_all, named_due, reached, unless_given}
+use Rattle.inf_routine_laws.proofs.Booking.{AreWhole, Counts, cell_marks, cell_uses, one, some_is, whole_missing, whole_twice}
+
+-- Tokens as they are read
+
+leaves_then : (o p q : Out) → LeavesRoutine o p → LeavesRoutine p q → LeavesRoutine o q
+leaves_then o p q a b = record {
+  opened = b.opened ∙ a.opened;
+  next = b.next ∙ a.next;
+  kept = b.kept ∙ a.kept;
+  fits = λ e. a.fits (b.fits e);
+}
+
+both_leave : (m n : Between) → LeaveRoutine m → LeaveRoutine n → LeaveRoutine (then_between m n)
+both_leave m n a b o = leaves_then o (m.output o) (n.output (m.output o)) (a o) (b (m.output o))
+
+joined_leave : (xs ys : List Happening) → AllLeave xs → AllLeave ys → AllLeave (xs ++ ys)
+joined_leave [] ys a b = b
+joined_leave ((Acts at x) ∷ xs) ys a b = (a.0, joined_leave xs ys a.1 b)
+joined_leave ((Takes t m) ∷ xs) ys a b = (a.0, joined_leave xs ys a.1 b)
+
+token_leaves : (t : SourceToken) (m : Between) (actions : List Action) → LeaveRoutine m → AllLeave (token_happenings t m actions)
+token_leaves t m [] a = (a, tt)
+token_leaves t m (x ∷ actions) a =
+    (λ o. record { opened = refl; next = refl; kept = refl; fits = λ e. e }, token_leaves t m actions a)
+
+behind_leaves : (directive : Option Between) (count : ℕ) (b : Between) → DirectiveLeaves directive → LeaveRoutine b →
+    LeaveRoutine (behind_token directive count b)
+behind_leaves None count b d a = a
+behind_leaves (Some m) zero b d a = both_leave b m a d
+behind_leaves (Some m) (suc count) b d a = a
+
+some_leave : (count : ℕ) (m : Between) (hs : List Happening) → LeaveRoutine m → AllLeave hs → AllLeave (behind_some count m hs)
+some_leave count m [] d a = tt
+some_leave zero m ((Acts at x) ∷ hs) d a = a
+some_leave zero m ((Takes t b) ∷ hs) d a = a
+some_leave (suc zero) m ((Acts at x) ∷ hs) d a = (both_leave at.behind m a.0 d, a.1)
+some_leave (suc zero) m ((Takes t b) ∷ hs) d a = (both_leave b m a.0 d, a.1)
+some_leave (suc (suc count)) m ((Acts at x) ∷ hs) d a = (a.0, some_leave (suc count) m hs d a.1)
+some_leave (suc (suc count)) m ((Takes t b) ∷ hs) d a = (a.0, some_leave (suc count) m hs d a.1)
+
+ends_leave : (directive : Option Between) (count : ℕ) (hs : List Happening) → DirectiveLeaves directive → AllLeave hs →
+    AllLeave (behind_ends directive count hs)
+ends_leave None count hs d a = a
+ends_leave (Some m) count hs d a = some_leave count m hs d a
+
+pub tokens_leave : (seen : List Seen) (symbols : List (Symbol Action)) → AllSeenLeave seen → AllLeave (all_happenings seen symbols)
+tokens_leave [] symbols l = tt
+tokens_leave (s ∷ seen) symbols l =
+    let n = taken grammar known s.atom symbols in
+    let first = token_happenings s.token (behind_token s.directive (closings n.left) s.behind) n.actions in
+    let others = all_happenings seen n.left in
+    joined_leave first (behind_ends s.directive (closings n.left) others)
+    (token_leaves s.token (behind_token s.directive (closings n.left) s.behind) n.actions
+    (behind_leaves s.directive (closings n.left) s.behind l.0.1 l.0.0))
+    (ends_leave s.directive (closings n.left) others l.0.1 (tokens_leave seen n.left l.1))
+
+-- Routines
 
 -- The fault of a routine whose labels are whole
 

@@ -1,27 +1,28 @@
 -- Cells of areas in which all targets are found.
-use Rattle.std.proofs.Common.{◌≡◌, ℕ, zero, suc, ◌+◌, ◌≤◌, ◌<◌, List, [], ◌∷◌, ◌++◌, length, Bool, true, false, Some, refl, arith}
-use Rattle.std.specs.Prelude.{◌*◌, ◌%◌, ◌==◌, if◌then◌else◌, is_some, nat_le, option_to_list, replicate, slice_get}
-use Rattle.inf_area.specs.declared.{cells.Cell.Cell, targets.AreaName.AreaName, targets.Target.Target, targets.Value.Value}
-use Rattle.inf_area.specs.Cells.{bytes_of, value_cells, values_cells, word_cells}
+use Rattle.std.specs.Prelude.{if◌then◌else◌, is_some, nat_le, option_to_list, replicate, slice_get, ◌%◌, ◌*◌, ◌==◌}
+use Rattle.std.proofs.Common.{Bool, List, Some, [], arith, false, length, refl, suc, true, zero, ℕ, ◌++◌, ◌+◌, ◌<◌, ◌∷◌, ◌≡◌, ◌≤◌}
+use Rattle.inf_area.specs.{Cells.bytes_of, Cells.value_cells, Cells.values_cells, Cells.word_cells, declared.cells.Cell.Cell}
+use Rattle.inf_area.specs.{declared.targets.AreaName.AreaName, declared.targets.Target.Target, declared.targets.Value.Value}
+use Rattle.inf_dictionary.specs.{Texts.Text, declared.uses.Word.Word}
 use Rattle.inf_arrays.specs.{Arrays.Listed, Arrays.array_cells, Arrays.arrays_cells, Kinds.bytes_cells, Kinds.count_cells}
 use Rattle.inf_arrays.specs.{Kinds.entries_cells, declared.kinds.ArrayKind.ArrayKind}
-use Rattle.inf_code.specs.Code.{known}
-use Rattle.inf_dictionary.specs.{Texts.Text, declared.uses.Word.Word}
-use Rattle.inf_link.specs.Targets.{Lookup}
+use Rattle.inf_verbs.specs.{Routines.routines_cells, declared.lines.LineToken.LineToken}
+use Rattle.inf_verbs.specs.Lines.{LineOf, line_cells, lines_cells, token_type, token_value, tokens_cells}
+use Rattle.inf_verbs.specs.Verbs.{VerbOf, address_cells, lines_of, part_size, parts_cells, places_from, verb_cells}
+use Rattle.inf_properties.specs.{Properties.found, declared.sizes.Owner.Owner, declared.values.Property.Property}
 use Rattle.inf_objects.specs.{Attributes.attribute_cells, Tree.child_of, Tree.sibling_of, declared.objects.Object.Object}
 use Rattle.inf_objects.specs.Tables.{address_rows, all_falling, byte_cells, class_rows, class_values, falling, has_individual}
 use Rattle.inf_objects.specs.Tables.{individual_row_cells, individual_rows_cells, individual_table_by, individual_table_cells}
 use Rattle.inf_objects.specs.Tables.{is_individual, name_cells, row_cells, rows_by, rows_cells, rows_of, shown, size_cells, table_cells}
-use Rattle.inf_properties.specs.{Properties.found, declared.sizes.Owner.Owner, declared.values.Property.Property}
 use Rattle.inf_tables.specs.Areas.{individual_places_from, individual_tables, object_cells, objects_from, shown_attributes}
 use Rattle.inf_tables.specs.Areas.{table_places_from, tables_from}
-use Rattle.inf_verbs.specs.{Routines.routines_cells, declared.lines.LineToken.LineToken}
-use Rattle.inf_verbs.specs.Lines.{LineOf, line_cells, lines_cells, token_type, token_value, tokens_cells}
-use Rattle.inf_verbs.specs.Verbs.{VerbOf, address_cells, lines_of, part_size, parts_cells, places_from, verb_cells}
-use Rattle.inf_target_laws.specs.{Standing.TargetStands, Story.AllFound, Story.IsFound, Story.ValueIsFound, Story.ValuesFound}
-use Rattle.inf_target_laws.specs.Lists.{CellsStand, LinesStand, ListedStand, ObjectsStand, PropertiesStand, RoutinesStand, TokensStand}
-use Rattle.inf_target_laws.specs.Lists.{ValuesStand, VerbsStand}
+use Rattle.inf_code.specs.Code.{known}
 use Rattle.inf_output.specs.Output.{Out}
+use Rattle.inf_link.specs.Targets.{Lookup}
+use Rattle.inf_step_walk.specs.Lists.{CellsStand, LinesStand, ListedStand, ObjectsStand, PropertiesStand, RoutinesStand, TokensStand}
+use Rattle.inf_step_walk.specs.Lists.{ValuesStand, VerbsStand}
+use Rattle.inf_step_walk.specs.Standing.{TargetStands}
+use Rattle.inf_target_laws.specs.Story.{AllFound, IsFound, ValueIsFound, ValuesFound}
 
 -- A look-up in which all targets are found that stand in an output
 pub record Finds (u : Out) (targets : Lookup) (words : List (Text × Word)) : Type 0 where

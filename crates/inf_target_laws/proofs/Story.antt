@@ -1,39 +1,41 @@
 -- Targets in the story of a reading are found.
-use Rattle.std.proofs.Common.{◌≡◌, ℕ, List, [], ◌∷◌, ◌++◌, length, map, Bool, true, false, Option, Some, None, refl, sym, arith, subst}
-use Rattle.std.specs.Prelude.{◌-◌, ◌*◌, ◌&&◌, ◌||◌, ◌==◌, not, if◌then◌else◌, is_some, replicate}
-use Rattle.inf_settings.specs.{Bounds.Limits, Bounds.limits_of, declared.setting.Setting.Setting}
-use Rattle.inf_scanner.specs.declared.tokens.Place.{Place}
+use Rattle.std.specs.Prelude.{if◌then◌else◌, is_some, not, replicate, ◌&&◌, ◌*◌, ◌-◌, ◌==◌, ◌||◌}
+use Rattle.std.proofs.Common.{Bool, List, None, Option, Some, [], arith, false, length, map, refl, subst, sym, true, ℕ, ◌++◌, ◌∷◌, ◌≡◌}
 use Rattle.inf_area.specs.{Cells.values_cells, declared.targets.Target.Target, declared.targets.Value.Value}
-use Rattle.inf_arrays.specs.{Arrays.all_of, Globals.all_globals}
-use Rattle.inf_code.specs.Code.{Routines}
-use Rattle.inf_devices.specs.Files.{Sources}
+use Rattle.inf_scanner.specs.declared.tokens.Place.{Place}
+use Rattle.inf_settings.specs.{Bounds.Limits, Bounds.limits_of, declared.setting.Setting.Setting}
 use Rattle.inf_dictionary.specs.{Texts.Text, Words.dictionary_bytes, declared.uses.Word.Word}
-use Rattle.inf_link.specs.Targets.{Lookup}
-use Rattle.inf_names.specs.Symbols.{IsDeclared, IsUsed, Named, Standing, meaning_in}
-use Rattle.inf_names.specs.declared.meanings.Meaning.{Meaning}
-use Rattle.inf_output.specs.{Strings.StringArea, declared.past.Past.Past}
-use Rattle.inf_output.specs.Output.{Out, counted, full, full_of, full_past, less, or_full, past_by}
+use Rattle.inf_arrays.specs.{Arrays.all_of, Globals.all_globals}
+use Rattle.inf_verbs.specs.Verbs.{address_cells, parts_cells}
 use Rattle.inf_objects.specs.declared.objects.Object.{Object}
-use Rattle.inf_story.specs.Names.{value_by, values_of, with_value}
-use Rattle.inf_story.specs.Tables.{abbreviations, areas, declared_at, looked_up, three_spaces, undeclared}
 use Rattle.inf_tables.specs.{Tables.AllTables, Tables.references, declared.kinds.DeclaredProperty.DeclaredProperty}
 use Rattle.inf_tables.specs.Areas.{all_defaults, all_objects, class_numbers_from, first_names, first_object, first_objects, parents_of}
+use Rattle.inf_devices.specs.Files.{Sources}
+use Rattle.inf_names.specs.Symbols.{IsDeclared, IsUsed, Named, Standing, meaning_in}
+use Rattle.inf_names.specs.declared.meanings.Meaning.{Meaning}
+use Rattle.inf_code.specs.Code.{Routines}
+use Rattle.inf_output.specs.{Strings.StringArea, declared.past.Past.Past}
+use Rattle.inf_output.specs.Output.{Out, counted, full, full_of, full_past, less, or_full, past_by}
 use Rattle.inf_report.specs.Messages.{Undeclared}
-use Rattle.inf_unit.specs.Messages.{FileNames, Reported, location}
-use Rattle.inf_unit.specs.Names.{main_of, with_all_undeclared, with_undeclared}
-use Rattle.inf_verbs.specs.Verbs.{address_cells, parts_cells}
+use Rattle.inf_unit.specs.{Messages.FileNames, Messages.Reported, Messages.location, Names.main_of, Names.with_all_undeclared}
+use Rattle.inf_unit.specs.{Names.with_undeclared}
 use Rattle.inf_compilation.specs.Actions.{Compilation, begun_at}
+use Rattle.inf_link.specs.Targets.{Lookup}
+use Rattle.inf_story.specs.Names.{value_by, values_of, with_value}
+use Rattle.inf_story.specs.Tables.{abbreviations, areas, declared_at, looked_up, three_spaces, undeclared}
+use Rattle.inf_ending.specs.Ending.{begun, begun_from, first_place, is_clean, laid, named, refused, told_of}
 use Rattle.inf_session.specs.Choices.{Choices}
-use Rattle.inf_ending.specs.Ending.{begun, begun_from, is_clean, laid, named, refused, told_of, first_place}
-use Rattle.inf_limit_laws.proofs.Ways.{Remains, none_full, with_error_stays}
 use Rattle.inf_word_laws.proofs.{Numbering.same_some, Values.names_are_found}
-use Rattle.inf_target_laws.specs.{Lists.DefaultsStand, Lists.NamesStand, Lists.ObjectsStand, Lists.ValuesStand, Outputs.Holds}
-use Rattle.inf_target_laws.specs.Standing.{MeaningStands, StandingStands, TargetStands, ValueStands, is_short, is_short_by}
+use Rattle.inf_step_walk.specs.{Lists.DefaultsStand, Lists.NamesStand, Lists.ObjectsStand, Lists.ValuesStand, Outputs.Holds}
+use Rattle.inf_step_walk.specs.{Walking.Remains}
+use Rattle.inf_step_walk.specs.Standing.{MeaningStands, StandingStands, TargetStands, ValueStands, is_short, is_short_by}
+use Rattle.inf_step_walk.proofs.{Lists.never, Lists.no_some, Lists.objects_join, Worlds.all_arrays}
+use Rattle.inf_limit_laws.proofs.Ways.{none_full, with_error_stays}
 use Rattle.inf_target_laws.specs.Story.{AllFound, AreasFound, IsFound, StoriesAreWhole, StoryIsWhole}
-use Rattle.inf_target_laws.proofs.{Lists.objects_join, Names.never, Names.no_some, Whole.end_stands, Worlds.all_arrays}
 use Rattle.inf_target_laws.proofs.Areas.{Finds, addresses_found, arrays_found, bytes_found, code_found, individuals_found}
 use Rattle.inf_target_laws.proofs.Areas.{individuals_placed, join, known_values, numbers_found, objects_found, routines_found, tables_found}
 use Rattle.inf_target_laws.proofs.Areas.{tables_placed, values_found, values_joined, values_written, verbs_found, verbs_placed}
+use Rattle.inf_target_laws.proofs.Whole.{end_stands}
 
 -- Targets that stand are found, where all names have values.
 

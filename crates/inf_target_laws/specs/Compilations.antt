@@ -1,7 +1,7 @@
 -- Compilations of which all targets stand, and steps that keep them.
 use Rattle.inf_output.specs.Output.{Out}
 use Rattle.inf_compilation.specs.Actions.{Compilation}
-use Rattle.inf_target_laws.specs.{Lists.StepsStand, Outputs.Holds, Standing.Before}
+use Rattle.inf_step_walk.specs.{Lists.StepsStand, Outputs.Holds, Standing.Before}
 
 -- All targets of the output of a compilation, and of the steps of its open statements, stand in an output.
 abbrev pub Held : Out → Compilation → Type 0

@@ -1,17 +1,18 @@
 -- Targets stand in each state of a reading.
-use Rattle.std.specs.Prelude.{◌≡◌, ℕ, List, false}
-use Rattle.inf_settings.specs.Bounds.{Limits, limits_of}
+use Rattle.std.specs.Prelude.{List, false, ℕ, ◌≡◌}
 use Rattle.inf_scanner.specs.declared.tokens.Place.{Place}
+use Rattle.inf_settings.specs.Bounds.{Limits, limits_of}
 use Rattle.inf_devices.specs.Files.{Sources}
 use Rattle.inf_output.specs.Output.{Out}
 use Rattle.inf_syntax.specs.declared.actions.Action.{Action}
 use Rattle.inf_unit.specs.{Messages.FileNames, Tokens.SourceToken}
 use Rattle.inf_compilation.specs.{Actions.Compilation, Actions.begun_at, Actions.took, Context.Context}
 use Rattle.inf_reader.specs.Acting.{act, cut_at}
-use Rattle.inf_session.specs.{Choices.Choices, Session.State}
 use Rattle.inf_ending.specs.Ending.{first_place}
+use Rattle.inf_session.specs.{Choices.Choices, Session.State}
+use Rattle.inf_step_walk.specs.Standing.{is_short}
 use Rattle.inf_limit_laws.specs.Reached.{IsReached}
-use Rattle.inf_target_laws.specs.{Compilations.Held, Compilations.Leads, Standing.is_short}
+use Rattle.inf_target_laws.specs.Compilations.{Held, Leads}
 
 -- Each action of the grammar, each token that is taken, the cut that a bad token makes, and the end of a conditional directive or of the
 -- source keep targets.

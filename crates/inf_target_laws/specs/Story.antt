@@ -1,15 +1,15 @@
 -- Targets in the areas of a story are found.
-use Rattle.std.specs.Prelude.{◌≡◌, ℕ, List, [], ◌∷◌, true, is_some, slice_get, Some}
-use Rattle.inf_settings.specs.Bounds.{limits_of}
+use Rattle.std.specs.Prelude.{List, Some, [], is_some, slice_get, true, ℕ, ◌∷◌, ◌≡◌}
 use Rattle.inf_area.specs.{declared.cells.Cell.Cell, declared.targets.Target.Target, declared.targets.Value.Value}
-use Rattle.inf_devices.specs.Files.{Sources}
+use Rattle.inf_settings.specs.Bounds.{limits_of}
 use Rattle.inf_dictionary.specs.{Texts.Text, Words.word_of, declared.uses.Word.Word}
-use Rattle.inf_link.specs.{Targets.Lookup, Targets.part_of, declared.areas.Areas.Areas}
+use Rattle.inf_devices.specs.Files.{Sources}
 use Rattle.inf_output.specs.Output.{Out}
-use Rattle.inf_story.specs.{Names.values_of, Tables.areas, Tables.looked_up}
 use Rattle.inf_compilation.specs.Actions.{begun_at}
-use Rattle.inf_session.specs.{Choices.Choices, Session.State}
+use Rattle.inf_link.specs.{Targets.Lookup, Targets.part_of, declared.areas.Areas.Areas}
+use Rattle.inf_story.specs.{Names.values_of, Tables.areas, Tables.looked_up}
 use Rattle.inf_ending.specs.Ending.{finished, first_place}
+use Rattle.inf_session.specs.{Choices.Choices, Session.State}
 use Rattle.inf_word_laws.specs.Values.{AllDirect}
 use Rattle.inf_limit_laws.specs.Reached.{IsReached}
 

@@ -1,4 +1,4 @@
 pub mod Steps
-pub mod Settling
 pub mod Numbering
+pub mod Settling
 pub mod Values

@@ -1,34 +1,30 @@
 -- Names by their numbers, leaf by leaf.
-use Rattle.std.proofs.Common.{arith, ◌≡◌, ◌≤◌, ℕ, List, [], ◌∷◌, ◌++◌, codes, Bool, true, false, Option, Some, None, refl, ap, sym, subst}
-use Rattle.std.specs.Prelude.{is_some, length, ◌+◌, ◌<◌, if◌then◌else◌}
+use Rattle.std.specs.Prelude.{if◌then◌else◌, is_some, length, ◌+◌, ◌<◌}
 use Rattle.std.specs.Str.{bytes_eq, str_eq_ignore_ascii_case}
-use Rattle.inf_settings.specs.Bounds.{Limits, unbounded}
-use Rattle.inf_scanner.specs.declared.tokens.Place.{Place}
+use Rattle.std.proofs.Common.{Bool, List, None, Option, Some, [], ap, arith, codes, false, refl, subst, sym, true, ℕ, ◌∷◌, ◌≡◌, ◌≤◌}
+use Rattle.inf_characters.specs.{declared.characters.CharSet.CharSet, declared.texts.TextItem.TextItem}
 use Rattle.inf_area.specs.{Scales.version, declared.scale.Scale.Scale, declared.targets.SystemConstant.SystemConstant}
 use Rattle.inf_area.specs.{declared.targets.Target.Target}
-use Rattle.inf_characters.specs.{declared.characters.CharSet.CharSet, declared.texts.TextItem.TextItem}
-use Rattle.inf_dictionary.specs.{Texts.Text, declared.dictionary.AddFault.AddFault, declared.uses.WordUse.WordUse}
-use Rattle.inf_dictionary.specs.Words.{add_fault, word_of}
 use Rattle.inf_expressions.specs.declared.operators.Operand.{Operand}
+use Rattle.inf_scanner.specs.declared.tokens.Place.{Place}
 use Rattle.inf_gathering.specs.declared.gathering.Leaf.{Leaf}
+use Rattle.inf_settings.specs.Bounds.{Limits}
+use Rattle.inf_dictionary.specs.{Texts.Text, declared.dictionary.AddFault.AddFault, declared.uses.WordUse.WordUse}
+use Rattle.inf_verbs.specs.declared.routines.ActionFault.{ActionFault}
 use Rattle.inf_names.specs.{Locals.Local, Locals.local_number, Spellings.Name, declared.meanings.Meaning.Meaning}
 use Rattle.inf_names.specs.{declared.symbols.DeclareFault.DeclareFault, declared.symbols.Found.Found}
 use Rattle.inf_names.specs.{declared.symbols.ReferFault.ReferFault, declared.system_names.SystemName.SystemName}
-use Rattle.inf_names.specs.Symbols.{IsDeclared, IsUsed, Named, Standing, Table, declare_fault, folded, found_as, found_in, index_of}
-use Rattle.inf_names.specs.Symbols.{number_by, put, refer_fault, standing_of, with_used_by}
+use Rattle.inf_names.specs.Symbols.{IsDeclared, IsUsed, Named, Standing, Table, folded, found_as, found_in, index_of, number_by, put}
+use Rattle.inf_names.specs.Symbols.{refer_fault, standing_of, with_used_by}
 use Rattle.inf_names.specs.SystemNames.{is_known, meaning_if, meaning_of, named, system_meaning}
-use Rattle.inf_output.specs.{Strings.fits, Texts.used_in}
-use Rattle.inf_output.specs.Actions.{action_by, appeared, fake_number, key_of, numbered_as, numbered_by, routine_name, routine_referred}
-use Rattle.inf_output.specs.Actions.{seen_by}
+use Rattle.inf_output.specs.Actions.{numbered_by, routine_of, seen_by}
 use Rattle.inf_output.specs.Output.{Out, referred_as_by, referred_by, with_text_by, with_word_by}
-use Rattle.inf_text.specs.Packing.{packed}
 use Rattle.inf_unit.specs.{Tokens.SourceToken, Units.bytes_at, Units.name_at}
-use Rattle.inf_operands.specs.Operands.{Settled, found_operand, is_stack, operand_by, settled, settled_action, settled_alone, settled_as}
-use Rattle.inf_operands.specs.Operands.{settled_by, settled_leaf, settled_name, settled_text, standing, system_by, system_constant}
-use Rattle.inf_operands.specs.Operands.{system_operand, with_settled}
-use Rattle.inf_operands.specs.Texts.{text_at, text_packed}
-use Rattle.inf_verbs.specs.{Routines.action_fault, declared.routines.ActionFault.ActionFault}
-use Rattle.inf_word_laws.specs.Names.{AllNamed, IsNamed, OperandsNamed}
+use Rattle.inf_operands.specs.Operands.{found_operand, is_stack, operand_by, settled_action, settled_alone, settled_as, settled_by}
+use Rattle.inf_operands.specs.Operands.{settled_leaf, settled_name, settled_text, standing, system_by, system_constant, system_operand}
+use Rattle.inf_operands.specs.Texts.{text_at}
+use Rattle.inf_word_laws.specs.Standing.{Stands}
+use Rattle.inf_word_laws.proofs.Steps.{used_words_stand}
 
 -- Names in their list
 
@@ -81,82 +77,60 @@ used_grows Found.Used name place t = omega arith
 used_grows (Found.System m) name place t = omega arith
 used_grows (Found.Declared m first) name place t = omega arith
 
-referred_grows : (limits : Limits) (f : Option ReferFault) (name : List ℕ) (place : Place) (o : Out) →
+pub referred_grows : (limits : Limits) (f : Option ReferFault) (name : List ℕ) (place : Place) (o : Out) →
     Grows o (referred_by limits f name place o)
 referred_grows limits None name place o = used_grows (found_in name o.names) name place o.names
 referred_grows limits (Some fault) name place o = omega arith
 
-local_grows : (limits : Limits) (local : Option ℕ) (name : List ℕ) (place : Place) (o : Out) →
-    Grows o (settled_by limits local name place o).0
-local_grows limits (Some local) name place o = omega arith
-local_grows limits None name place o = referred_grows limits (refer_fault limits name o.names) name place o
-
-name_grows : (limits : Limits) (locals : List Local) (n : Option Name) (o : Out) → Grows o (settled_name limits locals n o).0
-name_grows limits locals None o = omega arith
-name_grows limits locals (Some n) o = local_grows limits (local_number n.bytes locals) n.bytes n.place o
-
-alone_grows : (limits : Limits) (locals : List Local) (tokens : List SourceToken) (at : ℕ) (o : Out) →
-    Grows o (settled_alone limits locals tokens at o).0
-alone_grows limits locals tokens at o = go (is_stack (bytes_at tokens at) (local_number (bytes_at tokens at) locals))
-  where
-    go : (b : Bool) → Grows o (if b then (o, Operand.Variable 0) else settled_name limits locals (name_at tokens at) o).0
-    go true = omega arith
-    go false = name_grows limits locals (name_at tokens at) o
-
-fit_grows : (limits : Limits) (b : Bool) (text : List ℕ) (o : Out) → Grows o (with_text_by limits b text o)
+pub fit_grows : (limits : Limits) (b : Bool) (text : List ℕ) (o : Out) → Grows o (with_text_by limits b text o)
 fit_grows limits true text o = omega arith
 fit_grows limits false text o = omega arith
 
-text_grows : (limits : Limits) (items : Option (List TextItem)) (o : Out) → Grows o (settled_text limits items o).0
-text_grows limits None o = omega arith
-text_grows limits (Some items) o =
-    let p = text_packed o in let text = packed items (used_in o.texts) in fit_grows limits (fits limits text p.strings) text p
-
-word_grows : (limits : Limits) (f : Option AddFault) (text : Text) (how : WordUse) (is_plural : Bool) (o : Out) →
+pub word_grows : (limits : Limits) (f : Option AddFault) (text : Text) (how : WordUse) (is_plural : Bool) (o : Out) →
     Grows o (with_word_by limits f text how is_plural o)
 word_grows limits None text how is_plural o = omega arith
 word_grows limits (Some AddFault.Full) text how is_plural o = omega arith
 word_grows limits (Some AddFault.OtherVerb) text how is_plural o = omega arith
 word_grows limits (Some AddFault.Memory) text how is_plural o = omega arith
 
-seen_grows : (f : Option (DeclareFault Place)) (key : List ℕ) (place : Place) (o : Out) → Grows o (seen_by f key place o)
+pub seen_grows : (f : Option (DeclareFault Place)) (key : List ℕ) (place : Place) (o : Out) → Grows o (seen_by f key place o)
 seen_grows None key place o = omega arith
 seen_grows (Some fault) key place o = omega arith
 
-numbered_grows : (limits : Limits) (f : Option ActionFault) (routine : ℕ) (o : Out) → Grows o (numbered_by limits f routine o).0
+pub numbered_grows : (limits : Limits) (f : Option ActionFault) (routine : ℕ) (o : Out) → Grows o (numbered_by limits f routine o).0
 numbered_grows limits None routine o = omega arith
 numbered_grows limits (Some fault) routine o = omega arith
 
-number_grows : (limits : Limits) (routine : Option ℕ) (o : Out) → Grows o (numbered_as limits routine o).0
-number_grows limits None o = omega arith
-number_grows limits (Some routine) o = numbered_grows limits (action_fault limits routine o.tables.actions) routine o
+-- A name that is used is among the names, by its number.
 
-action_grows : (limits : Limits) (fake : Option ℕ) (n : List ℕ) (place : Place) (o : Out) → Grows o (action_by limits fake n place o).0
-action_grows limits (Some fake) n place o = omega arith
-action_grows limits None n place o =
-    let p = appeared (key_of n) place o in
-    let r = routine_referred limits (routine_name n) place p in
-    let a = seen_grows (declare_fault unbounded (key_of n) o.seen) (key_of n) place o in
-    let b = referred_grows limits (refer_fault limits (routine_name n) p.names) (routine_name n) place p in
-    let c = number_grows limits r.1 r.0 in
-    omega (arith, a, b, c)
+abbrev pub IsWithin : Option ℕ → ℕ → Type 0
+IsWithin None count = Unit {0}
+IsWithin (Some number) count = number < count
 
-named_grows : (limits : Limits) (n : Option Name) (o : Out) → Grows o (settled_action limits n o).0
-named_grows limits None o = omega arith
-named_grows limits (Some n) o = action_grows limits (fake_number (key_of n.bytes) o) n.bytes n.place o
+pub number_within : (name : List ℕ) (place : Place) (t : Table Place) (system : Option Meaning) (s : Option (Standing Place))
+    → standing_of (folded name) t.names ≡ s
+    → IsWithin (number_by (found_as system s) name t) (length (with_used_by (found_as system s) name place t).names)
+number_within name place t None None e = index_put (folded name) (IsUsed name place) t.names e
+number_within name place t (Some m) None e = tt
+number_within name place t system (Some (IsDeclared k m first)) e = index_within (folded name) t.names (ap is_some e)
+number_within name place t system (Some (IsUsed spelling first)) e = index_within (folded name) t.names (ap is_some e)
 
-leaf_grows : (limits : Limits) (set : CharSet) (locals : List Local) (tokens : List SourceToken) (l : Leaf) (o : Out) →
-    Grows o (settled_leaf limits set locals tokens l o).0
-leaf_grows limits set locals tokens (Leaf.Name at) o = name_grows limits locals (name_at tokens at) o
-leaf_grows limits set locals tokens (Leaf.Alone at) o = alone_grows limits locals tokens at o
-leaf_grows limits set locals tokens (Leaf.Number number) o = omega arith
-leaf_grows limits set locals tokens (Leaf.Char zscii) o = omega arith
-leaf_grows limits set locals tokens (Leaf.Word word) o =
-    word_grows limits (add_fault limits (word_of word.text o.tables.dictionary.list) WordUse.Other o.tables.dictionary) word.text
-    WordUse.Other word.is_plural o
-leaf_grows limits set locals tokens (Leaf.Text at) o = text_grows limits (text_at set tokens at) o
-leaf_grows limits set locals tokens (Leaf.Action at) o = named_grows limits (name_at tokens at) o
-leaf_grows limits set locals tokens (Leaf.System at) o = omega arith
+pub within_more : (number : Option ℕ) (a b : ℕ) → IsWithin number a → a ≤ b → IsWithin number b
+within_more None a b h few = tt
+within_more (Some n) a b h few = omega (arith, h, few)
+
+pub referred_number : (limits : Limits) (f : Option ReferFault) (name : List ℕ) (place : Place) (o : Out)
+    → IsWithin (routine_of (referred_as_by f name o.names)) (length (referred_by limits f name place o).names.names)
+referred_number limits None name place o =
+    number_within name place o.names (system_meaning o.names.is_debugging name) (standing_of (folded name) o.names.names) refl
+referred_number limits (Some fault) name place o = tt
+
+-- An operand refers to a name or a word that is there, and to no part of an area.
+abbrev pub IsBound : Operand → Out → Type 0
+IsBound (Operand.Later (Target.Name number)) o = number < length o.names.names
+IsBound (Operand.Later (Target.Word text)) o = Stands text o
+IsBound (Operand.Later (Target.Part area part)) o = ⊥
+IsBound _ o = Unit {0}
 
 -- The language's own names have operands of their own.
 
@@ -192,149 +166,110 @@ own_by debugging (Some n) m e = go (is_known debugging n) e
     go true f = subst (λ k. is_some (standing k) ≡ true) (same_some f) (own_operand n)
     go false f = not_some f
 
-own_named : (m : Meaning) (number : Option ℕ) (v : Out) → is_some (standing m) ≡ true → IsNamed (operand_by (standing m) number) v
-own_named (Meaning.Number n) number v h = tt
-own_named (Meaning.Variable n) number v h = tt
-own_named (Meaning.Attribute n) number v h = tt
-own_named (Meaning.Property n is_additive) number v h = tt
-own_named (Meaning.IndividualProperty n) number v h = tt
-own_named (Meaning.Object n) number v h = tt
-own_named (Meaning.Class n) number v h = tt
-own_named (Meaning.FakeAction n) number v h = tt
-own_named (Meaning.Function f) number v h = tt
-own_named (Meaning.Text place) number v h = cc
-own_named (Meaning.Word place) number v h = cc
-own_named (Meaning.LowString place) number v h = cc
-own_named (Meaning.Array place) number v h = cc
-own_named (Meaning.Routine place) number v h = cc
-own_named (Meaning.PackedAddress place) number v h = cc
+own_bound : (m : Meaning) (number : Option ℕ) (v : Out) → is_some (standing m) ≡ true → IsBound (operand_by (standing m) number) v
+own_bound (Meaning.Number n) number v h = tt
+own_bound (Meaning.Variable n) number v h = tt
+own_bound (Meaning.Attribute n) number v h = tt
+own_bound (Meaning.Property n is_additive) number v h = tt
+own_bound (Meaning.IndividualProperty n) number v h = tt
+own_bound (Meaning.Object n) number v h = tt
+own_bound (Meaning.Class n) number v h = tt
+own_bound (Meaning.FakeAction n) number v h = tt
+own_bound (Meaning.Function f) number v h = tt
+own_bound (Meaning.Text place) number v h = cc
+own_bound (Meaning.Word place) number v h = cc
+own_bound (Meaning.LowString place) number v h = cc
+own_bound (Meaning.Array place) number v h = cc
+own_bound (Meaning.Routine place) number v h = cc
+own_bound (Meaning.PackedAddress place) number v h = cc
 
-numbered_named : (m : Meaning) (n : ℕ) (v : Out) → n < length v.names.names → IsNamed (operand_by (standing m) (Some n)) v
-numbered_named (Meaning.Number k) n v h = tt
-numbered_named (Meaning.Variable k) n v h = tt
-numbered_named (Meaning.Attribute k) n v h = tt
-numbered_named (Meaning.Property k is_additive) n v h = tt
-numbered_named (Meaning.IndividualProperty k) n v h = tt
-numbered_named (Meaning.Object k) n v h = tt
-numbered_named (Meaning.Class k) n v h = tt
-numbered_named (Meaning.FakeAction k) n v h = tt
-numbered_named (Meaning.Function f) n v h = tt
-numbered_named (Meaning.Text place) n v h = h
-numbered_named (Meaning.Word place) n v h = h
-numbered_named (Meaning.LowString place) n v h = h
-numbered_named (Meaning.Array place) n v h = h
-numbered_named (Meaning.Routine place) n v h = h
-numbered_named (Meaning.PackedAddress place) n v h = h
+numbered_bound : (m : Meaning) (n : ℕ) (v : Out) → n < length v.names.names → IsBound (operand_by (standing m) (Some n)) v
+numbered_bound (Meaning.Number k) n v h = tt
+numbered_bound (Meaning.Variable k) n v h = tt
+numbered_bound (Meaning.Attribute k) n v h = tt
+numbered_bound (Meaning.Property k is_additive) n v h = tt
+numbered_bound (Meaning.IndividualProperty k) n v h = tt
+numbered_bound (Meaning.Object k) n v h = tt
+numbered_bound (Meaning.Class k) n v h = tt
+numbered_bound (Meaning.FakeAction k) n v h = tt
+numbered_bound (Meaning.Function f) n v h = tt
+numbered_bound (Meaning.Text place) n v h = h
+numbered_bound (Meaning.Word place) n v h = h
+numbered_bound (Meaning.LowString place) n v h = h
+numbered_bound (Meaning.Array place) n v h = h
+numbered_bound (Meaning.Routine place) n v h = h
+numbered_bound (Meaning.PackedAddress place) n v h = h
 
 -- a name that was found, in the output where it was used
-found_named : (name : List ℕ) (place : Place) (t : Table Place) (v : Out) (sys : Option Meaning) (st : Option (Standing Place)) →
+found_bound : (name : List ℕ) (place : Place) (t : Table Place) (v : Out) (sys : Option Meaning) (st : Option (Standing Place)) →
     system_meaning t.is_debugging name ≡ sys → standing_of (folded name) t.names ≡ st →
     v.names ≡ with_used_by (found_as sys st) name place t →
-    IsNamed (found_operand (found_as sys st) (number_by (found_as sys st) name t)) v
-found_named name place t v None None d e is =
+    IsBound (found_operand (found_as sys st) (number_by (found_as sys st) name t)) v
+found_bound name place t v None None d e is =
     subst (λ (x : Table Place). index_of (folded name) t.names < length x.names) (sym is)
     (index_put (folded name) (IsUsed name place) t.names e)
-found_named name place t v (Some m) None d e is = own_named m None v (own_by t.is_debugging (named name) m d)
-found_named name place t v sys (Some (IsDeclared k m first)) d e is =
-    numbered_named m (index_of (folded name) t.names) v
+found_bound name place t v (Some m) None d e is = own_bound m None v (own_by t.is_debugging (named name) m d)
+found_bound name place t v sys (Some (IsDeclared k m first)) d e is =
+    numbered_bound m (index_of (folded name) t.names) v
     (subst (λ (x : Table Place). index_of (folded name) t.names < length x.names) (sym is)
     (index_within (folded name) t.names (ap is_some e)))
-found_named name place t v sys (Some (IsUsed spelling first)) d e is =
+found_bound name place t v sys (Some (IsUsed spelling first)) d e is =
     subst (λ (x : Table Place). index_of (folded name) t.names < length x.names) (sym is)
     (index_within (folded name) t.names (ap is_some e))
 
-referred_named : (limits : Limits) (f : Option ReferFault) (name : List ℕ) (place : Place) (o : Out) →
-    IsNamed (settled_as (referred_as_by f name o.names)) (referred_by limits f name place o)
-referred_named limits None name place o =
-    found_named name place o.names (referred_by limits None name place o) (system_meaning o.names.is_debugging name)
+referred_bound : (limits : Limits) (f : Option ReferFault) (name : List ℕ) (place : Place) (o : Out) →
+    IsBound (settled_as (referred_as_by f name o.names)) (referred_by limits f name place o)
+referred_bound limits None name place o =
+    found_bound name place o.names (referred_by limits None name place o) (system_meaning o.names.is_debugging name)
     (standing_of (folded name) o.names.names) refl refl refl
-referred_named limits (Some fault) name place o = tt
+referred_bound limits (Some fault) name place o = tt
 
-local_named : (limits : Limits) (local : Option ℕ) (name : List ℕ) (place : Place) (o : Out) →
-    IsNamed (settled_by limits local name place o).1 (settled_by limits local name place o).0
-local_named limits (Some local) name place o = tt
-local_named limits None name place o = referred_named limits (refer_fault limits name o.names) name place o
+local_bound : (limits : Limits) (local : Option ℕ) (name : List ℕ) (place : Place) (o : Out) →
+    IsBound (settled_by limits local name place o).1 (settled_by limits local name place o).0
+local_bound limits (Some local) name place o = tt
+local_bound limits None name place o = referred_bound limits (refer_fault limits name o.names) name place o
 
-name_named : (limits : Limits) (locals : List Local) (n : Option Name) (o : Out) →
-    IsNamed (settled_name limits locals n o).1 (settled_name limits locals n o).0
-name_named limits locals None o = tt
-name_named limits locals (Some n) o = local_named limits (local_number n.bytes locals) n.bytes n.place o
+name_bound : (limits : Limits) (locals : List Local) (n : Option Name) (o : Out) →
+    IsBound (settled_name limits locals n o).1 (settled_name limits locals n o).0
+name_bound limits locals None o = tt
+name_bound limits locals (Some n) o = local_bound limits (local_number n.bytes locals) n.bytes n.place o
 
-alone_named : (limits : Limits) (locals : List Local) (tokens : List SourceToken) (at : ℕ) (o : Out) →
-    IsNamed (settled_alone limits locals tokens at o).1 (settled_alone limits locals tokens at o).0
-alone_named limits locals tokens at o = go (is_stack (bytes_at tokens at) (local_number (bytes_at tokens at) locals))
+alone_bound : (limits : Limits) (locals : List Local) (tokens : List SourceToken) (at : ℕ) (o : Out) →
+    IsBound (settled_alone limits locals tokens at o).1 (settled_alone limits locals tokens at o).0
+alone_bound limits locals tokens at o = go (is_stack (bytes_at tokens at) (local_number (bytes_at tokens at) locals))
   where
-    go : (b : Bool) → let r = (if b then (o, Operand.Variable 0) else settled_name limits locals (name_at tokens at) o) in IsNamed r.1 r.0
+    go : (b : Bool) → let r = (if b then (o, Operand.Variable 0) else settled_name limits locals (name_at tokens at) o) in IsBound r.1 r.0
     go true = tt
-    go false = name_named limits locals (name_at tokens at) o
+    go false = name_bound limits locals (name_at tokens at) o
 
-text_named : (limits : Limits) (items : Option (List TextItem)) (o v : Out) → IsNamed (settled_text limits items o).1 v
-text_named limits None o v = tt
-text_named limits (Some items) o v = tt
+text_bound : (limits : Limits) (items : Option (List TextItem)) (o v : Out) → IsBound (settled_text limits items o).1 v
+text_bound limits None o v = tt
+text_bound limits (Some items) o v = tt
 
-action_named : (limits : Limits) (n : Option Name) (o v : Out) → IsNamed (settled_action limits n o).1 v
-action_named limits None o v = tt
-action_named limits (Some n) o v = tt
+action_bound : (limits : Limits) (n : Option Name) (o v : Out) → IsBound (settled_action limits n o).1 v
+action_bound limits None o v = tt
+action_bound limits (Some n) o v = tt
 
-constant_named : (c : Option SystemConstant) (v : Out) → IsNamed (system_by c) v
-constant_named None v = tt
-constant_named (Some c) v = tt
+constant_bound : (c : Option SystemConstant) (v : Out) → IsBound (system_by c) v
+constant_bound None v = tt
+constant_bound (Some c) v = tt
 
-system_named : (n : List ℕ) (scale : Scale) (v : Out) → IsNamed (system_operand n scale) v
-system_named n scale v = go (str_eq_ignore_ascii_case n (codes "version_number"))
+system_bound : (n : List ℕ) (scale : Scale) (v : Out) → IsBound (system_operand n scale) v
+system_bound n scale v = go (str_eq_ignore_ascii_case n (codes "version_number"))
   where
-    go : (b : Bool) → IsNamed (if b then Operand.Known (version scale) else system_by (system_constant n)) v
+    go : (b : Bool) → IsBound (if b then Operand.Known (version scale) else system_by (system_constant n)) v
     go true = tt
-    go false = constant_named (system_constant n) v
+    go false = constant_bound (system_constant n) v
 
-leaf_named : (limits : Limits) (set : CharSet) (locals : List Local) (tokens : List SourceToken) (l : Leaf) (o : Out) →
-    IsNamed (settled_leaf limits set locals tokens l o).1 (settled_leaf limits set locals tokens l o).0
-leaf_named limits set locals tokens (Leaf.Name at) o = name_named limits locals (name_at tokens at) o
-leaf_named limits set locals tokens (Leaf.Alone at) o = alone_named limits locals tokens at o
-leaf_named limits set locals tokens (Leaf.Number number) o = tt
-leaf_named limits set locals tokens (Leaf.Char zscii) o = tt
-leaf_named limits set locals tokens (Leaf.Word word) o = tt
-leaf_named limits set locals tokens (Leaf.Text at) o =
-    text_named limits (text_at set tokens at) o (settled_text limits (text_at set tokens at) o).0
-leaf_named limits set locals tokens (Leaf.Action at) o =
-    action_named limits (name_at tokens at) o (settled_action limits (name_at tokens at) o).0
-leaf_named limits set locals tokens (Leaf.System at) o = system_named (bytes_at tokens at) o.code.scale o
-
--- All leaves
-
-operand_stays : (x : Operand) (o v : Out) → Grows o v → IsNamed x o → IsNamed x v
-operand_stays (Operand.Later (Target.Name number)) o v g h = omega (arith, g, h)
-operand_stays (Operand.Later (Target.Word text)) o v g h = tt
-operand_stays (Operand.Later (Target.Place area place)) o v g h = tt
-operand_stays (Operand.Later (Target.Part area part)) o v g h = tt
-operand_stays (Operand.Later (Target.System asked)) o v g h = tt
-operand_stays (Operand.Known n) o v g h = tt
-operand_stays (Operand.Variable n) o v g h = tt
-operand_stays (Operand.Function f) o v g h = tt
-operand_stays Operand.Unknown o v g h = tt
-
-one_more : (operands : List Operand) (x : Operand) (o v : Out) → Grows o v → IsNamed x v → AllNamed operands o →
-    AllNamed (operands ++ x ∷ []) v
-one_more [] x o v g h all = (h, tt)
-one_more (y ∷ operands) x o v g h all = (operand_stays y o v g all.0, one_more operands x o v g h all.1)
-
-all_named : (limits : Limits) (set : CharSet) (locals : List Local) (tokens : List SourceToken) (leaves : List Leaf) (s : Settled) →
-    AllNamed s.operands s.out →
-    AllNamed (settled limits set locals tokens leaves s).operands (settled limits set locals tokens leaves s).out
-all_named limits set locals tokens [] s all = all
-all_named limits set locals tokens (l ∷ leaves) s all =
-    let r = settled_leaf limits set locals tokens l s.out in
-    all_named limits set locals tokens leaves (with_settled r s.operands)
-    (one_more s.operands r.1 s.out r.0 (leaf_grows limits set locals tokens l s.out) (leaf_named limits set locals tokens l s.out) all)
-
-all_grow : (limits : Limits) (set : CharSet) (locals : List Local) (tokens : List SourceToken) (leaves : List Leaf) (s : Settled) →
-    Grows s.out (settled limits set locals tokens leaves s).out
-all_grow limits set locals tokens [] s = omega arith
-all_grow limits set locals tokens (l ∷ leaves) s =
-    let r = settled_leaf limits set locals tokens l s.out in
-    let a = leaf_grows limits set locals tokens l s.out in
-    let b = all_grow limits set locals tokens leaves (with_settled r s.operands) in
-    omega (arith, a, b)
-
-pub operands_named : (limits : Limits) → OperandsNamed limits
-operands_named limits = record { named = all_named limits; grow = all_grow limits }
+pub leaf_bound : (limits : Limits) (set : CharSet) (locals : List Local) (tokens : List SourceToken) (l : Leaf) (o : Out) →
+    IsBound (settled_leaf limits set locals tokens l o).1 (settled_leaf limits set locals tokens l o).0
+leaf_bound limits set locals tokens (Leaf.Name at) o = name_bound limits locals (name_at tokens at) o
+leaf_bound limits set locals tokens (Leaf.Alone at) o = alone_bound limits locals tokens at o
+leaf_bound limits set locals tokens (Leaf.Number number) o = tt
+leaf_bound limits set locals tokens (Leaf.Char zscii) o = tt
+leaf_bound limits set locals tokens (Leaf.Word word) o = used_words_stand limits word.text WordUse.Other word.is_plural o
+leaf_bound limits set locals tokens (Leaf.Text at) o =
+    text_bound limits (text_at set tokens at) o (settled_text limits (text_at set tokens at) o).0
+leaf_bound limits set locals tokens (Leaf.Action at) o =
+    action_bound limits (name_at tokens at) o (settled_action limits (name_at tokens at) o).0
+leaf_bound limits set locals tokens (Leaf.System at) o = system_bound (bytes_at tokens at) o.code.scale o

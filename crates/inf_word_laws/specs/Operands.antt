@@ -1,13 +1,13 @@
 -- Words for which the operands of a unit stand.
 use Rattle.std.specs.Prelude.{List, [], ◌∷◌}
-use Rattle.inf_settings.specs.Bounds.{Limits}
-use Rattle.inf_area.specs.declared.targets.Target.{Target}
 use Rattle.inf_characters.specs.declared.characters.CharSet.{CharSet}
+use Rattle.inf_area.specs.declared.targets.Target.{Target}
 use Rattle.inf_expressions.specs.declared.operators.Operand.{Operand}
 use Rattle.inf_gathering.specs.declared.gathering.Leaf.{Leaf}
+use Rattle.inf_settings.specs.Bounds.{Limits}
 use Rattle.inf_names.specs.Locals.{Local}
-use Rattle.inf_unit.specs.Tokens.{SourceToken}
 use Rattle.inf_output.specs.Output.{Out}
+use Rattle.inf_unit.specs.Tokens.{SourceToken}
 use Rattle.inf_operands.specs.Operands.{Settled, leaf_added, settled}
 use Rattle.inf_word_laws.specs.Standing.{Keeps, Stands}
 
@@ -16,9 +16,12 @@ abbrev pub OperandStands : Operand → Out → Type 0
 OperandStands (Operand.Later (Target.Word text)) o = Stands text o
 OperandStands _ o = Unit {0}
 
+abbrev pub AllOf : (Operand → Type 0) → List Operand → Type 0
+AllOf P [] = Unit {0}
+AllOf P (operand ∷ operands) = P operand × AllOf P operands
+
 abbrev pub AllStand : List Operand → Out → Type 0
-AllStand [] o = Unit {0}
-AllStand (operand ∷ operands) o = OperandStands operand o × AllStand operands o
+AllStand operands o = AllOf (λ (x : Operand). OperandStands x o) operands
 
 -- All operands of a unit's leaves, once their names and words are used, stand in the output behind that; words that stood before stand
 -- there, too.

@@ -1,4 +1,4 @@
-use Rattle.inf_limit_laws.proofs.Reaching.{states_come_behind}
+use Rattle.inf_limit_laws.proofs.Whole.{states_come_behind}
 use Rattle.inf_limit_laws.proofs.laws.states_come_behind.Goals as goal
 
 pub returns : goal.returns

@@ -1,0 +1,11 @@
+pub mod Premises
+pub mod Lists
+pub mod Outputs
+pub mod Pieces
+pub mod Operands
+pub mod Worlds
+pub mod Units
+pub mod Declaring
+pub mod Bodies
+pub mod VerbLines
+pub mod Actions

@@ -1,0 +1,4 @@
+pub mod Standing
+pub mod Lists
+pub mod Outputs
+pub mod Walking

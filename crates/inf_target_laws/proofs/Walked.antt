@@ -1,0 +1,360 @@
+-- Steps of a compilation put together; walks keep targets, and so do statements that hold others and their steps.
+use Rattle.std.specs.Prelude.{unwrap_or}
+use Rattle.std.proofs.Common.{Bool, List, None, Option, Some, [], false, if◌then◌else◌, refl, subst, suc, sym, true, zero, ℕ, ◌-◌, ◌∷◌, ◌≡◌}
+use Rattle.inf_expressions.specs.{Questions.children_of, Rooted.Rooted, Trees.Tree}
+use Rattle.inf_scanner.specs.declared.tokens.Place.{Place}
+use Rattle.inf_settings.specs.Bounds.{Limits}
+use Rattle.inf_tables.specs.{World.no_body_fault, declared.faults.WorldFault.WorldFault}
+use Rattle.inf_opcode.specs.declared.instructions.Label.{Label}
+use Rattle.inf_assembler.specs.declared.routines.RoutineKind.{RoutineKind}
+use Rattle.inf_output.specs.{Output.Out, Output.apart, Output.items_of, Output.laid_all, declared.items.Item.Item}
+use Rattle.inf_syntax.specs.declared.actions.Action.{Action}
+use Rattle.inf_unit.specs.{Messages.FileNames, Messages.Reported, Tokens.SourceToken, Units.Unit as SourceUnit, Units.long_at, Units.over}
+use Rattle.inf_constructs.specs.{declared.constructs.Case.Case, declared.constructs.Construct.Construct, declared.constructs.Kind.Kind}
+use Rattle.inf_constructs.specs.Constructs.{Laying, all_ended, begun, between, case_closed, cases_begun, changed, closed, ended, ending}
+use Rattle.inf_constructs.specs.Constructs.{entered, entered_by, looped, looped_by, looped_over, opened, stepped}
+use Rattle.inf_statements.specs.Statements.{alone}
+use Rattle.inf_compilation.specs.{Context.Context, Context.longest, Findings.Findings, Nesting.closed_ahead, Nesting.construct_ended}
+use Rattle.inf_compilation.specs.{Nesting.construct_joined, Nesting.constructs_laid}
+use Rattle.inf_compilation.specs.Actions.{Compilation, begun_at, close_as, nested, passed, sized, stopped, took, unit_ended, world_ended}
+use Rattle.inf_compilation.specs.Actions.{world_ended_by}
+use Rattle.inf_named_values.specs.Declarations.{with_world}
+use Rattle.inf_reader.specs.Acting.{act, cut_at}
+use Rattle.inf_code_walk.specs.Made.{TreesMeet}
+use Rattle.inf_code_walk.proofs.Statements.{alone_made, between_laid, case_closed_made, entered_laid, looped_laid, looped_on_made}
+use Rattle.inf_code_walk.proofs.Statements.{opened_laid}
+use Rattle.inf_step_walk.specs.{Lists.ItemsStand, Lists.StepsStand, Outputs.Holds, Standing.Before}
+use Rattle.inf_step_walk.specs.Walking.{After, Begins, Cases, Ends, Enters, Finishes, GivesUp, Inner, Joins, Leaves, Loops, Nests, Next}
+use Rattle.inf_step_walk.specs.Walking.{Over, Parts, Puts, Rests, RootsMeet, Says, Settles, Shuts, Sizes, Starts, Stood, Tells, Walk}
+use Rattle.inf_step_walk.proofs.{Premises.There, Premises.roots_more, Worlds.end_holds}
+use Rattle.inf_step_walk.proofs.Actions.{act_steps as act_walks, cut_at_steps as cut_at_walks, took_steps as took_walks}
+use Rattle.inf_step_walk.proofs.Outputs.{Goes, GoesIf, Sound, begin_keeps, close_keeps, goes_nowhere, items_keep, none_open_keeps}
+use Rattle.inf_step_walk.proofs.Pieces.{GivesIf, fixed_stand, goes, laid_by, made_by, made_sound, sound_jump, sound_mark, sound_then}
+use Rattle.inf_target_laws.specs.Compilations.{Held}
+
+-- A step by the limits and the context at hand, which lemmas find in it
+pub record Steps (limits : Limits) (context : Context) (u : Out) (w v : Compilation) : Type 0 where
+  pub on : Before u v.output → Before u w.output
+  pub kept : Before u v.output → Held u w → Held u v
+
+pub steps_then : {limits : Limits} {context : Context} {u : Out} {a b c : Compilation} → Steps limits context u a b
+    → Steps limits context u b c → Steps limits context u a c
+steps_then {limits} {context} {u} {a} {b} {c} f g = record { on = λ e. f.on (g.on e); kept = λ e h. g.kept e (f.kept (g.on e) h) }
+
+pub steps_if : {limits : Limits} {context : Context} {u : Out} {a b c : Compilation} (x : Bool) → Steps limits context u a b
+    → Steps limits context u a c → Steps limits context u a (if x then b else c)
+steps_if true f g = f
+steps_if false f g = g
+
+-- nothing happens
+pub stays : {limits : Limits} {context : Context} {u : Out} (w : Compilation) → Steps limits context u w w
+stays {limits} {context} {u} w = record { on = λ e. e; kept = λ e h. h }
+
+-- the unit at hand is another one
+pub unit_steps : {limits : Limits} {context : Context} {u : Out} (w : Compilation) (at : SourceUnit)
+    → Steps limits context u w (record w { unit = at })
+unit_steps {limits} {context} {u} w at = record { on = λ e. e; kept = λ e h. h }
+
+-- the output is another one
+pub output_steps : {limits : Limits} {context : Context} {u : Out} (w : Compilation) (o : Out) → Goes u w.output o
+    → Steps limits context u w (record w { output = o })
+output_steps {limits} {context} {u} w o g = record { on = g.0; kept = λ e h. (g.1 e h.0, h.1) }
+
+-- the report is another one
+pub report_steps : {limits : Limits} {context : Context} {u : Out} (w : Compilation) (r : Reported)
+    → Steps limits context u w (record w { report = r })
+report_steps {limits} {context} {u} w r = record { on = λ e. e; kept = λ e h. h }
+
+pub unit_ends : {limits : Limits} {context : Context} {u : Out} (first : Place) (has_last : Bool) (found : Findings) (w : Compilation)
+    → Steps limits context u w (unit_ended limits context first has_last found w)
+unit_ends {limits} {context} {u} first has_last found w = record { on = λ e. e; kept = λ e h. h }
+
+pub passed_steps : {limits : Limits} {context : Context} {u : Out} (has_last : Bool) (w : Compilation)
+    → Steps limits context u w (passed has_last w)
+passed_steps has_last w = unit_steps w (over has_last w.unit)
+
+pub begun_ends : {limits : Limits} {context : Context} {u : Out} (files : FileNames) (first : Place) (w : Compilation)
+    → Steps limits context u w (begun_at limits files first w)
+begun_ends {limits} {context} {u} files first w =
+    let g = begin_keeps limits u w.output in record { on = g.0; kept = λ e h. (g.1 e h.0, h.1) }
+
+stopped_steps : {limits : Limits} {context : Context} {u : Out} (p : Option Place) (w : Compilation)
+    → Steps limits context u w (stopped context p w)
+stopped_steps {limits} {context} {u} None w = record { on = λ e. e; kept = λ e h. h }
+stopped_steps {limits} {context} {u} (Some place) w = record { on = λ e. e; kept = λ e h. h }
+
+pub sized_steps : {limits : Limits} {context : Context} {u : Out} (w : Compilation) → Steps limits context u w (sized context w)
+sized_steps {limits} {context} {u} w = stopped_steps (long_at (longest context) w.unit) w
+
+pub nested_steps : {limits : Limits} {context : Context} {u : Out} (place : Place) (is_deep : Bool) (w : Compilation)
+    → Steps limits context u w (nested context place is_deep w)
+nested_steps {limits} {context} {u} place true w = record { on = λ e. e; kept = λ e h. h }
+nested_steps {limits} {context} {u} place false w = stays w
+
+-- Statements that hold others
+
+-- Statements that hold others
+
+pub between_gives : {u : Out} {P : Type 0} (limits : Limits) (c : Construct) → GivesIf limits u P (between limits c)
+between_gives {u} {P} limits c = laid_by (λ t h. h) (between_laid limits (There u P) c)
+
+case_closed_sound : {u : Out} {P : Type 0} (limits : Limits) (c : Case) (end : Label) → Sound limits u P (case_closed limits c end)
+case_closed_sound {u} {P} limits c end = made_sound (case_closed_made limits (There u P) c end)
+
+step_sound : {u : Out} {P : Type 0} (limits : Limits) (items : List Item) → (P → ItemsStand u items)
+    → Sound limits u P (laid_all limits items)
+step_sound {u} {P} limits items h = record { keeps = items_keep limits u P items h }
+
+ending_sound : {u : Out} {P : Type 0} (limits : Limits) (c : Construct) → (P → ItemsStand u (items_of c.step)) → (k : Kind)
+    → Sound limits u P (ending limits c k)
+ending_sound {u} {P} limits c h Kind.If = sound_mark c.next
+ending_sound {u} {P} limits c h Kind.Else = sound_mark c.end
+ending_sound {u} {P} limits c h Kind.While = sound_then (sound_jump c.next) (sound_mark c.end)
+ending_sound {u} {P} limits c h Kind.Do = sound_mark c.end
+ending_sound {u} {P} limits c h Kind.For =
+    sound_then (sound_mark c.next) (sound_then (step_sound limits (items_of c.step) h)
+    (sound_then (sound_jump c.top) (sound_mark c.end)))
+ending_sound {u} {P} limits c h (Kind.Objects how v) =
+    sound_then (sound_mark c.next) (sound_then (made_sound (looped_on_made limits (There u P) (fixed_stand u P) how v c.top))
+    (sound_mark c.end))
+ending_sound {u} {P} limits c h (Kind.Switch old had_default) = sound_then (case_closed_sound limits old c.end) (sound_mark c.end)
+ending_sound {u} {P} limits c h (Kind.Cases old had_default) = sound_then (case_closed_sound limits old c.end) (sound_mark c.end)
+
+closed_sound : {u : Out} {P : Type 0} (limits : Limits) (c : Construct) → (P → ItemsStand u (items_of c.step))
+    → Sound limits u P (closed limits c)
+unfolding closed
+closed_sound {u} {P} limits c h = ending_sound limits c h c.kind
+
+pub entered_gives : {u : Out} {P : Type 0} (limits : Limits) (is_default : Bool) (c : Construct)
+    → GivesIf limits u P (entered limits is_default c)
+entered_gives {u} {P} limits is_default c = laid_by (λ t h. h) (entered_laid limits (There u P) is_default c)
+
+-- Open statements: with a change of these their steps stand, too.
+pub record Moves (limits : Limits) (u : Out) (P : Type 0) (constructs : List Construct) (laying : Laying (List Construct)) : Type 0 where
+  pub keeps : (o : Out) → GoesIf (P × StepsStand u constructs) u o (laying o).1
+  pub steps : StepsStand u constructs → (o : Out) → StepsStand u (laying o).0
+
+-- a change of the innermost statement leaves its step as it is
+abbrev pub LeavesStep : (Construct → Laying Construct) → Type 0
+LeavesStep change = (c : Construct) (o : Out) → (change c o).0.step ≡ c.step
+
+pub between_leaves : (limits : Limits) → LeavesStep (between limits)
+unfolding between
+between_leaves limits c o = refl
+
+entered_step : (limits : Limits) (k : Kind) (is_default : Bool) (c : Construct) (o : Out)
+    → (entered_by limits k is_default c o).0.step ≡ c.step
+entered_step limits (Kind.Switch old had_default) true c o = refl
+entered_step limits (Kind.Switch old had_default) false c o = refl
+entered_step limits (Kind.Cases old had_default) true c o = refl
+entered_step limits (Kind.Cases old had_default) false c o = refl
+entered_step limits Kind.If is_default c o = refl
+entered_step limits Kind.Else is_default c o = refl
+entered_step limits Kind.While is_default c o = refl
+entered_step limits Kind.Do is_default c o = refl
+entered_step limits Kind.For is_default c o = refl
+entered_step limits (Kind.Objects how v) is_default c o = refl
+
+pub entered_leaves : (limits : Limits) (is_default : Bool) → LeavesStep (entered limits is_default)
+unfolding entered
+entered_leaves limits is_default c o = entered_step limits c.kind is_default c o
+
+looped_step : (limits : Limits) (parent : Option Tree) (e : Tree) (v : ℕ) (c : Construct) (o : Out)
+    → (looped_by limits parent e v c o).0.step ≡ c.step
+looped_step limits None e v c o = refl
+looped_step limits (Some parent) e v c o = refl
+
+looped_leaves : (limits : Limits) (r : Rooted) → LeavesStep (looped limits r)
+unfolding looped
+looped_leaves limits r c o = looped_step limits (children_of r.tree) r.tree (unwrap_or r.origin.lead.variable 0) c o
+
+opened_step : (limits : Limits) (k : Kind) (o : Out) → (opened limits k o).0.step ≡ None
+unfolding opened
+opened_step limits k o = refl
+
+step_stands : (u : Out) (a b : Option (List Item)) → a ≡ b → ItemsStand u (items_of b) → ItemsStand u (items_of a)
+step_stands u a b same h = subst (λ (s : Option (List Item)). ItemsStand u (items_of s)) (sym same) h
+
+pub begun_moves : {u : Out} {P : Type 0} (limits : Limits) (k : Kind) (constructs : List Construct)
+    → Moves limits u P constructs (begun limits k constructs)
+begun_moves {u} {P} limits k constructs = record {
+  keeps =
+      λ o. let g =
+      (laid_by {limits = limits} {u = u} {P = P} (λ t h. h) (opened_laid limits (There u P) k)).keeps o in (g.0, (λ p. g.1 p.0));
+  steps = λ h o. (step_stands u (opened limits k o).0.step None (opened_step limits k o) tt, h);
+}
+
+pub changed_moves : {u : Out} {P : Type 0} (limits : Limits) (change : Construct → Laying Construct)
+    → ((c : Construct) → GivesIf limits u P (change c)) → LeavesStep change → (constructs : List Construct)
+    → Moves limits u P constructs (changed change constructs)
+changed_moves {u} {P} limits change each leaves [] = record { keeps = λ o. ((λ e. e), (λ p e h. h)); steps = λ h o. tt }
+changed_moves {u} {P} limits change each leaves (c ∷ constructs) = record {
+  keeps = λ o. let g = (each c).keeps o in (g.0, (λ p. g.1 p.0));
+  steps = λ h o. (step_stands u (change c o).0.step c.step (leaves c o) h.0, h.1);
+}
+
+pub cases_moves : {u : Out} {P : Type 0} (limits : Limits) (constructs : List Construct)
+    → Moves limits u P constructs (cases_begun limits constructs)
+cases_moves {u} {P} limits [] =
+    let m : Moves limits u P [] (begun limits (Kind.Cases Case.Nothing false) []) = begun_moves limits (Kind.Cases Case.Nothing false) [] in
+    record { keeps = m.keeps; steps = m.steps }
+cases_moves {u} {P} limits (c ∷ constructs) = record { keeps = λ o. ((λ e. e), (λ p e h. h)); steps = λ h o. h }
+
+closed_keeps : (limits : Limits) (u : Out) (P : Type 0) (c : Construct) (constructs : List Construct) (o : Out)
+    → GoesIf (P × StepsStand u (c ∷ constructs)) u o (closed limits c o)
+closed_keeps limits u P c constructs o =
+    let s : Sound limits u (P × StepsStand u (c ∷ constructs)) (closed limits c) = closed_sound limits c (λ p. p.1.0) in s.keeps o
+
+pub ended_moves : {u : Out} {P : Type 0} (limits : Limits) (constructs : List Construct)
+    → Moves limits u P constructs (ended limits constructs)
+ended_moves {u} {P} limits [] = record { keeps = λ o. ((λ e. e), (λ p e h. h)); steps = λ h o. tt }
+ended_moves {u} {P} limits (c ∷ constructs) = record { keeps = closed_keeps limits u P c constructs; steps = λ h o. h.1 }
+
+pub all_ended_goes : (limits : Limits) (u : Out) (n : ℕ) (constructs : List Construct) (o : Out)
+    → GoesIf (StepsStand u constructs) u o (all_ended limits n constructs o).1
+all_ended_goes limits u zero constructs o = ((λ e. e), (λ p e h. h))
+all_ended_goes limits u (suc n) constructs o =
+    let m : Moves limits u (Unit {0}) constructs (ended limits constructs) = ended_moves limits constructs in
+    let next = ended limits constructs o in
+    let f = m.keeps o in
+    let g = all_ended_goes limits u n next.0 next.1 in
+    ((λ e. f.0 (g.0 e)), (λ p e h. g.1 (m.steps p o) e (f.1 (tt, p) (g.0 e) h)))
+
+pub all_ended_steps : (limits : Limits) (u : Out) (n : ℕ) (constructs : List Construct) (o : Out) → StepsStand u constructs
+    → StepsStand u (all_ended limits n constructs o).0
+all_ended_steps limits u zero constructs o h = h
+all_ended_steps limits u (suc n) constructs o h =
+    let m : Moves limits u (Unit {0}) constructs (ended limits constructs) = ended_moves limits constructs in
+    let next = ended limits constructs o in
+    all_ended_steps limits u n next.0 next.1 (m.steps h o)
+
+pub looped_over_moves : {u : Out} {P : Type 0} (limits : Limits) (trees : List Rooted) → RootsMeet (There u P) trees
+    → (constructs : List Construct) → Moves limits u P constructs (looped_over limits trees constructs)
+looped_over_moves {u} {P} limits [] k constructs = record { keeps = λ o. ((λ e. e), (λ p e h. h)); steps = λ h o. h }
+looped_over_moves {u} {P} limits (r ∷ trees) k constructs =
+    let m : Moves limits u P constructs (changed (looped limits r) constructs) =
+    changed_moves limits (looped limits r) (λ c. laid_by (λ t h. h) (looped_laid limits (There u P) r k.0 c)) (looped_leaves limits r)
+    constructs in
+    record { keeps = m.keeps; steps = m.steps }
+
+-- Walks
+
+-- Open statements
+
+constructs_step : {limits : Limits} {context : Context} {u : Out} (P : Type 0) (w : Compilation) (laying : Laying (List Construct))
+    → (Before u (laying w.output).1 → P) → Moves limits u P w.constructs laying → Steps limits context u w (constructs_laid laying w)
+constructs_step {limits} {context} {u} P w laying given m = record {
+  on = (m.keeps w.output).0;
+  kept = λ e h. ((m.keeps w.output).1 (given e, h.1) e h.0, m.steps h.1 w.output);
+}
+
+pub joining_steps : {limits : Limits} {context : Context} {u : Out} (w : Compilation) → Steps limits context u w (construct_joined limits w)
+joining_steps {limits} {context} {u} w =
+    constructs_step (Unit {0}) w (changed (between limits) w.constructs) (λ e. tt)
+    (changed_moves limits (between limits) (between_gives limits) (between_leaves limits) w.constructs)
+
+ending_steps : {limits : Limits} {context : Context} {u : Out} (w : Compilation) → Steps limits context u w (construct_ended limits w)
+ending_steps {limits} {context} {u} w =
+    constructs_step (Unit {0}) w (ended limits w.constructs) (λ e. tt) (ended_moves limits w.constructs)
+
+pub ahead_steps : {limits : Limits} {context : Context} {u : Out} (count : ℕ) (w : Compilation)
+    → Steps limits context u w (closed_ahead limits count w)
+ahead_steps {limits} {context} {u} count w =
+    let n = count - w.closed in
+    let g = all_ended_goes limits u n w.constructs w.output in
+    record { on = g.0; kept = λ e h. (g.1 h.1 e h.0, all_ended_steps limits u n w.constructs w.output h.1) }
+
+-- code that is kept apart becomes the step of the innermost statement
+step_held : (u o : Out) (constructs : List Construct) → Holds u o → StepsStand u constructs
+    → Holds u (stepped constructs o).1 × StepsStand u (stepped constructs o).0
+step_held u o [] h k = ((record { of_finished = h.0.of_finished; of_opened = h.0.of_opened; of_kept = tt }, h.1), tt)
+step_held u o (c ∷ constructs) h k =
+    ((record { of_finished = h.0.of_finished; of_opened = h.0.of_opened; of_kept = tt }, h.1), (h.0.of_kept, k.1))
+
+parts_step : {limits : Limits} {context : Context} {u : Out} (trees : List Tree) (w : Compilation) → TreesMeet (Stood w.output) trees
+    → Steps limits context u w (constructs_laid (λ o. stepped w.constructs (alone limits trees (apart o))) w)
+parts_step {limits} {context} {u} trees w m =
+    let g = (made_by {u = u} {P = Before u w.output} {L = Stood w.output} (λ t s e. s u e)
+    (alone_made limits (Stood w.output) trees m)).keeps (apart w.output) in
+    record {
+      on = g.0;
+      kept = λ e k.
+          let aside : Holds u (apart w.output) =
+          (record { of_finished = k.0.0.of_finished; of_opened = k.0.0.of_opened; of_kept = tt }, k.0.1) in
+          step_held u (alone limits trees (apart w.output)) w.constructs (g.1 (g.0 e) e aside) k.1;
+    }
+
+loops_step : {limits : Limits} {context : Context} {u : Out} (trees : List Rooted) (w : Compilation) → RootsMeet (Stood w.output) trees
+    → Steps limits context u w (constructs_laid (looped_over limits trees w.constructs) w)
+loops_step {limits} {context} {u} trees w m =
+    let v : Moves limits u (Before u w.output) w.constructs (looped_over limits trees w.constructs) =
+    looped_over_moves limits trees (roots_more {L =
+    Stood w.output} {M = There u (Before u w.output)} (λ t s e. s u e) trees m) w.constructs in
+    constructs_step (Before u w.output) w (looped_over limits trees w.constructs) (v.keeps w.output).0 v
+
+-- Changes within a unit
+
+pub inner_steps : {limits : Limits} {context : Context} {Q : Type 0} {w v : Compilation} → Inner limits Q w v → (u : Out)
+    → Steps limits context u w v
+inner_steps (Puts g stay same) u = record { on = (goes g u).0; kept = λ e h. ((goes g u).1 e h.0, stay u h.1) }
+inner_steps (Next f g) u = steps_then (inner_steps f u) (inner_steps g u)
+inner_steps (Parts {w} trees m) u = parts_step trees w m
+inner_steps {limits} (Cases {w}) u =
+    constructs_step (Unit {0}) w (cases_begun limits w.constructs) (λ e. tt) (cases_moves limits w.constructs)
+inner_steps {limits} (Enters {w} is_default) u =
+    constructs_step (Unit {0}) w (changed (entered limits is_default) w.constructs) (λ e. tt)
+    (changed_moves limits (entered limits is_default) (entered_gives limits is_default) (entered_leaves limits is_default) w.constructs)
+inner_steps (Loops {w} trees m) u = loops_step trees w m
+inner_steps {limits} (Over {w}) u =
+    constructs_step (Unit {0}) w (ended limits w.constructs) (λ e. tt) (ended_moves limits w.constructs)
+
+-- Walks
+
+close_as_steps : {limits : Limits} {context : Context} {u : Out} (how : RoutineKind) (place : Place) (w : Compilation)
+    → Steps limits context u w (close_as limits how context place w)
+close_as_steps {limits} {context} {u} how place w =
+    let g = close_keeps limits u how w.output in record { on = g.0; kept = λ e h. (g.1 e h.0, h.1) }
+
+ended_keeps : (u o : Out) → Goes u o (world_ended o)
+ended_keeps u o = go (no_body_fault o.tables.world)
+  where
+    go : (f : Option WorldFault) → Goes u o (with_world (world_ended_by f o.tables.world) o)
+    go None = ((λ e. e), (λ e h. (h.0, (h.1.0, (end_holds u o.tables.world h.1.1.0, h.1.1.1)))))
+    go (Some f) = goes_nowhere u o
+
+pub walk_steps : {limits : Limits} {context : Context} {Q : Type 0} {w v : Compilation} → Walk limits context Q w v → (u : Out)
+    → Steps limits context u w v
+walk_steps (Rests stay same) u = record {
+  on = λ e. subst (λ (t : Out × (ℕ × ℕ × Bool)). Before u t.0) same e;
+  kept = λ e h. (subst (λ (t : Out × (ℕ × ℕ × Bool)). Holds u t.0) (sym same) h.0, stay u h.1);
+}
+walk_steps (After f g) u = steps_then (walk_steps f u) (walk_steps g u)
+walk_steps (Nests {w} place is_deep) u = nested_steps place is_deep w
+walk_steps (Says {w} place k words) u = report_steps w _
+walk_steps (Tells {w} tell remains) u = report_steps w (tell w.report)
+walk_steps (Sizes {w}) u = sized_steps w
+walk_steps (Ends first has_last found v f) u = steps_then (inner_steps f u) (unit_ends first has_last found v)
+walk_steps (Finishes how place v f) u = steps_then (inner_steps f u) (close_as_steps how place v)
+walk_steps {limits} (Begins {w}) u = output_steps w _ (begin_keeps limits u w.output)
+walk_steps (Leaves {w}) u = output_steps w (world_ended w.output) (ended_keeps u w.output)
+walk_steps (GivesUp {w}) u = output_steps w _ (none_open_keeps u w.output)
+walk_steps {limits} (Starts {w} k) u =
+    constructs_step (Unit {0}) w (begun limits k w.constructs) (λ e. tt) (begun_moves limits k w.constructs)
+walk_steps (Joins {w}) u = joining_steps w
+walk_steps (Shuts {w}) u = ending_steps w
+walk_steps {limits} (Settles {w} count files place) u =
+    steps_then (ahead_steps count w) (begun_ends files place (closed_ahead limits count w))
+
+-- Actions of the grammar, tokens, and cuts
+
+pub act_steps : {limits : Limits} {context : Context} {u : Out} (place : Place) (a : Action) (w : Compilation)
+    → Steps limits context u w (act limits context place a w)
+act_steps {limits} {context} {u} place a w = walk_steps {Q = Unit {0}} (act_walks place a w (λ is. tt)) u
+
+pub took_steps : {limits : Limits} {context : Context} {u : Out} (t : SourceToken) (w : Compilation)
+    → Steps limits context u w (took context t w)
+took_steps {limits} {context} {u} t w = walk_steps {Q = Unit {0}} (took_walks t w) u
+
+pub cut_at_steps : {limits : Limits} {context : Context} {u : Out} (place : Place) (w : Compilation)
+    → Steps limits context u w (cut_at limits context place w)
+cut_at_steps {limits} {context} {u} place w = walk_steps {Q = Unit {0}} (cut_at_walks place w) u
