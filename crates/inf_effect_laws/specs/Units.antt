@@ -32,7 +32,7 @@ UnitsHaveEffects =
     IsDeed limits context v d → Covers d → HasTexts w v.output →
     Lays w (Runs w (exits v.constructs) (effect w d)) v.output (act limits context place a v).output
 
--- So does a part of a nested statement that is such a unit, where nothing is laid before the unit ends.
+-- A part of a nested statement that is such a unit lays code with this effect, too, where nothing is laid before the unit ends.
 abbrev pub PartsHaveEffects : Type 0
 PartsHaveEffects =
     (w : World) (limits : Limits) (context : Context) (plain : Quiet) (v u : Compilation)
