@@ -1,4 +1,4 @@
--- Messages are added behind the report.
+-- Messages are added behind the report, and steps that only add messages.
 use Rattle.std.specs.Prelude.{[], if◌then◌else◌, not, ◌++◌, ◌+◌, ◌||◌, ◌∷◌, ◌≤◌}
 use Rattle.std.proofs.Common.{Bool, List, None, Option, Some, ap, append-nil, append_assoc, arith, false, refl, sym, true, ℕ, ◌∙◌, ◌≡◌}
 use Rattle.inf_scanner.specs.declared.tokens.Place.{Place}
@@ -13,9 +13,9 @@ use Rattle.inf_report.specs.Reports.{with_error as error_counted, with_fatal as 
 use Rattle.inf_unit.specs.Messages.{Diagnostic, FileNames, Reported, location, warnings_chosen, with_error, with_fatal, with_fault}
 use Rattle.inf_unit.specs.Messages.{with_full, with_plain, with_warning, with_words}
 use Rattle.inf_constructs.specs.Labels.{NamedLabel, missing}
-use Rattle.inf_compilation.specs.Actions.{with_all_unused, with_branch_fault, with_fault_or, with_routine_fault, with_unused}
 use Rattle.inf_compilation.specs.Context.{Context}
-use Rattle.inf_message_laws.specs.Growing.{GoesOn, Grows, told_before}
+use Rattle.inf_compilation.specs.Actions.{Compilation, with_all_unused, with_branch_fault, with_fault_or, with_routine_fault, with_unused}
+use Rattle.inf_message_laws.specs.Growing.{GoesOn, Grows, told_before, with_lines_before}
 
 -- Reports that go on
 
@@ -56,6 +56,28 @@ pub told_grows : (tell : Reported → Reported) → Adds tell → Grows (λ w. r
 told_grows tell only = record {
   grows = λ lines w. ap (λ (r : Reported). record w { report = r }) (only.adds lines w.report);
 }
+
+-- Steps whose messages grow put together
+
+-- A value of the compilation does not depend on what was reported.
+abbrev pub Stays : {A : Type 0} → (Compilation → A) → Type 0
+Stays x = (lines : List ℕ) (w : Compilation) → x (with_lines_before lines w) ≡ x w
+
+pub nothing_grows : Grows (λ w. w)
+nothing_grows = record { grows = λ lines w. refl }
+
+-- one step behind another
+pub then_grows : (f g : Compilation → Compilation) → Grows f → Grows g → Grows (λ w. g (f w))
+then_grows f g first second = record { grows = λ lines w. ap g (first.grows lines w) ∙ second.grows lines (f w) }
+
+-- a step by a value that stays
+pub with_grows : {A : Type 0} (x : Compilation → A) (f : A → Compilation → Compilation) → Stays x → ((a : A) → Grows (f a))
+    → Grows (λ w. f (x w) w)
+with_grows x f stays each = record {
+  grows = λ lines w. ap (λ a. f a (with_lines_before lines w)) (stays lines w) ∙ (each (x w)).grows lines w;
+}
+
+-- Messages
 
 -- whether warnings are told
 pub chosen_adds : (has_warnings : Bool) → Adds (warnings_chosen has_warnings)

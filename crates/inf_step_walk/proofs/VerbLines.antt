@@ -25,15 +25,15 @@ use Rattle.inf_verb_lines.specs.Verbs.{parsing_routine, place_named, tokens_find
 use Rattle.inf_verb_lines.specs.Verbs.{verb_header, verb_named, verb_opened, verb_use, with_token, with_verbs, word_at, word_used}
 use Rattle.inf_verb_lines.specs.Verbs.{words_given, words_used}
 use Rattle.inf_word_laws.proofs.Numbering.{IsWithin}
-use Rattle.inf_step_walk.specs.{Lists.LinesStand, Lists.TokensStand, Lists.VerbStands, Lists.VerbsStand, Standing.Before}
-use Rattle.inf_step_walk.specs.{Standing.ValueStands}
-use Rattle.inf_step_walk.specs.Walking.{Ends, Follows, Grown, Inner, Passes, Puts, Refers, Stays, Tables, Uses, Walk}
+use Rattle.inf_step_walk.specs.Standing.{Before, ValueStands}
+use Rattle.inf_step_walk.specs.Lists.{LinesStand, TokensStand, VerbStands, VerbsStand}
+use Rattle.inf_step_walk.specs.Walking.{Ends, Follows, Grown, Lies, Passes, Premises, Puts, Refers, Stays, Tables, Uses, Walks, free}
 use Rattle.inf_step_walk.proofs.{Lists.referred_within, Lists.routine_among, Operands.action_grows, Operands.faked_grows}
 use Rattle.inf_step_walk.proofs.{Outputs.word_stands, Pieces.before, Units.passed_steps, Units.puts, Units.rests}
 
 -- Verbs, whose lines stand
 
-verbs_grow : {limits : Limits} {Q : Type 0} {o : Out} (verbs : AllVerbs)
+verbs_grow : {limits : Limits} {Q : Premises} {o : Out} (verbs : AllVerbs)
     → ((u : Out) → Before u o → VerbsStand u o.tables.verbs.list → VerbsStand u verbs.list) → Grown limits Q o (with_verbs verbs o)
 verbs_grow {limits} {Q} {o} verbs f = Tables {p = with_verbs verbs o} Stays refl (λ u b e h. (
   record {
@@ -76,7 +76,7 @@ line_stands u LinePlace.First line verb s h = (lines_join u verb.first (line ∷
 line_stands u LinePlace.Last line verb s h = (h.0, lines_join u verb.rest (line ∷ []) h.1 (s, tt))
 line_stands u LinePlace.Replace line verb s h = (h.0, lines_join u verb.rest (line ∷ []) h.1 (s, tt))
 
-module _ {limits : Limits} {Q : Type 0} where
+module _ {limits : Limits} {Q : Premises} where
   -- The header of `Verb`
 
   new_grows : (o : Out) → Grown limits Q o (new_verb limits o).0
@@ -118,9 +118,9 @@ module _ {limits : Limits} {Q : Type 0} where
   opened_grows head tokens o =
       let b = verb_begun limits head.like tokens o in Follows (begun_grows head.like tokens o) (given_grows b.1.words head tokens b.0)
 
-  header_lays : (told : Option Finding) (head : VerbHead) (w : Compilation) → Inner limits Q w (header_opened limits told head w)
-  header_lays (Some f) head w = Puts Stays (λ u h. h) refl
-  header_lays None head w = Puts (opened_grows head w.unit.tokens w.output) (λ u h. h) refl
+  header_lays : (told : Option Finding) (head : VerbHead) (w : Compilation) → Lies limits Q w (header_opened limits told head) w
+  header_lays (Some f) head w r = Puts Stays (λ u h. h) refl
+  header_lays None head w r = Puts (opened_grows head w.unit.tokens w.output) (λ u h. h) refl
 
   -- The header of `Extend`
 
@@ -260,9 +260,9 @@ tokens_stand limits u zero tokens o e = tt
 tokens_stand limits u (suc at) tokens o e =
     let line = line_tokens limits at tokens o in
     with_token_stands u (line_token limits tokens at line.0).1 line.1 (token_stands limits u (kind_at tokens at) tokens at line.0 e)
-    (tokens_stand limits u at tokens o (before {limits = limits} {Q = Unit {0}} (token_grows (kind_at tokens at) tokens at line.0) u e))
+    (tokens_stand limits u at tokens o (before {limits = limits} {Q = free} (token_grows (kind_at tokens at) tokens at line.0) u e))
 
-module _ {limits : Limits} {Q : Type 0} where
+module _ {limits : Limits} {Q : Premises} where
   added_grows : (e : Extending) (tokens : List SourceToken) (arrow : ℕ) (o : Out) → Grown limits Q o (line_added limits e tokens arrow o)
   added_grows e tokens arrow o =
       let line = line_tokens limits arrow tokens o in
@@ -272,43 +272,43 @@ module _ {limits : Limits} {Q : Type 0} where
       Follows {p = line.0} (tokens_grow arrow tokens o) (Follows {p = action.0} acts
       (kept_grows e.verb e.place whole action.0 (λ u b. tokens_stand limits u arrow tokens o (before acts u b))))
 
-  line_lays : (told : Option Finding) (arrow : ℕ) (w : Compilation) → Inner limits Q w (line_laid limits told arrow w)
+  line_lays : (told : Option Finding) (arrow : ℕ) (w : Compilation) → Lies limits Q w (line_laid limits told arrow) w
   line_lays (Some f) arrow w = rests w
   line_lays None arrow w =
       puts (line_added limits w.extending w.unit.tokens arrow w.output) (added_grows w.extending w.unit.tokens arrow w.output)
 
-module _ {limits : Limits} {context : Context} {Q : Type 0} where
-  pub verb_steps : (first : Place) (w : Compilation) → Walk limits context Q w (verb_header limits context first w)
-  verb_steps first w =
+module _ {limits : Limits} {context : Context} {Q : Premises} where
+  pub verb_steps : (first : Place) (w : Compilation) → Walks limits context Q (verb_header limits context first) w
+  verb_steps first w r =
       let head = verb_head w.unit.tokens in
       let found = head_finding head w.unit.tokens w.output in
-      Ends first false (verb_findings found) (header_opened limits found head w) (header_lays found head w)
+      Ends first false (verb_findings found) (header_opened limits found head w) (header_lays found head w r)
 
   extend_with_steps : (first : Place) (at : ℕ) (number : Option ℕ) (place : LinePlace) (w : Compilation)
-      → Walk limits context Q w (extend_with limits context first at number place w)
-  extend_with_steps first at number place w =
+      → Walks limits context Q (extend_with limits context first at number place) w
+  extend_with_steps first at number place w r =
       Ends first false (verb_findings (no_verb_finding at number)) (record w {
         extending = lines_of number place;
         output = verb_extended limits number place (word_at w.unit.tokens at) w.output;
       }) (Puts (extended_grows number place (word_at w.unit.tokens at) w.output) (λ u h. h) refl)
 
-  pub extend_steps : (first : Place) (w : Compilation) → Walk limits context Q w (extend_header limits context first w)
+  pub extend_steps : (first : Place) (w : Compilation) → Walks limits context Q (extend_header limits context first) w
   extend_steps first w =
       let at = name_order w.unit.tokens in
       extend_with_steps first at (verb_named w.unit.tokens at w.output) (place_named (bytes_at w.unit.tokens (at + 1))) w
 
-  pub line_steps : (place : Place) (w : Compilation) → Walk limits context Q w (line_ended limits context place w)
-  line_steps place w =
+  pub line_steps : (place : Place) (w : Compilation) → Walks limits context Q (line_ended limits context place) w
+  line_steps place w r =
       let arrow = arrow_in w.unit.tokens in
       let found = tokens_finding arrow w.unit.tokens w.output.names in
-      Ends (first_place w.unit.tokens place) false (verb_findings found) (line_laid limits found arrow w) (line_lays found arrow w)
+      Ends (first_place w.unit.tokens place) false (verb_findings found) (line_laid limits found arrow w) (line_lays found arrow w r)
 
   -- Fake actions
 
   pub fake_steps : (first : Place) (names : List Name) (w : Compilation)
-      → Walk limits context Q w (fake_action limits context first names w)
-  fake_steps first [] w = passed_steps true w
-  fake_steps first (name ∷ names) w =
+      → Walks limits context Q (fake_action limits context first names) w
+  fake_steps first [] w r = passed_steps true w r
+  fake_steps first (name ∷ names) w r =
       let f = faked limits name.bytes name.place w.output in
       Ends first true (fake_findings (again_by name f.1)) (record w { output = f.0 })
-      (puts f.0 (faked_grows name.bytes name.place w.output))
+      (puts f.0 (faked_grows name.bytes name.place w.output) r)

@@ -3,14 +3,14 @@ use Rattle.std.specs.Prelude.{if◌then◌else◌, nat_le, option_map, option_to
 use Rattle.std.proofs.Common.{Bool, Err, List, None, Ok, Option, Result, Some, [], false, refl, suc, true, zero, ℕ, ◌++◌, ◌∷◌}
 use Rattle.inf_area.specs.declared.targets.Value.{Value}
 use Rattle.inf_settings.specs.Bounds.{Limits}
+use Rattle.inf_arrays.specs.declared.kinds.ArrayKind.{ArrayKind}
 use Rattle.inf_arrays.specs.Arrays.{Adding, AllArrays, Characters, Listed, One, Zeros, all_of, characters, more_entries}
 use Rattle.inf_arrays.specs.Arrays.{opened as opened_array, values_in, with_entries}
-use Rattle.inf_arrays.specs.declared.kinds.ArrayKind.{ArrayKind}
 use Rattle.inf_properties.specs.{Open.Open, Open.given_first, Open.with_given, Values.with_last_value, declared.values.Property.Property}
 use Rattle.inf_properties.specs.Properties.{found, has, inherited, joined_values, lacked, values_in as property_values, values_of}
 use Rattle.inf_properties.specs.Properties.{with_joined}
-use Rattle.inf_objects.specs.{Objects.ended, Objects.is_lost, Objects.is_passed, Objects.with_joined_class, declared.body.Body.Body}
-use Rattle.inf_objects.specs.{declared.objects.Object.Object}
+use Rattle.inf_objects.specs.{declared.body.Body.Body, declared.objects.Object.Object}
+use Rattle.inf_objects.specs.Objects.{ended, is_lost, is_passed, with_joined_class}
 use Rattle.inf_tables.specs.{declared.faults.Misfit.Misfit, declared.kinds.DeclaredProperty.DeclaredProperty, declared.kinds.Parent.Parent}
 use Rattle.inf_tables.specs.Objects.{arrows_of, class_at, class_in, declared_at, is_class, parent_of}
 use Rattle.inf_tables.specs.World.{WorldOf, class_by, ended_objects, given_of, kind_of, lost_given, with_class_of, with_end}
@@ -18,8 +18,9 @@ use Rattle.inf_tables.specs.World.{with_further_value, with_given_property, with
 use Rattle.inf_output.specs.Output.{Out}
 use Rattle.inf_statements.specs.Statements.{rest}
 use Rattle.inf_named_values.specs.Declarations.{with_world}
-use Rattle.inf_step_walk.specs.{Outputs.WorldStands, Standing.Before, Standing.ValueStands, Walking.Grown, Walking.Stays, Walking.Tables}
+use Rattle.inf_step_walk.specs.{Outputs.WorldStands, Standing.Before, Standing.ValueStands}
 use Rattle.inf_step_walk.specs.Lists.{ArraysStand, DefaultsStand, ListedStand, ObjectsStand, OpenArrayStands, PropertiesStand, ValuesStand}
+use Rattle.inf_step_walk.specs.Walking.{Grown, Premises, Stays, Tables}
 use Rattle.inf_step_walk.proofs.Lists.{listed_join, objects_join, properties_join, values_join}
 
 abbrev pub WorldHolds : Out → WorldOf → Type 0
@@ -30,12 +31,12 @@ MaybeValue u None = Unit {0}
 MaybeValue u (Some v) = ValueStands u v
 
 -- an output with another world, before all that follows
-pub world_later : {limits : Limits} {Q : Type 0} {o v : Out} (world : WorldOf)
+pub world_later : {limits : Limits} {Q : Premises} {o v : Out} (world : WorldOf)
     → ((u : Out) → Before u o → Before u v → WorldHolds u o.tables.world → WorldHolds u world) → Grown limits Q (with_world world o) v
     → Grown limits Q o v
 world_later world f later = Tables later refl (λ u b e h. (h.0, f u b e h.1))
 
-pub world_grows : {limits : Limits} {Q : Type 0} {o : Out} (world : WorldOf)
+pub world_grows : {limits : Limits} {Q : Premises} {o : Out} (world : WorldOf)
     → ((u : Out) → Before u o → WorldHolds u o.tables.world → WorldHolds u world) → Grown limits Q o (with_world world o)
 world_grows world f = world_later world (λ u b e. f u b) Stays
 

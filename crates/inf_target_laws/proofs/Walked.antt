@@ -14,20 +14,21 @@ use Rattle.inf_constructs.specs.{declared.constructs.Case.Case, declared.constru
 use Rattle.inf_constructs.specs.Constructs.{Laying, all_ended, begun, between, case_closed, cases_begun, changed, closed, ended, ending}
 use Rattle.inf_constructs.specs.Constructs.{entered, entered_by, looped, looped_by, looped_over, opened, stepped}
 use Rattle.inf_statements.specs.Statements.{alone}
-use Rattle.inf_compilation.specs.{Context.Context, Context.longest, Findings.Findings, Nesting.closed_ahead, Nesting.construct_ended}
-use Rattle.inf_compilation.specs.{Nesting.construct_joined, Nesting.constructs_laid}
+use Rattle.inf_compilation.specs.{Context.Context, Context.longest, Findings.Findings}
 use Rattle.inf_compilation.specs.Actions.{Compilation, begun_at, close_as, nested, passed, sized, stopped, took, unit_ended, world_ended}
 use Rattle.inf_compilation.specs.Actions.{world_ended_by}
+use Rattle.inf_compilation.specs.Nesting.{closed_ahead, construct_ended, construct_joined, constructs_laid}
 use Rattle.inf_named_values.specs.Declarations.{with_world}
 use Rattle.inf_reader.specs.Acting.{act, cut_at}
 use Rattle.inf_code_walk.specs.Made.{TreesMeet}
 use Rattle.inf_code_walk.proofs.Statements.{alone_made, between_laid, case_closed_made, entered_laid, looped_laid, looped_on_made}
 use Rattle.inf_code_walk.proofs.Statements.{opened_laid}
 use Rattle.inf_step_walk.specs.{Lists.ItemsStand, Lists.StepsStand, Outputs.Holds, Standing.Before}
-use Rattle.inf_step_walk.specs.Walking.{After, Begins, Cases, Ends, Enters, Finishes, GivesUp, Inner, Joins, Leaves, Loops, Nests, Next}
-use Rattle.inf_step_walk.specs.Walking.{Over, Parts, Puts, Rests, RootsMeet, Says, Settles, Shuts, Sizes, Starts, Stood, Tells, Walk}
+use Rattle.inf_step_walk.specs.Walking.{Acts, After, Asks, Begins, Behind, Cases, Ends, Enters, Finishes, GivesUp, Inner, Joins, Leaves}
+use Rattle.inf_step_walk.specs.Walking.{Loops, Nests, Next, Nowhere, Over, Parts, Premises, Puts, Rests, RootsMeet, Runs, Says, Settles}
+use Rattle.inf_step_walk.specs.Walking.{Shuts, Sizes, Starts, Stood, Tallies, Tells, Then, Walk, Warns, free}
+use Rattle.inf_step_walk.proofs.{Actions.act_steps as act_walks, Actions.cut_at_steps as cut_at_walks, Actions.took_steps as took_walks}
 use Rattle.inf_step_walk.proofs.{Premises.There, Premises.roots_more, Worlds.end_holds}
-use Rattle.inf_step_walk.proofs.Actions.{act_steps as act_walks, cut_at_steps as cut_at_walks, took_steps as took_walks}
 use Rattle.inf_step_walk.proofs.Outputs.{Goes, GoesIf, Sound, begin_keeps, close_keeps, goes_nowhere, items_keep, none_open_keeps}
 use Rattle.inf_step_walk.proofs.Pieces.{GivesIf, fixed_stand, goes, laid_by, made_by, made_sound, sound_jump, sound_mark, sound_then}
 use Rattle.inf_target_laws.specs.Compilations.{Held}
@@ -294,8 +295,8 @@ loops_step {limits} {context} {u} trees w m =
 
 -- Changes within a unit
 
-pub inner_steps : {limits : Limits} {context : Context} {Q : Type 0} {w v : Compilation} → Inner limits Q w v → (u : Out)
-    → Steps limits context u w v
+pub inner_steps : {limits : Limits} {context : Context} {Q : Premises} {w v t : Compilation} {r : Reported} → Inner limits Q w r v t
+    → (u : Out) → Steps limits context u w v
 inner_steps (Puts g stay same) u = record { on = (goes g u).0; kept = λ e h. ((goes g u).1 e h.0, stay u h.1) }
 inner_steps (Next f g) u = steps_then (inner_steps f u) (inner_steps g u)
 inner_steps (Parts {w} trees m) u = parts_step trees w m
@@ -322,16 +323,18 @@ ended_keeps u o = go (no_body_fault o.tables.world)
     go None = ((λ e. e), (λ e h. (h.0, (h.1.0, (end_holds u o.tables.world h.1.1.0, h.1.1.1)))))
     go (Some f) = goes_nowhere u o
 
-pub walk_steps : {limits : Limits} {context : Context} {Q : Type 0} {w v : Compilation} → Walk limits context Q w v → (u : Out)
-    → Steps limits context u w v
+pub walk_steps : {limits : Limits} {context : Context} {Q : Premises} {w v t : Compilation} {r : Reported}
+    → Walk limits context Q w r v t → (u : Out) → Steps limits context u w v
 walk_steps (Rests stay same) u = record {
-  on = λ e. subst (λ (t : Out × (ℕ × ℕ × Bool)). Before u t.0) same e;
-  kept = λ e h. (subst (λ (t : Out × (ℕ × ℕ × Bool)). Holds u t.0) (sym same) h.0, stay u h.1);
+  on = λ e. subst (λ (t : Out × Tallies). Before u t.0) same e;
+  kept = λ e h. (subst (λ (t : Out × Tallies). Holds u t.0) (sym same) h.0, stay u h.1);
 }
 walk_steps (After f g) u = steps_then (walk_steps f u) (walk_steps g u)
+walk_steps (Behind {r} g f next) u = steps_then (walk_steps f u) (walk_steps (next r) u)
 walk_steps (Nests {w} place is_deep) u = nested_steps place is_deep w
 walk_steps (Says {w} place k words) u = report_steps w _
-walk_steps (Tells {w} tell remains) u = report_steps w (tell w.report)
+walk_steps (Warns {w} has_warnings) u = report_steps w _
+walk_steps (Asks request q) u = record { on = λ e. e; kept = λ e h. h }
 walk_steps (Sizes {w}) u = sized_steps w
 walk_steps (Ends first has_last found v f) u = steps_then (inner_steps f u) (unit_ends first has_last found v)
 walk_steps (Finishes how place v f) u = steps_then (inner_steps f u) (close_as_steps how place v)
@@ -342,19 +345,25 @@ walk_steps {limits} (Starts {w} k) u =
     constructs_step (Unit {0}) w (begun limits k w.constructs) (λ e. tt) (begun_moves limits k w.constructs)
 walk_steps (Joins {w}) u = joining_steps w
 walk_steps (Shuts {w}) u = ending_steps w
-walk_steps {limits} (Settles {w} count files place) u =
+
+pub ran : {limits : Limits} {context : Context} {u : Out} {w v : Compilation} → Runs limits context w v → Steps limits context u w v
+ran (Nowhere {w}) = stays w
+ran {limits} {context} {u} (Acts f) = walk_steps f u
+ran (Then f g) = steps_then (ran f) (ran g)
+ran (Tells {w} tell remains) = report_steps w (tell w.report)
+ran {limits} (Settles {w} count files place) =
     steps_then (ahead_steps count w) (begun_ends files place (closed_ahead limits count w))
 
 -- Actions of the grammar, tokens, and cuts
 
 pub act_steps : {limits : Limits} {context : Context} {u : Out} (place : Place) (a : Action) (w : Compilation)
     → Steps limits context u w (act limits context place a w)
-act_steps {limits} {context} {u} place a w = walk_steps {Q = Unit {0}} (act_walks place a w (λ is. tt)) u
+act_steps {limits} {context} {u} place a w = walk_steps {Q = free} (act_walks place a w (λ e is. tt) w.report) u
 
 pub took_steps : {limits : Limits} {context : Context} {u : Out} (t : SourceToken) (w : Compilation)
     → Steps limits context u w (took context t w)
-took_steps {limits} {context} {u} t w = walk_steps {Q = Unit {0}} (took_walks t w) u
+took_steps {limits} {context} {u} t w = walk_steps {Q = free} (took_walks t w w.report) u
 
 pub cut_at_steps : {limits : Limits} {context : Context} {u : Out} (place : Place) (w : Compilation)
     → Steps limits context u w (cut_at limits context place w)
-cut_at_steps {limits} {context} {u} place w = walk_steps {Q = Unit {0}} (cut_at_walks place w) u
+cut_at_steps {limits} {context} {u} place w = walk_steps {Q = free} (cut_at_walks place w w.report) u

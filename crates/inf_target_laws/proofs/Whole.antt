@@ -7,21 +7,18 @@ use Rattle.inf_unit.specs.Tokens.{SourceToken}
 use Rattle.inf_compilation.specs.{Actions.Compilation, Actions.begun_at, Context.Context}
 use Rattle.inf_conditionals.specs.{Judging.judged, declared.filtered.Filtered.Filtered}
 use Rattle.inf_conditionals.specs.Said.{Deep, Long, Right, Said, Wrong}
-use Rattle.inf_reader.specs.Handing.{judged_taken, lone_told, said_told, sign_taken, site_of, token_taken}
 use Rattle.inf_reader.specs.Reading.{ReaderState}
+use Rattle.inf_reader.specs.Handing.{judged_taken, lone_told, said_told, sign_taken, site_of, token_taken}
 use Rattle.inf_ending.specs.Ending.{first_place}
 use Rattle.inf_session.specs.Choices.{Choices}
 use Rattle.inf_session.specs.Session.{State, context_of, has_ended, rested, stand_of, start, stepped, token_of, turn}
 use Rattle.inf_session.specs.Veneer.{in_text, text_begun, text_front, text_read, text_turns, veneer_text}
-use Rattle.inf_step_walk.specs.{Standing.Before, Standing.is_short, Walking.Walk}
+use Rattle.inf_step_walk.specs.Standing.{Before, is_short}
 use Rattle.inf_step_walk.proofs.{Outputs.begin_keeps, Pieces.goes}
 use Rattle.inf_limit_laws.specs.Reached.{Here, IsBehind, IsReached, Supplies, Turns}
 use Rattle.inf_limit_laws.proofs.Turns.{actions_grow, between_walks, ended_walks, followed_walks, rested_walks}
 use Rattle.inf_target_laws.specs.{Compilations.Held, Compilations.Leads, Laws.StepsKeepTargets, Laws.TargetsStand}
-use Rattle.inf_target_laws.proofs.Walked.{Steps, act_steps, begun_ends, cut_at_steps, steps_then, took_steps, walk_steps}
-
-does : {limits : Limits} {context : Context} {u : Out} {w v : Compilation} → Walk limits context (Unit {0}) w v → Steps limits context u w v
-does {limits} {context} {u} f = walk_steps f u
+use Rattle.inf_target_laws.proofs.Walked.{Steps, act_steps, begun_ends, cut_at_steps, ran, steps_then, took_steps}
 
 -- Messages about a condition. One that is right has its actions appear, before its directive ends.
 told_steps : {limits : Limits} {context : Context} {u : Out} (said : Option Said) (s : ReaderState)
@@ -37,7 +34,7 @@ turned_steps : {limits : Limits} {context : Context} {u : Out} (t : SourceToken)
     → Steps limits context u s.work (judged_taken limits context t j (said_told limits said context s)).work
 turned_steps {limits} {context} {u} t j said s =
     let told = said_told limits said context s in
-    steps_then (told_steps said s) (steps_then (does (between_walks t j told)) (does (ended_walks j.ended
+    steps_then (told_steps said s) (steps_then (ran (between_walks t j told)) (ran (ended_walks j.ended
     (lone_told j.unmatched context (token_taken limits j.token context t (sign_taken limits j.sign context told))))))
 
 -- States
@@ -50,14 +47,14 @@ stepped_steps limits o s =
     turned_steps (token_of s) b.judged b.now.said (stand_of s)
 
 pub rested_steps : {limits : Limits} {context : Context} {u : Out} (s : State) → Steps limits context u s.work (rested s).work
-rested_steps s = does (rested_walks s)
+rested_steps s = ran (rested_walks s)
 
 -- a whole turn
 pub turn_steps : {u : Out} (limits : Limits) (sources : Sources) (o : Choices) (s : State)
     → Steps limits (context_of o s) u s.work (turn limits sources o s).work
 turn_steps limits sources o s =
     let t = stepped limits o s in
-    steps_then (stepped_steps limits o s) (steps_then (does (followed_walks sources o t)) (record { on = λ e. e; kept = λ e h. h }))
+    steps_then (stepped_steps limits o s) (steps_then (ran (followed_walks sources o t)) (record { on = λ e. e; kept = λ e h. h }))
 
 -- From the start on
 
