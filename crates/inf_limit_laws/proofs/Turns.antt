@@ -12,9 +12,8 @@ use Rattle.inf_syntax.specs.declared.actions.Action.{Action}
 use Rattle.inf_grammar.specs.{Language.grammar, Language.known, Routines.closings}
 use Rattle.inf_report.specs.declared.messages.Kind.{Kind}
 use Rattle.inf_report.specs.Messages.{DeepNesting, Exceeded, Location, LoneConditional, Message, NoInclude, TooManyFiles, kind_of}
-use Rattle.inf_unit.specs.{Messages.FileNames, Messages.location, Messages.with_fatal, Tokens.SourceToken, Tokens.atom_of, Tokens.is_end}
-use Rattle.inf_unit.specs.{Units.name_at}
-use Rattle.inf_unit.specs.Directives.{Characters, End, Include, Nothing, Request}
+use Rattle.inf_unit.specs.{Directives.Include, Directives.Nothing, Directives.Request, Messages.FileNames, Messages.location}
+use Rattle.inf_unit.specs.{Messages.with_fatal, Tokens.SourceToken, Tokens.atom_of, Tokens.is_end, Units.name_at}
 use Rattle.inf_compilation.specs.{Actions.Compilation, Actions.piece_begun as work_begun, Context.Context, Nesting.closed_ahead}
 use Rattle.inf_sources.specs.{declared.open_file.Conditional.Conditional, declared.open_files.Included.Included}
 use Rattle.inf_sources.specs.Inclusions.{Inclusion, Opens, OpensNone, Waiting, inclusion}
@@ -33,23 +32,24 @@ use Rattle.inf_session.specs.Session.{included_by, is_resting, left, left_by, no
 use Rattle.inf_session.specs.Session.{token_of, turn}
 use Rattle.inf_step_walk.specs.Walking.{Acts, Asks, Follows, Grown, Nowhere, Remains, Rests, Runs, Settles, Stays, Tells, Then, free}
 use Rattle.inf_step_walk.proofs.{Actions.all_acted_steps, Actions.cut_at_steps, Actions.took_steps, Operands.action_grows}
-use Rattle.inf_limit_laws.specs.{Rooms.unfollowed, Signs.SignFits, Signs.is_loud, Within.Ends, Within.Lays, Within.Steps, Within.is_over}
+use Rattle.inf_message_laws.proofs.Told.{error_adds, fatal_adds, remains}
+use Rattle.inf_limit_laws.specs.Within.{Ends, Lays, SignFits, Steps, is_loud, is_over, unfollowed}
 use Rattle.inf_limit_laws.proofs.Walked.{ahead_lays, counted, ran}
 use Rattle.inf_limit_laws.proofs.Conditions.{NoneRight, is_right, loud_is_over, right_ends, tokens_are_few}
-use Rattle.inf_limit_laws.proofs.Ways.{begun_ends, lay_of, lays_end, step_of, steps_then, with_error_stays, with_fatal_stays}
+use Rattle.inf_limit_laws.proofs.Ways.{begun_ends, lay_of, lays_end, step_of, steps_then}
 
 -- Messages about tokens and conditionals
 
 complaint_stays : (k : Kind) (at : Location) (m : Message) → Remains (with_complaint_of k at m)
-complaint_stays Kind.Fatal at m = with_fatal_stays at m
-complaint_stays Kind.Error at m = with_error_stays at at m
-complaint_stays Kind.Warning at m = with_error_stays at at m
+complaint_stays Kind.Fatal at m = remains (fatal_adds at m)
+complaint_stays Kind.Error at m = remains (error_adds at at m)
+complaint_stays Kind.Warning at m = remains (error_adds at at m)
 
 with_complaint_stays : (at : Location) (m : Message) → Remains (with_complaint at m)
 with_complaint_stays at m = complaint_stays (kind_of m) at m
 
 lone_stays : (files : FileNames) (place : Place) → Remains (with_lone files place)
-lone_stays files place = with_error_stays (location files place) (location files place) LoneConditional
+lone_stays files place = remains (error_adds (location files place) (location files place) LoneConditional)
 
 all_lone_stay : (files : FileNames) (conditionals : List Conditional) → Remains (with_all_lone files conditionals)
 all_lone_stay files [] r free = free
@@ -66,9 +66,9 @@ pub said_stays : (files : FileNames) (said : Option Said) → Remains (with_said
 said_stays files None r free = free
 said_stays files (Some (Right tokens leaves)) r free = free
 said_stays files (Some (Wrong directive b)) r free =
-    with_error_stays (location files b.place) (location files directive) b.message r free
-said_stays files (Some (Long place)) r free = with_fatal_stays (location files place) (Exceeded Setting.ExpressionNodes) r free
-said_stays files (Some (Deep place)) r free = with_fatal_stays (location files place) DeepNesting r free
+    remains (error_adds (location files b.place) (location files directive) b.message) r free
+said_stays files (Some (Long place)) r free = remains (fatal_adds (location files place) (Exceeded Setting.ExpressionNodes)) r free
+said_stays files (Some (Deep place)) r free = remains (fatal_adds (location files place) DeepNesting) r free
 
 module _ {limits : Limits} {context : Context} where
   -- Tokens that the grammar gets
@@ -117,9 +117,7 @@ module _ {limits : Limits} {context : Context} where
   in_walks : (m : Recovery) (t : SourceToken) (r : Reading) (w : Compilation)
       → Runs limits context w (step_in limits m context t r w).work
   in_walks Recovery.Reads t r w = at_walks t r.stack r w
-  in_walks Recovery.SkipsRoutine t r w = Nowhere
-  in_walks Recovery.SkipsDirective t r w = Nowhere
-  in_walks Recovery.Ended t r w = Nowhere
+  in_walks mode t r w = Nowhere
 
   token_walks : (t : SourceToken) (r : Reading) (w : Compilation)
       → Runs limits context w (step limits context t r w).work
@@ -128,9 +126,7 @@ module _ {limits : Limits} {context : Context} where
   unfit_walks : (m : Recovery) (t : SourceToken) (s : ReaderState)
       → Runs limits context s.work (unfit_in limits m context t s).work
   unfit_walks Recovery.Reads t s = bad_walks t s.reading s.work
-  unfit_walks Recovery.SkipsRoutine t s = token_walks t s.reading s.work
-  unfit_walks Recovery.SkipsDirective t s = token_walks t s.reading s.work
-  unfit_walks Recovery.Ended t s = token_walks t s.reading s.work
+  unfit_walks mode t s = token_walks t s.reading s.work
 
   handed_walks : (h : Forwarded) (t : SourceToken) (s : ReaderState)
       → Runs limits context s.work (handed_as limits h context t s).work
@@ -189,10 +185,10 @@ module _ {limits : Limits} {context : Context} where
   none_walks unit text Included.Entered s = Nowhere
   none_walks unit text Included.NotThere s =
       Tells (with_fatal (location s.nesting.names unit) (NoInclude text))
-      (with_fatal_stays (location s.nesting.names unit) (NoInclude text))
+      (remains (fatal_adds (location s.nesting.names unit) (NoInclude text)))
   none_walks unit text Included.TooDeep s =
       Tells (with_fatal (location s.nesting.names unit) TooManyFiles)
-      (with_fatal_stays (location s.nesting.names unit) TooManyFiles)
+      (remains (fatal_adds (location s.nesting.names unit) TooManyFiles))
 
   included_walks : (sources : Sources) (o : Choices) (unit : Place)
       (text : List ℕ)
@@ -203,9 +199,7 @@ module _ {limits : Limits} {context : Context} where
   answered_walks : (r : Request) (sources : Sources) (o : Choices) (s : State)
       → Runs limits context s.work (answered r sources o s).work
   answered_walks (Include text unit) sources o s = included_walks sources o unit text (inclusion sources o.directories text s.nesting) s
-  answered_walks End sources o s = Nowhere
-  answered_walks (Characters set) sources o s = Nowhere
-  answered_walks Nothing sources o s = Nowhere
+  answered_walks other sources o s = Nowhere
 
   -- nothing is asked any more
   silent_walks : (s : State)
@@ -268,35 +262,17 @@ directive_ends {limits} {context} {begins} {strict} place s =
 
 told_lays : {limits : Limits} {context : Context} {begins strict : Bool} (said : Option Said) (s : ReaderState)
     → Lays limits context (unfollowed begins strict) s.work (said_told limits said context s).work
-told_lays {limits} {context} {begins} {strict} None s = record { on = said_stays context.names None s.work.report; kept = λ e h. h }
 told_lays {limits} {context} {begins} {strict} (Some (Right tokens leaves)) s = record {
   on = λ e. e;
   kept = λ e h. (h.0, (h.1.0, counted {Q = free} (λ q. refl) (actions_grow tokens leaves s.work.output) h.1.1));
 }
-told_lays {limits} {context} {begins} {strict} (Some (Wrong directive b)) s =
-    record { on = said_stays context.names (Some (Wrong directive b)) s.work.report; kept = λ e h. h }
-told_lays {limits} {context} {begins} {strict} (Some (Long place)) s =
-    record { on = said_stays context.names (Some (Long place)) s.work.report; kept = λ e h. h }
-told_lays {limits} {context} {begins} {strict} (Some (Deep place)) s =
-    record { on = said_stays context.names (Some (Deep place)) s.work.report; kept = λ e h. h }
+told_lays {limits} {context} {begins} {strict} said s = record { on = said_stays context.names said s.work.report; kept = λ e h. h }
 
 told_steps : {limits : Limits} {context : Context} {begins strict : Bool} (said : Option Said) (s : ReaderState) → is_right said ≡ false
     → Steps limits context (unfollowed begins strict) s.work (said_told limits said context s).work
-told_steps {limits} {context} {begins} {strict} None s none =
-    record { on = said_stays context.names None s.work.report; kept = λ e h. h; few = λ e b h k. k; near = λ e h k. k }
 told_steps {limits} {context} {begins} {strict} (Some (Right tokens leaves)) s none = cc
-told_steps {limits} {context} {begins} {strict} (Some (Wrong directive b)) s none =
-    record {
-      on = said_stays context.names (Some (Wrong directive b)) s.work.report;
-      kept = λ e h. h;
-      few = λ e b h k. k;
-      near =
-          λ e h k. k;
-    }
-told_steps {limits} {context} {begins} {strict} (Some (Long place)) s none =
-    record { on = said_stays context.names (Some (Long place)) s.work.report; kept = λ e h. h; few = λ e b h k. k; near = λ e h k. k }
-told_steps {limits} {context} {begins} {strict} (Some (Deep place)) s none =
-    record { on = said_stays context.names (Some (Deep place)) s.work.report; kept = λ e h. h; few = λ e b h k. k; near = λ e h k. k }
+told_steps {limits} {context} {begins} {strict} said s none =
+    record { on = said_stays context.names said s.work.report; kept = λ e h. h; few = λ e b h k. k; near = λ e h k. k }
 
 -- a turn in which a conditional directive ends
 ending_steps : {limits : Limits} {context : Context} {begins strict : Bool} (t : SourceToken) (j : Filtered) (said : Option Said)
@@ -362,8 +338,7 @@ left_alike (w ∷ waiting) s = (refl, refl)
 
 why_alike : (unit : Place) (text : List ℕ) (why : Included) (s : State) → Alike s.conditions (none_included unit text why s).conditions
 why_alike unit text Included.Entered s = (refl, refl)
-why_alike unit text Included.NotThere s = (refl, refl)
-why_alike unit text Included.TooDeep s = (refl, refl)
+why_alike unit text why s = (refl, refl)
 
 included_alike : (sources : Sources) (o : Choices) (unit : Place) (text : List ℕ) (i : Inclusion) (s : State)
     → Alike s.conditions (included_by sources o unit text i s).conditions
@@ -373,9 +348,7 @@ included_alike sources o unit text (OpensNone why) s = why_alike unit text why s
 answered_alike : (r : Request) (sources : Sources) (o : Choices) (s : State) → Alike s.conditions (answered r sources o s).conditions
 answered_alike (Include text unit) sources o s =
     included_alike sources o unit text (inclusion sources o.directories text s.nesting) s
-answered_alike End sources o s = (refl, refl)
-answered_alike (Characters set) sources o s = (refl, refl)
-answered_alike Nothing sources o s = (refl, refl)
+answered_alike other sources o s = (refl, refl)
 
 carried_alike : (sources : Sources) (o : Choices) (s : State) → Alike s.conditions (carried_out sources o s).conditions
 carried_alike sources o s =

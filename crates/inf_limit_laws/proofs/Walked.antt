@@ -20,54 +20,50 @@ use Rattle.inf_step_walk.specs.Walking.{Follows, Gives, GivesUp, Grown, Inner, J
 use Rattle.inf_step_walk.specs.Walking.{Over, Parts, Passes, Premises, Puts, Refers, Rest, Rests, Runs, Says, Scales, Settles, Shuts, Sizes}
 use Rattle.inf_step_walk.specs.Walking.{Starts, Stays, Tables, Tallies, Tells, Texts, Then, Uses, Walk, Warns, free}
 use Rattle.inf_step_walk.proofs.Actions.{act_steps as act_walks, cut_at_steps as cut_at_walks, took_steps as took_walks}
-use Rattle.inf_limit_laws.specs.{Rooms.Before, Rooms.Counted, Rooms.IsCounted, Rooms.Keeps, Rooms.unfollowed, Within.Lays, Within.Steps}
-use Rattle.inf_limit_laws.proofs.Closing.{begun_steps, body_steps, close_as_ends, given_up_steps}
+use Rattle.inf_message_laws.proofs.Told.{remains, words_add}
+use Rattle.inf_limit_laws.specs.Within.{Before, Counted, IsCounted, Keeps, Lays, Steps, unfollowed}
 use Rattle.inf_limit_laws.proofs.Constructs.{Few, Gives as LayingGives, all_ended_keep, alone_sound, begun_few, begun_gives, between_gives}
 use Rattle.inf_limit_laws.proofs.Constructs.{cases_gives, changed_gives, ended_few, ended_gives, entered_gives, joined_few, laid_gives}
 use Rattle.inf_limit_laws.proofs.Constructs.{looped_over_gives}
 use Rattle.inf_limit_laws.proofs.Outputs.{close_keeps, declare_keeps, low_text_keeps, open_keeps, refer_keeps, scale_keeps, table_keeps}
 use Rattle.inf_limit_laws.proofs.Outputs.{text_keeps, word_keeps}
-use Rattle.inf_limit_laws.proofs.Ways.{begun_ends, lays_end, lays_step, lays_then, nested_steps, report_steps, sized_steps, step_of}
-use Rattle.inf_limit_laws.proofs.Ways.{steps_then, unit_ends, with_words_stays}
+use Rattle.inf_limit_laws.proofs.Ways.{begun_ends, begun_steps, body_steps, close_as_ends, given_up_steps, lays_end, lays_step, lays_then}
+use Rattle.inf_limit_laws.proofs.Ways.{nested_steps, report_steps, sized_steps, step_of, steps_then, unit_ends}
 
 -- Open statements
 
-pub constructs_lay : {limits : Limits} {context : Context} {was : Before} (w : Compilation) (laying : Laying (List Construct)) →
-    LayingGives limits was laying
-    → Lays limits context was w (constructs_laid laying w)
-constructs_lay {limits} {context} {was} w laying gives = record {
-  on = λ e. e;
-  kept = λ e h. (h.0, (h.1.0, gives.keeps w.output h.1.1));
-}
+module _ {limits : Limits} {context : Context} {was : Before} where
+  pub constructs_lay : (w : Compilation) (laying : Laying (List Construct)) → LayingGives limits was laying
+      → Lays limits context was w (constructs_laid laying w)
+  constructs_lay w laying gives = record {
+    on = λ e. e;
+    kept = λ e h. (h.0, (h.1.0, gives.keeps w.output h.1.1));
+  }
 
-constructs_step : {limits : Limits} {context : Context} {was : Before} (w : Compilation) (laying : Laying (List Construct)) →
-    LayingGives limits was laying
-    → ((whole : Bool) → Few limits whole w.output → Few limits whole (laying w.output).1)
-    → Steps limits context was w (constructs_laid laying w)
-constructs_step {limits} {context} {was} w laying gives few = record {
-  on = λ e. e;
-  kept = λ e h. (h.0, (h.1.0, gives.keeps w.output h.1.1));
-  few = λ e b h k. few true k;
-  near = λ e h k. few false k;
-}
+  constructs_step : (w : Compilation) (laying : Laying (List Construct)) → LayingGives limits was laying → ((whole : Bool)
+      → Few limits whole w.output → Few limits whole (laying w.output).1) → Steps limits context was w (constructs_laid laying w)
+  constructs_step w laying gives few = record {
+    on = λ e. e;
+    kept = λ e h. (h.0, (h.1.0, gives.keeps w.output h.1.1));
+    few = λ e b h k. few true k;
+    near = λ e h k. few false k;
+  }
 
-pub joining_steps : {limits : Limits} {context : Context} {was : Before} (w : Compilation) →
-    Steps limits context was w (construct_joined limits w)
-joining_steps {limits} {context} {was} w =
-    constructs_step w (changed (between limits) w.constructs) (changed_gives limits (between limits) (between_gives limits) w.constructs)
-    (λ whole. joined_few limits whole w.constructs w.output)
+  pub joining_steps : (w : Compilation) → Steps limits context was w (construct_joined limits w)
+  joining_steps w =
+      constructs_step w (changed (between limits) w.constructs) (changed_gives limits (between limits) (between_gives limits) w.constructs)
+      (λ whole. joined_few limits whole w.constructs w.output)
 
-ending_steps : {limits : Limits} {context : Context} {was : Before} (w : Compilation) →
-    Steps limits context was w (construct_ended limits w)
-ending_steps {limits} {context} {was} w =
-    constructs_step w (ended limits w.constructs) (ended_gives limits w.constructs) (λ whole. ended_few limits whole w.constructs w.output)
+  ending_steps : (w : Compilation) → Steps limits context was w (construct_ended limits w)
+  ending_steps w =
+      constructs_step w (ended limits w.constructs) (ended_gives limits w.constructs)
+      (λ whole. ended_few limits whole w.constructs w.output)
 
-pub ahead_lays : {limits : Limits} {context : Context} {was : Before} (count : ℕ) (w : Compilation)
-    → Lays limits context was w (closed_ahead limits count w)
-ahead_lays {limits} {context} {was} count w = record {
-  on = λ e. e;
-  kept = λ e h. (h.0, (h.1.0, all_ended_keep limits (count - w.closed) w.constructs w.output h.1.1));
-}
+  pub ahead_lays : (count : ℕ) (w : Compilation) → Lays limits context was w (closed_ahead limits count w)
+  ahead_lays count w = record {
+    on = λ e. e;
+    kept = λ e h. (h.0, (h.1.0, all_ended_keep limits (count - w.closed) w.constructs w.output h.1.1));
+  }
 
 -- Changes of an output
 
@@ -106,60 +102,61 @@ counted {limits} {was} none (Tables later same f) h =
 abbrev TalliesKept : Limits → Context → Before → Tallies → Type 0
 TalliesKept limits context was t = (was.is_exact ≡ true → t.0 ≤ longest context) × (t.1 ≤ limits Setting.Labels)
 
-pub laid : {limits : Limits} {context : Context} {was : Before} {Q : Premises} → (Q Ending.Abbreviation → was.abbreviations ≡ None)
-    → {w v t : Compilation} {r : Reported} → Inner limits Q w r v t → Lays limits context was w v
-laid {limits} {context} {was} none (Puts {w} {v} g stay same) = record {
-  on = λ e. subst (λ (t : Tallies). t.2.counts.is_over ≡ false) same e;
-  kept = λ e h.
-      let k = subst (λ (t : Tallies). TalliesKept limits context was t) (sym same) (h.0, h.1.0) in
-      (k.0, (k.1, counted none g h.1.1));
-}
-laid none (Next f g) = lays_then (laid none f) (laid none g)
-laid {limits} none (Parts {w} trees m) = record {
-  on = λ e. e;
-  kept = λ e h. (h.0, (h.1.0, (alone_sound limits trees).keeps (apart w.output) h.1.1));
-}
-laid {limits} none (Cases {w}) = constructs_lay w (cases_begun limits w.constructs) (cases_gives limits w.constructs)
-laid {limits} none (Enters {w} is_default) =
-    constructs_lay w (changed (entered limits is_default) w.constructs)
-    (changed_gives limits (entered limits is_default) (entered_gives limits is_default) w.constructs)
-laid {limits} none (Loops {w} trees m) =
-    constructs_lay w (looped_over limits trees w.constructs) (looped_over_gives limits trees w.constructs)
-laid {limits} none (Over {w}) = constructs_lay w (ended limits w.constructs) (ended_gives limits w.constructs)
+module _ {limits : Limits} {context : Context} {was : Before} where
+  pub laid : {Q : Premises} → (Q Ending.Abbreviation → was.abbreviations ≡ None) → {w v t : Compilation} {r : Reported}
+      → Inner limits Q w r v t → Lays limits context was w v
+  laid none (Puts {w} {v} g stay same) = record {
+    on = λ e. subst (λ (t : Tallies). t.2.counts.is_over ≡ false) same e;
+    kept = λ e h.
+        let k = subst (λ (t : Tallies). TalliesKept limits context was t) (sym same) (h.0, h.1.0) in
+        (k.0, (k.1, counted none g h.1.1));
+  }
+  laid none (Next f g) = lays_then (laid none f) (laid none g)
+  laid none (Parts {w} trees m) = record {
+    on = λ e. e;
+    kept = λ e h. (h.0, (h.1.0, (alone_sound limits trees).keeps (apart w.output) h.1.1));
+  }
+  laid none (Cases {w}) = constructs_lay w (cases_begun limits w.constructs) (cases_gives limits w.constructs)
+  laid none (Enters {w} is_default) =
+      constructs_lay w (changed (entered limits is_default) w.constructs)
+      (changed_gives limits (entered limits is_default) (entered_gives limits is_default) w.constructs)
+  laid none (Loops {w} trees m) =
+      constructs_lay w (looped_over limits trees w.constructs) (looped_over_gives limits trees w.constructs)
+  laid none (Over {w}) = constructs_lay w (ended limits w.constructs) (ended_gives limits w.constructs)
 
--- Walks
+  -- Walks
 
-pub walked : {limits : Limits} {context : Context} {was : Before} {Q : Premises} → (Q Ending.Abbreviation → was.abbreviations ≡ None)
-    → {w v t : Compilation} {r : Reported} → Walk limits context Q w r v t → Steps limits context was w v
-walked {limits} {context} {was} none (Rests {w} {v} stay same) = record {
-  on = λ e. subst (λ (t : Out × Tallies). t.1.2.counts.is_over ≡ false) same e;
-  kept = λ e h.
-      subst (λ (t : Out × Tallies).
-      (was.is_exact ≡ true → t.1.0 ≤ longest context) × ((t.1.1 ≤ limits Setting.Labels) × Counted limits was t.0)) (sym same) h;
-  few = λ e b h k.
-      subst (λ (t : Out × Tallies). reference_count t.0.code + references t.0.tables ≤ limits Setting.References) (sym same) k;
-  near = λ e h k.
-      subst (λ (t : Out × Tallies). 4 + later_count t.0.code.finished + references t.0.tables ≤ limits Setting.References)
-      (sym same) k;
-}
-walked none (After f g) = steps_then (walked none f) (walked none g)
-walked none (Behind {r} g f next) = steps_then (walked none f) (walked none (next r))
-walked none (Nests {w} place is_deep) = nested_steps place is_deep w
-walked {limits} {context} none (Says {w} place k words) =
-    report_steps w (with_words (location context.names place) k words) (with_words_stays (location context.names place) k words)
-walked none (Warns {w} has_warnings) = report_steps w (warnings_chosen has_warnings) (λ r free. free)
-walked none (Asks request q) = record { on = λ e. e; kept = λ e h. h; few = λ e b h k. k; near = λ e h k. k }
-walked none (Sizes {w}) = sized_steps w
-walked none (Ends first has_last found v f) = lays_step (laid none f) (unit_ends first has_last found v)
-walked none (Finishes how place v f) = lays_step (laid none f) (close_as_ends how place v)
-walked none (Begins {w}) = begun_steps w
-walked none (Leaves {w}) = body_steps w
-walked none (GivesUp {w}) = given_up_steps w
-walked {limits} none (Starts {w} k) =
-    constructs_step w (begun limits k w.constructs) (begun_gives limits k w.constructs)
-    (λ whole. begun_few limits whole k w.constructs w.output)
-walked none (Joins {w}) = joining_steps w
-walked none (Shuts {w}) = ending_steps w
+  pub walked : {Q : Premises} → (Q Ending.Abbreviation → was.abbreviations ≡ None) → {w v t : Compilation} {r : Reported}
+      → Walk limits context Q w r v t → Steps limits context was w v
+  walked none (Rests {w} {v} stay same) = record {
+    on = λ e. subst (λ (t : Out × Tallies). t.1.2.counts.is_over ≡ false) same e;
+    kept = λ e h.
+        subst (λ (t : Out × Tallies).
+        (was.is_exact ≡ true → t.1.0 ≤ longest context) × ((t.1.1 ≤ limits Setting.Labels) × Counted limits was t.0)) (sym same) h;
+    few = λ e b h k.
+        subst (λ (t : Out × Tallies). reference_count t.0.code + references t.0.tables ≤ limits Setting.References) (sym same) k;
+    near = λ e h k.
+        subst (λ (t : Out × Tallies). 4 + later_count t.0.code.finished + references t.0.tables ≤ limits Setting.References)
+        (sym same) k;
+  }
+  walked none (After f g) = steps_then (walked none f) (walked none g)
+  walked none (Behind {r} g f next) = steps_then (walked none f) (walked none (next r))
+  walked none (Nests {w} place is_deep) = nested_steps place is_deep w
+  walked none (Says {w} place k words) =
+      let at = location context.names place in report_steps w (with_words at k words) (remains (words_add at k words))
+  walked none (Warns {w} has_warnings) = report_steps w (warnings_chosen has_warnings) (λ r free. free)
+  walked none (Asks request q) = record { on = λ e. e; kept = λ e h. h; few = λ e b h k. k; near = λ e h k. k }
+  walked none (Sizes {w}) = sized_steps w
+  walked none (Ends first has_last found v f) = lays_step (laid none f) (unit_ends first has_last found v)
+  walked none (Finishes how place v f) = lays_step (laid none f) (close_as_ends how place v)
+  walked none (Begins {w}) = begun_steps w
+  walked none (Leaves {w}) = body_steps w
+  walked none (GivesUp {w}) = given_up_steps w
+  walked none (Starts {w} k) =
+      constructs_step w (begun limits k w.constructs) (begun_gives limits k w.constructs)
+      (λ whole. begun_few limits whole k w.constructs w.output)
+  walked none (Joins {w}) = joining_steps w
+  walked none (Shuts {w}) = ending_steps w
 
 -- Turns
 
@@ -174,16 +171,15 @@ ran {limits} (Settles {w} count files place) =
 
 -- Actions of the grammar, tokens, and cuts
 
-pub act_steps : {limits : Limits} {context : Context} {was : Before} (place : Place) (a : Action) (w : Compilation)
-    → (role_of a ≡ Role.End Ending.Abbreviation → was.abbreviations ≡ None) → Steps limits context was w (act limits context place a w)
-act_steps {limits} {context} {was} place a w none =
-    walked {Q = λ e. e ≡ Ending.Abbreviation → was.abbreviations ≡ None} (λ q. q refl)
-    (act_walks place a w (λ e is same. none (is ∙ ap Role.End same)) w.report)
+module _ {limits : Limits} {context : Context} {was : Before} where
+  pub act_steps : (place : Place) (a : Action) (w : Compilation) → (role_of a ≡ Role.End Ending.Abbreviation → was.abbreviations ≡ None)
+      → Steps limits context was w (act limits context place a w)
+  act_steps place a w none =
+      walked {Q = λ e. e ≡ Ending.Abbreviation → was.abbreviations ≡ None} (λ q. q refl)
+      (act_walks place a w (λ e is same. none (is ∙ ap Role.End same)) w.report)
 
-pub took_steps : {limits : Limits} {context : Context} {was : Before} (t : SourceToken) (w : Compilation)
-    → Steps limits context was w (took context t w)
-took_steps t w = walked {Q = λ e. ⊥} (λ q. absurd q) (took_walks t w w.report)
+  pub took_steps : (t : SourceToken) (w : Compilation) → Steps limits context was w (took context t w)
+  took_steps t w = walked {Q = λ e. ⊥} (λ q. absurd q) (took_walks t w w.report)
 
-pub cut_at_steps : {limits : Limits} {context : Context} {was : Before} (place : Place) (w : Compilation)
-    → Steps limits context was w (cut_at limits context place w)
-cut_at_steps place w = walked {Q = λ e. ⊥} (λ q. absurd q) (cut_at_walks place w w.report)
+  pub cut_at_steps : (place : Place) (w : Compilation) → Steps limits context was w (cut_at limits context place w)
+  cut_at_steps place w = walked {Q = λ e. ⊥} (λ q. absurd q) (cut_at_walks place w w.report)

@@ -15,6 +15,7 @@ use Rattle.inf_unit.specs.Messages.{with_full, with_plain, with_warning, with_wo
 use Rattle.inf_constructs.specs.Labels.{NamedLabel, missing}
 use Rattle.inf_compilation.specs.Context.{Context}
 use Rattle.inf_compilation.specs.Actions.{Compilation, with_all_unused, with_branch_fault, with_fault_or, with_routine_fault, with_unused}
+use Rattle.inf_step_walk.specs.Walking.{Remains}
 use Rattle.inf_message_laws.specs.Growing.{GoesOn, Grows, told_before, with_lines_before}
 
 -- Reports that go on
@@ -41,6 +42,14 @@ goes_behind r s t a b = record {
 pub record Adds (tell : Reported → Reported) : Type 0 where
   pub adds : (lines : List ℕ) (r : Reported) → tell (told_before lines r) ≡ told_before lines (tell r)
   pub goes_on : (r : Reported) → GoesOn r (tell r)
+
+-- a fatal message stays
+pub remains : {tell : Reported → Reported} → Adds tell → Remains tell
+remains {tell} adds r free = go r.counts.is_over refl
+  where
+    go : (b : Bool) → r.counts.is_over ≡ b → r.counts.is_over ≡ false
+    go false e = e
+    go true e = let never : true ≡ false = sym ((adds.goes_on r).over e) ∙ free in absurd cc
 
 pub nothing_adds : Adds (λ r. r)
 nothing_adds = record { adds = λ lines r. refl; goes_on = λ r. same_report r r refl }
@@ -157,7 +166,7 @@ words_add at (Some Kind.Error) words = error_adds at at (ErrorText words)
 words_add at (Some Kind.Warning) words = warning_adds at (WarningText words)
 words_add at (Some Kind.Fatal) words = fatal_adds at (FatalText words)
 
-fault_adds : (files : FileNames) (unit : Place) (blame : Option Diagnostic) → Adds (with_fault files unit blame)
+pub fault_adds : (files : FileNames) (unit : Place) (blame : Option Diagnostic) → Adds (with_fault files unit blame)
 fault_adds files unit None = nothing_adds
 fault_adds files unit (Some b) = error_adds (location files b.place) (location files unit) b.message
 

@@ -14,12 +14,12 @@ use Rattle.inf_compilation.specs.Actions.{Compilation, close_as, stopped, took, 
 use Rattle.inf_reader.specs.Acting.{act, cut_at}
 use Rattle.inf_statement_laws.specs.Laid.{next_comes, passed, run}
 use Rattle.inf_statement_laws.specs.Happenings.{Acts, Between, Happening, Takes}
-use Rattle.inf_message_laws.specs.Growing.{AllOnlyAdd, GoesOn, Grows, MessagesGrow, OnlyAdds, ReportsGoOn, told_before}
-use Rattle.inf_message_laws.proofs.Told.{Adds, all_unused_add, chosen_adds, end_adds, fatal_adds, nothing_adds, nothing_grows, routine_adds}
-use Rattle.inf_message_laws.proofs.Told.{then_adds, then_grows, words_add}
 use Rattle.inf_step_walk.specs.Walking.{After, Asks, Begins, Behind, Ends, Finishes, GivesUp, Joins, Leaves, Nests, Premises, Rests, Says}
 use Rattle.inf_step_walk.specs.Walking.{Shuts, Sizes, Starts, Tallies, Walk, Walks, Warns, free, with_report}
 use Rattle.inf_step_walk.proofs.{Actions.act_steps, Actions.cut_at_steps, Actions.took_steps, Units.inner_told}
+use Rattle.inf_message_laws.specs.Growing.{AllOnlyAdd, GoesOn, Grows, MessagesGrow, OnlyAdds, ReportsGoOn, told_before}
+use Rattle.inf_message_laws.proofs.Told.{Adds, all_unused_add, chosen_adds, end_adds, fatal_adds, nothing_adds, nothing_grows, routine_adds}
+use Rattle.inf_message_laws.proofs.Told.{then_adds, then_grows, words_add}
 
 -- Along walks
 

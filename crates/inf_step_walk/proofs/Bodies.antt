@@ -42,13 +42,13 @@ use Rattle.inf_bodies.specs.Values.{embedded_read, found_embedded, name_place, n
 use Rattle.inf_bodies.specs.Values.{takes_words, text_finding_by, text_placed, text_value, value_by, value_finding_by, value_read}
 use Rattle.inf_bodies.specs.Values.{word_leaf, word_text, word_text_by, word_used, wrong_if}
 use Rattle.inf_word_laws.specs.Standing.{has_word}
-use Rattle.inf_step_walk.specs.{Lists.StepsStand, Standing.Before, Standing.ValueStands}
+use Rattle.inf_step_walk.specs.Standing.{Before, StepsStand, ValueStands}
 use Rattle.inf_step_walk.specs.Walking.{Ends, Follows, Grown, Inner, Lies, Next, Passes, Premises, Puts, Stays, Uses, Walk, Walks, tallies}
 use Rattle.inf_step_walk.specs.Walking.{with_report}
-use Rattle.inf_step_walk.proofs.{Declaring.value_there, Lists.no_some, Operands.declares, Operands.other, Outputs.word_stands}
-use Rattle.inf_step_walk.proofs.{Pieces.before, Units.inner_like, Units.inside, Units.like, Units.opened_steps, Units.puts}
-use Rattle.inf_step_walk.proofs.{Units.used_grows, Worlds.MaybeValue, Worlds.class_holds, Worlds.further_holds, Worlds.given_holds}
-use Rattle.inf_step_walk.proofs.{Worlds.header_holds, Worlds.object_holds, Worlds.world_grows, Worlds.world_later}
+use Rattle.inf_step_walk.proofs.{Declaring.value_there, Operands.declares, Operands.other, Outputs.word_stands, Pieces.before}
+use Rattle.inf_step_walk.proofs.Lists.{MaybeValue, class_holds, further_holds, given_holds, header_holds, no_some, object_holds}
+use Rattle.inf_step_walk.proofs.Lists.{world_grows, world_later}
+use Rattle.inf_step_walk.proofs.Units.{inner_like, inside, like, opened_steps, puts, used_grows}
 
 -- The knowledge of an object does not depend on what was reported.
 
@@ -97,10 +97,8 @@ module _ {limits : Limits} {Q : Premises} where
   -- Refusals, and names
 
   noted_grows : (f : WorldFault) (o : Out) → Grown limits Q o (noted limits f o)
-  noted_grows (WorldFault.Limit l) o = Stays
-  noted_grows (WorldFault.Misfit m) o = Stays
   noted_grows (WorldFault.Full s) o = Passes (setting_of s)
-  noted_grows WorldFault.Memory o = Stays
+  noted_grows f o = Stays
 
   lost_grows : (o : Out) → Grown limits Q o (lost_begun o)
   lost_grows o = go (lost_header_fault o.tables.world)

@@ -44,13 +44,13 @@ use Rattle.inf_declarations.specs.Properties.{has_most_properties, new_property,
 use Rattle.inf_declarations.specs.Properties.{property_names, property_number, property_order, property_with}
 use Rattle.inf_declarations.specs.Switches.{has_code, letters_behind, misplaced, switched, switches, switches_by}
 use Rattle.inf_code_walk.specs.Made.{TreeMeets, TreesMeet}
-use Rattle.inf_step_walk.specs.{Lists.ArraysStand, Standing.Before, Standing.MeaningStands, Standing.TargetStands, Standing.ValueStands}
+use Rattle.inf_step_walk.specs.Standing.{ArraysStand, Before, MeaningStands, TargetStands, ValueStands}
 use Rattle.inf_step_walk.specs.Walking.{Abbreviates, After, Asks, Ends, Follows, Grown, Lies, LowTexts, Next, Passes, Premises, Puts, Rests}
 use Rattle.inf_step_walk.specs.Walking.{Scales, Stays, Stood, Tables, Walks, Warns, with_report}
-use Rattle.inf_step_walk.proofs.{Lists.values_join, Operands.added_grows, Operands.declares, Operands.other, Pieces.before}
+use Rattle.inf_step_walk.proofs.{Operands.added_grows, Operands.declares, Operands.other, Pieces.before, Premises.all_join}
 use Rattle.inf_step_walk.proofs.{Premises.roots_stand as roots_meet, Premises.trees_in}
+use Rattle.inf_step_walk.proofs.Lists.{AddingStands, entries_hold, opened_holds, property_holds, world_grows}
 use Rattle.inf_step_walk.proofs.Units.{inner_if, like, passed_steps, puts, rests, steps_if, unit_ends, used_grows, used_stood}
-use Rattle.inf_step_walk.proofs.Worlds.{AddingStands, entries_hold, opened_holds, property_holds, world_grows}
 
 constant_stands : {L : Target → Type 0} (u : Out) (t : Tree) → ((x : Target) → L x → TargetStands u x) → TreeMeets L t
     → ValueStands u (value_or (constant_of t))
@@ -90,10 +90,8 @@ property_stands u (Meaning.Property number is_additive) = tt
 property_stands u m = tt
 
 attribute_found_stands : (u : Out) (f : Found Place) → SomeMeaning u (attribute_found f)
-attribute_found_stands u (Found.System m) = tt
 attribute_found_stands u (Found.Declared m first) = attribute_stands u m
-attribute_found_stands u Found.Used = tt
-attribute_found_stands u Found.Unknown = tt
+attribute_found_stands u f = tt
 
 property_found_stands : (u : Out) (f : Found Place) → SomeMeaning u (property_found f)
 property_found_stands u (Found.System m) = property_stands u m
@@ -175,7 +173,7 @@ module _ {limits : Limits} {Q : Premises} where
       go false = Tables {p = with_variable v o} Stays refl (λ u b e h. (
         record {
           of_arrays = h.0.of_arrays;
-          of_globals = values_join u o.tables.globals (v ∷ []) h.0.of_globals (stands u b, tt);
+          of_globals = all_join (ValueStands u) o.tables.globals (v ∷ []) h.0.of_globals (stands u b, tt);
           of_verbs = h.0.of_verbs;
           of_actions = h.0.of_actions;
           of_parsing = h.0.of_parsing;

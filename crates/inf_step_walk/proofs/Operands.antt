@@ -14,9 +14,8 @@ use Rattle.inf_output.specs.Actions.{action_of, faked, faked_by, first_seen, key
 use Rattle.inf_unit.specs.Tokens.{SourceToken}
 use Rattle.inf_operands.specs.{Operands.Settled, Operands.leaf_added, Operands.settled, Texts.text_packed}
 use Rattle.inf_code_walk.specs.Made.{LeafMeets}
-use Rattle.inf_word_laws.proofs.Numbering.{IsBound}
-use Rattle.inf_word_laws.proofs.Settling.{Adds, Appears, Both, Looks, Names, Numbers, Packs, Still, Used, action_used, added_used}
-use Rattle.inf_word_laws.proofs.Settling.{all_settled, settled_used}
+use Rattle.inf_word_laws.proofs.Numbering.{Adds, Appears, Both, IsBound, Looks, Names, Numbers, Packs, Still, Used, action_used, added_used}
+use Rattle.inf_word_laws.proofs.Numbering.{all_settled, settled_used}
 use Rattle.inf_step_walk.specs.Standing.{Before, MeaningStands}
 use Rattle.inf_step_walk.specs.Walking.{Declares, Follows, Grown, Passes, Premises, Refers, Stays, Stood, Tables, TablesHold, Texts, Uses}
 use Rattle.inf_step_walk.specs.Walking.{free, rest}

@@ -16,7 +16,7 @@ use Rattle.inf_declarations.specs.Abbreviations.{low_added, low_added_by}
 use Rattle.inf_code_walk.specs.Made.{As, Asks, Binds, By, Either, Handed, Instructs, Jumps, Laid, Lays, Lows, Made, Marks, Names, Nothing}
 use Rattle.inf_code_walk.specs.Made.{Packs, Prints, Takes, Then, Wide}
 use Rattle.inf_code_walk.proofs.Statements.{FixedMeet}
-use Rattle.inf_step_walk.specs.{Lists.NamesStand, Outputs.CodeStands, Outputs.Holds, Standing.Before, Standing.IsBefore}
+use Rattle.inf_step_walk.specs.Standing.{Before, CodeStands, Holds, IsBefore, NamesStand}
 use Rattle.inf_step_walk.specs.Walking.{Abbreviates, Closes, Declares, Follows, Gives, Grown, LowTexts, Opens, Passes, Premises, Refers}
 use Rattle.inf_step_walk.specs.Walking.{Rest, Scales, Stays, Stood, Tables, TablesHold, Texts, Uses, rest}
 use Rattle.inf_step_walk.proofs.{Lists.routine_stands, Premises.SimpleStands, Premises.SimplesStand, Premises.There, Premises.all_more}
@@ -24,8 +24,6 @@ use Rattle.inf_step_walk.proofs.Outputs.{Goes, GoesIf, Sound, close_keeps, decla
 use Rattle.inf_step_walk.proofs.Outputs.{instruction_before, instruction_keeps, item_keeps, jump_keeps, low_text_keeps, mark_keeps}
 use Rattle.inf_step_walk.proofs.Outputs.{naming_keeps, open_keeps, refer_keeps, scale_keeps, table_keeps, text_keeps, used_keeps}
 use Rattle.inf_step_walk.proofs.Outputs.{word_keeps}
-
--- Pieces of code put together
 
 -- Pieces of code put together
 

@@ -31,7 +31,7 @@ use Rattle.inf_parts.specs.Parts.{part_effect, part_ended, part_finished, part_p
 use Rattle.inf_declarations.specs.Defaults.{default}
 use Rattle.inf_code_walk.specs.Made.{Lays, Made}
 use Rattle.inf_code_walk.proofs.Statements.{alone_made, case_made, statement_is_laid, switched_made, tested_made}
-use Rattle.inf_step_walk.specs.{Lists.NamesStand, Standing.Before, Standing.MeaningStands}
+use Rattle.inf_step_walk.specs.Standing.{Before, MeaningStands, NamesStand}
 use Rattle.inf_step_walk.specs.Walking.{Behind, Cases, Closes, Declares, Ends, Enters, Finishes, Follows, Gives, Grown, Inner, Lies, Loops}
 use Rattle.inf_step_walk.specs.Walking.{Nests, Next, Opens, Over, Parts, Premises, Puts, Refers, Rests, RootsMeet, Shuts, Starts, Stays}
 use Rattle.inf_step_walk.specs.Walking.{StepsStay, Stood, Walk, Walks, free, tallies, with_report}
@@ -287,9 +287,7 @@ constant_as u m h = h
 
 declared_stands : (u : Out) (f : Found Place) → FoundStands u f → SomeMeaning u (declared_meaning f)
 declared_stands u (Found.Declared m place) h = constant_as u m h
-declared_stands u (Found.System m) h = tt
-declared_stands u Found.Used h = tt
-declared_stands u Found.Unknown h = tt
+declared_stands u f h = tt
 
 leaf_meaning_stands : (limits : Limits) (u : Out) (context : Context) (w : Compilation) (leaves : List Leaf) (o : Out)
     → NamesStand u w.output.names.names → Before u (leaf_added limits context.set w.unit.tokens leaves o)

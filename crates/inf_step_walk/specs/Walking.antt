@@ -1,7 +1,7 @@
 -- Steps of a compilation by their changes: how an output grows, what happens within a unit, and what leads from one unit to another. A law
 -- that holds of each change holds of each action, each token and each cut, by one induction. Beside each step goes the same one behind
 -- another report, so that laws can compare two runs.
-use Rattle.std.specs.Prelude.{Bool, List, None, Option, [], false, ℕ, ◌∷◌, ◌≡◌}
+use Rattle.std.specs.Prelude.{Bool, List, None, Option, false, ℕ, ◌≡◌}
 use Rattle.inf_area.specs.{declared.scale.Scale.Scale, declared.targets.Target.Target}
 use Rattle.inf_expressions.specs.{Rooted.Rooted, Trees.Tree}
 use Rattle.inf_scanner.specs.declared.tokens.Place.{Place}
@@ -16,25 +16,24 @@ use Rattle.inf_output.specs.Output.{with_word}
 use Rattle.inf_report.specs.{OwnWords.Words, declared.messages.Kind.Kind}
 use Rattle.inf_unit.specs.{Directives.Request, declared.roles.Ending.Ending}
 use Rattle.inf_unit.specs.Messages.{FileNames, Reported, location, warnings_chosen, with_words}
-use Rattle.inf_constructs.specs.Constructs.{Laying, begun, cases_begun, changed, entered, looped_over, stepped}
 use Rattle.inf_constructs.specs.declared.constructs.Kind.{Kind as Opening}
+use Rattle.inf_constructs.specs.Constructs.{Laying, begun, cases_begun, changed, entered, looped_over, stepped}
 use Rattle.inf_statements.specs.Statements.{alone}
-use Rattle.inf_compilation.specs.{Context.Context, Findings.Findings, Nesting.closed_ahead, Nesting.construct_ended}
-use Rattle.inf_compilation.specs.{Nesting.construct_joined, Nesting.constructs_laid}
+use Rattle.inf_compilation.specs.{Context.Context, Findings.Findings}
 use Rattle.inf_compilation.specs.Actions.{Compilation, begun_at, body_ended, cases_ended, close_as, code_begun, given_up, nested, sized}
 use Rattle.inf_compilation.specs.Actions.{unit_ended}
+use Rattle.inf_compilation.specs.Nesting.{closed_ahead, construct_ended, construct_joined, constructs_laid}
 use Rattle.inf_declarations.specs.Abbreviations.{low_added}
 use Rattle.inf_code_walk.specs.Made.{Laid, TreeMeets, TreesMeet}
-use Rattle.inf_step_walk.specs.{Lists.NamesStand, Lists.StepsStand, Outputs.TablesStand, Outputs.WorldStands, Standing.Before}
-use Rattle.inf_step_walk.specs.{Standing.MeaningStands, Standing.TargetStands}
+use Rattle.inf_word_laws.specs.Standing.{AllOf}
+use Rattle.inf_step_walk.specs.Standing.{Before, MeaningStands, NamesStand, StepsStand, TablesStand, TargetStands, WorldStands}
 
 -- A target stands in each output before which this one comes.
 abbrev pub Stood : Out → Target → Type 0
 Stood o t = (u : Out) → Before u o → TargetStands u t
 
 abbrev pub RootsMeet : (Target → Type 0) → List Rooted → Type 0
-RootsMeet L [] = Unit {0}
-RootsMeet L (r ∷ trees) = TreeMeets L r.tree × RootsMeet L trees
+RootsMeet L trees = AllOf (λ (r : Rooted). TreeMeets L r.tree) trees
 
 -- All that stands in the tables of an output stands in another one.
 abbrev pub TablesHold : Out → Out → Type 0
