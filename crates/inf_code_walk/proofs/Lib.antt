@@ -1,4 +1,2 @@
-pub mod Leaves
-pub mod Making
 pub mod Rows
 pub mod Statements

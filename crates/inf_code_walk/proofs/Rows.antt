@@ -1,25 +1,119 @@
 -- The code of expressions is made of pieces: a lemma for each row of `Meaning`.
-use Rattle.std.proofs.Common.{◌≤◌, ℕ, zero, suc, List, [], ◌∷◌, ◌++◌, Option, Some, None, Bool, true, false}
-use Rattle.std.specs.Prelude.{length, nat_lt, not, take, ◌==◌, if◌then◌else◌}
-use Rattle.inf_settings.specs.Bounds.{Limits}
+use Rattle.std.specs.Prelude.{if◌then◌else◌, length, nat_lt, not, take, ◌+◌, ◌==◌, ◌⊎◌}
+use Rattle.std.proofs.lemmas.Bool.{cases_eq, eq-eqb, ne_eqb}
+use Rattle.std.proofs.Common.{Bool, List, None, Option, Some, [], ap, arith, false, inl, inr, refl, subst, suc, sym, true, zero, ℕ, ◌++◌}
+use Rattle.std.proofs.Common.{◌∙◌, ◌∷◌, ◌≡◌, ◌≤◌}
 use Rattle.inf_area.specs.declared.targets.Target.{Target}
+use Rattle.inf_expressions.specs.{Trees.Leaf, Trees.One, Trees.Tree, Trees.Two, declared.operators.Binary.Binary}
+use Rattle.inf_expressions.specs.{declared.operators.Direction.Direction, declared.operators.Operand.Operand}
+use Rattle.inf_expressions.specs.{declared.operators.Operation.Operation, declared.operators.PropertyPart.PropertyPart}
+use Rattle.inf_expressions.specs.{declared.operators.Test.Test, declared.operators.Unary.Unary}
+use Rattle.inf_settings.specs.Bounds.{Limits}
 use Rattle.inf_opcode.specs.{declared.instructions.Branch.Branch, declared.instructions.Label.Label, declared.opcodes.Opcode.Opcode}
-use Rattle.inf_expressions.specs.declared.{operators.Binary.Binary, operators.Direction.Direction, operators.Operand.Operand}
-use Rattle.inf_expressions.specs.declared.{operators.Operation.Operation, operators.PropertyPart.PropertyPart, operators.Test.Test}
-use Rattle.inf_expressions.specs.declared.operators.Unary.{Unary}
-use Rattle.inf_expressions.specs.Trees.{Tree, Leaf, One, Two}
 use Rattle.inf_output.specs.{declared.operands.Simple.Simple, declared.veneer.Veneer.Veneer}
 use Rattle.inf_output.specs.Output.{Code, instruction, naming, to, ◌▸◌}
 use Rattle.inf_templates.specs.declared.tasks.Memory.{Memory}
+use Rattle.inf_templates.specs.Meaning.{InMemory, InVariable, Meaning, Nowhere, Target as Goal, part, parts}
 use Rattle.inf_templates.specs.Parts.{Part, SP, TEMP, call, call_opcode, call_routine, calling, evaluated, evaluated_by, is, jump_zero}
 use Rattle.inf_templates.specs.Parts.{load, operand_by, operand_of, operands, put, simple, worked}
-use Rattle.inf_templates.specs.Meaning.{InMemory, InVariable, Meaning, Nowhere, Target as Goal, part, parts}
+use Rattle.inf_code_walk.specs.Made.{AllMeet, As, Asks, Handed, Instructs, IsAmong, Jumps, LeafMeets, Made, Marks, MaybeMeets, Meets, Names}
+use Rattle.inf_code_walk.specs.Made.{Nothing, Then, TreeMade, TreeMeets, TreesAreMade, TreesMeet, Wide, branch_labels, leaf_targets, times}
+use Rattle.inf_code_walk.specs.Made.{tree_targets}
 use Rattle.inf_templates.specs.Meaning as code
-use Rattle.inf_code_walk.specs.{Labels.branch_labels, Labels.times}
-use Rattle.inf_code_walk.specs.Made.{AllMeet, Asks, Handed, Instructs, Jumps, LeafMeets, Made, Marks, MaybeMeets, Meets, Names, Nothing}
-use Rattle.inf_code_walk.specs.Made.{Then, TreeMade}
-use Rattle.inf_code_walk.specs.Made.{TreeMeets}
-use Rattle.inf_code_walk.proofs.Making.{at_first, at_second, at_two, before, behind, has_first, has_later, turned}
+
+-- Numbers in lists, and pieces of code put together
+
+pub times_joined : (n : ℕ) (a b : List ℕ) → times n (a ++ b) ≡ times n a + times n b
+times_joined n [] b = omega arith
+times_joined n (m ∷ a) b = go (if n == m then 1 else 0) (times_joined n a b)
+  where
+    go : (x : ℕ) → times n (a ++ b) ≡ times n a + times n b → x + times n (a ++ b) ≡ (x + times n a) + times n b
+    go x e = omega (arith, e)
+
+pub times_first : (n : ℕ) (ms : List ℕ) → times n (n ∷ ms) ≡ suc (times n ms)
+times_first n ms =
+    let e : 1 + times n ms ≡ suc (times n ms) = omega arith in ap (λ b. (if b then 1 else 0) + times n ms) (eq-eqb n n refl) ∙ e
+
+pub times_other : (n m : ℕ) (ms : List ℕ) → (n ≡ m → ⊥) → times n (m ∷ ms) ≡ times n ms
+times_other n m ms h =
+    let e : 0 + times n ms ≡ times n ms = omega arith in ap (λ b. (if b then 1 else 0) + times n ms) (ne_eqb n m h) ∙ e
+
+pub has_first : (l : ℕ) (needs : List ℕ) → 1 ≤ times l (l ∷ needs)
+has_first l needs = let e = times_first l needs in omega (arith, e)
+
+pub has_later : (l m : ℕ) (needs : List ℕ) → 1 ≤ times l needs → 1 ≤ times l (m ∷ needs)
+has_later l m needs h = go (if l == m then 1 else 0)
+  where
+    go : (x : ℕ) → 1 ≤ x + times l needs
+    go x = omega (arith, h)
+
+-- a number of a list of one is that one, which is among others
+pub one_needed : (needs : List ℕ) (l n : ℕ) → 1 ≤ times l needs → 1 ≤ times n (l ∷ []) → 1 ≤ times n needs
+one_needed needs l n has h = go (cases_eq n l)
+  where
+    go : (n ≡ l) ⊎ (n ≡ l → ⊥) → 1 ≤ times n needs
+    go (inl same) = subst (λ k. 1 ≤ times k needs) (sym same) has
+    go (inr other) = let e = times_other n l [] other in absurd (omega (arith, e, h))
+
+pub two_needed : (needs : List ℕ) (l m n : ℕ) → 1 ≤ times l needs → 1 ≤ times m needs → 1 ≤ times n (l ∷ m ∷ []) → 1 ≤ times n needs
+two_needed needs l m n has also h = go (cases_eq n l)
+  where
+    go : (n ≡ l) ⊎ (n ≡ l → ⊥) → 1 ≤ times n needs
+    go (inl same) = subst (λ k. 1 ≤ times k needs) (sym same) has
+    go (inr other) = let e = times_other n l (m ∷ []) other in one_needed needs m n also (omega (arith, e, h))
+
+-- two numbers in the other order
+pub turned_times : (n a b : ℕ) → times n (a ∷ b ∷ []) ≡ times n (b ∷ a ∷ [])
+turned_times n a b = go (if n == a then 1 else 0) (if n == b then 1 else 0)
+  where
+    go : (x y : ℕ) → x + (y + 0) ≡ y + (x + 0)
+    go x y = omega arith
+
+-- Pieces of code
+
+-- code that needs no label; one label, which is among others; and two such labels
+pub free : {limits : Limits} {L : Target → Type 0} {c : Code} {needs given : List ℕ} → Made limits L c [] given →
+    Made limits L c needs given
+free m = Wide (λ n h. absurd (omega (arith, h))) m
+
+pub at_one : {limits : Limits} {L : Target → Type 0} {c : Code} {l : ℕ} {needs given : List ℕ} → 1 ≤ times l needs
+    → Made limits L c (l ∷ []) given → Made limits L c needs given
+at_one {limits} {L} {c} {l} {needs} {given} has m = Wide (λ n h. one_needed needs l n has h) m
+
+pub at_two : {limits : Limits} {L : Target → Type 0} {c : Code} {l m : ℕ} {needs given : List ℕ} → 1 ≤ times l needs → 1 ≤ times m needs
+    → Made limits L c (l ∷ m ∷ []) given → Made limits L c needs given
+at_two {limits} {L} {c} {l} {m} {needs} {given} has also f = Wide (λ n h. two_needed needs l m n has also h) f
+
+-- code that needs the first of two labels, or the second
+pub at_first : {limits : Limits} {L : Target → Type 0} {c : Code} {l m : ℕ} {given : List ℕ} → Made limits L c (l ∷ []) given
+    → Made limits L c (l ∷ m ∷ []) given
+at_first {limits} {L} {c} {l} {m} {given} f = at_one (has_first l (m ∷ [])) f
+
+pub at_second : {limits : Limits} {L : Target → Type 0} {c : Code} {l m : ℕ} {given : List ℕ} → Made limits L c (m ∷ []) given
+    → Made limits L c (l ∷ m ∷ []) given
+at_second {limits} {L} {c} {l} {m} {given} f = at_one (has_later m l (m ∷ []) (has_first m [])) f
+
+-- code that is given no label, and code that needs none either, with other code behind it
+pub behind : {limits : Limits} {L : Target → Type 0} {c d : Code} {needs b : List ℕ} → Made limits L c needs [] → Made limits L d needs b
+    → Made limits L (c ▸ d) needs b
+behind f g = Then {a = []} f g
+
+pub before : {limits : Limits} {L : Target → Type 0} {c d : Code} {needs b : List ℕ} → Made limits L c [] [] → Made limits L d needs b
+    → Made limits L (c ▸ d) needs b
+before f g = behind (free f) g
+
+-- one of two pieces, by a test
+pub either_made : {limits : Limits} {L : Target → Type 0} {c d : Code} {needs given : List ℕ} (b : Bool) → Made limits L c needs given
+    → Made limits L d needs given → Made limits L (if b then c else d) needs given
+either_made true f g = f
+either_made false f g = g
+
+-- two labels that are given in the other order
+pub turned : {limits : Limits} {L : Target → Type 0} {c : Code} {needs : List ℕ} (a b : ℕ) → Made limits L c needs (a ∷ b ∷ [])
+    → Made limits L c needs (b ∷ a ∷ [])
+turned a b f = As (λ n. turned_times n a b) f
+
+-- Rows
 
 module _ (limits : Limits) (L : Target → Type 0) where
   abbrev pub Built : Code → List ℕ → List ℕ → Type 0
@@ -166,8 +260,7 @@ module _ (limits : Limits) (L : Target → Type 0) where
 
   leaf_target : (x : Simple) → GoalMade (code.leaf_target x)
   leaf_target (Simple.Known n) = tt
-  leaf_target (Simple.Variable v) = tt
-  leaf_target (Simple.Later t) = tt
+  leaf_target s = tt
 
   leaf : (x : Simple) → Meets L x → MeaningMade (code.leaf limits x)
   leaf x h = record {
@@ -250,11 +343,8 @@ module _ (limits : Limits) (L : Target → Type 0) where
 
   called_by : (t : Goal) → GoalMade t → (f : Meaning) → MeaningMade f → (ps : List Part) → PartsMade ps → (store : Option ℕ)
       → Built (code.called_by limits t f ps store) [] []
-  called_by Nowhere k f h ps l store = call_made (part f) ps (part_made f h) l store
-  called_by (InVariable v) k f h ps l store = call_made (part f) ps (part_made f h) l store
-  called_by (InMemory Memory.Byte qs) k f h ps l store = call_made (part f) ps (part_made f h) l store
-  called_by (InMemory Memory.Word qs) k f h ps l store = call_made (part f) ps (part_made f h) l store
   called_by (InMemory Memory.Property qs) k f h ps l store = ask_made Veneer.CallProperty (qs ++ ps) (joined qs ps k l) store
+  called_by other k f h ps l store = call_made (part f) ps (part_made f h) l store
 
   calls_of : (f : Meaning) → MeaningMade f → (ps : List Part) → PartsMade ps → MeaningMade (code.called limits (code.call_of limits f ps))
   unfolding code.call_of
@@ -443,10 +533,7 @@ module _ (limits : Limits) (L : Target → Type 0) where
 
   leaf_meets : (x : Operand) → LeafMeets L x → Meets L (simple x)
   leaf_meets (Operand.Later t) h = h
-  leaf_meets (Operand.Known number) h = tt
-  leaf_meets (Operand.Variable number) h = tt
-  leaf_meets (Operand.Function f) h = tt
-  leaf_meets Operand.Unknown h = tt
+  leaf_meets x h = tt
 
   pub meaning_made : (t : Tree) → TreeMeets L t → MeaningMade (code.meaning limits t)
   meaning_made (Leaf x) h = leaf (simple x) (leaf_meets x h)
@@ -455,3 +542,40 @@ module _ (limits : Limits) (L : Target → Type 0) where
 
 pub tree_made : (limits : Limits) (L : Target → Type 0) (t : Tree) → TreeMeets L t → TreeMade limits L t
 tree_made limits L t h = let m = meaning_made limits L t h in record { value = m.value; alone = m.alone; branch = m.branch }
+
+-- Premises that the leaves of a tree meet
+
+leaf_by : (L : Target → Type 0) (x : Operand) → ((t : Target) → IsAmong (leaf_targets x) t → L t) → LeafMeets L x
+leaf_by L (Operand.Later t) all = all t (inl refl)
+leaf_by L x all = tt
+
+in_first : (a b : List Target) (t : Target) → IsAmong a t → IsAmong (a ++ b) t
+in_first [] b t h = elim h [ ]
+in_first (u ∷ a) b t (inl is) = inl is
+in_first (u ∷ a) b t (inr later) = inr (in_first a b t later)
+
+in_second : (a b : List Target) (t : Target) → IsAmong b t → IsAmong (a ++ b) t
+in_second [] b t h = h
+in_second (u ∷ a) b t h = inr (in_second a b t h)
+
+-- a tree meets a premise that holds of all its targets, so it meets any that holds of all targets
+pub tree_by : (L : Target → Type 0) (e : Tree) → ((t : Target) → IsAmong (tree_targets e) t → L t) → TreeMeets L e
+tree_by L (Leaf x) all = leaf_by L x all
+tree_by L (One op a) all = tree_by L a all
+tree_by L (Two op a b) all = (
+  tree_by L a (λ t h. all t (in_first (tree_targets a) (tree_targets b) t h)),
+  tree_by L b (λ t h. all t (in_second (tree_targets a) (tree_targets b) t h)),
+)
+
+abbrev pub Any : Target → Type 0
+Any t = Unit {0}
+
+pub any_tree : (e : Tree) → TreeMeets Any e
+any_tree e = tree_by Any e (λ t h. tt)
+
+pub any_trees : (trees : List Tree) → TreesMeet Any trees
+any_trees [] = tt
+any_trees (e ∷ trees) = (any_tree e, any_trees trees)
+
+pub trees_are_made : TreesAreMade
+trees_are_made limits e = tree_made limits (IsAmong (tree_targets e)) e (tree_by (IsAmong (tree_targets e)) e (λ t h. h))

@@ -21,8 +21,8 @@ use Rattle.inf_constructs.specs.{Labels.NamedLabel, Labels.given, Labels.label_o
 use Rattle.inf_constructs.specs.{declared.constructs.Construct.Construct, declared.constructs.Kind.Kind, declared.constructs.Over.Over}
 use Rattle.inf_constructs.specs.Cases.{SWITCHED, beside, case_code, case_tested, group_behind, group_tested, grouped, is_empty, is_open}
 use Rattle.inf_constructs.specs.Cases.{laid_before, operand_in, range_tested, value_grouped, value_laid, within}
-use Rattle.inf_constructs.specs.Constructs.{between, case_closed, case_entered, entered, entered_by, front, joint, kind_behind}
-use Rattle.inf_constructs.specs.Constructs.{left_to, looped, looped_by, looped_on, opened, over_all, over_children, tested_over, with_case}
+use Rattle.inf_constructs.specs.Constructs.{between, case_closed, case_entered, entered, entered_by, front, joint, kind_behind, left_to}
+use Rattle.inf_constructs.specs.Constructs.{looped, looped_by, looped_on, opened, over_all, over_children, tested_over, with_case}
 use Rattle.inf_constructs.specs.Constructs.{with_labels}
 use Rattle.inf_operands.specs.Texts.{text_at}
 use Rattle.inf_statements.specs.{declared.assembly.Ends.Ends, declared.statements.Statement.Statement}
@@ -36,13 +36,10 @@ use Rattle.inf_statements.specs.Statements.{abbreviations, action_laid, action_o
 use Rattle.inf_statements.specs.Statements.{attributes_changed, attributes_given, given_by, jumped_to, moved, one_worked, plain, printed}
 use Rattle.inf_statements.specs.Statements.{rest, returned, returned_by, returned_number, spaced, string_changed, string_set, style_of}
 use Rattle.inf_statements.specs.Statements.{styled_by, switched, tested, unless}
-use Rattle.inf_code_walk.specs.Labels.{branch_labels}
 use Rattle.inf_code_walk.specs.Made.{AllMeet, Binds, By, Either, Handed, Instructs, Jumps, Laid, Lays, Lows, Made, Marks, MaybeMeets, Meets}
-use Rattle.inf_code_walk.specs.Made.{Names, Nothing, Packs, Prints, Takes, Then, TreeMeets, TreesMeet}
-use Rattle.inf_code_walk.proofs.Leaves.{Any}
-use Rattle.inf_code_walk.proofs.Making.{at_first, at_second, before, behind, either_made}
-use Rattle.inf_code_walk.proofs.Rows.{MeaningMade, PartMade, ask_made, call_made, is_made, meaning_made, operand_meets, part_made}
-use Rattle.inf_code_walk.proofs.Rows.{worked_made}
+use Rattle.inf_code_walk.specs.Made.{Names, Nothing, Packs, Prints, Takes, Then, TreeMeets, TreesMeet, branch_labels}
+use Rattle.inf_code_walk.proofs.Rows.{Any, MeaningMade, PartMade, ask_made, at_first, at_second, before, behind, call_made, either_made}
+use Rattle.inf_code_walk.proofs.Rows.{is_made, meaning_made, operand_meets, part_made, worked_made}
 
 -- Statements
 
@@ -249,7 +246,6 @@ module _ (limits : Limits) (L : Target → Type 0) where
 
   pub code_made : FixedMeet L → (s : Site) (trees : List Tree) → TreesMeet L trees → (st : Statement)
       → Made limits L (statement_code limits s trees st) (needs_of s st) []
-  code_made fixed s trees h Statement.Empty = Nothing
   code_made fixed s trees h Statement.Expression = alone_made trees h
   code_made fixed s trees h Statement.Print = items_made s.set s.tokens false false s.items trees h
   code_made fixed s trees h Statement.PrintReturn = items_made s.set s.tokens true false s.items trees h
@@ -268,9 +264,7 @@ module _ (limits : Limits) (L : Target → Type 0) where
   code_made fixed s trees h Statement.Remove = one_made Opcode.RemoveObj trees h
   code_made fixed s trees h Statement.Spaces = spaced_made trees h
   code_made fixed s trees h Statement.Style = styled_made (style_of (name_behind s))
-  code_made fixed s trees h Statement.Place = Nothing
-  code_made fixed s trees h Statement.Jump = Nothing
-  code_made fixed s trees h Statement.Assembly = Nothing
+  code_made fixed s trees h other = Nothing
 
   -- Assembly lines, but for the labels that they name
 

@@ -1,16 +1,33 @@
 -- Code by the pieces that it is put together of. A law that holds of each piece holds of the code, by one induction.
-use Rattle.std.specs.Prelude.{◌≡◌, ℕ, ◌≤◌, Bool, List, [], ◌∷◌, ◌++◌, Option, Some, None, if◌then◌else◌, ◌⊎◌}
-use Rattle.inf_settings.specs.Bounds.{Limits}
+use Rattle.std.specs.Prelude.{Bool, List, None, Option, Some, [], if◌then◌else◌, ℕ, ◌++◌, ◌+◌, ◌==◌, ◌∷◌, ◌≡◌, ◌≤◌, ◌⊎◌}
 use Rattle.inf_area.specs.declared.targets.Target.{Target}
 use Rattle.inf_expressions.specs.{Trees.Leaf, Trees.One, Trees.Tree, Trees.Two, declared.operators.Operand.Operand}
-use Rattle.inf_opcode.specs.{Instructions.bare, declared.instructions.Branch.Branch, declared.instructions.Label.Label}
-use Rattle.inf_opcode.specs.{declared.opcodes.Opcode.Opcode}
+use Rattle.inf_settings.specs.Bounds.{Limits}
+use Rattle.inf_opcode.specs.{Instructions.bare, declared.instructions.Branch.Branch, declared.instructions.Destination.Destination}
+use Rattle.inf_opcode.specs.{declared.instructions.Label.Label, declared.opcodes.Opcode.Opcode}
 use Rattle.inf_output.specs.{Texts.late, declared.items.Item.Item, declared.operands.Simple.Simple, declared.veneer.Veneer.Veneer}
-use Rattle.inf_output.specs.Output.{Code, Out, instruction, jumped, laid, low_string_at, marked, naming, nothing, with_label}
-use Rattle.inf_output.specs.Output.{with_low_text, ◌▸◌}
-use Rattle.inf_constructs.specs.Constructs.{Laying}
+use Rattle.inf_output.specs.Output.{Code, Out, instruction, jumped, laid, low_string_at, marked, naming, nothing, with_label, with_low_text}
+use Rattle.inf_output.specs.Output.{◌▸◌}
 use Rattle.inf_templates.specs.{Meaning.meaning, Parts.calling_routine}
-use Rattle.inf_code_walk.specs.Labels.{branch_labels, times}
+use Rattle.inf_constructs.specs.Constructs.{Laying}
+
+-- Numbers of labels
+
+-- the number of times that a number is in a list
+abbrev pub times : ℕ → List ℕ → ℕ
+times n [] = 0
+times n (m ∷ ms) = (if n == m then 1 else 0) + times n ms
+
+abbrev pub target_labels : Destination → List ℕ
+target_labels (Destination.To label) = label.number ∷ []
+target_labels Destination.ReturnFalse = []
+target_labels Destination.ReturnTrue = []
+
+abbrev pub branch_labels : Option Branch → List ℕ
+branch_labels None = []
+branch_labels (Some branch) = target_labels branch.target
+
+-- Pieces
 
 -- Operands meet a premise where the targets that they refer to do: numbers and variables refer to none.
 abbrev pub Meets : (Target → Type 0) → Simple → Type 0

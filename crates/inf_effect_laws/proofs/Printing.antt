@@ -1,35 +1,34 @@
 -- `print` and `print_ret`: item by item.
-use Rattle.std.proofs.Common.{arith, ◌≡◌, ℕ, List, [], ◌∷◌, Some, Bool, true, false, refl, ◌∙◌, ap, sym, subst}
-use Rattle.inf_settings.specs.Bounds.{Limits}
+use Rattle.std.proofs.Common.{Bool, List, Some, [], ap, arith, false, refl, subst, sym, true, ℕ, ◌∙◌, ◌∷◌, ◌≡◌}
 use Rattle.inf_characters.specs.{Items.IsText, declared.characters.CharSet.CharSet, declared.texts.TextItem.TextItem}
-use Rattle.inf_text.specs.{Packing.packed, Unpacking.strings, Unpacking.unpacked, Parts.AreAbbreviations}
+use Rattle.inf_text.specs.{Packing.packed, Parts.AreAbbreviations, Unpacking.strings, Unpacking.unpacked}
 use Rattle.inf_text.proofs.Unpacks.{unpacks}
-use Rattle.inf_opcode.specs.{Instructions.Parts, Instructions.bare, declared.opcodes.Opcode.Opcode}
 use Rattle.inf_expressions.specs.Trees.{Tree}
-use Rattle.inf_output.specs.{Output.Out, Texts.used_in, declared.items.Item.Item as Laid, declared.veneer.Veneer.Veneer}
-use Rattle.inf_output.specs.Output.{laid, nothing}
+use Rattle.inf_settings.specs.Bounds.{Limits}
+use Rattle.inf_opcode.specs.{Instructions.Parts, Instructions.bare, declared.opcodes.Opcode.Opcode}
+use Rattle.inf_output.specs.{Output.Out, Output.laid, Output.nothing, Texts.used_in, declared.items.Item.Item as Laid}
+use Rattle.inf_output.specs.{declared.veneer.Veneer.Veneer}
 use Rattle.inf_unit.specs.{Tokens.SourceToken, declared.items.Item.Item, declared.items.PrintRule.PrintRule}
 use Rattle.inf_operands.specs.Texts.{text_at, text_packed}
-use Rattle.inf_statements.specs.{Effects.Site, declared.statements.Statement.Statement}
+use Rattle.inf_statements.specs.{Effects.Site, Statements.one_worked, Statements.printed as text_printed}
+use Rattle.inf_statements.specs.{declared.statements.Statement.Statement}
 use Rattle.inf_statements.specs.Printing.{called_with, ended, ends_behind, item_code, items_printed, rest_behind, rule_code, text_opcode}
 use Rattle.inf_statements.specs.Printing.{trees_behind, veneer_called}
-use Rattle.inf_statements.specs.Statements.{one_worked, printed as text_printed}
-use Rattle.inf_code_walk.proofs.{Leaves.Any, Leaves.any_trees, Statements.any_fixed, Statements.code_made}
-use Rattle.inf_interpreter.specs.Machine.{AtAddress, AtPacked, Character, LineEnd, Number, ShortName, Text, Told, World, Writes, action_of}
-use Rattle.inf_interpreter.specs.Machine.{tells, text_told, ◌then◌, write_of_one}
 use Rattle.inf_interpreter.specs.Claims.{Comes, state}
+use Rattle.inf_interpreter.specs.Machine.{AtAddress, AtPacked, Character, LineEnd, Number, ShortName, Text, Told, World, Writes, action_of}
+use Rattle.inf_interpreter.specs.Machine.{tells, text_told, write_of_one, ◌then◌}
 use Rattle.inf_interpreter.proofs.Laying.{Always, Then, laid_, so, then_}
 use Rattle.inf_interpreter.proofs.Running.{here, none_some, opened, same_some, stepping}
 use Rattle.inf_meaning_laws.specs.Laws.{GivesNothing}
-use Rattle.inf_control_laws.specs.Control.{Done, Effect, Returned}
-use Rattle.inf_control_laws.specs.Runs.{Exits, Lays, Runs}
-use Rattle.inf_control_laws.proofs.Laying.{lays_code, lays_so, lays_then, none_alike, none_then}
+use Rattle.inf_control_laws.specs.{Control.Done, Control.Effect, Control.Returned, Runs.Exits, Runs.Lays, Runs.Runs}
 use Rattle.inf_control_laws.proofs.{Plain.fixed_runs, Plain.leaves_at, Plain.stays_done, Reaching.ends_as}
+use Rattle.inf_control_laws.proofs.Laying.{lays_code, lays_so, lays_then, none_alike, none_then}
+use Rattle.inf_code_walk.proofs.{Rows.Any, Rows.any_trees, Statements.any_fixed, Statements.code_made}
 use Rattle.inf_effect_laws.specs.Described.{AsAddress, AsCharacter, AsObject, AsString, By, Capital, Definite, InWords, Indefinite, Name}
 use Rattle.inf_effect_laws.specs.Described.{Printed, Value, Words, printed, printed_then, routine_run, told_as}
 use Rattle.inf_effect_laws.specs.Written.{AllCovered, CoversItem, CoversItems, HasTexts, item_in, items_in, ruled}
-use Rattle.inf_effect_laws.proofs.{Changes.call_runs, Changes.changed_then, Changes.line_ended, Changes.routine_runs, Changes.written_}
-use Rattle.inf_effect_laws.proofs.{Texts.KeepsTexts, Texts.made_keeps}
+use Rattle.inf_effect_laws.proofs.Texts.{KeepsTexts, made_keeps}
+use Rattle.inf_effect_laws.proofs.Changes.{call_runs, changed_then, line_ended, routine_runs, written_}
 
 -- Texts
 

@@ -1,14 +1,14 @@
 -- Code keeps the abbreviations with which texts are packed.
-use Rattle.std.proofs.Common.{◌≡◌, ℕ, List, Option, Some, None, Bool, true, false, refl, ◌∙◌, ap}
-use Rattle.inf_settings.specs.Bounds.{Limits}
+use Rattle.std.proofs.Common.{Bool, List, None, Option, Some, ap, false, refl, true, ℕ, ◌∙◌, ◌≡◌}
 use Rattle.inf_area.specs.declared.targets.Target.{Target}
+use Rattle.inf_settings.specs.Bounds.{Limits}
+use Rattle.inf_tables.specs.LowStrings.{low_fits}
 use Rattle.inf_opcode.specs.{Instructions.bare, declared.instructions.Branch.Branch, declared.instructions.Label.Label}
-use Rattle.inf_opcode.specs.declared.opcodes.Opcode.{Opcode}
+use Rattle.inf_opcode.specs.{declared.opcodes.Opcode.Opcode}
 use Rattle.inf_assembler.specs.declared.routines.Limit.{Limit}
 use Rattle.inf_names.specs.{Symbols.refer_fault, declared.symbols.ReferFault.ReferFault}
-use Rattle.inf_tables.specs.LowStrings.{low_fits}
-use Rattle.inf_output.specs.{Veneer.name_of, declared.items.Item.Item, declared.operands.Simple.Simple, declared.past.Past.Past}
-use Rattle.inf_output.specs.{Texts.used_in, declared.veneer.Veneer.Veneer}
+use Rattle.inf_output.specs.{Texts.used_in, Veneer.name_of, declared.items.Item.Item, declared.operands.Simple.Simple}
+use Rattle.inf_output.specs.{declared.past.Past.Past, declared.veneer.Veneer.Veneer}
 use Rattle.inf_output.specs.Output.{Code, Out, behind, fitted, full_item, in_routine, instruction, jumped, laid, laid_by, marked, naming}
 use Rattle.inf_output.specs.Output.{next_label, used, used_by, with_low_text, with_low_text_by}
 use Rattle.inf_templates.specs.Parts.{calling, calling_routine}

@@ -1,4 +1,2 @@
-mod Examples
-pub mod OwnCode
 pub mod Owning
-mod Programs
+pub mod Programs

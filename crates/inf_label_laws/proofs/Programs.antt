@@ -1,13 +1,15 @@
--- Code at any place of a program whose labels are looked up.
-use Rattle.std.proofs.Common.{◌≡◌, ℕ, List, [], ◌∷◌, ◌++◌, false, refl, ◌∙◌, ap, sym, subst, append_assoc, ◌==◌, if◌then◌else◌}
+-- Code at any place of a program whose labels are looked up, and the examples, by evaluation.
 use Rattle.std.proofs.lemmas.Bool.{eq-eqb}
+use Rattle.std.proofs.Common.{List, [], ap, append_assoc, false, if◌then◌else◌, refl, subst, sym, ℕ, ◌++◌, ◌==◌, ◌∙◌, ◌∷◌, ◌≡◌}
 use Rattle.inf_opcode.specs.declared.instructions.Label.{Label}
-use Rattle.inf_output.specs.{Output.Code, Output.Out, Output.apart, Output.items_of, declared.items.Item.Item}
-use Rattle.inf_templates.specs.Meaning.{meaning}
+use Rattle.inf_output.specs.declared.items.Item.{Item}
+use Rattle.inf_output.specs.Output.{Code, Out, apart, behind, instruction, items_of, jumped, laid, marked, naming}
+use Rattle.inf_templates.specs.Meaning.{and_branch, assign_value, meaning, single_tests, test_branch, tests, triple_tests}
 use Rattle.inf_interpreter.specs.{Claims.Claim, Claims.Does, Claims.state, Machine.Place, Machine.Stands, Machine.World, Machine.◌then◌}
-use Rattle.inf_label_laws.specs.Programs.{AreDifferent, IsAbsent, ProgramsCompute, ProgramsPush, RunsTo, behind_mark, items_laid, marks}
 use Rattle.inf_meaning_laws.specs.{Laws.GivesValue, Laws.taken, Values.sense}
 use Rattle.inf_meaning_laws.proofs.Expressions.{values_are_computed}
+use Rattle.inf_label_laws.specs.Examples.{ExamplesAreEvaluated, WaitingValuesAreLost, store}
+use Rattle.inf_label_laws.specs.Labels.{AreDifferent, IsAbsent, ProgramsCompute, ProgramsPush, RunsTo, behind_mark, items_laid, marks}
 
 absent_before : (n : ℕ) (front tail : List Item) (l : Label) → IsAbsent n (marks (front ++ Item.Mark l ∷ tail)) → (n == l.number) ≡ false
 absent_before n [] tail l h = h.0
@@ -50,3 +52,11 @@ programs_compute keeps w limits tree h d o program stack temp s t n k v =
 pub programs_push : ProgramsPush
 programs_push keeps w limits tree h o program stack temp s t n k v =
     programs_compute keeps w limits tree h 0 o program stack temp s t n k v
+
+pub examples_are_evaluated : ExamplesAreEvaluated
+unfolding laid instruction naming marked jumped behind test_branch tests triple_tests single_tests and_branch assign_value
+examples_are_evaluated = (refl, refl, refl, refl)
+
+pub waiting_values_are_lost : WaitingValuesAreLost
+unfolding laid instruction naming marked jumped behind test_branch tests triple_tests single_tests
+waiting_values_are_lost = ((store, refl), refl)

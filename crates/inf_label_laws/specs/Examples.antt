@@ -1,19 +1,19 @@
 -- Some expressions at a store where `x` is 2, `y` is 4 and `words` is an array of 10, 20, 30 and 40: their meanings, and the stack of a
 -- machine behind their code. Each is a routine of `examples/order.inf`, of the name of its tree.
-use Rattle.std.specs.Prelude.{◌≡◌, ℕ, zero, suc, ◌==◌, false, List, [], ◌∷◌, Option, Some, None, if◌then◌else◌}
-use Rattle.inf_settings.specs.Bounds.{Limits}
-use Rattle.inf_opcode.specs.declared.instructions.Label.{Label}
+use Rattle.std.specs.Prelude.{List, None, Option, Some, [], false, if◌then◌else◌, suc, zero, ℕ, ◌==◌, ◌∷◌, ◌≡◌}
+use Rattle.inf_area.specs.{declared.scale.Scale.Scale, declared.targets.Target.Target}
 use Rattle.inf_expressions.specs.{Trees.Leaf, Trees.Tree, Trees.Two, declared.operators.Binary.Binary, declared.operators.Operand.Operand}
 use Rattle.inf_expressions.specs.{declared.operators.Operation.Operation, declared.operators.Test.Test}
-use Rattle.inf_area.specs.{declared.scale.Scale.Scale, declared.targets.Target.Target}
-use Rattle.inf_code.specs.Code.{no_routines}
-use Rattle.inf_names.specs.Symbols.{no_names}
-use Rattle.inf_output.specs.{Output.Out, Strings.no_strings, Texts.no_texts, declared.items.Item.Item}
+use Rattle.inf_settings.specs.Bounds.{Limits}
 use Rattle.inf_tables.specs.Tables.{no_tables}
+use Rattle.inf_opcode.specs.declared.instructions.Label.{Label}
+use Rattle.inf_names.specs.Symbols.{no_names}
+use Rattle.inf_code.specs.Code.{no_routines}
+use Rattle.inf_output.specs.{Output.Out, Strings.no_strings, Texts.no_texts, declared.items.Item.Item}
 use Rattle.inf_templates.specs.Meaning.{meaning}
 use Rattle.inf_interpreter.specs.{Claims.state, Machine.State, Machine.Store, Machine.World, Machine.stepped, Machine.◌then◌}
 use Rattle.inf_meaning_laws.specs.Values.{value_of}
-use Rattle.inf_label_laws.specs.Programs.{behind_mark, items_laid}
+use Rattle.inf_label_laws.specs.Labels.{behind_mark, items_laid}
 
 abbrev pub many : Limits
 many s = 1000

@@ -1,7 +1,7 @@
 //! Laws of the labels of an expression: they are its own, and its code computes its meaning in every program that looks
 //! them up.
 ghost use Rattle.inf_label_laws.specs.{Examples.ExamplesAreEvaluated, Examples.WaitingValuesAreLost, Labels.LabelsAreOwn};
-ghost use Rattle.inf_label_laws.specs.{Programs.ProgramsCompute, Programs.ProgramsPush};
+ghost use Rattle.inf_label_laws.specs.Labels.{ProgramsCompute, ProgramsPush};
 
 /// States that the items of an expression, of whatever kind, mark no label twice, and none that was handed out before
 /// or is handed out behind them.

@@ -1,7 +1,7 @@
 -- Conditions: the tokens that they have, and what is told of one that has too many.
 use Rattle.std.specs.Prelude.{if◌then◌else◌, is_some, max, nat_lt, not, unwrap_or, ◌&&◌, ◌==◌}
-use Rattle.std.proofs.Common.{Bool, List, None, Option, Some, [], ap, false, refl, subst, sym, true, ℕ, ◌∙◌, ◌∷◌, ◌≡◌, ◌≤◌}
 use Rattle.std.proofs.Math.Nat.{max-le}
+use Rattle.std.proofs.Common.{Bool, List, None, Option, Some, [], ap, false, refl, subst, sym, true, ℕ, ◌∙◌, ◌∷◌, ◌≡◌, ◌≤◌}
 use Rattle.inf_scanner.specs.{declared.tokens.Mark.Mark, declared.tokens.Place.Place, declared.tokens.TokenKind.TokenKind}
 use Rattle.inf_output.specs.Output.{Out}
 use Rattle.inf_machine.specs.Machine.{fits}
@@ -19,17 +19,14 @@ use Rattle.inf_conditionals.specs.Judging.{named, offered, offered_to, passed, p
 use Rattle.inf_conditionals.specs.Judging.{unfit, unmatched, went_on}
 use Rattle.inf_conditionals.specs.Open.{Conditions, closed, closed_by, ended_by, ends_at, is_none_open, is_second, latest, levels_behind}
 use Rattle.inf_conditionals.specs.Open.{turned, turned_by}
-use Rattle.inf_conditionals.specs.Said.{Deep, Long, Right, Said, Wrong, told_by, too_deep, too_much, too_much_by, with_said}
-use Rattle.inf_limit_laws.specs.Signs.{SignFits, is_loud}
+use Rattle.inf_conditionals.specs.Said.{Deep, Long, Right, Said, told_by, too_deep, too_much, too_much_by, with_said}
+use Rattle.inf_limit_laws.specs.Within.{SignFits, is_loud}
 use Rattle.inf_limit_laws.proofs.Ways.{fatal_is_over, tokens_within}
 
 -- whether a condition is told to be right, whose actions then appear
 abbrev pub is_right : Option Said → Bool
-is_right None = false
 is_right (Some (Right tokens leaves)) = true
-is_right (Some (Wrong directive blame)) = false
-is_right (Some (Long place)) = false
-is_right (Some (Deep place)) = false
+is_right other = false
 
 -- A directive ends where its condition is right.
 abbrev pub RightEnds : Behind → Type 0
@@ -194,9 +191,7 @@ asked_judged (k ∷ conditions) wanted site o t p c =
 by_quiet : {longest : ℕ} (a : Awaits) (t : SourceToken) (is_inner : Bool) (c : Conditions) → Quiet longest c (begun_by a t is_inner c)
 by_quiet (Awaits.Condition wanted) t is_inner c =
     if_quiet (fits grammar known (atom_of t) condition_begun.stack) (passed _) (unfit c) (same_quiet (refl, refl)) (same_quiet (refl, refl))
-by_quiet Awaits.Word t is_inner c = same_quiet (refl, refl)
-by_quiet (Awaits.Name if_declared) t is_inner c = same_quiet (refl, refl)
-by_quiet (Awaits.End e) t is_inner c = same_quiet (refl, refl)
+by_quiet pending t is_inner c = same_quiet (refl, refl)
 
 begun_quiet : {longest : ℕ} (w : ConditionalWord) (t : SourceToken) (place : Place) (is_inner : Bool) (c : Conditions)
     → Quiet longest c (begun w t place is_inner c)
@@ -259,9 +254,7 @@ sign_asked_quiet (k ∷ conditions) wanted place site p c =
 sign_awaited_quiet : (a : Awaits) (place : Place) (site : Site) (p : Pending) (c : Conditions)
     → Quiet site.longest c (sign_awaited a place site p c)
 sign_awaited_quiet (Awaits.Condition wanted) place site p c = sign_asked_quiet c.conditions wanted place site p c
-sign_awaited_quiet Awaits.Word place site p c = same_quiet (refl, refl)
-sign_awaited_quiet (Awaits.Name if_declared) place site p c = same_quiet (refl, refl)
-sign_awaited_quiet (Awaits.End e) place site p c = same_quiet (refl, refl)
+sign_awaited_quiet pending place site p c = same_quiet (refl, refl)
 
 sign_quiet : (pending : List Pending) (place : Place) (site : Site) (c : Conditions)
     → Quiet site.longest c (sign_offered pending place site c)
@@ -297,11 +290,7 @@ behind_judged None place site o t c =
 
 ended_by_same : (w : ConditionalWord) (c : Conditions) → Same c (ended_by w c)
 ended_by_same ConditionalWord.Endif c = closed_same c.inner c
-ended_by_same ConditionalWord.Ifdef c = turned_same c.inner c
-ended_by_same ConditionalWord.Ifndef c = turned_same c.inner c
-ended_by_same ConditionalWord.Iftrue c = turned_same c.inner c
-ended_by_same ConditionalWord.Iffalse c = turned_same c.inner c
-ended_by_same ConditionalWord.Ifnot c = turned_same c.inner c
+ended_by_same word c = turned_same c.inner c
 
 side_same : (c : Conditions) (b : Bool) (x y : Conditions) → Same c x → Same c y → Same c (if b then x else y)
 side_same c true x y h k = h
@@ -340,8 +329,6 @@ tokens_are_few site o t c sign_fits few = (by_judged c.left_out c.sign site o t 
 
 pub loud_is_over : (files : FileNames) (said : Option Said) (r : Reported) → is_loud said ≡ true
     → (with_said files said r).counts.is_over ≡ true
-loud_is_over files None r e = cc
-loud_is_over files (Some (Right tokens leaves)) r e = cc
-loud_is_over files (Some (Wrong directive blame)) r e = cc
 loud_is_over files (Some (Long place)) r e = fatal_is_over r.counts
 loud_is_over files (Some (Deep place)) r e = fatal_is_over r.counts
+loud_is_over files other r e = cc

@@ -21,10 +21,10 @@ use Rattle.inf_constructs.specs.Constructs.{entered, front, joint, looped, loope
 use Rattle.inf_statements.specs.Statements.{alone}
 use Rattle.inf_code_walk.specs.Made.{As, Asks, Binds, By, Either, Handed, Instructs, Jumps, Laid, Lays, Lows, Made, Marks, Names, Nothing}
 use Rattle.inf_code_walk.specs.Made.{Packs, Prints, Takes, Then, Wide}
-use Rattle.inf_code_walk.proofs.Leaves.{Any, any_tree, any_trees}
+use Rattle.inf_code_walk.proofs.Rows.{Any, any_tree, any_trees}
 use Rattle.inf_code_walk.proofs.Statements.{alone_made, any_fixed, between_laid, case_closed_made, entered_laid, looped_laid}
 use Rattle.inf_code_walk.proofs.Statements.{looped_on_made, opened_laid}
-use Rattle.inf_limit_laws.specs.Rooms.{Before, Counted, Sound}
+use Rattle.inf_limit_laws.specs.Within.{Before, Counted, Sound}
 use Rattle.inf_limit_laws.proofs.Outputs.{instruction_keeps, item_keeps, items_keep, jump_keeps, low_text_keeps, mark_keeps, naming_keeps}
 use Rattle.inf_limit_laws.proofs.Outputs.{with_routine_keeps}
 
@@ -227,12 +227,7 @@ naming_leaves {limits} {whole} opcode variable operands store branch = record { 
 front_leaves : (limits : Limits) (whole : Bool) (k : Kind) (c : Construct) → Leaves limits whole (front limits k c)
 front_leaves limits whole Kind.While c = mark_leaves c.next
 front_leaves limits whole Kind.Do c = mark_leaves c.top
-front_leaves limits whole Kind.If c = nothing_leaves
-front_leaves limits whole Kind.Else c = nothing_leaves
-front_leaves limits whole Kind.For c = nothing_leaves
-front_leaves limits whole (Kind.Objects how v) c = nothing_leaves
-front_leaves limits whole (Kind.Switch old had_default) c = nothing_leaves
-front_leaves limits whole (Kind.Cases old had_default) c = nothing_leaves
+front_leaves limits whole kind c = nothing_leaves
 
 opened_few : (limits : Limits) (whole : Bool) (k : Kind) (o : Out) → Few limits whole o → Few limits whole (opened limits k o).1
 unfolding opened
@@ -249,12 +244,7 @@ joint_leaves limits whole c Kind.If = leaves_then (jump_leaves c.end) (mark_leav
 joint_leaves limits whole c Kind.Do = mark_leaves c.next
 joint_leaves limits whole c Kind.For = mark_leaves c.top
 joint_leaves limits whole c (Kind.Objects Over.Nothing v) = mark_leaves c.top
-joint_leaves limits whole c (Kind.Objects Over.Children v) = nothing_leaves
-joint_leaves limits whole c (Kind.Objects Over.All v) = nothing_leaves
-joint_leaves limits whole c Kind.Else = nothing_leaves
-joint_leaves limits whole c Kind.While = nothing_leaves
-joint_leaves limits whole c (Kind.Switch old had_default) = nothing_leaves
-joint_leaves limits whole c (Kind.Cases old had_default) = nothing_leaves
+joint_leaves limits whole c kind = nothing_leaves
 
 between_few : (limits : Limits) (whole : Bool) (c : Construct) (o : Out) → Few limits whole o → Few limits whole (between limits c o).1
 unfolding between

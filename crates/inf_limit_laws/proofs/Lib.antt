@@ -2,7 +2,6 @@ pub mod Rooms
 pub mod Outputs
 pub mod Constructs
 pub mod Ways
-pub mod Closing
 pub mod Walked
 pub mod Conditions
 pub mod Turns

@@ -10,9 +10,9 @@ use Rattle.inf_dictionary.specs.{declared.uses.WordUse.WordUse}
 use Rattle.inf_tables.specs.LowStrings.{low_fits}
 use Rattle.inf_opcode.specs.{Cells.Cell, Cells.fixup_count, Instructions.Parts, Instructions.instruction_cells}
 use Rattle.inf_opcode.specs.{declared.instructions.Branch.Branch, declared.instructions.Label.Label, declared.opcodes.Opcode.Opcode}
-use Rattle.inf_assembler.specs.{Routines.Contents, Routines.body_bytes, Routines.long_places, Routines.routine_fixups}
 use Rattle.inf_assembler.specs.{declared.routines.CloseFault.CloseFault, declared.routines.Limit.Limit as CodeLimit}
 use Rattle.inf_assembler.specs.{declared.routines.RoutineKind.RoutineKind}
+use Rattle.inf_assembler.specs.Routines.{Contents, body_bytes, long_places, routine_fixups}
 use Rattle.inf_assembler.proofs.Finishing.{length-fixups}
 use Rattle.inf_names.specs.{Symbols.declare_fault, Symbols.refer_fault, declared.meanings.Meaning.Meaning}
 use Rattle.inf_names.specs.{declared.symbols.DeclareFault.DeclareFault, declared.symbols.ReferFault.ReferFault}
@@ -26,7 +26,7 @@ use Rattle.inf_output.specs.Output.{full_past, in_routine, instruction, jumped, 
 use Rattle.inf_output.specs.Output.{passed, passed_limit, passed_table, past_by, past_of, referred, referred_by, routine, symbols_passed}
 use Rattle.inf_output.specs.Output.{table_passed, used, used_by, with_labels_left, with_low_text, with_low_text_by, with_routine}
 use Rattle.inf_output.specs.Output.{with_scale, with_text, with_text_by, with_word, with_word_by, without_item}
-use Rattle.inf_limit_laws.specs.Rooms.{Before, Counted, IsCounted, Keeps, LeavesRoom}
+use Rattle.inf_limit_laws.specs.Within.{Before, Counted, IsCounted, Keeps, LeavesRoom}
 use Rattle.inf_limit_laws.proofs.Rooms.{item_tightens, limit_full, past_room, strings_full, symbols_full, table_full, tight_room}
 
 -- a limit that was passed has no room to speak of
@@ -272,9 +272,7 @@ by_closed {was} limits kind o h (Some (CloseFault.Full limit)) = record {
       (limit_full limit (past_by limits o.past (with_none_open o.code))) free;
 }
 by_closed {was} limits kind o h (Some (CloseFault.LabelMissing label)) = none_open_keeps limits o h
-by_closed {was} limits kind o h (Some (CloseFault.LabelTwice label)) = none_open_keeps limits o h
-by_closed {was} limits kind o h (Some CloseFault.TooFar) = none_open_keeps limits o h
-by_closed {was} limits kind o h (Some CloseFault.Memory) = none_open_keeps limits o h
+by_closed {was} limits kind o h other = none_open_keeps limits o h
 
 labels_counted : {was : Before} (limits : Limits) (left : Option ℕ) (o : Out) → Counted limits was o →
     Counted limits was (with_labels_left limits left o)

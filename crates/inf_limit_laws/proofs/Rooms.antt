@@ -1,7 +1,7 @@
 -- Rooms of limits: as code is counted they get less, and where a unit ends without a limit that was passed its counts fit.
 use Rattle.std.specs.Prelude.{[], if◌then◌else◌, length, ◌∷◌}
-use Rattle.std.proofs.Common.{Bool, None, Option, Some, arith, cond, false, ltb, refl, true, ℕ, ◌+◌, ◌-◌, ◌≡◌, ◌≤◌}
 use Rattle.std.proofs.lemmas.Bool.{ltb-false}
+use Rattle.std.proofs.Common.{Bool, None, Option, Some, arith, cond, false, ltb, refl, true, ℕ, ◌+◌, ◌-◌, ◌≡◌, ◌≤◌}
 use Rattle.inf_settings.specs.{Bounds.Limits, declared.setting.Setting.Setting}
 use Rattle.inf_tables.specs.Tables.{references}
 use Rattle.inf_opcode.specs.{Cells.Of, Counts.counts_of, Instructions.front_cells, declared.cells.Special.Special}
@@ -11,7 +11,7 @@ use Rattle.inf_code.specs.Code.{Routines, bytes_of_code, is_lost_in, labels, ref
 use Rattle.inf_output.specs.{declared.items.Item.Item, declared.past.Past.Past}
 use Rattle.inf_output.specs.Output.{Out, counted, first_table, full, full_of, full_past, less, or_full, passed_limit, past_by, past_of}
 use Rattle.inf_output.specs.Output.{table_passed, taken, whole, without, without_bytes, without_item, without_labels, without_lost}
-use Rattle.inf_limit_laws.specs.Rooms.{Before, Counted, LeavesRoom}
+use Rattle.inf_limit_laws.specs.Within.{Before, Counted, LeavesRoom}
 
 -- Rests of a limit
 

@@ -10,19 +10,17 @@ use Rattle.inf_output.specs.Output.{Out}
 use Rattle.inf_machine.specs.{Machine.fits, Machine.taken, declared.symbols.Symbol.Symbol}
 use Rattle.inf_syntax.specs.declared.actions.Action.{Action}
 use Rattle.inf_grammar.specs.{Language.grammar, Language.known, Routines.closings}
-use Rattle.inf_report.specs.Messages.{DeepNesting, Exceeded, Location, LoneConditional, Message, NoInclude, TooManyFiles, kind_of}
 use Rattle.inf_report.specs.declared.messages.Kind.{Kind}
-use Rattle.inf_unit.specs.{Messages.FileNames, Messages.location, Messages.with_fatal, Tokens.SourceToken, Tokens.atom_of, Tokens.is_end}
-use Rattle.inf_unit.specs.{Units.name_at}
-use Rattle.inf_unit.specs.Directives.{Characters, End, Include, Nothing, Request}
+use Rattle.inf_report.specs.Messages.{DeepNesting, Exceeded, Location, LoneConditional, Message, NoInclude, TooManyFiles, kind_of}
+use Rattle.inf_unit.specs.{Directives.Include, Directives.Nothing, Directives.Request, Messages.FileNames, Messages.location}
+use Rattle.inf_unit.specs.{Messages.with_fatal, Tokens.SourceToken, Tokens.atom_of, Tokens.is_end, Units.name_at}
 use Rattle.inf_compilation.specs.{Actions.Compilation, Actions.piece_begun as work_begun, Context.Context, Nesting.closed_ahead}
 use Rattle.inf_sources.specs.{declared.open_file.Conditional.Conditional, declared.open_files.Included.Included}
 use Rattle.inf_sources.specs.Inclusions.{Inclusion, Opens, OpensNone, Waiting, inclusion}
 use Rattle.inf_conditionals.specs.{Ends.file_told, Ends.piece_told, Ends.with_all_lone, Ends.with_lone, Judging.Behind, Judging.judged}
-use Rattle.inf_conditionals.specs.{Open.Conditions, Operands.action_added, Operands.actions_added, Operands.appeared_by}
-use Rattle.inf_conditionals.specs.{declared.filtered.Filtered.Filtered, declared.filtered.Forwarded.Forwarded, declared.filtered.Sign.Sign}
-use Rattle.inf_conditionals.specs.{declared.filtered.Site.Site}
-use Rattle.inf_conditionals.specs.Said.{Deep, Long, Right, Said, Wrong, with_said}
+use Rattle.inf_conditionals.specs.{Open.Conditions, Operands.action_added, Operands.actions_added, Operands.appeared_by, Said.Deep}
+use Rattle.inf_conditionals.specs.{Said.Long, Said.Right, Said.Said, Said.Wrong, Said.with_said, declared.filtered.Filtered.Filtered}
+use Rattle.inf_conditionals.specs.{declared.filtered.Forwarded.Forwarded, declared.filtered.Sign.Sign, declared.filtered.Site.Site}
 use Rattle.inf_reader.specs.{Acting.all_acted, Acting.cut_at, Tests.complaint_of, declared.recovery.Recovery.Recovery}
 use Rattle.inf_reader.specs.Handing.{handed_as, hash, judged_taken, lone_told, said_told, sign_taken, site_of, token_taken, unfit_in}
 use Rattle.inf_reader.specs.Handing.{unit_ended}
@@ -32,25 +30,26 @@ use Rattle.inf_session.specs.Choices.{Choices}
 use Rattle.inf_session.specs.Session.{State, answered, asked_nothing, carried_out, context_of, file_closed, followed, has_ended}
 use Rattle.inf_session.specs.Session.{included_by, is_resting, left, left_by, none_included, piece_closed, rested, stand_of, stepped}
 use Rattle.inf_session.specs.Session.{token_of, turn}
-use Rattle.inf_step_walk.specs.Walking.{After, Follows, Grown, Remains, Rests, Settles, Stays, Tells, Walk}
-use Rattle.inf_step_walk.proofs.{Actions.all_acted_steps, Actions.cut_at_steps, Actions.took_steps, Operands.action_grows, Units.stays}
-use Rattle.inf_limit_laws.specs.{Rooms.unfollowed, Signs.SignFits, Signs.is_loud, Within.Ends, Within.Lays, Within.Steps, Within.is_over}
+use Rattle.inf_step_walk.specs.Walking.{Acts, Asks, Follows, Grown, Nowhere, Remains, Rests, Runs, Settles, Stays, Tells, Then, free}
+use Rattle.inf_step_walk.proofs.{Actions.all_acted_steps, Actions.cut_at_steps, Actions.took_steps, Operands.action_grows}
+use Rattle.inf_message_laws.proofs.Told.{error_adds, fatal_adds, remains}
+use Rattle.inf_limit_laws.specs.Within.{Ends, Lays, SignFits, Steps, is_loud, is_over, unfollowed}
+use Rattle.inf_limit_laws.proofs.Walked.{ahead_lays, counted, ran}
 use Rattle.inf_limit_laws.proofs.Conditions.{NoneRight, is_right, loud_is_over, right_ends, tokens_are_few}
-use Rattle.inf_limit_laws.proofs.Walked.{ahead_lays, counted, walked}
-use Rattle.inf_limit_laws.proofs.Ways.{begun_ends, lay_of, lays_end, step_of, steps_then, with_error_stays, with_fatal_stays}
+use Rattle.inf_limit_laws.proofs.Ways.{begun_ends, lay_of, lays_end, step_of, steps_then}
 
 -- Messages about tokens and conditionals
 
 complaint_stays : (k : Kind) (at : Location) (m : Message) → Remains (with_complaint_of k at m)
-complaint_stays Kind.Fatal at m = with_fatal_stays at m
-complaint_stays Kind.Error at m = with_error_stays at at m
-complaint_stays Kind.Warning at m = with_error_stays at at m
+complaint_stays Kind.Fatal at m = remains (fatal_adds at m)
+complaint_stays Kind.Error at m = remains (error_adds at at m)
+complaint_stays Kind.Warning at m = remains (error_adds at at m)
 
 with_complaint_stays : (at : Location) (m : Message) → Remains (with_complaint at m)
 with_complaint_stays at m = complaint_stays (kind_of m) at m
 
 lone_stays : (files : FileNames) (place : Place) → Remains (with_lone files place)
-lone_stays files place = with_error_stays (location files place) (location files place) LoneConditional
+lone_stays files place = remains (error_adds (location files place) (location files place) LoneConditional)
 
 all_lone_stay : (files : FileNames) (conditionals : List Conditional) → Remains (with_all_lone files conditionals)
 all_lone_stay files [] r free = free
@@ -67,177 +66,172 @@ pub said_stays : (files : FileNames) (said : Option Said) → Remains (with_said
 said_stays files None r free = free
 said_stays files (Some (Right tokens leaves)) r free = free
 said_stays files (Some (Wrong directive b)) r free =
-    with_error_stays (location files b.place) (location files directive) b.message r free
-said_stays files (Some (Long place)) r free = with_fatal_stays (location files place) (Exceeded Setting.ExpressionNodes) r free
-said_stays files (Some (Deep place)) r free = with_fatal_stays (location files place) DeepNesting r free
+    remains (error_adds (location files b.place) (location files directive) b.message) r free
+said_stays files (Some (Long place)) r free = remains (fatal_adds (location files place) (Exceeded Setting.ExpressionNodes)) r free
+said_stays files (Some (Deep place)) r free = remains (fatal_adds (location files place) DeepNesting) r free
 
 module _ {limits : Limits} {context : Context} where
   -- Tokens that the grammar gets
 
   bad_walks : (t : SourceToken) (r : Reading) (w : Compilation)
-      → Walk limits context (Unit {0}) w (bad limits context t r w).work
+      → Runs limits context w (bad limits context t r w).work
   bad_walks t r w =
       let c = cut_at limits context t.place w in
-      After (cut_at_steps t.place w)
+      Then (Acts (cut_at_steps t.place w w.report))
       (Tells (with_complaint (location context.names t.place) (complaint_of t))
       (with_complaint_stays (location context.names t.place) (complaint_of t)))
 
   took_token_walks : (t : SourceToken) (r : Reading) (w : Compilation)
-      → Walk limits context (Unit {0}) w (took limits context t r w).work
+      → Runs limits context w (took limits context t r w).work
   took_token_walks t r w =
       let n = taken grammar known (atom_of t) r.stack in
-      After (all_acted_steps tt t.place n.actions w) (took_steps t (all_acted limits context t.place n.actions w))
+      let v = all_acted limits context t.place n.actions w in
+      Then (Acts (all_acted_steps (λ e. tt) t.place n.actions w w.report)) (Acts (took_steps t v v.report))
 
   -- one of two states
   either_walks : (b : Bool) (w : Compilation) (x y : ReaderState)
-      → Walk limits context (Unit {0}) w x.work → Walk limits context (Unit {0}) w y.work
-      → Walk limits context (Unit {0}) w (if b then x else y).work
+      → Runs limits context w x.work → Runs limits context w y.work
+      → Runs limits context w (if b then x else y).work
   either_walks true w x y f g = f
   either_walks false w x y f g = g
 
   judged_walks : (t : SourceToken) (r : Reading) (w : Compilation)
-      → Walk limits context (Unit {0}) w (token_judged limits context t r w).work
+      → Runs limits context w (token_judged limits context t r w).work
   judged_walks t r w =
       either_walks (fits grammar known (atom_of t) r.stack) w (took limits context t r w) (bad limits context t r w)
       (took_token_walks t r w) (bad_walks t r w)
 
   -- a piece begins
   piece_walks : (w : Compilation)
-      → Walk limits context (Unit {0}) w (work_begun w)
-  piece_walks w = Rests (λ u h. tt) refl
+      → Runs limits context w (work_begun w)
+  piece_walks w = Acts (Rests (λ u h. tt) refl)
 
   at_walks : (t : SourceToken) (stack : List (Symbol Action)) (r : Reading)
-      (w : Compilation) → Walk limits context (Unit {0}) w (read_at limits context t stack r w).work
+      (w : Compilation) → Runs limits context w (read_at limits context t stack r w).work
   at_walks t [] r w =
       either_walks (is_end t.kind) w (record { reading = record r { mode = Recovery.Ended }; work = w })
-      (token_judged limits context t (piece_begun r) (work_begun w)) (stays w)
-      (After (piece_walks w) (judged_walks t (piece_begun r) (work_begun w)))
+      (token_judged limits context t (piece_begun r) (work_begun w)) Nowhere
+      (Then (piece_walks w) (judged_walks t (piece_begun r) (work_begun w)))
   at_walks t (symbol ∷ symbols) r w = judged_walks t r w
 
   in_walks : (m : Recovery) (t : SourceToken) (r : Reading) (w : Compilation)
-      → Walk limits context (Unit {0}) w (step_in limits m context t r w).work
+      → Runs limits context w (step_in limits m context t r w).work
   in_walks Recovery.Reads t r w = at_walks t r.stack r w
-  in_walks Recovery.SkipsRoutine t r w = stays w
-  in_walks Recovery.SkipsDirective t r w = stays w
-  in_walks Recovery.Ended t r w = stays w
+  in_walks mode t r w = Nowhere
 
   token_walks : (t : SourceToken) (r : Reading) (w : Compilation)
-      → Walk limits context (Unit {0}) w (step limits context t r w).work
+      → Runs limits context w (step limits context t r w).work
   token_walks t r w = in_walks r.mode t r w
 
   unfit_walks : (m : Recovery) (t : SourceToken) (s : ReaderState)
-      → Walk limits context (Unit {0}) s.work (unfit_in limits m context t s).work
+      → Runs limits context s.work (unfit_in limits m context t s).work
   unfit_walks Recovery.Reads t s = bad_walks t s.reading s.work
-  unfit_walks Recovery.SkipsRoutine t s = token_walks t s.reading s.work
-  unfit_walks Recovery.SkipsDirective t s = token_walks t s.reading s.work
-  unfit_walks Recovery.Ended t s = token_walks t s.reading s.work
+  unfit_walks mode t s = token_walks t s.reading s.work
 
   handed_walks : (h : Forwarded) (t : SourceToken) (s : ReaderState)
-      → Walk limits context (Unit {0}) s.work (handed_as limits h context t s).work
+      → Runs limits context s.work (handed_as limits h context t s).work
   handed_walks Forwarded.Kept t s = token_walks t s.reading s.work
   handed_walks Forwarded.Unfit t s = unfit_walks s.reading.mode t s
-  handed_walks Forwarded.Condition t s = stays s.work
+  handed_walks Forwarded.Condition t s = Nowhere
 
   sign_walks : (sign : Option Sign) (s : ReaderState)
-      → Walk limits context (Unit {0}) s.work (sign_taken limits sign context s).work
-  sign_walks None s = stays s.work
+      → Runs limits context s.work (sign_taken limits sign context s).work
+  sign_walks None s = Nowhere
   sign_walks (Some sign) s = handed_walks sign.handed (hash sign.place) s
 
   given_walks : (h : Option Forwarded) (t : SourceToken) (s : ReaderState)
-      → Walk limits context (Unit {0}) s.work (token_taken limits h context t s).work
-  given_walks None t s = stays s.work
+      → Runs limits context s.work (token_taken limits h context t s).work
+  given_walks None t s = Nowhere
   given_walks (Some h) t s = handed_walks h t s
 
   lone_walks : (place : Option Place) (s : ReaderState)
-      → Walk limits context (Unit {0}) s.work (lone_told place context s).work
-  lone_walks None s = stays s.work
+      → Runs limits context s.work (lone_told place context s).work
+  lone_walks None s = Nowhere
   lone_walks (Some place) s =
       Tells (with_lone context.names place) (lone_stays context.names place)
 
   pub ended_walks : (place : Option Place) (s : ReaderState)
-      → Walk limits context (Unit {0}) s.work (unit_ended limits place context s).work
-  ended_walks None s = stays s.work
+      → Runs limits context s.work (unit_ended limits place context s).work
+  ended_walks None s = Nowhere
   ended_walks (Some place) s = Settles (closings s.reading.stack) context.names place
 
   -- the tokens of a turn, up to the end of a conditional directive
   pub between_walks : (t : SourceToken) (j : Filtered) (s : ReaderState)
-      → Walk limits context (Unit {0}) s.work
+      → Runs limits context s.work
       (lone_told j.unmatched context (token_taken limits j.token context t (sign_taken limits j.sign context s))).work
   between_walks t j s =
       let first = sign_taken limits j.sign context s in
       let second = token_taken limits j.token context t first in
-      After (sign_walks j.sign s) (After (given_walks j.token t first) (lone_walks j.unmatched second))
+      Then (sign_walks j.sign s) (Then (given_walks j.token t first) (lone_walks j.unmatched second))
 
   -- one of two states
   either_state : (b : Bool) (w : Compilation) (x y : State)
-      → Walk limits context (Unit {0}) w x.work → Walk limits context (Unit {0}) w y.work
-      → Walk limits context (Unit {0}) w (if b then x else y).work
+      → Runs limits context w x.work → Runs limits context w y.work
+      → Runs limits context w (if b then x else y).work
   either_state true w x y f g = f
   either_state false w x y f g = g
 
   left_walks : (waiting : List Waiting) (s : State)
-      → Walk limits context (Unit {0}) s.work (left_by waiting s).work
-  left_walks [] s = stays s.work
-  left_walks (w ∷ waiting) s = Rests (λ u h. h) refl
+      → Runs limits context s.work (left_by waiting s).work
+  left_walks [] s = Nowhere
+  left_walks (w ∷ waiting) s = Acts (Rests (λ u h. h) refl)
 
   closed_walks : (s : State)
-      → Walk limits context (Unit {0}) s.work (file_closed s).work
+      → Runs limits context s.work (file_closed s).work
   closed_walks s = Tells (file_told s.nesting.names s.conditions) (file_stays s.nesting.names s.conditions)
 
   none_walks : (unit : Place) (text : List ℕ) (why : Included) (s : State)
-      → Walk limits context (Unit {0}) s.work (none_included unit text why s).work
-  none_walks unit text Included.Entered s = stays s.work
+      → Runs limits context s.work (none_included unit text why s).work
+  none_walks unit text Included.Entered s = Nowhere
   none_walks unit text Included.NotThere s =
       Tells (with_fatal (location s.nesting.names unit) (NoInclude text))
-      (with_fatal_stays (location s.nesting.names unit) (NoInclude text))
+      (remains (fatal_adds (location s.nesting.names unit) (NoInclude text)))
   none_walks unit text Included.TooDeep s =
       Tells (with_fatal (location s.nesting.names unit) TooManyFiles)
-      (with_fatal_stays (location s.nesting.names unit) TooManyFiles)
+      (remains (fatal_adds (location s.nesting.names unit) TooManyFiles))
 
   included_walks : (sources : Sources) (o : Choices) (unit : Place)
       (text : List ℕ)
-      (i : Inclusion) (s : State) → Walk limits context (Unit {0}) s.work (included_by sources o unit text i s).work
-  included_walks sources o unit text (Opens name) s = Rests (λ u h. h) refl
+      (i : Inclusion) (s : State) → Runs limits context s.work (included_by sources o unit text i s).work
+  included_walks sources o unit text (Opens name) s = Acts (Rests (λ u h. h) refl)
   included_walks sources o unit text (OpensNone why) s = none_walks unit text why s
 
   answered_walks : (r : Request) (sources : Sources) (o : Choices) (s : State)
-      → Walk limits context (Unit {0}) s.work (answered r sources o s).work
+      → Runs limits context s.work (answered r sources o s).work
   answered_walks (Include text unit) sources o s = included_walks sources o unit text (inclusion sources o.directories text s.nesting) s
-  answered_walks End sources o s = stays s.work
-  answered_walks (Characters set) sources o s = stays s.work
-  answered_walks Nothing sources o s = stays s.work
+  answered_walks other sources o s = Nowhere
 
   -- nothing is asked any more
   silent_walks : (s : State)
-      → Walk limits context (Unit {0}) s.work (asked_nothing s).work
-  silent_walks s = Rests (λ u h. h) refl
+      → Runs limits context s.work (asked_nothing s).work
+  silent_walks s = Acts (Asks Nothing tt)
 
   carried_walks : (sources : Sources) (o : Choices) (s : State)
-      → Walk limits context (Unit {0}) s.work (carried_out sources o s).work
+      → Runs limits context s.work (carried_out sources o s).work
   carried_walks sources o s =
-      either_state s.work.report.counts.is_over s.work s _ (stays s.work)
+      either_state s.work.report.counts.is_over s.work s _ Nowhere
       (either_state (is_mode_ended s.reading.mode) s.work (left s) (answered s.work.asked sources o (asked_nothing s))
-      (After (closed_walks s) (left_walks s.nesting.waiting (file_closed s)))
-      (After (silent_walks s) (answered_walks s.work.asked sources o (asked_nothing s))))
+      (Then (closed_walks s) (left_walks s.nesting.waiting (file_closed s)))
+      (Then (silent_walks s) (answered_walks s.work.asked sources o (asked_nothing s))))
 
   pub rested_walks : (s : State)
-      → Walk limits context (Unit {0}) s.work (rested s).work
+      → Runs limits context s.work (rested s).work
   rested_walks s =
-      either_state (has_ended s) s.work s _ (stays s.work)
+      either_state (has_ended s) s.work s _ Nowhere
       (either_state (is_resting s) s.work (piece_closed s) s
-      (Tells (piece_told s.nesting.names s.conditions) (piece_stays s.nesting.names s.conditions)) (stays s.work))
+      (Tells (piece_told s.nesting.names s.conditions) (piece_stays s.nesting.names s.conditions)) Nowhere)
 
   pub followed_walks : (sources : Sources) (o : Choices) (s : State)
-      → Walk limits context (Unit {0}) s.work (followed sources o s).work
-  followed_walks sources o s = After (carried_walks sources o s) (rested_walks (carried_out sources o s))
+      → Runs limits context s.work (followed sources o s).work
+  followed_walks sources o s = Then (carried_walks sources o s) (rested_walks (carried_out sources o s))
 
 -- Actions of a condition
 
 one_action_grows : {limits : Limits} (tokens : List SourceToken) (l : Leaf) (o : Out)
-    → Grown limits (Unit {0}) o (action_added limits tokens l o)
+    → Grown limits free o (action_added limits tokens l o)
 one_action_grows {limits} tokens (Leaf.Action at) o = go (name_at tokens at)
   where
-    go : (n : Option Name) → Grown limits (Unit {0}) o (appeared_by limits n o)
+    go : (n : Option Name) → Grown limits free o (appeared_by limits n o)
     go None = Stays
     go (Some n) = action_grows n.bytes n.place o
 one_action_grows tokens (Leaf.Name at) o = Stays
@@ -249,16 +243,12 @@ one_action_grows tokens (Leaf.Text at) o = Stays
 one_action_grows tokens (Leaf.System at) o = Stays
 
 pub actions_grow : {limits : Limits} (tokens : List SourceToken) (leaves : List Leaf) (o : Out)
-    → Grown limits (Unit {0}) o (actions_added limits tokens leaves o)
+    → Grown limits free o (actions_added limits tokens leaves o)
 actions_grow tokens [] o = Stays
 actions_grow {limits} tokens (l ∷ leaves) o =
     Follows (one_action_grows tokens l o) (actions_grow tokens leaves (action_added limits tokens l o))
 
 -- Turns
-
-does : {limits : Limits} {context : Context} {begins strict : Bool} {w v : Compilation} → Walk limits context (Unit {0}) w v
-    → Steps limits context (unfollowed begins strict) w v
-does f = walked {Q = Unit {0}} (λ q. refl) f
 
 -- Where a conditional directive ends
 
@@ -272,35 +262,17 @@ directive_ends {limits} {context} {begins} {strict} place s =
 
 told_lays : {limits : Limits} {context : Context} {begins strict : Bool} (said : Option Said) (s : ReaderState)
     → Lays limits context (unfollowed begins strict) s.work (said_told limits said context s).work
-told_lays {limits} {context} {begins} {strict} None s = record { on = said_stays context.names None s.work.report; kept = λ e h. h }
 told_lays {limits} {context} {begins} {strict} (Some (Right tokens leaves)) s = record {
   on = λ e. e;
-  kept = λ e h. (h.0, (h.1.0, counted {Q = Unit {0}} (λ q. refl) (actions_grow tokens leaves s.work.output) h.1.1));
+  kept = λ e h. (h.0, (h.1.0, counted {Q = free} (λ q. refl) (actions_grow tokens leaves s.work.output) h.1.1));
 }
-told_lays {limits} {context} {begins} {strict} (Some (Wrong directive b)) s =
-    record { on = said_stays context.names (Some (Wrong directive b)) s.work.report; kept = λ e h. h }
-told_lays {limits} {context} {begins} {strict} (Some (Long place)) s =
-    record { on = said_stays context.names (Some (Long place)) s.work.report; kept = λ e h. h }
-told_lays {limits} {context} {begins} {strict} (Some (Deep place)) s =
-    record { on = said_stays context.names (Some (Deep place)) s.work.report; kept = λ e h. h }
+told_lays {limits} {context} {begins} {strict} said s = record { on = said_stays context.names said s.work.report; kept = λ e h. h }
 
 told_steps : {limits : Limits} {context : Context} {begins strict : Bool} (said : Option Said) (s : ReaderState) → is_right said ≡ false
     → Steps limits context (unfollowed begins strict) s.work (said_told limits said context s).work
-told_steps {limits} {context} {begins} {strict} None s none =
-    record { on = said_stays context.names None s.work.report; kept = λ e h. h; few = λ e b h k. k; near = λ e h k. k }
 told_steps {limits} {context} {begins} {strict} (Some (Right tokens leaves)) s none = cc
-told_steps {limits} {context} {begins} {strict} (Some (Wrong directive b)) s none =
-    record {
-      on = said_stays context.names (Some (Wrong directive b)) s.work.report;
-      kept = λ e h. h;
-      few = λ e b h k. k;
-      near =
-          λ e h k. k;
-    }
-told_steps {limits} {context} {begins} {strict} (Some (Long place)) s none =
-    record { on = said_stays context.names (Some (Long place)) s.work.report; kept = λ e h. h; few = λ e b h k. k; near = λ e h k. k }
-told_steps {limits} {context} {begins} {strict} (Some (Deep place)) s none =
-    record { on = said_stays context.names (Some (Deep place)) s.work.report; kept = λ e h. h; few = λ e b h k. k; near = λ e h k. k }
+told_steps {limits} {context} {begins} {strict} said s none =
+    record { on = said_stays context.names said s.work.report; kept = λ e h. h; few = λ e b h k. k; near = λ e h k. k }
 
 -- a turn in which a conditional directive ends
 ending_steps : {limits : Limits} {context : Context} {begins strict : Bool} (t : SourceToken) (j : Filtered) (said : Option Said)
@@ -311,7 +283,7 @@ ending_steps : {limits : Limits} {context : Context} {begins strict : Bool} (t :
 ending_steps t j said s None e = cc
 ending_steps {limits} {context} {begins} {strict} t j said s (Some place) e =
     let told = said_told limits said context s in
-    lays_end (told_lays said s) (lays_end (lay_of (does (between_walks t j told))) (directive_ends place
+    lays_end (told_lays said s) (lays_end (lay_of (ran (between_walks t j told))) (directive_ends place
     (lone_told j.unmatched context (token_taken limits j.token context t (sign_taken limits j.sign context told)))))
 
 turned_steps : {limits : Limits} {context : Context} {begins strict : Bool} (t : SourceToken) (j : Filtered) (said : Option Said)
@@ -325,7 +297,7 @@ turned_steps {limits} {context} {begins} {strict} t j said s ends = go (is_right
 
     go : (b : Bool) → is_right said ≡ b → Steps limits context (unfollowed begins strict) s.work (judged_taken limits context t j told).work
     go true e = step_of (ending_steps t j said s j.ended (ends e))
-    go false e = steps_then (told_steps said s e) (steps_then (does (between_walks t j told)) (does (ended_walks j.ended
+    go false e = steps_then (told_steps said s e) (steps_then (ran (between_walks t j told)) (ran (ended_walks j.ended
         (lone_told j.unmatched context (token_taken limits j.token context t (sign_taken limits j.sign context told))))))
 
 -- States
@@ -340,7 +312,7 @@ stepped_steps limits o s none =
 
 pub rested_steps : {limits : Limits} {context : Context} {begins strict : Bool} (s : State)
     → Steps limits context (unfollowed begins strict) s.work (rested s).work
-rested_steps s = does (rested_walks s)
+rested_steps s = ran (rested_walks s)
 
 -- a whole turn
 pub turn_steps : {begins strict : Bool} (limits : Limits) (sources : Sources) (o : Choices) (s : State) → NoneRight s.conditions
@@ -348,7 +320,7 @@ pub turn_steps : {begins strict : Bool} (limits : Limits) (sources : Sources) (o
 turn_steps limits sources o s none =
     let t = stepped limits o s in
     steps_then (stepped_steps limits o s none)
-    (steps_then (does (followed_walks sources o t)) (record { on = λ e. e; kept = λ e h. h; few = λ e b h k. k; near = λ e h k. k }))
+    (steps_then (ran (followed_walks sources o t)) (record { on = λ e. e; kept = λ e h. h; few = λ e b h k. k; near = λ e h k. k }))
 
 -- Behind the token of a turn, the conditionals tell the same of a condition, and count the same tokens.
 
@@ -366,8 +338,7 @@ left_alike (w ∷ waiting) s = (refl, refl)
 
 why_alike : (unit : Place) (text : List ℕ) (why : Included) (s : State) → Alike s.conditions (none_included unit text why s).conditions
 why_alike unit text Included.Entered s = (refl, refl)
-why_alike unit text Included.NotThere s = (refl, refl)
-why_alike unit text Included.TooDeep s = (refl, refl)
+why_alike unit text why s = (refl, refl)
 
 included_alike : (sources : Sources) (o : Choices) (unit : Place) (text : List ℕ) (i : Inclusion) (s : State)
     → Alike s.conditions (included_by sources o unit text i s).conditions
@@ -377,9 +348,7 @@ included_alike sources o unit text (OpensNone why) s = why_alike unit text why s
 answered_alike : (r : Request) (sources : Sources) (o : Choices) (s : State) → Alike s.conditions (answered r sources o s).conditions
 answered_alike (Include text unit) sources o s =
     included_alike sources o unit text (inclusion sources o.directories text s.nesting) s
-answered_alike End sources o s = (refl, refl)
-answered_alike (Characters set) sources o s = (refl, refl)
-answered_alike Nothing sources o s = (refl, refl)
+answered_alike other sources o s = (refl, refl)
 
 carried_alike : (sources : Sources) (o : Choices) (s : State) → Alike s.conditions (carried_out sources o s).conditions
 carried_alike sources o s =
@@ -414,8 +383,8 @@ before_token : (limits : Limits) (context : Context) (begins strict : Bool) (t :
 before_token limits context begins strict t j s e =
     let told = lone_told j.unmatched context (token_taken limits j.token context t (sign_taken limits j.sign context s)) in
     let f =
-    steps_then {limits = limits} {context = context} {was = unfollowed begins strict} (does (between_walks t j s))
-    (does (ended_walks j.ended told)) in
+    steps_then {limits = limits} {context = context} {was = unfollowed begins strict} (ran (between_walks t j s))
+    (ran (ended_walks j.ended told)) in
     f.on e
 
 stepped_few : (limits : Limits) (o : Choices) (s : State) → SignFits (site_of o.settings s.reading) s.conditions
@@ -447,6 +416,6 @@ pub conditions_few : (limits : Limits) (sources : Sources) (o : Choices) (s : St
     → (turn limits sources o s).conditions.most_tokens ≤ number_of Setting.ExpressionNodes o.settings
 conditions_few limits sources o s none few e =
     let t = stepped limits o s in
-    let f : Steps limits (context_of o s) (unfollowed false false) t.work (followed sources o t).work = does (followed_walks sources o t) in
+    let f : Steps limits (context_of o s) (unfollowed false false) t.work (followed sources o t).work = ran (followed_walks sources o t) in
     subst (λ (n : ℕ). n ≤ number_of Setting.ExpressionNodes o.settings) (sym (followed_alike sources o t).1)
     (stepped_few limits o s none few (f.on e))

@@ -1,6 +1,5 @@
 -- Changes of an output keep it counted, and walks keep the counts of a compilation.
-use Rattle.std.specs.Prelude.{◌-◌}
-use Rattle.std.proofs.Common.{Bool, List, None, Some, false, subst, sym, true, ℕ, ◌+◌, ◌-◌, ◌∙◌, ◌≡◌, ◌≤◌}
+use Rattle.std.proofs.Common.{Bool, List, None, Some, ap, false, refl, subst, sym, true, ℕ, ◌+◌, ◌-◌, ◌∙◌, ◌≡◌, ◌≤◌}
 use Rattle.inf_area.specs.Cells.{later_count}
 use Rattle.inf_scanner.specs.declared.tokens.Place.{Place}
 use Rattle.inf_settings.specs.{Bounds.Limits, declared.setting.Setting.Setting}
@@ -8,67 +7,63 @@ use Rattle.inf_tables.specs.{LowStrings.low_fits, Tables.references}
 use Rattle.inf_code.specs.Code.{reference_count}
 use Rattle.inf_output.specs.Output.{Out, apart}
 use Rattle.inf_syntax.specs.declared.actions.Action.{Action}
-use Rattle.inf_unit.specs.{Messages.location, Messages.with_words, Roles.role_of, Tokens.SourceToken, declared.roles.Ending.Ending}
-use Rattle.inf_unit.specs.{declared.roles.Role.Role}
-use Rattle.inf_constructs.specs.Constructs.{Laying, begun, between, cases_begun, changed, ended, entered, looped_over}
+use Rattle.inf_unit.specs.{Roles.role_of, Tokens.SourceToken, declared.roles.Ending.Ending, declared.roles.Role.Role}
+use Rattle.inf_unit.specs.Messages.{Reported, location, warnings_chosen, with_words}
 use Rattle.inf_constructs.specs.declared.constructs.Construct.{Construct}
-use Rattle.inf_compilation.specs.{Actions.Compilation, Actions.took, Context.Context, Context.longest, Nesting.closed_ahead}
-use Rattle.inf_compilation.specs.{Nesting.construct_ended, Nesting.construct_joined, Nesting.constructs_laid}
+use Rattle.inf_constructs.specs.Constructs.{Laying, begun, between, cases_begun, changed, ended, entered, looped_over}
+use Rattle.inf_compilation.specs.{Actions.Compilation, Actions.took, Context.Context, Context.longest}
+use Rattle.inf_compilation.specs.Nesting.{closed_ahead, construct_ended, construct_joined, constructs_laid}
 use Rattle.inf_declarations.specs.Abbreviations.{low_added, low_added_by}
 use Rattle.inf_reader.specs.Acting.{act, cut_at}
-use Rattle.inf_step_walk.specs.Walking.{Abbreviates, After, Begins, Cases, Closes, Declares, Ends, Enters, Finishes, Follows, Gives}
-use Rattle.inf_step_walk.specs.Walking.{GivesUp, Grown, Inner, Joins, Leaves, Loops, LowTexts, Nests, Next, Opens, Over, Parts, Passes}
-use Rattle.inf_step_walk.specs.Walking.{Puts, Refers, Rest, Rests, Says, Scales, Settles, Shuts, Sizes, Starts, Stays, Tables, Tells, Texts}
-use Rattle.inf_step_walk.specs.Walking.{Walk, Uses}
+use Rattle.inf_step_walk.specs.Walking.{Abbreviates, Acts, After, Asks, Begins, Behind, Cases, Closes, Declares, Ends, Enters, Finishes}
+use Rattle.inf_step_walk.specs.Walking.{Follows, Gives, GivesUp, Grown, Inner, Joins, Leaves, Loops, LowTexts, Nests, Next, Nowhere, Opens}
+use Rattle.inf_step_walk.specs.Walking.{Over, Parts, Passes, Premises, Puts, Refers, Rest, Rests, Runs, Says, Scales, Settles, Shuts, Sizes}
+use Rattle.inf_step_walk.specs.Walking.{Starts, Stays, Tables, Tallies, Tells, Texts, Then, Uses, Walk, Warns, free}
 use Rattle.inf_step_walk.proofs.Actions.{act_steps as act_walks, cut_at_steps as cut_at_walks, took_steps as took_walks}
-use Rattle.inf_limit_laws.specs.{Rooms.Before, Rooms.Counted, Rooms.IsCounted, Rooms.Keeps, Within.Lays, Within.Steps}
-use Rattle.inf_limit_laws.proofs.Closing.{begun_steps, body_steps, close_as_ends, given_up_steps}
+use Rattle.inf_message_laws.proofs.Told.{remains, words_add}
+use Rattle.inf_limit_laws.specs.Within.{Before, Counted, IsCounted, Keeps, Lays, Steps, unfollowed}
 use Rattle.inf_limit_laws.proofs.Constructs.{Few, Gives as LayingGives, all_ended_keep, alone_sound, begun_few, begun_gives, between_gives}
 use Rattle.inf_limit_laws.proofs.Constructs.{cases_gives, changed_gives, ended_few, ended_gives, entered_gives, joined_few, laid_gives}
 use Rattle.inf_limit_laws.proofs.Constructs.{looped_over_gives}
 use Rattle.inf_limit_laws.proofs.Outputs.{close_keeps, declare_keeps, low_text_keeps, open_keeps, refer_keeps, scale_keeps, table_keeps}
 use Rattle.inf_limit_laws.proofs.Outputs.{text_keeps, word_keeps}
-use Rattle.inf_limit_laws.proofs.Ways.{begun_ends, lays_end, lays_step, lays_then, nested_steps, report_steps, sized_steps, step_of}
-use Rattle.inf_limit_laws.proofs.Ways.{steps_then, unit_ends, with_words_stays}
+use Rattle.inf_limit_laws.proofs.Ways.{begun_ends, begun_steps, body_steps, close_as_ends, given_up_steps, lays_end, lays_step, lays_then}
+use Rattle.inf_limit_laws.proofs.Ways.{nested_steps, report_steps, sized_steps, step_of, steps_then, unit_ends}
 
 -- Open statements
 
-pub constructs_lay : {limits : Limits} {context : Context} {was : Before} (w : Compilation) (laying : Laying (List Construct)) →
-    LayingGives limits was laying
-    → Lays limits context was w (constructs_laid laying w)
-constructs_lay {limits} {context} {was} w laying gives = record {
-  on = λ e. e;
-  kept = λ e h. (h.0, (h.1.0, gives.keeps w.output h.1.1));
-}
+module _ {limits : Limits} {context : Context} {was : Before} where
+  pub constructs_lay : (w : Compilation) (laying : Laying (List Construct)) → LayingGives limits was laying
+      → Lays limits context was w (constructs_laid laying w)
+  constructs_lay w laying gives = record {
+    on = λ e. e;
+    kept = λ e h. (h.0, (h.1.0, gives.keeps w.output h.1.1));
+  }
 
-constructs_step : {limits : Limits} {context : Context} {was : Before} (w : Compilation) (laying : Laying (List Construct)) →
-    LayingGives limits was laying
-    → ((whole : Bool) → Few limits whole w.output → Few limits whole (laying w.output).1)
-    → Steps limits context was w (constructs_laid laying w)
-constructs_step {limits} {context} {was} w laying gives few = record {
-  on = λ e. e;
-  kept = λ e h. (h.0, (h.1.0, gives.keeps w.output h.1.1));
-  few = λ e b h k. few true k;
-  near = λ e h k. few false k;
-}
+  constructs_step : (w : Compilation) (laying : Laying (List Construct)) → LayingGives limits was laying → ((whole : Bool)
+      → Few limits whole w.output → Few limits whole (laying w.output).1) → Steps limits context was w (constructs_laid laying w)
+  constructs_step w laying gives few = record {
+    on = λ e. e;
+    kept = λ e h. (h.0, (h.1.0, gives.keeps w.output h.1.1));
+    few = λ e b h k. few true k;
+    near = λ e h k. few false k;
+  }
 
-pub joining_steps : {limits : Limits} {context : Context} {was : Before} (w : Compilation) →
-    Steps limits context was w (construct_joined limits w)
-joining_steps {limits} {context} {was} w =
-    constructs_step w (changed (between limits) w.constructs) (changed_gives limits (between limits) (between_gives limits) w.constructs)
-    (λ whole. joined_few limits whole w.constructs w.output)
+  pub joining_steps : (w : Compilation) → Steps limits context was w (construct_joined limits w)
+  joining_steps w =
+      constructs_step w (changed (between limits) w.constructs) (changed_gives limits (between limits) (between_gives limits) w.constructs)
+      (λ whole. joined_few limits whole w.constructs w.output)
 
-ending_steps : {limits : Limits} {context : Context} {was : Before} (w : Compilation) →
-    Steps limits context was w (construct_ended limits w)
-ending_steps {limits} {context} {was} w =
-    constructs_step w (ended limits w.constructs) (ended_gives limits w.constructs) (λ whole. ended_few limits whole w.constructs w.output)
+  ending_steps : (w : Compilation) → Steps limits context was w (construct_ended limits w)
+  ending_steps w =
+      constructs_step w (ended limits w.constructs) (ended_gives limits w.constructs)
+      (λ whole. ended_few limits whole w.constructs w.output)
 
-pub ahead_lays : {limits : Limits} {context : Context} {was : Before} (count : ℕ) (w : Compilation)
-    → Lays limits context was w (closed_ahead limits count w)
-ahead_lays {limits} {context} {was} count w = record {
-  on = λ e. e;
-  kept = λ e h. (h.0, (h.1.0, all_ended_keep limits (count - w.closed) w.constructs w.output h.1.1));
-}
+  pub ahead_lays : (count : ℕ) (w : Compilation) → Lays limits context was w (closed_ahead limits count w)
+  ahead_lays count w = record {
+    on = λ e. e;
+    kept = λ e h. (h.0, (h.1.0, all_ended_keep limits (count - w.closed) w.constructs w.output h.1.1));
+  }
 
 -- Changes of an output
 
@@ -84,8 +79,8 @@ low_added_keeps {was} limits bytes none o h = go (low_fits limits bytes o.tables
     }
     go false = table_keeps limits Setting.LowStrings o h
 
-pub counted : {limits : Limits} {was : Before} {Q : Type 0} → (Q → was.abbreviations ≡ None) → {o v : Out} → Grown limits Q o v
-    → Counted limits was o → Counted limits was v
+pub counted : {limits : Limits} {was : Before} {Q : Premises} → (Q Ending.Abbreviation → was.abbreviations ≡ None) → {o v : Out}
+    → Grown limits Q o v → Counted limits was o → Counted limits was v
 counted none Stays h = h
 counted none (Follows f g) h = counted none g (counted none f h)
 counted none (Gives {o} m) h = (laid_gives m).keeps o h
@@ -104,74 +99,87 @@ counted {limits} {was} none (Tables later same f) h =
 
 -- Changes within a unit
 
-abbrev TalliesKept : Limits → Context → Before → ℕ × ℕ × Bool → Type 0
+abbrev TalliesKept : Limits → Context → Before → Tallies → Type 0
 TalliesKept limits context was t = (was.is_exact ≡ true → t.0 ≤ longest context) × (t.1 ≤ limits Setting.Labels)
 
-pub laid : {limits : Limits} {context : Context} {was : Before} {Q : Type 0} → (Q → was.abbreviations ≡ None) → {w v : Compilation}
-    → Inner limits Q w v → Lays limits context was w v
-laid {limits} {context} {was} none (Puts {w} {v} g stay same) = record {
-  on = λ e. subst (λ (t : ℕ × ℕ × Bool). t.2 ≡ false) same e;
-  kept = λ e h.
-      let k = subst (λ (t : ℕ × ℕ × Bool). TalliesKept limits context was t) (sym same) (h.0, h.1.0) in
-      (k.0, (k.1, counted none g h.1.1));
-}
-laid none (Next f g) = lays_then (laid none f) (laid none g)
-laid {limits} none (Parts {w} trees m) = record {
-  on = λ e. e;
-  kept = λ e h. (h.0, (h.1.0, (alone_sound limits trees).keeps (apart w.output) h.1.1));
-}
-laid {limits} none (Cases {w}) = constructs_lay w (cases_begun limits w.constructs) (cases_gives limits w.constructs)
-laid {limits} none (Enters {w} is_default) =
-    constructs_lay w (changed (entered limits is_default) w.constructs)
-    (changed_gives limits (entered limits is_default) (entered_gives limits is_default) w.constructs)
-laid {limits} none (Loops {w} trees m) =
-    constructs_lay w (looped_over limits trees w.constructs) (looped_over_gives limits trees w.constructs)
-laid {limits} none (Over {w}) = constructs_lay w (ended limits w.constructs) (ended_gives limits w.constructs)
+module _ {limits : Limits} {context : Context} {was : Before} where
+  pub laid : {Q : Premises} → (Q Ending.Abbreviation → was.abbreviations ≡ None) → {w v t : Compilation} {r : Reported}
+      → Inner limits Q w r v t → Lays limits context was w v
+  laid none (Puts {w} {v} g stay same) = record {
+    on = λ e. subst (λ (t : Tallies). t.2.counts.is_over ≡ false) same e;
+    kept = λ e h.
+        let k = subst (λ (t : Tallies). TalliesKept limits context was t) (sym same) (h.0, h.1.0) in
+        (k.0, (k.1, counted none g h.1.1));
+  }
+  laid none (Next f g) = lays_then (laid none f) (laid none g)
+  laid none (Parts {w} trees m) = record {
+    on = λ e. e;
+    kept = λ e h. (h.0, (h.1.0, (alone_sound limits trees).keeps (apart w.output) h.1.1));
+  }
+  laid none (Cases {w}) = constructs_lay w (cases_begun limits w.constructs) (cases_gives limits w.constructs)
+  laid none (Enters {w} is_default) =
+      constructs_lay w (changed (entered limits is_default) w.constructs)
+      (changed_gives limits (entered limits is_default) (entered_gives limits is_default) w.constructs)
+  laid none (Loops {w} trees m) =
+      constructs_lay w (looped_over limits trees w.constructs) (looped_over_gives limits trees w.constructs)
+  laid none (Over {w}) = constructs_lay w (ended limits w.constructs) (ended_gives limits w.constructs)
 
--- Walks
+  -- Walks
 
-pub walked : {limits : Limits} {context : Context} {was : Before} {Q : Type 0} → (Q → was.abbreviations ≡ None) → {w v : Compilation}
-    → Walk limits context Q w v → Steps limits context was w v
-walked {limits} {context} {was} none (Rests {w} {v} stay same) = record {
-  on = λ e. subst (λ (t : Out × (ℕ × ℕ × Bool)). t.1.2 ≡ false) same e;
-  kept = λ e h.
-      subst (λ (t : Out × (ℕ × ℕ × Bool)).
-      (was.is_exact ≡ true → t.1.0 ≤ longest context) × ((t.1.1 ≤ limits Setting.Labels) × Counted limits was t.0)) (sym same) h;
-  few = λ e b h k.
-      subst (λ (t : Out × (ℕ × ℕ × Bool)). reference_count t.0.code + references t.0.tables ≤ limits Setting.References) (sym same) k;
-  near = λ e h k.
-      subst (λ (t : Out × (ℕ × ℕ × Bool)). 4 + later_count t.0.code.finished + references t.0.tables ≤ limits Setting.References)
-      (sym same) k;
-}
-walked none (After f g) = steps_then (walked none f) (walked none g)
-walked none (Nests {w} place is_deep) = nested_steps place is_deep w
-walked {limits} {context} none (Says {w} place k words) =
-    report_steps w (with_words (location context.names place) k words) (with_words_stays (location context.names place) k words)
-walked none (Tells {w} tell remains) = report_steps w tell remains
-walked none (Sizes {w}) = sized_steps w
-walked none (Ends first has_last found v f) = lays_step (laid none f) (unit_ends first has_last found v)
-walked none (Finishes how place v f) = lays_step (laid none f) (close_as_ends how place v)
-walked none (Begins {w}) = begun_steps w
-walked none (Leaves {w}) = body_steps w
-walked none (GivesUp {w}) = given_up_steps w
-walked {limits} none (Starts {w} k) =
-    constructs_step w (begun limits k w.constructs) (begun_gives limits k w.constructs)
-    (λ whole. begun_few limits whole k w.constructs w.output)
-walked none (Joins {w}) = joining_steps w
-walked none (Shuts {w}) = ending_steps w
-walked {limits} none (Settles {w} count files place) =
+  pub walked : {Q : Premises} → (Q Ending.Abbreviation → was.abbreviations ≡ None) → {w v t : Compilation} {r : Reported}
+      → Walk limits context Q w r v t → Steps limits context was w v
+  walked none (Rests {w} {v} stay same) = record {
+    on = λ e. subst (λ (t : Out × Tallies). t.1.2.counts.is_over ≡ false) same e;
+    kept = λ e h.
+        subst (λ (t : Out × Tallies).
+        (was.is_exact ≡ true → t.1.0 ≤ longest context) × ((t.1.1 ≤ limits Setting.Labels) × Counted limits was t.0)) (sym same) h;
+    few = λ e b h k.
+        subst (λ (t : Out × Tallies). reference_count t.0.code + references t.0.tables ≤ limits Setting.References) (sym same) k;
+    near = λ e h k.
+        subst (λ (t : Out × Tallies). 4 + later_count t.0.code.finished + references t.0.tables ≤ limits Setting.References)
+        (sym same) k;
+  }
+  walked none (After f g) = steps_then (walked none f) (walked none g)
+  walked none (Behind {r} g f next) = steps_then (walked none f) (walked none (next r))
+  walked none (Nests {w} place is_deep) = nested_steps place is_deep w
+  walked none (Says {w} place k words) =
+      let at = location context.names place in report_steps w (with_words at k words) (remains (words_add at k words))
+  walked none (Warns {w} has_warnings) = report_steps w (warnings_chosen has_warnings) (λ r free. free)
+  walked none (Asks request q) = record { on = λ e. e; kept = λ e h. h; few = λ e b h k. k; near = λ e h k. k }
+  walked none (Sizes {w}) = sized_steps w
+  walked none (Ends first has_last found v f) = lays_step (laid none f) (unit_ends first has_last found v)
+  walked none (Finishes how place v f) = lays_step (laid none f) (close_as_ends how place v)
+  walked none (Begins {w}) = begun_steps w
+  walked none (Leaves {w}) = body_steps w
+  walked none (GivesUp {w}) = given_up_steps w
+  walked none (Starts {w} k) =
+      constructs_step w (begun limits k w.constructs) (begun_gives limits k w.constructs)
+      (λ whole. begun_few limits whole k w.constructs w.output)
+  walked none (Joins {w}) = joining_steps w
+  walked none (Shuts {w}) = ending_steps w
+
+-- Turns
+
+pub ran : {limits : Limits} {context : Context} {begins strict : Bool} {w v : Compilation} → Runs limits context w v
+    → Steps limits context (unfollowed begins strict) w v
+ran Nowhere = record { on = λ e. e; kept = λ e h. h; few = λ e b h k. k; near = λ e h k. k }
+ran (Acts f) = walked {Q = free} (λ q. refl) f
+ran (Then f g) = steps_then (ran f) (ran g)
+ran (Tells {w} tell remains) = report_steps w tell remains
+ran {limits} (Settles {w} count files place) =
     step_of (lays_end (ahead_lays count w) (begun_ends files place (closed_ahead limits count w)))
 
 -- Actions of the grammar, tokens, and cuts
 
-pub act_steps : {limits : Limits} {context : Context} {was : Before} (place : Place) (a : Action) (w : Compilation)
-    → (role_of a ≡ Role.End Ending.Abbreviation → was.abbreviations ≡ None) → Steps limits context was w (act limits context place a w)
-act_steps {limits} {context} {was} place a w none = walked {Q = was.abbreviations ≡ None} (λ n. n) (act_walks place a w none)
+module _ {limits : Limits} {context : Context} {was : Before} where
+  pub act_steps : (place : Place) (a : Action) (w : Compilation) → (role_of a ≡ Role.End Ending.Abbreviation → was.abbreviations ≡ None)
+      → Steps limits context was w (act limits context place a w)
+  act_steps place a w none =
+      walked {Q = λ e. e ≡ Ending.Abbreviation → was.abbreviations ≡ None} (λ q. q refl)
+      (act_walks place a w (λ e is same. none (is ∙ ap Role.End same)) w.report)
 
-pub took_steps : {limits : Limits} {context : Context} {was : Before} (t : SourceToken) (w : Compilation)
-    → Steps limits context was w (took context t w)
-took_steps t w = walked {Q = ⊥} (λ q. absurd q) (took_walks t w)
+  pub took_steps : (t : SourceToken) (w : Compilation) → Steps limits context was w (took context t w)
+  took_steps t w = walked {Q = λ e. ⊥} (λ q. absurd q) (took_walks t w w.report)
 
-pub cut_at_steps : {limits : Limits} {context : Context} {was : Before} (place : Place) (w : Compilation)
-    → Steps limits context was w (cut_at limits context place w)
-cut_at_steps place w = walked {Q = ⊥} (λ q. absurd q) (cut_at_walks place w)
+  pub cut_at_steps : (place : Place) (w : Compilation) → Steps limits context was w (cut_at limits context place w)
+  cut_at_steps place w = walked {Q = λ e. ⊥} (λ q. absurd q) (cut_at_walks place w w.report)

@@ -19,8 +19,7 @@ use Rattle.inf_session.specs.Veneer.{in_text, is_wanted, most_texts, next_text, 
 use Rattle.inf_session.specs.Veneer.{text_turns, veneer_text}
 use Rattle.inf_limit_laws.specs.Laws.{AbbreviationsStay, CountsKeepToSettings, StepsKeepCounts, abbreviations_of}
 use Rattle.inf_limit_laws.specs.Reached.{Begins, Goes, Here, IsBehind, IsReached, IsTurned, StatesComeBehind, Supplies, Turns}
-use Rattle.inf_limit_laws.specs.Rooms.{Before, Counted, unfollowed}
-use Rattle.inf_limit_laws.specs.Within.{AreFew, AreNear, IsKept, Steps, is_over}
+use Rattle.inf_limit_laws.specs.Within.{AreFew, AreNear, Before, Counted, IsKept, Steps, is_over, unfollowed}
 use Rattle.inf_limit_laws.proofs.{Conditions.NoneRight, Walked.act_steps, Walked.cut_at_steps, Walked.took_steps}
 use Rattle.inf_limit_laws.proofs.Turns.{conditions_few, rested_none, rested_steps, stepped_steps, turn_none, turn_steps}
 use Rattle.inf_limit_laws.proofs.Ways.{begun_ends, near_of, none_full, steps_then, unit_ends}

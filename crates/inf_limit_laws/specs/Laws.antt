@@ -1,18 +1,17 @@
 -- The counts of a reading that are compared with their settings later are within these, as long as no fatal message was told.
-use Rattle.std.specs.Prelude.{◌≡◌, ◌+◌, ◌≤◌, ℕ, List, Bool, true, false, None}
-use Rattle.inf_settings.specs.{Bounds.Limits, Bounds.limits_of, Settings.number_of, declared.setting.Setting.Setting}
+use Rattle.std.specs.Prelude.{Bool, List, None, false, true, ℕ, ◌+◌, ◌≡◌, ◌≤◌}
 use Rattle.inf_scanner.specs.declared.tokens.Place.{Place}
+use Rattle.inf_settings.specs.{Bounds.Limits, Bounds.limits_of, Settings.number_of, declared.setting.Setting.Setting}
 use Rattle.inf_devices.specs.Files.{Sources}
 use Rattle.inf_syntax.specs.declared.actions.Action.{Action}
-use Rattle.inf_unit.specs.{Messages.FileNames, Roles.role_of, Tokens.SourceToken, declared.roles.Ending.Ending}
-use Rattle.inf_unit.specs.declared.roles.Role.{Role}
+use Rattle.inf_unit.specs.{Messages.FileNames, Roles.role_of, Tokens.SourceToken, declared.roles.Ending.Ending, declared.roles.Role.Role}
 use Rattle.inf_compilation.specs.{Context.Context, Findings.Findings}
 use Rattle.inf_compilation.specs.Actions.{Compilation, begun_at, took, unit_ended}
 use Rattle.inf_reader.specs.{Acting.act, Acting.cut_at, Handing.site_of}
-use Rattle.inf_session.specs.{Choices.Choices, Session.State, Session.start, Session.turn, Uses.used}
 use Rattle.inf_ending.specs.Ending.{first_place}
-use Rattle.inf_limit_laws.specs.{Reached.IsBehind, Reached.IsReached, Reached.IsTurned, Rooms.Before, Rooms.unfollowed}
-use Rattle.inf_limit_laws.specs.{Signs.SignFits, Within.AreFew, Within.Ends, Within.IsKept, Within.Steps, Within.is_over}
+use Rattle.inf_session.specs.{Choices.Choices, Session.State, Session.start, Session.turn, Uses.used}
+use Rattle.inf_limit_laws.specs.Reached.{IsBehind, IsReached, IsTurned}
+use Rattle.inf_limit_laws.specs.Within.{AreFew, Before, Ends, IsKept, SignFits, Steps, is_over, unfollowed}
 
 -- Each action of the grammar, each token that is taken, and the cut that a bad token makes keep the counts of a compilation, and the
 -- abbreviations that are followed, which are none where one is added; and where a unit, a conditional directive or the source ends,

@@ -1,11 +1,11 @@
 -- The states to which a reading comes, turn by turn and with the supplied routines behind it.
-use Rattle.std.specs.Prelude.{ℕ, List}
+use Rattle.std.specs.Prelude.{List, ℕ}
 use Rattle.inf_settings.specs.Bounds.{limits_of}
 use Rattle.inf_devices.specs.Files.{Sources}
 use Rattle.inf_reader.specs.Handing.{site_of}
 use Rattle.inf_session.specs.{Choices.Choices, Veneer.next_supplied, Veneer.supplied, Veneer.text_read}
 use Rattle.inf_session.specs.Session.{State, part, run, start, turn}
-use Rattle.inf_limit_laws.specs.Signs.{SignFits}
+use Rattle.inf_limit_laws.specs.Within.{SignFits}
 
 -- A state comes behind another one, by turns and by supplied routines that are read, or is that one.
 pub data IsBehind (sources : Sources) (o : Choices) (s : State) : State → Type 0 where

@@ -2,7 +2,7 @@
 ghost use Rattle.inf_settings.specs.Bounds.{Limits};
 ghost use Rattle.inf_devices.specs.Files.{Sources};
 ghost use Rattle.inf_session.specs.Choices.{Choices};
-ghost use Rattle.inf_limit_laws.specs.{Laws.AbbreviationsStay, Laws.CountsKeepToSettings, Laws.StepsKeepCounts};
+ghost use Rattle.inf_limit_laws.specs.Laws.{AbbreviationsStay, CountsKeepToSettings, StepsKeepCounts};
 ghost use Rattle.inf_limit_laws.specs.Reached.{StatesComeBehind};
 
 /// Shows that the counts of labels and of references, which are compared with their settings where a unit has ended, and that of the

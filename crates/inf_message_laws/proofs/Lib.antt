@@ -1,9 +1,2 @@
-pub mod Combined
 pub mod Told
-pub mod Keeping
-pub mod Tokens
-pub mod Parts
-pub mod Declaring
-pub mod Bodies
-pub mod Actions
-pub mod Happened
+pub mod Walked

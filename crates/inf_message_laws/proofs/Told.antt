@@ -1,4 +1,4 @@
--- Messages are added behind the report.
+-- Messages are added behind the report, and steps that only add messages.
 use Rattle.std.specs.Prelude.{[], if◌then◌else◌, not, ◌++◌, ◌+◌, ◌||◌, ◌∷◌, ◌≤◌}
 use Rattle.std.proofs.Common.{Bool, List, None, Option, Some, ap, append-nil, append_assoc, arith, false, refl, sym, true, ℕ, ◌∙◌, ◌≡◌}
 use Rattle.inf_scanner.specs.declared.tokens.Place.{Place}
@@ -13,9 +13,10 @@ use Rattle.inf_report.specs.Reports.{with_error as error_counted, with_fatal as 
 use Rattle.inf_unit.specs.Messages.{Diagnostic, FileNames, Reported, location, warnings_chosen, with_error, with_fatal, with_fault}
 use Rattle.inf_unit.specs.Messages.{with_full, with_plain, with_warning, with_words}
 use Rattle.inf_constructs.specs.Labels.{NamedLabel, missing}
-use Rattle.inf_compilation.specs.Actions.{with_all_unused, with_branch_fault, with_fault_or, with_routine_fault, with_unused}
 use Rattle.inf_compilation.specs.Context.{Context}
-use Rattle.inf_message_laws.specs.Growing.{GoesOn, Grows, told_before}
+use Rattle.inf_compilation.specs.Actions.{Compilation, with_all_unused, with_branch_fault, with_fault_or, with_routine_fault, with_unused}
+use Rattle.inf_step_walk.specs.Walking.{Remains}
+use Rattle.inf_message_laws.specs.Growing.{GoesOn, Grows, told_before, with_lines_before}
 
 -- Reports that go on
 
@@ -42,6 +43,14 @@ pub record Adds (tell : Reported → Reported) : Type 0 where
   pub adds : (lines : List ℕ) (r : Reported) → tell (told_before lines r) ≡ told_before lines (tell r)
   pub goes_on : (r : Reported) → GoesOn r (tell r)
 
+-- a fatal message stays
+pub remains : {tell : Reported → Reported} → Adds tell → Remains tell
+remains {tell} adds r free = go r.counts.is_over refl
+  where
+    go : (b : Bool) → r.counts.is_over ≡ b → r.counts.is_over ≡ false
+    go false e = e
+    go true e = let never : true ≡ false = sym ((adds.goes_on r).over e) ∙ free in absurd cc
+
 pub nothing_adds : Adds (λ r. r)
 nothing_adds = record { adds = λ lines r. refl; goes_on = λ r. same_report r r refl }
 
@@ -56,6 +65,28 @@ pub told_grows : (tell : Reported → Reported) → Adds tell → Grows (λ w. r
 told_grows tell only = record {
   grows = λ lines w. ap (λ (r : Reported). record w { report = r }) (only.adds lines w.report);
 }
+
+-- Steps whose messages grow put together
+
+-- A value of the compilation does not depend on what was reported.
+abbrev pub Stays : {A : Type 0} → (Compilation → A) → Type 0
+Stays x = (lines : List ℕ) (w : Compilation) → x (with_lines_before lines w) ≡ x w
+
+pub nothing_grows : Grows (λ w. w)
+nothing_grows = record { grows = λ lines w. refl }
+
+-- one step behind another
+pub then_grows : (f g : Compilation → Compilation) → Grows f → Grows g → Grows (λ w. g (f w))
+then_grows f g first second = record { grows = λ lines w. ap g (first.grows lines w) ∙ second.grows lines (f w) }
+
+-- a step by a value that stays
+pub with_grows : {A : Type 0} (x : Compilation → A) (f : A → Compilation → Compilation) → Stays x → ((a : A) → Grows (f a))
+    → Grows (λ w. f (x w) w)
+with_grows x f stays each = record {
+  grows = λ lines w. ap (λ a. f a (with_lines_before lines w)) (stays lines w) ∙ (each (x w)).grows lines w;
+}
+
+-- Messages
 
 -- whether warnings are told
 pub chosen_adds : (has_warnings : Bool) → Adds (warnings_chosen has_warnings)
@@ -135,7 +166,7 @@ words_add at (Some Kind.Error) words = error_adds at at (ErrorText words)
 words_add at (Some Kind.Warning) words = warning_adds at (WarningText words)
 words_add at (Some Kind.Fatal) words = fatal_adds at (FatalText words)
 
-fault_adds : (files : FileNames) (unit : Place) (blame : Option Diagnostic) → Adds (with_fault files unit blame)
+pub fault_adds : (files : FileNames) (unit : Place) (blame : Option Diagnostic) → Adds (with_fault files unit blame)
 fault_adds files unit None = nothing_adds
 fault_adds files unit (Some b) = error_adds (location files b.place) (location files unit) b.message
 

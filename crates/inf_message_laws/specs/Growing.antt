@@ -1,11 +1,10 @@
 -- Messages only grow: a step of a compilation has the same effect whatever was reported before it, and its own messages stand behind that.
-use Rattle.std.specs.Prelude.{◌≡◌, ◌≤◌, ℕ, List, [], ◌∷◌, ◌++◌, true}
-use Rattle.inf_settings.specs.Bounds.{Limits}
+use Rattle.std.specs.Prelude.{List, [], true, ℕ, ◌++◌, ◌∷◌, ◌≡◌, ◌≤◌}
 use Rattle.inf_scanner.specs.declared.tokens.Place.{Place}
-use Rattle.inf_syntax.specs.declared.actions.Action.{Action}
+use Rattle.inf_settings.specs.Bounds.{Limits}
 use Rattle.inf_output.specs.Output.{Out}
-use Rattle.inf_unit.specs.{Messages.Reported, Roles.role_of, Tokens.SourceToken, declared.roles.Ending.Ending}
-use Rattle.inf_unit.specs.{declared.roles.Role.Role}
+use Rattle.inf_syntax.specs.declared.actions.Action.{Action}
+use Rattle.inf_unit.specs.{Messages.Reported, Roles.role_of, Tokens.SourceToken, declared.roles.Ending.Ending, declared.roles.Role.Role}
 use Rattle.inf_compilation.specs.{Actions.Compilation, Actions.took, Context.Context}
 use Rattle.inf_reader.specs.Acting.{act, cut_at}
 use Rattle.inf_statement_laws.specs.{Happenings.Acts, Happenings.Between, Happenings.Happening, Happenings.Takes, Laid.run}

@@ -15,7 +15,7 @@ use Rattle.inf_reader.specs.Handing.{is_between, is_empty, reads, unfit_in}
 use Rattle.inf_reader.specs.Reading.{Reading, ReaderState, bad, judged, piece_begun, piece_rule, read_at, step_in, took}
 use Rattle.inf_laws.specs.KeptTokens.{Given, Kept, Unfit, token_in}
 use Rattle.inf_grammar.proofs.Spaced.{rule_is_spaced}
-use Rattle.inf_message_laws.proofs.Happened.{messages_grow}
+use Rattle.inf_message_laws.proofs.Walked.{messages_grow}
 use Rattle.inf_program.specs.{Turns.step_by, definition.Steps.Reads}
 use Rattle.inf_program.proofs.Stepping.{stand}
 use Rattle.inf_program.proofs.EndStacks.{Lasts, ends_directive, ends_last, is_directive_end, no_semicolon, some_end, token_lasts}

@@ -16,8 +16,7 @@ use Rattle.inf_reader.specs.Handing.{handed_as, hash, judged_taken, lone_told, s
 use Rattle.inf_reader.specs.Handing.{unit_ended}
 use Rattle.inf_session.specs.Taking.{Taken, token_at, token_taken as all_taken}
 use Rattle.inf_message_laws.specs.Growing.{Grows}
-use Rattle.inf_message_laws.proofs.Combined.{Stays, then_grows, with_grows}
-use Rattle.inf_message_laws.proofs.Told.{Adds, error_adds, fatal_adds, full_adds, nothing_adds, told_grows}
+use Rattle.inf_message_laws.proofs.Told.{Adds, Stays, error_adds, fatal_adds, full_adds, nothing_adds, then_grows, told_grows, with_grows}
 use Rattle.inf_program.proofs.Readers.{bad_reads, state_behind, step_reads}
 
 -- A step of a reading does not depend on lines that were reported before, and leaves them unchanged before its own.

@@ -1,7 +1,7 @@
 -- Messages grow where a token is read: where it fits, where it is the bad one, and where it is passed over.
-use Rattle.std.proofs.Common.{◌≡◌, ℕ, List, [], ◌∷◌, Bool, true, false, None, refl, ap, if◌then◌else◌}
-use Rattle.inf_settings.specs.Bounds.{Limits}
+use Rattle.std.proofs.Common.{Bool, List, None, [], ap, false, if◌then◌else◌, refl, true, ℕ, ◌∷◌, ◌≡◌}
 use Rattle.inf_scanner.specs.declared.tokens.Place.{Place}
+use Rattle.inf_settings.specs.Bounds.{Limits}
 use Rattle.inf_machine.specs.{Machine.fits, Machine.taken, declared.symbols.Symbol.Symbol}
 use Rattle.inf_syntax.specs.declared.actions.Action.{Action}
 use Rattle.inf_grammar.specs.Language.{grammar, known}
@@ -10,11 +10,11 @@ use Rattle.inf_unit.specs.{Messages.location, Tokens.SourceToken, Tokens.atom_of
 use Rattle.inf_compilation.specs.{Actions.Compilation, Actions.piece_begun as work_begun, Actions.took as work_took, Context.Context}
 use Rattle.inf_reader.specs.{Tests.complaint_of, declared.recovery.Recovery.Recovery}
 use Rattle.inf_reader.specs.Acting.{act, acted, all_acted, cut_at}
-use Rattle.inf_reader.specs.Reading.{Reading, ReaderState, bad, between, judged, passed, piece_begun, read_at, skip_of, step, step_in, took}
+use Rattle.inf_reader.specs.Reading.{ReaderState, Reading, bad, between, judged, passed, piece_begun, read_at, skip_of, step, step_in, took}
 use Rattle.inf_reader.specs.Reading.{with_complaint, with_complaint_of}
 use Rattle.inf_message_laws.specs.Growing.{Grows, with_lines_before}
-use Rattle.inf_message_laws.proofs.{Actions.act_grows, Actions.cut_at_grows, Combined.nothing_grows, Combined.then_grows, Tokens.took_grows}
-use Rattle.inf_message_laws.proofs.Told.{Adds, error_adds, fatal_adds, told_grows}
+use Rattle.inf_message_laws.proofs.Walked.{act_grows, cut_at_grows, took_grows}
+use Rattle.inf_message_laws.proofs.Told.{Adds, error_adds, fatal_adds, nothing_grows, then_grows, told_grows}
 
 -- the reading with lines before those of its compilation
 abbrev pub state_behind : List ℕ → ReaderState → ReaderState

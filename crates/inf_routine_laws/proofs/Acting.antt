@@ -1,7 +1,7 @@
 -- The names of a unit are used; the units of a routine, and what happens while it is read, in the book of labels.
+use Rattle.std.proofs.lemmas.Bool.{and_parts}
 use Rattle.std.proofs.Common.{Bool, List, None, Option, Some, [], ap, arith, false, if◌then◌else◌, map, refl, subst, true, ℕ, ◌&&◌, ◌∷◌}
 use Rattle.std.proofs.Common.{◌≡◌}
-use Rattle.std.proofs.lemmas.Bool.{and_parts}
 use Rattle.inf_characters.specs.declared.characters.CharSet.{CharSet}
 use Rattle.inf_expressions.specs.{Findings.is_before, Findings.least_of_both, Rooted.Rooted, declared.findings.Finding.Finding}
 use Rattle.inf_scanner.specs.declared.tokens.Place.{Place}
@@ -13,37 +13,37 @@ use Rattle.inf_verbs.specs.{Routines.action_fault, declared.routines.ActionFault
 use Rattle.inf_names.specs.{Locals.Local, Symbols.declare_fault, Symbols.refer_fault, declared.symbols.DeclareFault.DeclareFault}
 use Rattle.inf_names.specs.{declared.symbols.ReferFault.ReferFault}
 use Rattle.inf_code.specs.Code.{Routines}
-use Rattle.inf_output.specs.{Actions.numbered_by, Actions.seen_by, Output.Out, Output.referred_by, Output.with_text_by, Output.with_word_by}
-use Rattle.inf_output.specs.{Strings.fits}
+use Rattle.inf_output.specs.{Actions.numbered_by, Actions.seen_by, Strings.fits}
+use Rattle.inf_output.specs.Output.{Out, referred_by, with_text_by, with_word_by}
 use Rattle.inf_unit.specs.{Tokens.SourceToken, declared.roles.Ending.Ending, declared.roles.Note.Note, declared.roles.Role.Role}
 use Rattle.inf_unit.specs.Roles.{ends_outer, ends_token, ends_value, is_arrow, is_text, is_verb_word, makes_sure, role_of}
 use Rattle.inf_unit.specs.Units.{bytes_at, is_full, last_passed, long_at, next_place, noted as unit_noted, taken as unit_taken, text_passed}
 use Rattle.inf_unit.proofs.Cases.{of_both}
-use Rattle.inf_constructs.specs.{Cases.case_code, Constructs.are_own, Constructs.cases_begun, Constructs.condition_label}
-use Rattle.inf_constructs.specs.{Constructs.next_case, Labels.NamedLabel, Labels.is_given, Roots.tree_in}
+use Rattle.inf_constructs.specs.{Cases.case_code, Labels.NamedLabel, Labels.is_given, Roots.tree_in}
 use Rattle.inf_constructs.specs.{declared.constructs.Construct.Construct}
+use Rattle.inf_constructs.specs.Constructs.{are_own, cases_begun, condition_label, next_case}
 use Rattle.inf_operands.specs.Operands.{Settled, settled}
 use Rattle.inf_statements.specs.{Effects.only_if, Effects.statement_finding, Statements.alone, Statements.switched, Statements.tested}
 use Rattle.inf_statements.specs.{declared.statements.Statement.Statement}
 use Rattle.inf_compilation.specs.{Context.Context, Context.longest, Nesting.constructs_laid}
 use Rattle.inf_compilation.specs.Actions.{Compilation, finding_at, is_deep, named, nested, opens, passed, settled_of, sized, stopped, took}
 use Rattle.inf_compilation.specs.Actions.{trees_at}
+use Rattle.inf_parts.specs.declared.parts.Part.{Part}
 use Rattle.inf_parts.specs.Parts.{actions_named, case_prepared, found_in, has_last, is_default, order_of, own_finding, part_begun}
 use Rattle.inf_parts.specs.Parts.{part_carried, part_effect, part_ended, part_finished, part_prepared, place_of, site_of, statement_at}
 use Rattle.inf_parts.specs.Parts.{wanted_of}
-use Rattle.inf_parts.specs.declared.parts.Part.{Part}
 use Rattle.inf_verb_lines.specs.Verbs.{token_sifted, word_sifted}
 use Rattle.inf_reader.specs.Acting.{act, ended as ended_as, is_crowded, is_long, is_tall, is_wordy, noted, noted_of, operands_named, played}
 use Rattle.inf_reader.specs.Acting.{value_noted}
-use Rattle.inf_statement_laws.specs.Happenings.{Acts, Happening, Takes, happen_quietly, happens_quietly, is_quiet_end, is_quiet_role}
 use Rattle.inf_statement_laws.specs.Laid.{happens, run}
+use Rattle.inf_statement_laws.specs.Happenings.{Acts, Happening, Takes, happen_quietly, happens_quietly, is_quiet_end, is_quiet_role}
 use Rattle.inf_code_walk.proofs.Statements.{label_in}
-use Rattle.inf_label_laws.proofs.OwnCode.{Idle, idle_then}
-use Rattle.inf_word_laws.proofs.Settling.{Adds, Appears, Both, Looks, Names, Numbers, Packs, Still, Used, settled_used}
-use Rattle.inf_routine_laws.specs.{Faults.AllLeave, Leaving.LeavesRoutine}
-use Rattle.inf_routine_laws.proofs.{Balance.Good, Balance.good_still, Balance.opened_cases, Booking.Counts, Codes.alone_owns}
-use Rattle.inf_routine_laws.proofs.{Codes.case_code_owns, Codes.switched_owns, Codes.tested_owns, Constructing.entered_good}
-use Rattle.inf_routine_laws.proofs.{Naming.code_good, Naming.condition_reached, Naming.next_reached, Naming.statement_good}
+use Rattle.inf_label_laws.proofs.Owning.{Idle, idle_then}
+use Rattle.inf_word_laws.proofs.Numbering.{Adds, Appears, Both, Looks, Names, Numbers, Packs, Still, Used, settled_used}
+use Rattle.inf_routine_laws.specs.Laws.{AllLeave, LeavesRoutine}
+use Rattle.inf_routine_laws.proofs.{Balance.Good, Balance.good_still, Balance.opened_cases, Booking.Counts}
+use Rattle.inf_routine_laws.proofs.Constructing.{alone_owns, case_code_owns, entered_good, switched_owns, tested_owns}
+use Rattle.inf_routine_laws.proofs.Naming.{code_good, condition_reached, next_reached, statement_good}
 
 -- Names, texts, words and actions of a unit
 
@@ -371,15 +371,13 @@ end_good limits context place _ due spare extra w q g = cc
 
 role_good : (limits : Limits) (context : Context) (place : Place) (r : Role) (due spare extra : Counts) (w : Compilation) →
     is_quiet_role r ≡ true → Balanced due spare extra w → Balanced due spare extra (played limits context place r w)
-role_good limits context place (Role.Gather s) due spare extra w q g = g
 role_good limits context place (Role.Note n) due spare extra w q g = note_good limits context n due spare extra w g
 role_good limits context place (Role.End e) due spare extra w q g = end_good limits context place e due spare extra w q g
 role_good limits context place (Role.Open o) due spare extra w q g = cc
 role_good limits context place Role.Join due spare extra w q g = cc
 role_good limits context place Role.Close due spare extra w q g = cc
 role_good limits context place Role.Deeper due spare extra w q g = nested_good context place (is_deep w 1) due spare extra w g
-role_good limits context place Role.MaybeDeeper due spare extra w q g = g
-role_good limits context place Role.Nothing due spare extra w q g = g
+role_good limits context place role due spare extra w q g = g
 
 -- Happenings
 

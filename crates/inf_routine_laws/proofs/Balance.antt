@@ -1,14 +1,14 @@
 -- The book of a compilation: labels with names are due until they are given, and an open `switch` has its end and the next case due.
 -- Statements that hold others hand labels out, and mark each of them once.
-use Rattle.std.proofs.Common.{arith, ◌≡◌, ◌≤◌, ℕ, List, [], ◌∷◌, Bool, true, false, None, ◌∙◌, ◌+◌}
+use Rattle.std.proofs.Common.{Bool, List, None, [], arith, false, true, ℕ, ◌+◌, ◌∙◌, ◌∷◌, ◌≡◌, ◌≤◌}
 use Rattle.inf_settings.specs.Bounds.{Limits}
 use Rattle.inf_opcode.specs.declared.instructions.Label.{Label}
 use Rattle.inf_output.specs.Output.{Out, behind, marked}
 use Rattle.inf_constructs.specs.{Constructs.opened, Constructs.with_labels, Labels.NamedLabel, declared.constructs.Case.Case}
 use Rattle.inf_constructs.specs.{declared.constructs.Construct.Construct, declared.constructs.Kind.Kind, declared.constructs.Over.Over}
-use Rattle.inf_code_walk.specs.Labels.{times}
+use Rattle.inf_code_walk.specs.Made.{times}
 use Rattle.inf_label_laws.proofs.Owning.{owned_mark}
-use Rattle.inf_routine_laws.specs.Leaving.{LeavesRoutine}
+use Rattle.inf_routine_laws.specs.Laws.{LeavesRoutine}
 use Rattle.inf_routine_laws.proofs.Booking.{Came, Counts, Sound, came, one, one_is, paid_together, sound_as, sound_label, sound_paid}
 use Rattle.inf_routine_laws.proofs.Booking.{sound_still}
 
@@ -45,12 +45,10 @@ cased n (c ∷ constructs) = cased_in n c c.kind + cased n constructs
 abbrev pub reached_in : ℕ → Construct → Kind → ℕ
 reached_in n c Kind.If = one n c.next
 reached_in n c Kind.Else = one n c.end
-reached_in n c Kind.While = one n c.next + one n c.end
 reached_in n c Kind.Do = one n c.top + (one n c.next + one n c.end)
-reached_in n c Kind.For = one n c.next + one n c.end
-reached_in n c (Kind.Objects how v) = one n c.next + one n c.end
 reached_in n c (Kind.Switch old had_default) = case_due n old + one n c.end
 reached_in n c (Kind.Cases old had_default) = case_due n old + one n c.end
+reached_in n c kind = one n c.next + one n c.end
 
 abbrev pub reached : ℕ → List Construct → ℕ
 reached n [] = 0

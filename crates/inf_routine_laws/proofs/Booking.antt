@@ -11,11 +11,11 @@ use Rattle.inf_assembler.specs.Places.{Places, first_of, label_of, long_place, m
 use Rattle.inf_code.specs.Code.{Opened, Routines}
 use Rattle.inf_output.specs.{Output.Code, Output.Out, Output.behind, Output.grown, declared.items.Item.Item}
 use Rattle.inf_interpreter.specs.Claims.{Laid, all_grown, code_behind, kept_behind}
-use Rattle.inf_code_walk.specs.Labels.{branch_labels, target_labels, times}
-use Rattle.inf_code_walk.proofs.Making.{times_first, times_joined, times_other}
-use Rattle.inf_label_laws.specs.Programs.{marks, operand_labels, uses}
+use Rattle.inf_code_walk.specs.Made.{branch_labels, target_labels, times}
+use Rattle.inf_code_walk.proofs.Rows.{times_first, times_joined, times_other}
+use Rattle.inf_label_laws.specs.Labels.{marks, operand_labels, uses}
 use Rattle.inf_label_laws.proofs.Owning.{Owned, Settles, behind_is, marks_joined, some_of_two, uses_joined}
-use Rattle.inf_routine_laws.specs.Leaving.{LeavesRoutine}
+use Rattle.inf_routine_laws.specs.Laws.{LeavesRoutine}
 
 -- Labels that cells mark, branch to and jump to
 
@@ -478,9 +478,6 @@ sound_still due spare need o q l b = record {
       subst (λ k. Booked due spare need k now.contents.cells) (sym l.next)
       (b.holds (l.fits fits) (subst (λ k. k < 4294967295) l.next few) now (sym l.opened ∙ is));
 }
-
-pub next_of : Out → Label
-next_of o = record { number = o.next }
 
 pub sound_label : (due spare need : Counts) (o : Out) → Sound due spare need o →
     Sound due (λ n. spare n + one n (record { number = o.next })) need (record o { next = behind o.next })

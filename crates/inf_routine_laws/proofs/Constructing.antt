@@ -1,25 +1,78 @@
--- Statements that hold others in the book of labels: their joints and ends, their cases, and loops over objects.
+-- The code of statements marks labels of its own; and statements that hold others in the book of labels: their joints and ends, their
+-- cases, and loops over objects.
 use Rattle.std.specs.Prelude.{unwrap_or}
-use Rattle.std.proofs.Common.{Bool, List, None, Option, Some, [], ap, arith, false, refl, subst, sym, true, ℕ, ◌++◌, ◌+◌, ◌∷◌, ◌≡◌, ◌≤◌}
+use Rattle.std.proofs.Common.{Bool, List, None, Option, Some, [], ap, arith, false, refl, subst, sym, true, ℕ, ◌++◌, ◌+◌, ◌∙◌, ◌∷◌, ◌≡◌}
+use Rattle.std.proofs.Common.{◌≤◌}
 use Rattle.inf_expressions.specs.{Questions.children_of, Rooted.Rooted, Trees.Tree}
 use Rattle.inf_settings.specs.Bounds.{Limits}
 use Rattle.inf_opcode.specs.declared.instructions.Label.{Label}
-use Rattle.inf_output.specs.Output.{Code, Out, behind, items_of, jumped, laid_all, marked, ◌▸◌}
+use Rattle.inf_output.specs.declared.items.Item.{Item as CodeItem}
+use Rattle.inf_output.specs.Output.{Code, Out, behind, items_of, jumped, laid, laid_all, marked, ◌▸◌}
 use Rattle.inf_templates.specs.Meaning.{meaning}
-use Rattle.inf_constructs.specs.{Labels.NamedLabel, declared.constructs.Case.Case, declared.constructs.Construct.Construct}
+use Rattle.inf_constructs.specs.{Cases.case_code, Labels.NamedLabel, declared.constructs.Case.Case, declared.constructs.Construct.Construct}
 use Rattle.inf_constructs.specs.{declared.constructs.Kind.Kind, declared.constructs.Over.Over}
 use Rattle.inf_constructs.specs.Constructs.{between, case_closed, changed, closed, ending, entered, entered_by, joint, kind_behind, looped}
 use Rattle.inf_constructs.specs.Constructs.{looped_by, looped_on, looped_over, over_all, over_children, with_case}
-use Rattle.inf_code_walk.specs.Labels.{times}
-use Rattle.inf_code_walk.proofs.{Leaves.Any, Leaves.any_tree, Making.has_first, Making.times_joined}
-use Rattle.inf_code_walk.proofs.Statements.{all_made, any_fixed, case_closed_made, case_labels, children_made, looped_on_made}
-use Rattle.inf_label_laws.specs.Programs.{marks, uses}
-use Rattle.inf_label_laws.proofs.OwnCode.{owned}
-use Rattle.inf_label_laws.proofs.Owning.{Owned, owned_at, owned_behind, owned_jump, owned_mark, owned_then, owned_wide}
+use Rattle.inf_statements.specs.{Effects.Site, Effects.statement_code, Statements.alone, Statements.switched, Statements.tested}
+use Rattle.inf_statements.specs.{declared.statements.Statement.Statement}
+use Rattle.inf_code_walk.specs.Made.{branch_labels, times}
+use Rattle.inf_code_walk.proofs.Rows.{Any, any_tree, any_trees, has_first, times_joined}
+use Rattle.inf_code_walk.proofs.Statements.{all_made, alone_made, any_fixed, case_closed_made, case_labels, case_made, children_made}
+use Rattle.inf_code_walk.proofs.Statements.{code_made, label_in, looped_on_made, needs_of, switched_made, tested_made}
+use Rattle.inf_label_laws.specs.Labels.{marks, operand_labels, uses}
+use Rattle.inf_label_laws.proofs.Owning.{Owned, owned, owned_at, owned_behind, owned_free, owned_item, owned_jump, owned_mark}
+use Rattle.inf_label_laws.proofs.Owning.{owned_nothing, owned_then, owned_wide}
 use Rattle.inf_routine_laws.proofs.Balance.{Good, Turns, case_due, cased_in, good_as, good_label, good_paid, loop_due, named_all, reached}
 use Rattle.inf_routine_laws.proofs.Balance.{reached_in, top_known}
 use Rattle.inf_routine_laws.proofs.Booking.{Came, Counts, came, one, one_is}
-use Rattle.inf_routine_laws.proofs.Codes.{items_laid_own}
+
+pub code_owns : (limits : Limits) (s : Site) (trees : List Tree) (st : Statement) →
+    Owned (statement_code limits s trees st) (needs_of s st) []
+code_owns limits s trees st = owned (code_made limits Any any_fixed s trees (any_trees trees) st)
+
+pub alone_owns : (limits : Limits) (trees : List Tree) → Owned (alone limits trees) [] []
+alone_owns limits trees = owned (alone_made limits Any trees (any_trees trees))
+
+pub tested_owns : (limits : Limits) (l : Option Label) (trees : List Tree) → Owned (tested limits l trees) (label_in l) []
+tested_owns limits l trees = owned (tested_made limits Any l trees (any_trees trees))
+
+pub switched_owns : (limits : Limits) (trees : List Tree) → Owned (switched limits trees) [] []
+switched_owns limits trees = owned (switched_made limits Any trees (any_trees trees))
+
+pub case_code_owns : (limits : Limits) (next : Option Label) (values : List Tree) → Owned (case_code limits next values) (label_in next) []
+case_code_owns limits next values = owned (case_made limits Any next values (any_trees values))
+
+-- Items that were kept apart are laid as they are.
+pub items_laid_own : (limits : Limits) (items : List CodeItem) → Owned (laid_all limits items) (uses items) (marks items)
+items_laid_own limits [] = owned_nothing
+items_laid_own limits ((CodeItem.Instruction i) ∷ items) =
+    owned_then {c = laid limits (CodeItem.Instruction i)} {d = laid_all limits items}
+    {needs = uses (CodeItem.Instruction i ∷ items)} {a = []} {b = marks items}
+    (owned_wide {c = laid limits (CodeItem.Instruction i)} {a = uses (CodeItem.Instruction i ∷ [])} (λ n h. first n h)
+    (owned_item limits (CodeItem.Instruction i)))
+    (owned_wide {c = laid_all limits items} {a = uses items} (λ n h. later n h) (items_laid_own limits items))
+  where
+    parts : (n : ℕ) →
+        times n (uses (CodeItem.Instruction i ∷ items)) ≡ times n (operand_labels i.operands) + (times n (branch_labels i.branch)
+        + times n (uses items))
+    parts n =
+        times_joined n (operand_labels i.operands) (branch_labels i.branch ++ uses items)
+        ∙ ap (λ k. times n (operand_labels i.operands) + k) (times_joined n (branch_labels i.branch) (uses items))
+
+    alone : (n : ℕ) →
+        times n (uses (CodeItem.Instruction i ∷ [])) ≡ times n (operand_labels i.operands) + (times n (branch_labels i.branch) + 0)
+    alone n =
+        times_joined n (operand_labels i.operands) (branch_labels i.branch ++ [])
+        ∙ ap (λ k. times n (operand_labels i.operands) + k) (times_joined n (branch_labels i.branch) [])
+
+    first : (n : ℕ) → 1 ≤ times n (uses (CodeItem.Instruction i ∷ [])) → 1 ≤ times n (uses (CodeItem.Instruction i ∷ items))
+    first n h = let e = parts n in let d = alone n in omega (arith, h, e, d)
+
+    later : (n : ℕ) → 1 ≤ times n (uses items) → 1 ≤ times n (uses (CodeItem.Instruction i ∷ items))
+    later n h = let e = parts n in omega (arith, h, e)
+items_laid_own limits ((CodeItem.Mark l) ∷ items) =
+    owned_then {c = laid limits (CodeItem.Mark l)} {d = laid_all limits items} {needs = uses items} {a = l.number ∷ []} {b = marks items}
+    (owned_free {c = laid limits (CodeItem.Mark l)} (owned_item limits (CodeItem.Mark l))) (items_laid_own limits items)
 
 -- Joints and ends
 

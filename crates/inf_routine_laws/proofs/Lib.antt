@@ -1,7 +1,6 @@
 mod Booking
-mod Codes
 mod Balance
-mod Constructing
+pub mod Constructing
 mod Naming
 mod Acting
 mod Stepping

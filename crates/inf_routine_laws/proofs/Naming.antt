@@ -1,5 +1,6 @@
 -- Labels with names, and statements that hold no others, in the book of labels.
-use Rattle.std.specs.{Prelude.codes, Str.str_eq_ignore_ascii_case}
+use Rattle.std.specs.Str.{str_eq_ignore_ascii_case}
+use Rattle.std.specs.Prelude.{codes}
 use Rattle.std.proofs.Common.{Bool, List, None, Option, Some, [], ap, arith, bytes_eq, false, if◌then◌else◌, refl, sym, true, ℕ, ◌+◌, ◌∷◌}
 use Rattle.std.proofs.Common.{◌≡◌, ◌≤◌}
 use Rattle.inf_characters.specs.declared.characters.CharSet.{CharSet}
@@ -14,14 +15,14 @@ use Rattle.inf_constructs.specs.{declared.constructs.Case.Case, declared.constru
 use Rattle.inf_constructs.specs.Constructs.{break_of, condition_label, continue_of, found_or, left_to, left_to_by, next_case, next_case_in}
 use Rattle.inf_constructs.specs.Constructs.{otherwise}
 use Rattle.inf_constructs.specs.Labels.{Known, NamedLabel, given_by, is_given, known_of, label_or, put, wanted_by, was_given}
-use Rattle.inf_statements.specs.{Effects.Site, Effects.name_behind, Effects.statement_code, Effects.statement_laid, Statements.jumped_to}
-use Rattle.inf_statements.specs.{declared.assembly.Ends.Ends, declared.statements.Statement.Statement}
+use Rattle.inf_statements.specs.{Statements.jumped_to, declared.assembly.Ends.Ends, declared.statements.Statement.Statement}
 use Rattle.inf_statements.specs.Assembly.{branch_to, branched, branched_to, ends_of, fits, instructed, jumped_on, labelled, line_instructed}
 use Rattle.inf_statements.specs.Assembly.{line_laid, line_laid_as, line_laid_by, placed, some_printed, store_of}
-use Rattle.inf_code_walk.specs.Labels.{branch_labels, times}
-use Rattle.inf_code_walk.proofs.{Leaves.Any, Leaves.any_trees, Statements.instructed_made, Statements.label_in, Statements.some_made}
-use Rattle.inf_label_laws.proofs.{OwnCode.owned, Owning.Owned, Owning.owned_jump, Owning.owned_mark, Owning.owned_nothing}
-use Rattle.inf_routine_laws.proofs.{Codes.code_owns, Constructing.needs_one, Constructing.none_needed}
+use Rattle.inf_statements.specs.Effects.{Site, name_behind, statement_code, statement_laid}
+use Rattle.inf_code_walk.specs.Made.{branch_labels, times}
+use Rattle.inf_code_walk.proofs.{Rows.Any, Rows.any_trees, Statements.instructed_made, Statements.label_in, Statements.some_made}
+use Rattle.inf_label_laws.proofs.Owning.{Owned, owned, owned_jump, owned_mark, owned_nothing}
+use Rattle.inf_routine_laws.proofs.Constructing.{code_owns, needs_one, none_needed}
 use Rattle.inf_routine_laws.proofs.Balance.{Good, cased, good_label, good_paid, named_all, named_due, reached, reached_in, unless_given}
 use Rattle.inf_routine_laws.proofs.Booking.{Counts, came, one, one_is, paid_together, sound_as, sound_paid}
 
@@ -236,24 +237,16 @@ placed_good limits due spare extra constructs name labels o h g =
 -- Labels of open statements
 
 continue_in : (n : ℕ) (c : Construct) (k : Kind) → times n (label_in (continue_of c k)) ≤ reached_in n c k
-continue_in n c Kind.If = omega arith
-continue_in n c Kind.Else = omega arith
 continue_in n c Kind.While = let e = one_is n c.next in omega (arith, e)
 continue_in n c Kind.Do = let e = one_is n c.next in omega (arith, e)
 continue_in n c Kind.For = let e = one_is n c.next in omega (arith, e)
 continue_in n c (Kind.Objects how v) = let e = one_is n c.next in omega (arith, e)
-continue_in n c (Kind.Switch old had_default) = omega arith
-continue_in n c (Kind.Cases old had_default) = omega arith
+continue_in n c kind = omega arith
 
 break_in : (n : ℕ) (c : Construct) (k : Kind) → times n (label_in (break_of c k)) ≤ reached_in n c k
 break_in n c Kind.If = omega arith
 break_in n c Kind.Else = omega arith
-break_in n c Kind.While = let e = one_is n c.end in omega (arith, e)
-break_in n c Kind.Do = let e = one_is n c.end in omega (arith, e)
-break_in n c Kind.For = let e = one_is n c.end in omega (arith, e)
-break_in n c (Kind.Objects how v) = let e = one_is n c.end in omega (arith, e)
-break_in n c (Kind.Switch old had_default) = let e = one_is n c.end in omega (arith, e)
-break_in n c (Kind.Cases old had_default) = let e = one_is n c.end in omega (arith, e)
+break_in n c kind = let e = one_is n c.end in omega (arith, e)
 
 left_in : (n : ℕ) (on : Bool) (c : Construct) → times n (label_in (left_to_by on c)) ≤ reached_in n c c.kind
 left_in n true c = continue_in n c c.kind
@@ -273,13 +266,8 @@ left_reached on (c ∷ constructs) n =
 
 otherwise_in : (n : ℕ) (c : Construct) (k : Kind) → times n ((otherwise c k).number ∷ []) ≤ reached_in n c k
 otherwise_in n c Kind.If = let e = one_is n c.next in omega (arith, e)
-otherwise_in n c Kind.Else = let e = one_is n c.end in omega (arith, e)
-otherwise_in n c Kind.While = let e = one_is n c.end in omega (arith, e)
 otherwise_in n c Kind.Do = let e = one_is n c.top in omega (arith, e)
-otherwise_in n c Kind.For = let e = one_is n c.end in omega (arith, e)
-otherwise_in n c (Kind.Objects how v) = let e = one_is n c.end in omega (arith, e)
-otherwise_in n c (Kind.Switch old had_default) = let e = one_is n c.end in omega (arith, e)
-otherwise_in n c (Kind.Cases old had_default) = let e = one_is n c.end in omega (arith, e)
+otherwise_in n c kind = let e = one_is n c.end in omega (arith, e)
 
 pub condition_reached : (constructs : List Construct) (n : ℕ) → times n (label_in (condition_label constructs)) ≤ reached n constructs
 condition_reached [] n = omega arith

@@ -1,19 +1,18 @@
 -- Nested statements, each as a whole, in the book of labels.
-use Rattle.std.proofs.Common.{◌≡◌, List, [], ◌∷◌, ◌++◌, Bool, true, false, None, refl, ◌∙◌, ap, sym, subst, ◌+◌}
+use Rattle.std.proofs.Common.{Bool, List, None, [], ap, false, refl, subst, sym, true, ◌++◌, ◌+◌, ◌∙◌, ◌∷◌, ◌≡◌}
 use Rattle.inf_settings.specs.Bounds.{Limits}
-use Rattle.inf_syntax.specs.declared.actions.Action.{Action}
 use Rattle.inf_output.specs.Output.{Out}
-use Rattle.inf_compilation.specs.{Actions.Compilation, Context.Context}
-use Rattle.inf_constructs.specs.declared.constructs.Case.TheVariants as case
+use Rattle.inf_syntax.specs.declared.actions.Action.{Action}
 use Rattle.inf_constructs.specs.{declared.constructs.Construct.Construct, declared.constructs.Kind.Kind, declared.constructs.Over.Over}
 use Rattle.inf_constructs.specs.Constructs.{between, closed, kind_behind, opened}
+use Rattle.inf_compilation.specs.{Actions.Compilation, Context.Context}
+use Rattle.inf_reader.specs.Acting.{act}
 use Rattle.inf_statement_laws.specs.Happenings.{Acts, Happening, Moment, Quiet, Takes}
+use Rattle.inf_statement_laws.specs.Laid.{ended_as, happens, holding, laid, opened_at, run, with_kind_in, with_step_in}
 use Rattle.inf_statement_laws.specs.Nested.{Case, Do, For, If, IfElse, Nested, NoStep, Objectloop, Plain, Step, StepEnds, Switch, Then}
 use Rattle.inf_statement_laws.specs.Nested.{While, happenings, step_happenings}
-use Rattle.inf_statement_laws.specs.Laid.{ended_as, happens, holding, laid, opened_at, run, with_kind_in, with_step_in}
-use Rattle.inf_reader.specs.Acting.{act}
 use Rattle.inf_statement_laws.proofs.{Acts.loop_ends, Acts.quiet_run, Acts.step_ends, Laying.laid_as, Laying.run_then}
-use Rattle.inf_routine_laws.specs.Faults.{AllLeave, LeaveRoutine}
+use Rattle.inf_routine_laws.specs.Laws.{AllLeave, LeaveRoutine}
 use Rattle.inf_routine_laws.proofs.{Acting.Balanced, Acting.case_ends_good, Acting.quiet_good, Booking.Counts, Booking.one}
 use Rattle.inf_routine_laws.proofs.Balance.{Good, good_still, loop_due, opened_do, opened_for, opened_if, opened_objects, opened_switch}
 use Rattle.inf_routine_laws.proofs.Balance.{opened_while, top_known}
@@ -21,6 +20,7 @@ use Rattle.inf_routine_laws.proofs.Constructing.{ends_do, ends_else, ends_for, e
 use Rattle.inf_routine_laws.proofs.Constructing.{joined_if, joined_objects, objects_due}
 use Rattle.inf_routine_laws.proofs.Stepping.{IsStepped, case_inside, case_kind, ends_case_kind, loop_ends_good, marks_due, not_stepped}
 use Rattle.inf_routine_laws.proofs.Stepping.{step_ends_good, switch_stays, uses_known}
+use Rattle.inf_constructs.specs.declared.constructs.Case.TheVariants as case
 
 pub leave_both : (a b : List Happening) → AllLeave (a ++ b) → AllLeave a × AllLeave b
 leave_both [] b l = (tt, l)

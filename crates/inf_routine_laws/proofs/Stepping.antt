@@ -1,36 +1,35 @@
 -- The units that change the innermost statement, in the book of labels: the step of a `for`, the objects of a loop, and cases.
-use Rattle.std.proofs.Common.{arith, ◌≡◌, ◌≤◌, ℕ, List, [], ◌∷◌, Bool, true, false, Option, Some, None, refl, ◌∙◌, ap, sym, subst, inl, inr}
-use Rattle.std.proofs.lemmas.Bool.{cases_lt}
 use Rattle.std.specs.Prelude.{map, ◌+◌, ◌<◌, ◌⊎◌}
-use Rattle.inf_settings.specs.Bounds.{Limits}
-use Rattle.inf_scanner.specs.declared.tokens.Place.{Place}
-use Rattle.inf_syntax.specs.declared.actions.Action.{Action}
+use Rattle.std.proofs.lemmas.Bool.{cases_lt}
+use Rattle.std.proofs.Common.{Bool, List, None, Option, Some, [], ap, arith, false, inl, inr, refl, subst, sym, true, ℕ, ◌∙◌, ◌∷◌, ◌≡◌, ◌≤◌}
 use Rattle.inf_expressions.specs.declared.findings.Finding.{Finding}
+use Rattle.inf_scanner.specs.declared.tokens.Place.{Place}
+use Rattle.inf_settings.specs.Bounds.{Limits}
 use Rattle.inf_opcode.specs.Cells.{Cell}
 use Rattle.inf_code.specs.Code.{Routines}
 use Rattle.inf_output.specs.{Output.Code, Output.Out, Output.apart, Output.items_of, Output.together, declared.items.Item.Item}
-use Rattle.inf_compilation.specs.{Context.Context, Nesting.constructs_laid}
-use Rattle.inf_compilation.specs.Actions.{Compilation, named, passed, settled_of, trees_at}
-use Rattle.inf_parts.specs.Parts.{actions_named, case_prepared, found_in, has_last, is_default, order_of, part_begun}
-use Rattle.inf_parts.specs.Parts.{part_carried, part_effect, part_finished, part_prepared, place_of, wanted_of}
-use Rattle.inf_parts.specs.declared.parts.Part.{Part}
-use Rattle.inf_constructs.specs.declared.constructs.Case.TheVariants as case
+use Rattle.inf_syntax.specs.declared.actions.Action.{Action}
+use Rattle.inf_unit.proofs.Cases.{of_both}
 use Rattle.inf_constructs.specs.{Labels.NamedLabel, Roots.tree_in, declared.constructs.Construct.Construct, declared.constructs.Kind.Kind}
 use Rattle.inf_constructs.specs.{declared.constructs.Over.Over}
 use Rattle.inf_constructs.specs.Constructs.{are_own, cases_begun, changed, closed, entered, entered_by, looped_over, opened, with_step}
 use Rattle.inf_statements.specs.Statements.{alone}
+use Rattle.inf_compilation.specs.{Context.Context, Nesting.constructs_laid}
+use Rattle.inf_compilation.specs.Actions.{Compilation, named, passed, settled_of, trees_at}
+use Rattle.inf_parts.specs.declared.parts.Part.{Part}
+use Rattle.inf_parts.specs.Parts.{actions_named, case_prepared, found_in, has_last, is_default, order_of, part_begun, part_carried}
+use Rattle.inf_parts.specs.Parts.{part_effect, part_finished, part_prepared, place_of, wanted_of}
 use Rattle.inf_reader.specs.Acting.{act}
-use Rattle.inf_unit.proofs.Cases.{of_both}
-use Rattle.inf_statement_laws.specs.Nested.{Case, Do, For, If, IfElse, Nested, Objectloop, Plain, Switch, Then, While}
-use Rattle.inf_statement_laws.specs.Laid.{laid, run}
+use Rattle.inf_statement_laws.specs.{Laid.laid, Laid.run, Nested.Case, Nested.Nested, Nested.Plain, Nested.Then}
 use Rattle.inf_statement_laws.proofs.{Acts.quiet_run, Laying.laid_as}
-use Rattle.inf_code_walk.specs.Labels.{times}
-use Rattle.inf_label_laws.specs.Programs.{marks, uses}
+use Rattle.inf_code_walk.specs.Made.{times}
+use Rattle.inf_label_laws.specs.Labels.{marks, uses}
 use Rattle.inf_label_laws.proofs.Owning.{Owned, Settles, some_of_two}
-use Rattle.inf_routine_laws.proofs.{Acting.settled_good, Codes.alone_owns}
+use Rattle.inf_routine_laws.proofs.Acting.{settled_good}
 use Rattle.inf_routine_laws.proofs.Balance.{Good, cased, cased_in, good_as, loop_due, named_all, named_due, reached, reached_in, top_known}
 use Rattle.inf_routine_laws.proofs.Booking.{Booked, Counts, booked_as, cell_marks, cell_uses}
-use Rattle.inf_routine_laws.proofs.Constructing.{IsLooped, ends_cases, ends_switch, looped_good, not_looped}
+use Rattle.inf_routine_laws.proofs.Constructing.{IsLooped, alone_owns, ends_cases, ends_switch, looped_good, not_looped}
+use Rattle.inf_constructs.specs.declared.constructs.Case.TheVariants as case
 
 -- The step of a `for`: its items are kept apart, and their labels are due from there on.
 
@@ -258,13 +257,7 @@ switch_stays limits context (Then before behind) w e h =
 switch_stays limits context (Case values ends) w e h =
     case_ends_inside limits context ends.place (run limits context values.all w)
     (ap case_inside (quiet_run limits context values.all w values.are).0 ∙ h)
-switch_stays limits context (If opens test body closes) w e h = h
-switch_stays limits context (IfElse opens test body joins word other closes) w e h = h
-switch_stays limits context (While opens test body closes) w e h = h
-switch_stays limits context (Do opens body word joins test closes) w e h = h
-switch_stays limits context (For opens start joins test step bracket body closes) w e h = h
-switch_stays limits context (Objectloop opens loop ends joins bracket body closes) w e h = h
-switch_stays limits context (Switch opens value cases brace closes) w e h = h
+switch_stays limits context other w e h = h
 
 pub ends_case_kind : (limits : Limits) (k : Kind) (due spare extra : Counts) (labels : List NamedLabel) (c : Construct)
     (around : List Construct) (o : Out) → c.kind ≡ k → case_kind k ≡ true → Good due spare extra labels (c ∷ around) o →

@@ -11,10 +11,10 @@ use Rattle.inf_assembler.specs.{declared.routines.RoutineKind.RoutineKind}
 use Rattle.inf_assembler.specs.Routines.{Contents, body_bytes, body_fault, is_full, missing_fault, twice_fault}
 use Rattle.inf_names.specs.{Locals.Headed, Spellings.Name, Symbols.declare_fault, declared.meanings.Meaning.Meaning}
 use Rattle.inf_names.specs.{declared.symbols.DeclareFault.DeclareFault}
+use Rattle.inf_code.specs.declared.code.CodeLimits.{CodeLimits}
 use Rattle.inf_code.specs.Code.{Opened, Routines, begun_unless, code_limits, fault_behind, fault_closed, fault_end, fault_of_full}
 use Rattle.inf_code.specs.Code.{finished_fault, first_fault, full_begun, full_finished, full_opened, limit_fault, padded, place_behind}
 use Rattle.inf_code.specs.Code.{references_before, routine_cells, unlimited}
-use Rattle.inf_code.specs.declared.code.CodeLimits.{CodeLimits}
 use Rattle.inf_output.specs.Output.{Out, begun_by, declared_by, opened, opened_by}
 use Rattle.inf_machine.specs.{Machine.taken, declared.symbols.Symbol.Symbol}
 use Rattle.inf_syntax.specs.declared.actions.Action.{Action}
@@ -31,9 +31,9 @@ use Rattle.inf_statement_laws.specs.Happenings.{Acts, Between, Happening, Moment
 use Rattle.inf_statement_laws.specs.Readings.{Routine, Seen, all_happenings, behind_ends, behind_some, behind_token, body_laid}
 use Rattle.inf_statement_laws.specs.Readings.{routine_happenings, then_between, token_happenings}
 use Rattle.inf_statement_laws.proofs.{Acts.inside_act, Acts.own_alone, Acts.quiet_run, Laying.alone_behind}
-use Rattle.inf_code_walk.specs.Labels.{times}
-use Rattle.inf_routine_laws.specs.{Laws.RoutinesHaveTheirLabels, Laws.headed, Leaving.LeavesRoutine}
-use Rattle.inf_routine_laws.specs.Faults.{AllLeave, AllSeenLeave, DirectiveLeaves, HasBegun, HasItsLabels, LeaveRoutine, is_of_labels}
+use Rattle.inf_code_walk.specs.Made.{times}
+use Rattle.inf_routine_laws.specs.Laws.{AllLeave, AllSeenLeave, DirectiveLeaves, HasBegun, HasItsLabels, LeaveRoutine, LeavesRoutine}
+use Rattle.inf_routine_laws.specs.Laws.{RoutinesHaveTheirLabels, headed, is_of_labels}
 use Rattle.inf_routine_laws.proofs.{Acting.Balanced, Acting.quiet_good, Nesting.keeps_all, Nesting.leave_both, Stepping.case_kind}
 use Rattle.inf_routine_laws.proofs.{Stepping.ends_case_kind}
 use Rattle.inf_routine_laws.proofs.Balance.{Good, cased, named_all, named_due, reached, unless_given}

@@ -1,11 +1,11 @@
 -- The directives that declare: attributes, properties, variables, abbreviations, low strings and arrays; and those that choose how a story
 -- is made.
 use Rattle.std.specs.Prelude.{if◌then◌else◌, length, nat_le, ◌+◌, ◌-◌}
-use Rattle.std.proofs.Common.{Bool, Err, List, None, Ok, Option, Result, Some, [], false, map, refl, true, ℕ, ◌∷◌}
+use Rattle.std.proofs.Common.{Bool, Err, List, None, Ok, Option, Result, Some, [], ap, false, map, refl, true, ℕ, ◌∷◌, ◌≡◌}
 use Rattle.inf_characters.specs.{Reading.text_of, declared.reading.Mode.Mode, declared.texts.TextItem.TextItem}
 use Rattle.inf_text.specs.Packing.{packed}
 use Rattle.inf_area.specs.{declared.targets.Target.Target, declared.targets.Value.Value}
-use Rattle.inf_letters.specs.{Letters.ignores, Letters.scale_of, declared.letters.Letters.Letters}
+use Rattle.inf_letters.specs.{Letters.ignores, Letters.scale_of, Letters.set_of, Letters.warns, declared.letters.Letters.Letters}
 use Rattle.inf_expressions.specs.{Findings.least_of_both, Findings.out_of_range, Questions.constant_of, Trees.Leaf, Trees.Tree}
 use Rattle.inf_expressions.specs.{declared.findings.Finding.Finding, declared.findings.UnitError.UnitError}
 use Rattle.inf_expressions.specs.{declared.operators.Operand.Operand, declared.units.Wanted.Wanted}
@@ -17,23 +17,25 @@ use Rattle.inf_arrays.specs.Arrays.{with_entries}
 use Rattle.inf_tables.specs.{LowStrings.low_size, World.attribute_fault, World.property_fault, World.with_property}
 use Rattle.inf_tables.specs.{declared.faults.WorldFault.WorldFault}
 use Rattle.inf_names.specs.{Spellings.Name, Symbols.found_in, declared.meanings.Meaning.Meaning, declared.symbols.Found.Found}
-use Rattle.inf_output.specs.Output.{Out, passed_table, with_low_text, with_scale}
+use Rattle.inf_output.specs.Output.{Out, declared, passed_table, with_low_text, with_scale}
 use Rattle.inf_report.specs.declared.messages.FixedLimit.{FixedLimit}
+use Rattle.inf_unit.specs.{Directives.Characters as InCharacters, Messages.Reported, Messages.warnings_chosen, declared.roles.Ending.Ending}
 use Rattle.inf_unit.specs.Units.{bytes_at, first_place, name_order, quoted_in}
 use Rattle.inf_constructs.specs.Roots.{tree_in}
 use Rattle.inf_operands.specs.Texts.{text_at, text_packed}
 use Rattle.inf_compilation.specs.{Context.Context, Findings.found_alone, Findings.nothing_found}
 use Rattle.inf_compilation.specs.Actions.{Compilation, finding_at, operands_of, settled_of, trees_at}
-use Rattle.inf_named_values.specs.{Values.value_in, Values.value_of, Values.value_or, declared.declarations.Declared.Declared}
+use Rattle.inf_named_values.specs.declared.declarations.Declared.{Declared}
 use Rattle.inf_named_values.specs.Declarations.{alias_finding, alias_meaning, alias_told, aliased, attribute_found, attribute_meaning}
 use Rattle.inf_named_values.specs.Declarations.{declared_ended, declared_findings, is_additive, is_alias, last_meaning, name_declared}
 use Rattle.inf_named_values.specs.Declarations.{name_known, nothing_of, plainly_known, property_found, property_meaning, valued}
+use Rattle.inf_named_values.specs.Values.{value_in, value_of, value_or, variables_from}
 use Rattle.inf_declarations.specs.Abbreviations.{abbreviate_header, abbreviation, abbreviation_added, abbreviation_error}
 use Rattle.inf_declarations.specs.Abbreviations.{abbreviation_findings, abbreviation_with, low_named_by, low_string, low_string_added}
 use Rattle.inf_declarations.specs.Abbreviations.{low_unless, or_error, text_declared}
 use Rattle.inf_declarations.specs.Arrays.{added, adding, array_named, array_opened, array_opened_by, bare_text, codes_of, entry_added}
-use Rattle.inf_declarations.specs.Arrays.{entry_added_by, entry_ended, entry_finding, entry_with, is_alone, kind_in, listed, one_more}
-use Rattle.inf_declarations.specs.Arrays.{story_added, text_added, value_added, with_arrays}
+use Rattle.inf_declarations.specs.Arrays.{entry_added_by, entry_ended, entry_finding, entry_with, is_alone, items_finding, kind_in, listed}
+use Rattle.inf_declarations.specs.Arrays.{one_more, own_finding, story_added, text_added, text_finding, value_added, with_arrays}
 use Rattle.inf_declarations.specs.Attributes.{attribute, attribute_added, attribute_number, attribute_with, has_most_attributes}
 use Rattle.inf_declarations.specs.Attributes.{new_attribute, new_attribute_by}
 use Rattle.inf_declarations.specs.Globals.{global_added, global_variable, global_with, has_most_globals, new_global, with_variable}
@@ -42,13 +44,13 @@ use Rattle.inf_declarations.specs.Properties.{has_most_properties, new_property,
 use Rattle.inf_declarations.specs.Properties.{property_names, property_number, property_order, property_with}
 use Rattle.inf_declarations.specs.Switches.{has_code, letters_behind, misplaced, switched, switches, switches_by}
 use Rattle.inf_code_walk.specs.Made.{TreeMeets, TreesMeet}
-use Rattle.inf_step_walk.specs.{Lists.ArraysStand, Standing.Before, Standing.MeaningStands, Standing.TargetStands, Standing.ValueStands}
-use Rattle.inf_step_walk.specs.Walking.{Abbreviates, After, Ends, Follows, Grown, Inner, LowTexts, Next, Passes, Puts, Rests, Scales, Stays}
-use Rattle.inf_step_walk.specs.Walking.{Stood, Tables, Walk}
-use Rattle.inf_step_walk.proofs.{Lists.values_join, Operands.added_grows, Operands.declares, Operands.other, Pieces.before}
+use Rattle.inf_step_walk.specs.Standing.{ArraysStand, Before, MeaningStands, TargetStands, ValueStands}
+use Rattle.inf_step_walk.specs.Walking.{Abbreviates, After, Asks, Ends, Follows, Grown, Lies, LowTexts, Next, Passes, Premises, Puts, Rests}
+use Rattle.inf_step_walk.specs.Walking.{Scales, Stays, Stood, Tables, Walks, Warns, with_report}
+use Rattle.inf_step_walk.proofs.{Operands.added_grows, Operands.declares, Operands.other, Pieces.before, Premises.all_join}
 use Rattle.inf_step_walk.proofs.{Premises.roots_stand as roots_meet, Premises.trees_in}
-use Rattle.inf_step_walk.proofs.Units.{inner_if, passed_steps, puts, rests, steps_if, unit_ends, used_grows, used_stood}
-use Rattle.inf_step_walk.proofs.Worlds.{AddingStands, entries_hold, opened_holds, property_holds, world_grows}
+use Rattle.inf_step_walk.proofs.Lists.{AddingStands, entries_hold, opened_holds, property_holds, world_grows}
+use Rattle.inf_step_walk.proofs.Units.{inner_if, like, passed_steps, puts, rests, steps_if, unit_ends, used_grows, used_stood}
 
 constant_stands : {L : Target → Type 0} (u : Out) (t : Tree) → ((x : Target) → L x → TargetStands u x) → TreeMeets L t
     → ValueStands u (value_or (constant_of t))
@@ -88,10 +90,8 @@ property_stands u (Meaning.Property number is_additive) = tt
 property_stands u m = tt
 
 attribute_found_stands : (u : Out) (f : Found Place) → SomeMeaning u (attribute_found f)
-attribute_found_stands u (Found.System m) = tt
 attribute_found_stands u (Found.Declared m first) = attribute_stands u m
-attribute_found_stands u Found.Used = tt
-attribute_found_stands u Found.Unknown = tt
+attribute_found_stands u f = tt
 
 property_found_stands : (u : Out) (f : Found Place) → SomeMeaning u (property_found f)
 property_found_stands u (Found.System m) = property_stands u m
@@ -111,7 +111,7 @@ aliased_stands u kind None None h = nothing_stands u kind
 aliased_stands u kind None (Some f) h = nothing_stands u kind
 
 -- tables with other arrays
-arrays_grow : {limits : Limits} {Q : Type 0} {o : Out} (arrays : AllArrays)
+arrays_grow : {limits : Limits} {Q : Premises} {o : Out} (arrays : AllArrays)
     → ((u : Out) → Before u o → ArraysStand u o.tables.arrays → ArraysStand u arrays) → Grown limits Q o (with_arrays arrays o)
 arrays_grow {limits} {Q} {o} arrays f = Tables {p = with_arrays arrays o} Stays refl (λ u b e h. (
   record {
@@ -124,7 +124,7 @@ arrays_grow {limits} {Q} {o} arrays f = Tables {p = with_arrays arrays o} Stays 
   h.1,
 ))
 
-module _ {limits : Limits} {Q : Type 0} where
+module _ {limits : Limits} {Q : Premises} where
   -- Attributes
 
   new_attribute_grows : (o : Out) → Grown limits Q o (new_attribute o)
@@ -173,7 +173,7 @@ module _ {limits : Limits} {Q : Type 0} where
       go false = Tables {p = with_variable v o} Stays refl (λ u b e h. (
         record {
           of_arrays = h.0.of_arrays;
-          of_globals = values_join u o.tables.globals (v ∷ []) h.0.of_globals (stands u b, tt);
+          of_globals = all_join (ValueStands u) o.tables.globals (v ∷ []) h.0.of_globals (stands u b, tt);
           of_verbs = h.0.of_verbs;
           of_actions = h.0.of_actions;
           of_parsing = h.0.of_parsing;
@@ -198,11 +198,12 @@ module _ {limits : Limits} {Q : Type 0} where
   text_declared_grows None items o = other refl (λ u h. h)
   text_declared_grows (Some error) items o = Stays
 
-  unless_grows : (error : Option UnitError) (items : List TextItem) (o : Out) → Q → Grown limits Q o (low_unless limits error items o)
+  unless_grows : (error : Option UnitError) (items : List TextItem) (o : Out) → Q Ending.Abbreviation
+      → Grown limits Q o (low_unless limits error items o)
   unless_grows None items o q = Abbreviates (packed items []) q
   unless_grows (Some error) items o q = Stays
 
-  abbreviation_grows : (error : Option UnitError) (items : List TextItem) (o : Out) → Q
+  abbreviation_grows : (error : Option UnitError) (items : List TextItem) (o : Out) → Q Ending.Abbreviation
       → Grown limits Q o (abbreviation_added limits error items o)
   abbreviation_grows error items o q =
       Follows (text_declared_grows error items o) (unless_grows error items (text_declared error items o) q)
@@ -236,9 +237,9 @@ module _ {limits : Limits} {Q : Type 0} where
           Follows {p = passed_table limits Setting.Arrays o} (Passes Setting.Arrays)
           (declares name.bytes name.place (Meaning.Array 0) (λ u. tt))
 
-  listed_lays : (told : Option Finding) (k : ArrayKind) (name : Name) (w : Compilation) → Inner limits Q w (listed limits told k name w)
-  listed_lays None k name w = Puts (opened_grows k name w.output) (λ u h. h) refl
-  listed_lays (Some f) k name w = Puts Stays (λ u h. h) refl
+  listed_lays : (told : Option Finding) (k : ArrayKind) (name : Name) (w : Compilation) → Lies limits Q w (listed limits told k name) w
+  listed_lays None k name w r = Puts (opened_grows k name w.output) (λ u h. h) refl
+  listed_lays (Some f) k name w r = Puts Stays (λ u h. h) refl
 
   story_grows : (fault : Option ArrayFault) (a : Adding) (o : Out) → ((u : Out) → Before u o → AddingStands u a)
       → Grown limits Q o (story_added limits fault a o)
@@ -247,12 +248,12 @@ module _ {limits : Limits} {Q : Type 0} where
   story_grows (Some f) a o stands = Passes Setting.Arrays
 
   -- an entry of the story's array: what it adds stands once the output before it comes before
-  more_lays : (a : Adding) (w : Compilation) → ((u : Out) → Before u w.output → AddingStands u a) → Inner limits Q w (added limits a w)
-  more_lays a w stands =
+  more_lays : (a : Adding) (w : Compilation) → ((u : Out) → Before u w.output → AddingStands u a) → Lies limits Q w (added limits a) w
+  more_lays a w stands r =
       inner_if w.listing.is_lost (Puts Stays (λ u h. h) refl)
-      (puts _ (story_grows (added_fault limits a w.output.tables.arrays) a w.output stands))
+      (puts _ (story_grows (added_fault limits a w.output.tables.arrays) a w.output stands) r)
 
-  text_lays : (items : Option (List TextItem)) (w : Compilation) → Inner limits Q w (text_added limits items w)
+  text_lays : (items : Option (List TextItem)) (w : Compilation) → Lies limits Q w (text_added limits items) w
   text_lays None w = rests w
   text_lays (Some items) w = more_lays (Characters (codes_of items)) w (λ u e. tt)
 
@@ -262,161 +263,199 @@ adding_stands u true (Value.Later t) h = h
 adding_stands u false (Value.Known count) h = h
 adding_stands u false (Value.Later t) h = h
 
-module _ {limits : Limits} {Q : Type 0} where
+module _ {limits : Limits} {Q : Premises} where
   told_lays : (context : Context) (number : Option ℕ) (finding : Option Finding) (w : Compilation)
-      → Inner limits Q w (release_told limits context number finding w)
-  told_lays context number (Some f) w = rests w
-  told_lays context number None w = Puts (added_grows context.set w.unit.tokens w.unit.gathering.leaves w.output) (λ u h. h) refl
+      → Lies limits Q w (release_told limits context number finding) w
+  told_lays context number (Some f) w r = rests w r
+  told_lays context number None w r = Puts (added_grows context.set w.unit.tokens w.unit.gathering.leaves w.output) (λ u h. h) refl
 
-  value_lays : (context : Context) (alone : Bool) (w : Compilation) → Inner limits Q w (value_added limits context alone w)
-  value_lays context alone w =
+  value_lays : (context : Context) (alone : Bool) (w : Compilation) → Lies limits Q w (value_added limits context alone) w
+  value_lays context alone w r =
       let o = (settled_of limits context w).out in
-      Next {x = record w { output = o }} (puts o (used_grows context w))
+      Next {x = record w { output = o }} (puts o (used_grows context w) r)
       (more_lays (adding alone (value_of limits context w)) (record w { output = o })
-      (λ u e. adding_stands u alone (value_of limits context w) (value_there limits context w u e)))
+      (λ u e. adding_stands u alone (value_of limits context w) (value_there limits context w u e)) r)
 
   entry_lays : (context : Context) (text : Option ℕ) (alone : Bool) (w : Compilation)
-      → Inner limits Q w (entry_added_by limits context text alone w)
+      → Lies limits Q w (entry_added_by limits context text alone) w
   entry_lays context (Some at) alone w = text_lays (text_at context.set w.unit.tokens at) w
   entry_lays context None alone w = value_lays context alone w
 
-module _ {limits : Limits} {context : Context} {Q : Type 0} where
-  -- the end of a declaration
-  declaration_steps : (first : Place) (has_last : Bool) (name : Name) (kind : FixedLimit) (d : Declared) (w : Compilation) (o : Out)
-      → Grown limits Q w.output o
-      → Walk limits context Q w (declared_ended limits context first has_last name kind d (record w { output = o }))
-  declaration_steps first has_last name kind d w o g =
-      Ends first has_last (declared_findings name kind d) (record w { output = o }) (puts o g)
+-- The values of properties and variables, and the findings about entries, do not depend on what was reported.
+
+property_told : (limits : Limits) (context : Context) (told : Option Finding) (name : Name) (is_additive : Bool) (r : Reported)
+    (w : Compilation)
+    → property_added limits context told name is_additive (with_report r w) ≡ property_added limits context told name is_additive w
+property_told limits context (Some f) name is_additive r w = refl
+property_told limits context None name is_additive r w = refl
+
+global_told : (limits : Limits) (context : Context) (told : Option Finding) (name : Name) (r : Reported) (w : Compilation)
+    → global_added limits context told name (with_report r w) ≡ global_added limits context told name w
+global_told limits context (Some f) name r w = refl
+global_told limits context None name r w = refl
+
+items_told : (limits : Limits) (has_variables : Bool) (items : List TextItem) (r : Reported) (w : Compilation)
+    → items_finding limits has_variables items (with_report r w) ≡ items_finding limits has_variables items w
+items_told limits true items r w = refl
+items_told limits false items r w = refl
+
+text_told : (limits : Limits) (text : Option (List TextItem)) (r : Reported) (w : Compilation)
+    → text_finding limits text (with_report r w) ≡ text_finding limits text w
+text_told limits None r w = refl
+text_told limits (Some items) r w = items_told limits (variables_from items false) items r w
+
+own_told : (limits : Limits) (context : Context) (at : Option ℕ) (alone : Bool) (r : Reported) (w : Compilation)
+    → own_finding limits context at alone (with_report r w) ≡ own_finding limits context at alone w
+own_told limits context (Some at) alone r w = text_told limits (text_at context.set w.unit.tokens at) r w
+own_told limits context None alone r w = refl
+
+module _ {limits : Limits} {context : Context} {Q : Premises} where
+  -- the end of a declaration, with an output that does not depend on what was reported
+  declaration_steps : (first : Place) (has_last : Bool) (name : Name) (kind : FixedLimit) (d : Declared) (w : Compilation)
+      (out : Compilation → Out) → ((r : Reported) → out (with_report r w) ≡ out w) → Grown limits Q w.output (out w)
+      → Walks limits context Q (λ v. declared_ended limits context first has_last name kind d (record v { output = out v })) w
+  declaration_steps first has_last name kind d w out same g r =
+      like (ap (λ o. declared_ended limits context first has_last name kind d (record w { output = o; report = r })) (same r))
+      (Ends first has_last (declared_findings name kind d) (record w { output = out w }) (puts (out w) g r))
 
   alias_steps : (first : Place) (name : Name) (at : ℕ) (kind : FixedLimit) (w : Compilation)
-      → Walk limits context Q w (alias_told limits context first name at kind w)
+      → Walks limits context Q (alias_told limits context first name at kind) w
   alias_steps first name at kind w =
       let m = last_meaning kind w in
       let own = name_known name at false w in
       let finding = least_of_both own.finding (alias_finding w.unit.tokens m) in
-      declaration_steps first true name kind (record { found = own.found; finding = finding }) w _
+      declaration_steps first true name kind (record { found = own.found; finding = finding }) w
+      (λ v. declared limits name.bytes name.place (aliased kind m finding) v.output) (λ r. refl)
       (declares name.bytes name.place (aliased kind m finding) (λ u. aliased_stands u kind m finding
       (alias_stands u kind (found_in (bytes_at w.unit.tokens (length w.unit.tokens - 1)) w.output.names))))
 
   attribute_with_steps : (first : Place) (name : Name) (w : Compilation)
-      → Walk limits context Q w (attribute_with limits context first name w)
+      → Walks limits context Q (attribute_with limits context first name) w
   attribute_with_steps first name w =
       let d = name_known name (name_order w.unit.tokens) (has_most_attributes w.output) w in
-      declaration_steps first true name FixedLimit.Attributes d w (attribute_added limits d.finding name w.output)
+      declaration_steps first true name FixedLimit.Attributes d w (λ v. attribute_added limits d.finding name v.output) (λ r. refl)
       (attribute_grows d.finding name w.output)
 
   pub attribute_steps : (first : Place) (names : List Name) (w : Compilation)
-      → Walk limits context Q w (attribute limits context first names w)
-  attribute_steps first [] w = passed_steps true w
-  attribute_steps first (name ∷ names) w =
-      steps_if (is_alias names w.unit.gathering.leaves) (alias_steps first name (name_order w.unit.tokens) FixedLimit.Attributes w)
-      (attribute_with_steps first name w)
+      → Walks limits context Q (attribute limits context first names) w
+  attribute_steps first [] w r = passed_steps true w r
+  attribute_steps first (name ∷ names) w r =
+      steps_if (is_alias names w.unit.gathering.leaves) (alias_steps first name (name_order w.unit.tokens) FixedLimit.Attributes w r)
+      (attribute_with_steps first name w r)
 
   property_with_steps : (first : Place) (is_additive : Bool) (name : Name) (w : Compilation)
-      → Walk limits context Q w (property_with limits context first is_additive name w)
+      → Walks limits context Q (property_with limits context first is_additive name) w
   property_with_steps first is_additive name w =
       let d = valued name (property_order w.unit.tokens is_additive) (has_most_properties w.output) w in
-      declaration_steps first true name FixedLimit.Properties d w (property_added limits context d.finding name is_additive w)
-      (property_grows context d.finding name is_additive w)
+      declaration_steps first true name FixedLimit.Properties d w (property_added limits context d.finding name is_additive)
+      (λ r. property_told limits context d.finding name is_additive r w) (property_grows context d.finding name is_additive w)
 
   property_named_steps : (first : Place) (is_additive : Bool) (names : List Name) (w : Compilation)
-      → Walk limits context Q w (property_named limits context first is_additive names w)
-  property_named_steps first is_additive [] w = passed_steps true w
-  property_named_steps first is_additive (name ∷ names) w =
+      → Walks limits context Q (property_named limits context first is_additive names) w
+  property_named_steps first is_additive [] w r = passed_steps true w r
+  property_named_steps first is_additive (name ∷ names) w r =
       steps_if (is_alias names w.unit.gathering.leaves)
-      (alias_steps first name (property_order w.unit.tokens is_additive) FixedLimit.Properties w)
-      (property_with_steps first is_additive name w)
+      (alias_steps first name (property_order w.unit.tokens is_additive) FixedLimit.Properties w r)
+      (property_with_steps first is_additive name w r)
 
   pub property_steps : (first : Place) (names : List Name) (w : Compilation)
-      → Walk limits context Q w (property limits context first names w)
+      → Walks limits context Q (property limits context first names) w
   property_steps first names w = property_named_steps first (is_additive names) (property_names names) w
 
-  global_with_steps : (first : Place) (name : Name) (w : Compilation) → Walk limits context Q w (global_with limits context first name w)
+  global_with_steps : (first : Place) (name : Name) (w : Compilation) → Walks limits context Q (global_with limits context first name) w
   global_with_steps first name w =
       let d = valued name (name_order w.unit.tokens) (has_most_globals w.output) w in
-      declaration_steps first true name FixedLimit.Globals d w (global_added limits context d.finding name w)
-      (global_grows context d.finding name w)
+      declaration_steps first true name FixedLimit.Globals d w (global_added limits context d.finding name)
+      (λ r. global_told limits context d.finding name r w) (global_grows context d.finding name w)
 
   pub global_steps : (first : Place) (names : List Name) (w : Compilation)
-      → Walk limits context Q w (global_variable limits context first names w)
+      → Walks limits context Q (global_variable limits context first names) w
   global_steps first [] w = passed_steps true w
   global_steps first (name ∷ names) w = global_with_steps first name w
 
-  abbreviation_with_steps : (first : Place) (items : Result (List TextItem) UnitError) (w : Compilation) → Q
-      → Walk limits context Q w (abbreviation_with limits context first items w)
-  abbreviation_with_steps first (Err error) w q = unit_ends first false (abbreviation_findings (Some error)) w
-  abbreviation_with_steps first (Ok items) w q =
+  abbreviation_with_steps : (first : Place) (items : Result (List TextItem) UnitError) (w : Compilation) → Q Ending.Abbreviation
+      → Walks limits context Q (abbreviation_with limits context first items) w
+  abbreviation_with_steps first (Err error) w q r = unit_ends first false (abbreviation_findings (Some error)) w r
+  abbreviation_with_steps first (Ok items) w q r =
       let error = abbreviation_error items w.output in
       let o = abbreviation_added limits error items w.output in
-      Ends first false (abbreviation_findings error) (record w { output = o }) (puts o (abbreviation_grows error items w.output q))
+      Ends first false (abbreviation_findings error) (record w { output = o }) (puts o (abbreviation_grows error items w.output q) r)
 
-  pub abbreviation_steps : (place : Place) (w : Compilation) → Q → Walk limits context Q w (abbreviation limits context place w)
+  pub abbreviation_steps : (place : Place) (w : Compilation) → Q Ending.Abbreviation
+      → Walks limits context Q (abbreviation limits context place) w
   abbreviation_steps place w q =
       abbreviation_with_steps (first_place w.unit.tokens place)
       (or_error (text_of context.set Mode.Abbreviation (quoted_in w.unit.tokens))) w q
 
-  pub abbreviate_steps : (first : Place) (w : Compilation) → Walk limits context Q w (abbreviate_header limits context first w)
+  pub abbreviate_steps : (first : Place) (w : Compilation) → Walks limits context Q (abbreviate_header limits context first) w
   abbreviate_steps first w = unit_ends first false (found_alone None) w
 
   pub low_string_steps : (first : Place) (names : List Name) (w : Compilation)
-      → Walk limits context Q w (low_string limits context first names w)
+      → Walks limits context Q (low_string limits context first names) w
   low_string_steps first [] w = passed_steps true w
   low_string_steps first (name ∷ names) w =
       let d = plainly_known name (name_order w.unit.tokens) w in
-      declaration_steps first true name FixedLimit.Values d w (low_string_added limits context.set d.finding name w.unit.tokens w.output)
+      declaration_steps first true name FixedLimit.Values d w
+      (λ v. low_string_added limits context.set d.finding name v.unit.tokens v.output) (λ r. refl)
       (low_string_grows context d.finding name w)
 
   -- Releases, serial numbers and letters
 
-  pub release_steps : (first : Place) (w : Compilation) → Walk limits context Q w (release limits context first w)
-  release_steps first w =
+  pub release_steps : (first : Place) (w : Compilation) → Walks limits context Q (release limits context first) w
+  release_steps first w r =
       let number = known_number (map tree_in (trees_at 0 Wanted.Constant (operands_of w) w)) in
       let finding = release_finding number (finding_at 0 Wanted.Constant w) in
-      Ends first true (found_alone finding) (release_told limits context number finding w) (told_lays context number finding w)
+      Ends first true (found_alone finding) (release_told limits context number finding w) (told_lays context number finding w r)
 
   serial_by_steps : (first : Place) (digits : Option (List ℕ)) (w : Compilation)
-      → Walk limits context Q w (serial_by limits context first digits w)
-  serial_by_steps first None w = unit_ends first true (found_alone (Some (out_of_range 0))) w
-  serial_by_steps first (Some digits) w =
+      → Walks limits context Q (serial_by limits context first digits) w
+  serial_by_steps first None w r = unit_ends first true (found_alone (Some (out_of_range 0))) w r
+  serial_by_steps first (Some digits) w r =
       Ends first true (found_alone None) (record w { told = record w.told { serial = Some digits } }) (Puts Stays (λ u h. h) refl)
 
-  pub serial_steps : (first : Place) (w : Compilation) → Walk limits context Q w (serial limits context first w)
+  pub serial_steps : (first : Place) (w : Compilation) → Walks limits context Q (serial limits context first) w
   serial_steps first w = serial_by_steps first (serial_in (quoted_in w.unit.tokens)) w
 
-  switches_by_steps : (first : Place) (letters : Option Letters) (w : Compilation)
-      → Walk limits context Q w (switches_by limits context first letters w)
-  switches_by_steps first None w = unit_ends first true (found_alone (Some misplaced)) w
-  switches_by_steps first (Some letters) w =
-      Ends {w = w} first true nothing_found (switched letters w)
-      (Puts {w = w} {v = switched letters w}
-      (Follows {p = with_scale (scale_of letters) w.output} (Scales (scale_of letters)) (other refl (λ u h. h))) (λ u h. h) refl)
+  switches_by_steps : (first : Place) (letters : Option Letters) (w : Compilation) → Q Ending.Directive
+      → Walks limits context Q (switches_by limits context first letters) w
+  switches_by_steps first None w q r = unit_ends first true (found_alone (Some misplaced)) w r
+  switches_by_steps first (Some letters) w q r =
+      let told = with_report (warnings_chosen (warns letters) w.report) w in
+      let asked = record told { asked = InCharacters (set_of letters) } in
+      After {x = told} (Warns (warns letters)) (After {x = asked} (Asks (InCharacters (set_of letters)) q)
+      (Ends {w = asked} first true nothing_found (switched letters w)
+      (Puts {w = asked} {v = switched letters w}
+      (Follows {p = with_scale (scale_of letters) w.output} (Scales (scale_of letters)) (other refl (λ u h. h))) (λ u h. h) refl)))
 
-  pub switches_steps : (first : Place) (names : List Name) (w : Compilation)
-      → Walk limits context Q w (switches limits context first names w)
-  switches_steps first [] w = passed_steps true w
-  switches_steps first (name ∷ names) w =
-      steps_if (ignores w.letters) (unit_ends first true nothing_found w)
-      (switches_by_steps first (letters_behind (has_code w.output.code) name.bytes w.letters) w)
+  pub switches_steps : (first : Place) (names : List Name) (w : Compilation) → Q Ending.Directive
+      → Walks limits context Q (switches limits context first names) w
+  switches_steps first [] w q r = passed_steps true w r
+  switches_steps first (name ∷ names) w q r =
+      steps_if (ignores w.letters) (unit_ends first true nothing_found w r)
+      (switches_by_steps first (letters_behind (has_code w.output.code) name.bytes w.letters) w q r)
 
   -- Arrays
 
   pub array_steps : (first : Place) (names : List Name) (w : Compilation)
-      → Walk limits context Q w (array_named limits context first names w)
-  array_steps first [] w = passed_steps false w
-  array_steps first (name ∷ names) w =
+      → Walks limits context Q (array_named limits context first names) w
+  array_steps first [] w r = passed_steps false w r
+  array_steps first (name ∷ names) w r =
       let d = plainly_known name (name_order w.unit.tokens) w in
       let k = kind_in w.unit.tokens in
-      Ends first false (declared_findings name FixedLimit.Globals d) (listed limits d.finding k name w) (listed_lays d.finding k name w)
+      Ends first false (declared_findings name FixedLimit.Globals d) (listed limits d.finding k name w) (listed_lays d.finding k name w r)
 
   entry_with_steps : (first : Place) (alone : Bool) (found : Option Finding) (w : Compilation)
-      → Walk limits context Q w (entry_with limits context first alone found w)
-  entry_with_steps first alone None w =
-      Ends first false nothing_found (entry_added limits context alone w) (entry_lays context (bare_text alone w) alone w)
-  entry_with_steps first alone (Some f) w = unit_ends first false (found_alone (Some f)) w
+      → Walks limits context Q (entry_with limits context first alone found) w
+  entry_with_steps first alone None w r =
+      Ends first false nothing_found (entry_added limits context alone w) (entry_lays context (bare_text alone w) alone w r)
+  entry_with_steps first alone (Some f) w r = unit_ends first false (found_alone (Some f)) w r
 
   pub entry_steps : (place : Place) (is_last : Bool) (w : Compilation)
-      → Walk limits context Q w (entry_ended limits context place is_last w)
-  entry_steps place is_last w =
+      → Walks limits context Q (entry_ended limits context place is_last) w
+  entry_steps place is_last w r =
       let alone = is_alone is_last w in
-      After {x = one_more w} (Rests (λ u h. h) refl)
-      (entry_with_steps (first_place w.unit.tokens place) alone (entry_finding limits context alone w) (one_more w))
+      let first = first_place w.unit.tokens place in
+      After {x = one_more w} {s = r} (Rests (λ u h. h) refl)
+      (like (ap (λ f. entry_with limits context first alone (least_of_both (finding_at 0 Wanted.Constant w) f) (with_report r (one_more w)))
+      (own_told limits context (bare_text alone w) alone r w))
+      (entry_with_steps first alone (entry_finding limits context alone w) (one_more w) r))

@@ -1,11 +1,9 @@
 pub mod Premises
-pub mod Lists
 pub mod Outputs
 pub mod Pieces
 pub mod Operands
-pub mod Worlds
+pub mod Lists
 pub mod Units
 pub mod Declaring
 pub mod Bodies
-pub mod VerbLines
 pub mod Actions

@@ -1,67 +1,52 @@
--- Lists of what stands in an output, and names by their numbers and their meanings.
-use Rattle.std.proofs.Common.{Bool, List, None, Option, Some, [], bytes_eq, drop, false, flat_map, if◌then◌else◌, length, map, nat_lt, refl}
-use Rattle.std.proofs.Common.{take, true, ℕ, ◌++◌, ◌+◌, ◌-◌, ◌<◌, ◌∷◌, ◌≡◌, ◌≤◌}
+-- Lists of what stands in an output, names by their numbers and their meanings, and properties, objects and arrays as they are read.
+use Rattle.std.specs.Prelude.{nat_le, option_map, option_to_list, replicate, slice_get, ◌==◌}
+use Rattle.std.proofs.Common.{Bool, Err, List, None, Ok, Option, Result, Some, [], bytes_eq, drop, false, flat_map, if◌then◌else◌, length}
+use Rattle.std.proofs.Common.{map, nat_lt, refl, suc, take, true, zero, ℕ, ◌++◌, ◌+◌, ◌-◌, ◌<◌, ◌∷◌, ◌≡◌, ◌≤◌}
 use Rattle.inf_area.specs.{Cells.size_of, declared.cells.Cell.Cell as CodeCell, declared.fixups.Fixup.Fixup, declared.scale.Scale.Scale}
 use Rattle.inf_area.specs.{declared.targets.Value.Value}
 use Rattle.inf_scanner.specs.declared.tokens.Place.{Place}
 use Rattle.inf_settings.specs.Bounds.{Limits}
-use Rattle.inf_arrays.specs.Arrays.{Listed}
+use Rattle.inf_arrays.specs.declared.kinds.ArrayKind.{ArrayKind}
+use Rattle.inf_arrays.specs.Arrays.{Adding, AllArrays, Characters, Listed, One, Zeros, all_of, characters, more_entries}
+use Rattle.inf_arrays.specs.Arrays.{opened as opened_array, values_in, with_entries}
 use Rattle.inf_verbs.specs.Routines.{is_among, with_routine}
-use Rattle.inf_properties.specs.declared.values.Property.{Property}
-use Rattle.inf_objects.specs.declared.objects.Object.{Object}
+use Rattle.inf_properties.specs.{Open.Open, Open.given_first, Open.with_given, Values.with_last_value, declared.values.Property.Property}
+use Rattle.inf_properties.specs.Properties.{found, has, inherited, joined_values, lacked, values_in as property_values, values_of}
+use Rattle.inf_properties.specs.Properties.{with_joined}
+use Rattle.inf_objects.specs.{declared.body.Body.Body, declared.objects.Object.Object}
+use Rattle.inf_objects.specs.Objects.{ended, is_lost, is_passed, with_joined_class}
+use Rattle.inf_tables.specs.{declared.faults.Misfit.Misfit, declared.kinds.DeclaredProperty.DeclaredProperty, declared.kinds.Parent.Parent}
+use Rattle.inf_tables.specs.Objects.{arrows_of, class_at, class_in, declared_at, is_class, parent_of}
+use Rattle.inf_tables.specs.World.{WorldOf, class_by, ended_objects, given_of, kind_of, lost_given, with_class_of, with_end}
+use Rattle.inf_tables.specs.World.{with_further_value, with_given_property, with_hung, with_object_header, with_property}
 use Rattle.inf_opcode.specs.{Opcodes.row_of, declared.cells.Special.Special, declared.instructions.Branch.Branch}
 use Rattle.inf_opcode.specs.{declared.instructions.Label.Label, declared.instructions.Operand.Operand as Written}
 use Rattle.inf_opcode.specs.Cells.{Cell, Of, Plain, plain, special_size}
 use Rattle.inf_opcode.specs.Instructions.{Parts, branch_cells, heading, instruction_cells, operand_cells, store_cells}
-use Rattle.inf_assembler.specs.{Places.Places, Places.closed_fixups, Places.fixup_at, Places.size_at, Routines.Contents}
-use Rattle.inf_assembler.specs.{Routines.body_bytes, Routines.long_places, Routines.routine_fixups}
-use Rattle.inf_assembler.specs.{declared.routines.RoutineKind.RoutineKind}
+use Rattle.inf_assembler.specs.declared.routines.RoutineKind.{RoutineKind}
+use Rattle.inf_assembler.specs.Places.{Places, closed_fixups, fixup_at, size_at}
+use Rattle.inf_assembler.specs.Routines.{Contents, body_bytes, long_places, routine_fixups}
 use Rattle.inf_names.specs.{SystemNames.system_meaning, declared.meanings.Meaning.Meaning, declared.symbols.Found.Found}
 use Rattle.inf_names.specs.{declared.symbols.ReferFault.ReferFault}
 use Rattle.inf_names.specs.Symbols.{IsDeclared, IsUsed, Named, Standing, Table, folded, found_as, found_from, found_in, number_of, put}
 use Rattle.inf_names.specs.Symbols.{standing_of, with_used}
 use Rattle.inf_code.specs.Code.{Opened, cells_from, cells_with, closed_cells, known, padding, routine_cells, whole_bytes, with_item}
 use Rattle.inf_code.specs.Code.{with_label}
-use Rattle.inf_output.specs.{Actions.routine_of, Operands.written, declared.items.Item.Item, declared.operands.Simple.Simple}
+use Rattle.inf_output.specs.{Actions.routine_of, Operands.written, declared.operands.Simple.Simple}
 use Rattle.inf_output.specs.Output.{Out, found_simple, referred_as_by, referred_by, routine_by, simple_by, standing_simple, used_by}
 use Rattle.inf_operands.specs.Operands.{standing}
+use Rattle.inf_statements.specs.Statements.{rest}
+use Rattle.inf_named_values.specs.Declarations.{with_world}
+use Rattle.inf_word_laws.specs.Standing.{AllOf}
 use Rattle.inf_word_laws.proofs.Numbering.{IsWithin, number_within, within_more}
-use Rattle.inf_step_walk.specs.Lists.{AllWrittenStand, CellsStand, ItemsStand, ListedStand, NamesStand, ObjectsStand, OpenCellsStand}
-use Rattle.inf_step_walk.specs.Lists.{PropertiesStand, RoutineStands, RoutinesStand, ValuesStand}
-use Rattle.inf_step_walk.specs.Standing.{Before, MeaningStands, SpecialStands, StandingStands, TargetStands, WrittenStands}
-use Rattle.inf_step_walk.proofs.Premises.{SimpleStands, SimplesStand}
+use Rattle.inf_step_walk.specs.Standing.{AllWrittenStand, ArraysStand, Before, CellStands, CellsStand, ListedStand, MeaningStands}
+use Rattle.inf_step_walk.specs.Standing.{NamesStand, ObjectsStand, OpenArrayStands, OpenCellStands, OpenCellsStand, PropertiesStand}
+use Rattle.inf_step_walk.specs.Standing.{RoutineStands, RoutinesStand, SpecialStands, StandingStands, TargetStands, ValueStands}
+use Rattle.inf_step_walk.specs.Standing.{ValuesStand, WorldStands, WrittenStands}
+use Rattle.inf_step_walk.specs.Walking.{Grown, Premises, Stays, Tables}
+use Rattle.inf_step_walk.proofs.Premises.{SimpleStands, SimplesStand, all_join}
 
 -- Lists
-
--- Lists joined
-
-pub cells_join : (u : Out) (a b : List CodeCell) → CellsStand u a → CellsStand u b → CellsStand u (a ++ b)
-cells_join u [] b h k = k
-cells_join u (c ∷ a) b h k = (h.0, cells_join u a b h.1 k)
-
-open_join : (u : Out) (a b : List Cell) → OpenCellsStand u a → OpenCellsStand u b → OpenCellsStand u (a ++ b)
-open_join u [] b h k = k
-open_join u (c ∷ a) b h k = (h.0, open_join u a b h.1 k)
-
-pub items_join : (u : Out) (a b : List Item) → ItemsStand u a → ItemsStand u b → ItemsStand u (a ++ b)
-items_join u [] b h k = k
-items_join u (item ∷ a) b h k = (h.0, items_join u a b h.1 k)
-
-pub values_join : (u : Out) (a b : List Value) → ValuesStand u a → ValuesStand u b → ValuesStand u (a ++ b)
-values_join u [] b h k = k
-values_join u (v ∷ a) b h k = (h.0, values_join u a b h.1 k)
-
-pub listed_join : (u : Out) (a b : List Listed) → ListedStand u a → ListedStand u b → ListedStand u (a ++ b)
-listed_join u [] b h k = k
-listed_join u (array ∷ a) b h k = (h.0, listed_join u a b h.1 k)
-
-pub properties_join : (u : Out) (a b : List Property) → PropertiesStand u a → PropertiesStand u b → PropertiesStand u (a ++ b)
-properties_join u [] b h k = k
-properties_join u (p ∷ a) b h k = (h.0, properties_join u a b h.1 k)
-
-pub objects_join : (u : Out) (a b : List Object) → ObjectsStand u a → ObjectsStand u b → ObjectsStand u (a ++ b)
-objects_join u [] b h k = k
-objects_join u (o ∷ a) b h k = (h.0, objects_join u a b h.1 k)
 
 -- A name is put in its place or behind the others.
 
@@ -96,15 +81,13 @@ plain_stands u (byte ∷ bytes) = (tt, plain_stands u bytes)
 
 operand_stands : (u : Out) (x : Written) → WrittenStands u x → OpenCellsStand u (operand_cells x)
 operand_stands u (Written.Large number) h = (tt, (tt, tt))
-operand_stands u (Written.Small byte) h = (tt, tt)
-operand_stands u (Written.Variable number) h = (tt, tt)
 operand_stands u (Written.Later t) h = (h, tt)
-operand_stands u (Written.Offset label) h = (tt, tt)
+operand_stands u x h = (tt, tt)
 
 operands_stand : (u : Out) (operands : List Written) → AllWrittenStand u operands → OpenCellsStand u (flat_map operand_cells operands)
 operands_stand u [] h = tt
 operands_stand u (x ∷ operands) h =
-    open_join u (operand_cells x) (flat_map operand_cells operands) (operand_stands u x h.0) (operands_stand u operands h.1)
+    all_join (OpenCellStands u) (operand_cells x) (flat_map operand_cells operands) (operand_stands u x h.0) (operands_stand u operands h.1)
 
 store_stands : (u : Out) (store : Option ℕ) → OpenCellsStand u (store_cells store)
 store_stands u None = tt
@@ -120,10 +103,11 @@ instruction_stands u parts h =
     let all = flat_map operand_cells parts.operands in
     let store = store_cells parts.store in
     let branch = branch_cells parts.branch in
-    open_join u (first ++ all ++ store ++ branch) (plain parts.text)
-    (open_join u (first ++ all ++ store) branch
-    (open_join u (first ++ all) store
-    (open_join u first all (plain_stands u (heading (row_of parts.opcode) parts.operands)) (operands_stand u parts.operands h))
+    all_join (OpenCellStands u) (first ++ all ++ store ++ branch) (plain parts.text)
+    (all_join (OpenCellStands u) (first ++ all ++ store) branch
+    (all_join (OpenCellStands u) (first ++ all) store
+    (all_join (OpenCellStands u)
+    first all (plain_stands u (heading (row_of parts.opcode) parts.operands)) (operands_stand u parts.operands h))
     (store_stands u parts.store))
     (branch_stands u parts.branch))
     (plain_stands u parts.text)
@@ -133,34 +117,28 @@ instruction_stands u parts h =
 pub item_joins : (u : Out) (parts : Parts) (opened : Option Opened) → AllWrittenStand u parts.operands → RoutineStands u opened
     → RoutineStands u (with_item parts opened)
 item_joins u parts None h k = tt
-item_joins u parts (Some o) h k = open_join u o.contents.cells (instruction_cells parts) k (instruction_stands u parts h)
+item_joins u parts (Some o) h k = all_join (OpenCellStands u) o.contents.cells (instruction_cells parts) k (instruction_stands u parts h)
 
 pub label_joins : (u : Out) (label : Label) (opened : Option Opened) → RoutineStands u opened → RoutineStands u (with_label label opened)
 label_joins u label None k = tt
-label_joins u label (Some o) k = open_join u o.contents.cells (Of (Special.Marks label) ∷ []) k (tt, tt)
+label_joins u label (Some o) k = all_join (OpenCellStands u) o.contents.cells (Of (Special.Marks label) ∷ []) k (tt, tt)
 
 -- Closed routines have the references of their cells.
 
 abbrev FixupsStand : Out → List Fixup → Type 0
-FixupsStand u [] = Unit {0}
-FixupsStand u (fixup ∷ fixups) = TargetStands u fixup.target × FixupsStand u fixups
-
-fixups_join : (u : Out) (a b : List Fixup) → FixupsStand u a → FixupsStand u b → FixupsStand u (a ++ b)
-fixups_join u [] b h k = k
-fixups_join u (fixup ∷ a) b h k = (h.0, fixups_join u a b h.1 k)
+FixupsStand u fixups = AllOf (λ (f : Fixup). TargetStands u f.target) fixups
 
 fixup_stands : (u : Out) (place : ℕ) (what : Special) → SpecialStands u what → FixupsStand u (fixup_at place what)
-fixup_stands u place (Special.Marks label) h = tt
-fixup_stands u place (Special.Branches branch) h = tt
-fixup_stands u place (Special.Jumps label) h = tt
 fixup_stands u place (Special.Refers t) h = (h, tt)
+fixup_stands u place what h = tt
 
 fixups_stand : (u : Out) (long : Places) (old new : ℕ) (cells : List Cell) → OpenCellsStand u cells
     → FixupsStand u (closed_fixups long old new cells)
 fixups_stand u long old new [] h = tt
 fixups_stand u long old new (Plain byte ∷ cells) h = fixups_stand u long (old + 1) (new + 1) cells h.1
 fixups_stand u long old new (Of what ∷ cells) h =
-    fixups_join u (fixup_at new what) (closed_fixups long (old + special_size what) (new + size_at long old what) cells)
+    all_join (λ (f : Fixup). TargetStands u f.target)
+    (fixup_at new what) (closed_fixups long (old + special_size what) (new + size_at long old what) cells)
     (fixup_stands u new what h.0) (fixups_stand u long (old + special_size what) (new + size_at long old what) cells h.1)
 
 pub known_stand : (u : Out) (bytes : List ℕ) → CellsStand u (known bytes)
@@ -173,7 +151,7 @@ from_stand u place [] bytes h = known_stand u bytes
 from_stand u place (fixup ∷ fixups) bytes h =
     let front = take (fixup.place - place) bytes in
     let behind = drop (fixup.place + 2 - place) bytes in
-    cells_join u (known front) (CodeCell.Later fixup.target ∷ cells_from (fixup.place + 2) fixups behind) (known_stand u front)
+    all_join (CellStands u) (known front) (CodeCell.Later fixup.target ∷ cells_from (fixup.place + 2) fixups behind) (known_stand u front)
     (h.0, from_stand u (fixup.place + 2) fixups behind h.1)
 
 with_stand : (u : Out) (place : ℕ) (kind : RoutineKind) (contents : Contents) (body : Option (List ℕ)) → OpenCellsStand u contents.cells
@@ -194,7 +172,7 @@ closed_stand u scale kind place (Some o) h = go o.is_lost
     go : (b : Bool) → CellsStand u (if b then [] else cells ++ padding scale (size_of cells))
     go true = tt
     go false =
-        cells_join u cells (padding scale (size_of cells)) (with_stand u place kind o.contents (body_bytes place o.contents) h)
+        all_join (CellStands u) cells (padding scale (size_of cells)) (with_stand u place kind o.contents (body_bytes place o.contents) h)
         (known_stand u _)
 
 -- Names
@@ -212,10 +190,6 @@ used_within u name place t few =
     within_more (number_of name t) (length (with_used name place t).names) (length u.names.names)
     (number_within name place t (system_meaning t.is_debugging name) (standing_of (folded name) t.names) refl) few
 
-routines_join : (u : Out) (a b : List ℕ) → RoutinesStand u a → RoutinesStand u b → RoutinesStand u (a ++ b)
-routines_join u [] b h k = k
-routines_join u (routine ∷ a) b h k = (h.0, routines_join u a b h.1 k)
-
 -- a routine by its number among the names, where it is used
 pub referred_within : (u : Out) (limits : Limits) (fault : Option ReferFault) (name : List ℕ) (place : Place) (o : Out)
     → Before u (referred_by limits fault name place o) → IsWithin (routine_of (referred_as_by fault name o.names)) (length u.names.names)
@@ -228,7 +202,7 @@ routine_among u routine routines h k = go (is_among routine routines)
   where
     go : (b : Bool) → RoutinesStand u (if b then routines else routines ++ routine ∷ [])
     go true = k
-    go false = routines_join u routines (routine ∷ []) k (h, tt)
+    go false = all_join (λ (routine : ℕ). routine < length u.names.names) routines (routine ∷ []) k (h, tt)
 
 -- The routine of the veneer
 
@@ -238,14 +212,6 @@ none_stands u P (Some n) h = λ p. h
 
 simple_stands : (u : Out) (P : Type 0) (m : Meaning) (number : Option ℕ) → IsWithin number (length u.names.names)
     → SimpleStands u P (simple_by (standing_simple m) number)
-simple_stands u P (Meaning.Number n) number h = tt
-simple_stands u P (Meaning.Variable n) number h = tt
-simple_stands u P (Meaning.Attribute n) number h = tt
-simple_stands u P (Meaning.Property n is_additive) number h = tt
-simple_stands u P (Meaning.IndividualProperty n) number h = tt
-simple_stands u P (Meaning.Object n) number h = tt
-simple_stands u P (Meaning.Class n) number h = tt
-simple_stands u P (Meaning.FakeAction n) number h = tt
 simple_stands u P (Meaning.Text place) number h = none_stands u P number h
 simple_stands u P (Meaning.Word text) number h = none_stands u P number h
 simple_stands u P (Meaning.LowString place) number h = none_stands u P number h
@@ -253,6 +219,7 @@ simple_stands u P (Meaning.Array place) number h = none_stands u P number h
 simple_stands u P (Meaning.Routine place) number h = none_stands u P number h
 simple_stands u P (Meaning.PackedAddress place) number h = none_stands u P number h
 simple_stands u P (Meaning.Function f) number h = none_stands u P number h
+simple_stands u P m number h = tt
 
 found_simple_stands : (u : Out) (P : Type 0) (f : Found Place) (number : Option ℕ) → IsWithin number (length u.names.names)
     → SimpleStands u P (found_simple f number)
@@ -297,3 +264,248 @@ as_stands u system (Some (IsUsed spelling place)) h = tt
 pub found_meaning : (u : Out) (name : List ℕ) (t : Table Place) → NamesStand u t.names → FoundStands u (found_in name t)
 found_meaning u name t h =
     as_stands u (system_meaning t.is_debugging name) (standing_of (folded name) t.names) (some_stands u (folded name) t.names h)
+
+abbrev pub WorldHolds : Out → WorldOf → Type 0
+WorldHolds u w = WorldStands u w.declared w.objects w.body.properties.own w.body.properties.above
+
+abbrev pub MaybeValue : Out → Option Value → Type 0
+MaybeValue u None = Unit {0}
+MaybeValue u (Some v) = ValueStands u v
+
+-- an output with another world, before all that follows
+pub world_later : {limits : Limits} {Q : Premises} {o v : Out} (world : WorldOf)
+    → ((u : Out) → Before u o → Before u v → WorldHolds u o.tables.world → WorldHolds u world) → Grown limits Q (with_world world o) v
+    → Grown limits Q o v
+world_later world f later = Tables later refl (λ u b e h. (h.0, f u b e h.1))
+
+pub world_grows : {limits : Limits} {Q : Premises} {o : Out} (world : WorldOf)
+    → ((u : Out) → Before u o → WorldHolds u o.tables.world → WorldHolds u world) → Grown limits Q o (with_world world o)
+world_grows world f = world_later world (λ u b e. f u b) Stays
+
+-- Properties
+
+found_stands : (u : Out) (number : ℕ) (properties : List Property) → PropertiesStand u properties
+    → ValuesStand u (property_values (found number properties))
+found_stands u number [] h = tt
+found_stands u number (p ∷ properties) h = go (p.number == number) (found_stands u number properties h.1)
+  where
+    go : (b : Bool) → ValuesStand u (property_values (found number properties))
+        → ValuesStand u (property_values (if b then Some p else found number properties))
+    go true rest = h.0
+    go false rest = rest
+
+values_stand : (u : Out) (is_additive : Bool) (own above : List Value) → ValuesStand u own → ValuesStand u above
+    → ValuesStand u (joined_values is_additive own above)
+values_stand u true own above h k = all_join (ValueStands u) own above h k
+values_stand u false own above h k = h
+
+joined_stand : (u : Out) (above own : List Property) → PropertiesStand u above → PropertiesStand u own
+    → PropertiesStand u (with_joined above own)
+joined_stand u above [] h k = tt
+joined_stand u above (p ∷ own) h k = (
+  values_stand u p.is_additive p.values (values_of p.number above) k.0 (found_stands u p.number above h),
+  joined_stand u above own h k.1,
+)
+
+lacked_stand : (u : Out) (own above : List Property) → PropertiesStand u above → PropertiesStand u (lacked own above)
+lacked_stand u own [] h = tt
+lacked_stand u own (p ∷ above) h = go (has p.number own) (lacked_stand u own above h.1)
+  where
+    go : (b : Bool) → PropertiesStand u (lacked own above) → PropertiesStand u (if b then lacked own above else p ∷ lacked own above)
+    go true rest = rest
+    go false rest = (h.0, rest)
+
+inherited_stand : (u : Out) (own above : List Property) → PropertiesStand u own → PropertiesStand u above
+    → PropertiesStand u (inherited own above)
+inherited_stand u own above h k =
+    all_join (λ (p : Property). ValuesStand u p.values)
+    (with_joined above own) (lacked own above) (joined_stand u above own k h) (lacked_stand u own above k)
+
+last_stand : (u : Out) (v : Value) (own : List Property) → ValueStands u v → PropertiesStand u own
+    → PropertiesStand u (with_last_value v own)
+last_stand u v [] s h = tt
+last_stand u v (p ∷ []) s h = (all_join (ValueStands u) p.values (v ∷ []) h.0 (s, tt), tt)
+last_stand u v (p ∷ q ∷ own) s h = (h.0, last_stand u v (q ∷ own) s h.1)
+
+first_stands : (u : Out) (first : Option Value) → MaybeValue u first → ValuesStand u (option_to_list first)
+first_stands u None h = tt
+first_stands u (Some v) h = (h, tt)
+
+-- Declarations, and values of the open body
+
+pub property_holds : (u : Out) (is_additive : Bool) (v : Value) (w : WorldOf) → ValueStands u v → WorldHolds u w
+    → WorldHolds u (with_property is_additive v w)
+property_holds u is_additive v w s h = record {
+  of_declared = all_join (λ (d : DeclaredProperty). ValueStands u d.default)
+      w.declared (record { is_additive = is_additive; default = v } ∷ []) h.of_declared (s, tt);
+  of_objects = h.of_objects;
+  of_own = h.of_own;
+  of_above = h.of_above;
+}
+
+given_stand : (u : Out) (b : Bool) (number : ℕ) (is_additive : Bool) (first : Option Value) (o : Open) → MaybeValue u first
+    → PropertiesStand u o.own
+    → PropertiesStand u (if◌then◌else◌ {A = Open} b (lost_given number o) (with_given (given_first number is_additive first) o)).own
+given_stand u true number is_additive first o s h =
+    all_join (λ (p : Property). ValuesStand u p.values) o.own (given_first number false None ∷ []) h (tt, tt)
+given_stand u false number is_additive first o s h =
+    all_join (λ (p : Property). ValuesStand u p.values) o.own (given_first number is_additive first ∷ []) h (first_stands u first s, tt)
+
+given_above : (u : Out) (b : Bool) (number : ℕ) (is_additive : Bool) (first : Option Value) (o : Open) → PropertiesStand u o.above
+    → PropertiesStand u (if◌then◌else◌ {A = Open} b (lost_given number o) (with_given (given_first number is_additive first) o)).above
+given_above u true number is_additive first o h = h
+given_above u false number is_additive first o h = h
+
+pub given_holds : (u : Out) (number : ℕ) (first : Option Value) (w : WorldOf) → MaybeValue u first → WorldHolds u w
+    → WorldHolds u (with_given_property number first w)
+given_holds u number first w s h = go (kind_of number w)
+  where
+    go : (kind : Option Bool) → WorldHolds u (given_of kind number first w)
+    go None = h
+    go (Some is_additive) = record {
+      of_declared = h.of_declared;
+      of_objects = h.of_objects;
+      of_own = given_stand u (is_lost w.body.properties.owner) number is_additive first w.body.properties s h.of_own;
+      of_above = given_above u (is_lost w.body.properties.owner) number is_additive first w.body.properties h.of_above;
+    }
+
+further_stand : (u : Out) (b : Bool) (v : Value) (o : Open) → ValueStands u v → PropertiesStand u o.own
+    → PropertiesStand u (if◌then◌else◌ {A = Open} b (record o { own = with_last_value v o.own }) o).own
+further_stand u true v o s h = last_stand u v o.own s h
+further_stand u false v o s h = h
+
+further_above : (u : Out) (b : Bool) (v : Value) (o : Open) → PropertiesStand u o.above
+    → PropertiesStand u (if◌then◌else◌ {A = Open} b (record o { own = with_last_value v o.own }) o).above
+further_above u true v o h = h
+further_above u false v o h = h
+
+pub further_holds : (u : Out) (v : Value) (w : WorldOf) → ValueStands u v → WorldHolds u w → WorldHolds u (with_further_value v w)
+further_holds u v w s h = record {
+  of_declared = h.of_declared;
+  of_objects = h.of_objects;
+  of_own = further_stand u w.body.properties.takes_values v w.body.properties s h.of_own;
+  of_above = further_above u w.body.properties.takes_values v w.body.properties h.of_above;
+}
+
+-- Headers, classes that are named, and ends of bodies
+
+pub header_holds : (u : Out) (declared : List DeclaredProperty) (objects : List Object) (own above : List Property)
+    → WorldStands u declared objects own above → WorldStands u declared objects [] []
+header_holds u declared objects own above h =
+    record { of_declared = h.of_declared; of_objects = h.of_objects; of_own = tt; of_above = tt }
+
+pub object_holds : (u : Out) (parent : Parent) (name : List ℕ) (w : WorldOf) → WorldHolds u w
+    → WorldHolds u (with_object_header parent name w)
+object_holds u parent name w h = go (parent_of parent w.objects)
+  where
+    go : (hung : Result ℕ Misfit) → WorldHolds u (with_hung hung (arrows_of parent) name w)
+    go (Err m) = h
+    go (Ok number) = header_holds u w.declared w.objects w.body.properties.own w.body.properties.above h
+
+abbrev ClassStands : Out → Option Object → Type 0
+ClassStands u None = Unit {0}
+ClassStands u (Some o) = PropertiesStand u o.properties
+
+at_stands : (u : Out) (objects : List Object) (place : ℕ) → ObjectsStand u objects → ClassStands u (slice_get objects place)
+at_stands u [] place h = tt
+at_stands u (o ∷ objects) zero h = h.0
+at_stands u (o ∷ objects) (suc place) h = at_stands u objects place h.1
+
+in_stands : (u : Out) (o : Option Object) → ClassStands u o → ClassStands u (class_in o)
+in_stands u None h = tt
+in_stands u (Some o) h = go (is_class o.owner)
+  where
+    go : (b : Bool) → ClassStands u (if b then Some o else None)
+    go true = h
+    go false = tt
+
+declared_at_stands : (u : Out) (number : ℕ) (objects : List Object) → ObjectsStand u objects → ClassStands u (declared_at number objects)
+declared_at_stands u number objects h = go (nat_le number 4)
+  where
+    go : (b : Bool) → ClassStands u (if b then None else slice_get objects (number - 5))
+    go true = tt
+    go false = at_stands u objects (number - 5) h
+
+class_stands : (u : Out) (number : ℕ) (objects : List Object) → ObjectsStand u objects → ClassStands u (class_at number objects)
+class_stands u number objects h = in_stands u (declared_at number objects) (declared_at_stands u number objects h)
+
+named_own : (u : Out) (b : Bool) (number : ℕ) (class : Object) (body : Body) → PropertiesStand u body.properties.own
+    → PropertiesStand u (if◌then◌else◌ {A = Body} b body (with_joined_class number class body)).properties.own
+named_own u true number class body h = h
+named_own u false number class body h = h
+
+named_above : (u : Out) (b : Bool) (number : ℕ) (class : Object) (body : Body) → PropertiesStand u class.properties
+    → PropertiesStand u body.properties.above
+    → PropertiesStand u (if◌then◌else◌ {A = Body} b body (with_joined_class number class body)).properties.above
+named_above u true number class body s h = h
+named_above u false number class body s h = inherited_stand u body.properties.above class.properties h s
+
+named_holds : (u : Out) (number : ℕ) (class : Option Object) (w : WorldOf) → ClassStands u class → WorldHolds u w
+    → WorldHolds u (class_by class number w)
+named_holds u number None w s h = h
+named_holds u number (Some class) w s h = record {
+  of_declared = h.of_declared;
+  of_objects = h.of_objects;
+  of_own = named_own u (is_passed number w.body) number class w.body h.of_own;
+  of_above = named_above u (is_passed number w.body) number class w.body s h.of_above;
+}
+
+pub class_holds : (u : Out) (number : ℕ) (w : WorldOf) → WorldHolds u w → WorldHolds u (with_class_of number w)
+class_holds u number w h = go (number == 0)
+  where
+    go : (b : Bool) → WorldHolds u (if b then w else class_by (class_at number w.objects) number w)
+    go true = h
+    go false = named_holds u number (class_at number w.objects) w (class_stands u number w.objects h.of_objects) h
+
+ended_stand : (u : Out) (b : Bool) (body : Body) → PropertiesStand u body.properties.own → PropertiesStand u body.properties.above
+    → ObjectsStand u (if◌then◌else◌ {A = List Object} b [] (ended body ∷ []))
+ended_stand u true body h k = tt
+ended_stand u false body h k = (inherited_stand u body.properties.own body.properties.above h k, tt)
+
+pub end_holds : (u : Out) (w : WorldOf) → WorldHolds u w → WorldHolds u (with_end w)
+end_holds u w h = record {
+  of_declared = h.of_declared;
+  of_objects = all_join (λ (o : Object). PropertiesStand u o.properties) w.objects (ended_objects w.body) h.of_objects
+      (ended_stand u (is_lost w.body.properties.owner) w.body h.of_own h.of_above);
+  of_own = tt;
+  of_above = tt;
+}
+
+-- Arrays
+
+pub all_arrays : (u : Out) (arrays : AllArrays) → ArraysStand u arrays → ListedStand u (all_of arrays)
+all_arrays u arrays h =
+    all_join (λ (a : Listed). ValuesStand u a.entries) arrays.closed (option_to_list arrays.open_one) h.0 (open_stands arrays.open_one h.1)
+  where
+    open_stands : (o : Option Listed) → OpenArrayStands u o → ListedStand u (option_to_list o)
+    open_stands None k = tt
+    open_stands (Some a) k = (k, tt)
+
+pub opened_holds : (u : Out) (kind : ArrayKind) (arrays : AllArrays) → ArraysStand u arrays → ArraysStand u (opened_array kind arrays)
+opened_holds u kind arrays h = (all_arrays u arrays h, tt)
+
+characters_stand : (u : Out) (text : List ℕ) → ValuesStand u (characters text)
+characters_stand u [] = tt
+characters_stand u (c ∷ text) = (tt, characters_stand u text)
+
+zeros_stand : (u : Out) (count : ℕ) → ValuesStand u (replicate count (Value.Known 0))
+zeros_stand u zero = tt
+zeros_stand u (suc count) = (tt, zeros_stand u count)
+
+abbrev pub AddingStands : Out → Adding → Type 0
+AddingStands u (One v) = ValueStands u v
+AddingStands u (Zeros count) = Unit {0}
+AddingStands u (Characters text) = Unit {0}
+
+adding_stands : (u : Out) (a : Adding) → AddingStands u a → ValuesStand u (values_in a)
+adding_stands u (One v) h = (h, tt)
+adding_stands u (Zeros count) h = zeros_stand u count
+adding_stands u (Characters text) h = characters_stand u text
+
+pub entries_hold : (u : Out) (a : Adding) (arrays : AllArrays) → AddingStands u a → ArraysStand u arrays
+    → ArraysStand u (with_entries (values_in a) arrays)
+entries_hold u a arrays s h = (h.0, go arrays.open_one h.1)
+  where
+    go : (o : Option Listed) → OpenArrayStands u o → OpenArrayStands u (option_map (more_entries (values_in a)) o)
+    go None k = tt
+    go (Some array) k = all_join (ValueStands u) array.entries (values_in a) k (adding_stands u a s)

@@ -7,21 +7,21 @@ use Rattle.inf_scanner.specs.declared.tokens.Place.{Place}
 use Rattle.inf_gathering.specs.declared.gathering.Leaf.{Leaf}
 use Rattle.inf_settings.specs.{Bounds.Limits, Bounds.unbounded, declared.setting.Setting.Setting}
 use Rattle.inf_verbs.specs.{Routines.action_fault, declared.routines.ActionFault.ActionFault}
-use Rattle.inf_names.specs.{Locals.Local, Spellings.Name, Symbols.declare_fault, declared.meanings.Meaning.Meaning}
+use Rattle.inf_names.specs.{Locals.Local, Symbols.declare_fault, declared.meanings.Meaning.Meaning}
 use Rattle.inf_names.specs.{declared.symbols.DeclareFault.DeclareFault}
-use Rattle.inf_output.specs.Actions.{action_of, faked, faked_by, first_seen, key_of, next_fake, numbered_by, one_fake, seen_by}
 use Rattle.inf_output.specs.Output.{Out, declared}
+use Rattle.inf_output.specs.Actions.{action_of, faked, faked_by, first_seen, key_of, next_fake, numbered_by, one_fake, seen_by}
 use Rattle.inf_unit.specs.Tokens.{SourceToken}
 use Rattle.inf_operands.specs.{Operands.Settled, Operands.leaf_added, Operands.settled, Texts.text_packed}
 use Rattle.inf_code_walk.specs.Made.{LeafMeets}
-use Rattle.inf_word_laws.proofs.Numbering.{IsBound}
-use Rattle.inf_word_laws.proofs.Settling.{Adds, Appears, Both, Looks, Names, Numbers, Packs, Still, Used, action_used, added_used}
-use Rattle.inf_word_laws.proofs.Settling.{all_settled, settled_used}
+use Rattle.inf_word_laws.proofs.Numbering.{Adds, Appears, Both, IsBound, Looks, Names, Numbers, Packs, Still, Used, action_used, added_used}
+use Rattle.inf_word_laws.proofs.Numbering.{all_settled, settled_used}
 use Rattle.inf_step_walk.specs.Standing.{Before, MeaningStands}
-use Rattle.inf_step_walk.specs.Walking.{Declares, Follows, Grown, Passes, Refers, Stays, Stood, Tables, TablesHold, Texts, Uses, rest}
+use Rattle.inf_step_walk.specs.Walking.{Declares, Follows, Grown, Passes, Premises, Refers, Stays, Stood, Tables, TablesHold, Texts, Uses}
+use Rattle.inf_step_walk.specs.Walking.{free, rest}
 use Rattle.inf_step_walk.proofs.{Lists.routine_among, Outputs.word_there, Pieces.before, Premises.OperandsMeet}
 
-module _ {limits : Limits} {Q : Type 0} where
+module _ {limits : Limits} {Q : Premises} where
   -- the tables and what is behind them stay as they are
   pub other : {o v : Out} → rest v ≡ rest o → ((u : Out) → TablesHold u o → TablesHold u v) → Grown limits Q o v
   other same f = Tables Stays same (λ u b e h. f u h)
@@ -84,7 +84,7 @@ module _ {limits : Limits} {Q : Type 0} where
 -- The operands of a unit refer to targets that stand in each output before which the one behind their use comes.
 
 stood_stays : {limits : Limits} (x : Operand) (o v : Out) → Used limits o v → LeafMeets (Stood o) x → LeafMeets (Stood v) x
-stood_stays {limits} (Operand.Later t) o v g h = λ u e. h u (before {limits = limits} {Q = Unit {0}} (used_grown g) u e)
+stood_stays {limits} (Operand.Later t) o v g h = λ u e. h u (before {limits = limits} {Q = free} (used_grown g) u e)
 stood_stays x o v g h = tt
 
 bound_stood : (x : Operand) (v : Out) → IsBound x v → LeafMeets (Stood v) x

@@ -24,12 +24,11 @@ use Rattle.inf_output.specs.Output.{passed_limit, passed_table, past_by, past_of
 use Rattle.inf_output.specs.Output.{with_labels_left, with_low_text, with_low_text_by, with_scale, with_text, with_text_by, with_word}
 use Rattle.inf_output.specs.Output.{with_word_by, without, without_item, without_lost}
 use Rattle.inf_word_laws.specs.Standing.{Stands, has_word, is_limited, is_limited_by}
-use Rattle.inf_word_laws.proofs.{Numbering.put_longer, Steps.limit_tables, Steps.passed_tables, Steps.steps_keep_words}
-use Rattle.inf_word_laws.proofs.{Steps.used_words_stand}
-use Rattle.inf_step_walk.specs.{Lists.ItemStands, Lists.ItemsStand, Outputs.Holds, Standing.Before, Standing.IsBefore}
-use Rattle.inf_step_walk.specs.{Standing.MeaningStands, Standing.is_short_by}
-use Rattle.inf_step_walk.proofs.Lists.{all_written, cells_join, closed_stand, item_joins, items_join, label_joins, names_put, never}
-use Rattle.inf_step_walk.proofs.Premises.{SimplesStand}
+use Rattle.inf_word_laws.proofs.Numbering.{put_longer}
+use Rattle.inf_word_laws.proofs.Steps.{limit_tables, passed_tables, steps_keep_words, used_words_stand}
+use Rattle.inf_step_walk.specs.Standing.{Before, CellStands, Holds, IsBefore, ItemStands, ItemsStand, MeaningStands, is_short_by}
+use Rattle.inf_step_walk.proofs.Premises.{SimplesStand, all_join}
+use Rattle.inf_step_walk.proofs.Lists.{all_written, closed_stand, item_joins, label_joins, names_put, never}
 
 -- From one output to another: the first comes before each one before which the second comes, and what it has stands there as well behind
 -- the step as before it.
@@ -42,10 +41,6 @@ GoesIf P u o v = (Before u v → Before u o) × (P → Before u v → Holds u o 
 
 pub goes_then : (u o p v : Out) → Goes u o p → Goes u p v → Goes u o v
 goes_then u o p v f g = ((λ e. f.0 (g.0 e)), (λ e h. g.1 e (f.1 (g.0 e) h)))
-
--- a step behind another one, where what it lays stands once the output before it comes before
-pub goes_given : {P : Type 0} (u o p v : Out) → Goes u o p → GoesIf P u p v → (Before u p → P) → Goes u o v
-goes_given {P} u o p v f g given = ((λ e. f.0 (g.0 e)), (λ e h. g.1 (given (g.0 e)) e (f.1 (g.0 e) h)))
 
 pub goes_nowhere : (u o : Out) → Goes u o o
 goes_nowhere u o = ((λ e. e), (λ e h. h))
@@ -165,7 +160,7 @@ kept_goes limits u item o (Some items) is = (
         record {
           of_finished = h.0.of_finished;
           of_opened = h.0.of_opened;
-          of_kept = items_join u items (item ∷ [])
+          of_kept = all_join (ItemStands u) items (item ∷ [])
               (subst (λ (k : Option (List Item)). ItemsStand u (items_of k)) is h.0.of_kept) (s, tt);
         },
         h.1,
@@ -230,8 +225,7 @@ jump_keeps limits u P label =
 
 limit_symbols : (limit : CodeLimit) (past : Past) → (passed_limit limit past).symbols ≡ past.symbols
 limit_symbols CodeLimit.Labels past = refl
-limit_symbols CodeLimit.Code past = refl
-limit_symbols CodeLimit.Refs past = refl
+limit_symbols limit past = refl
 
 limit_before : (limits : Limits) (u o : Out) (code : Routines) (limit : CodeLimit)
     → IsBefore (Some (passed_limit limit (past_by limits o.past code))) o.tables.dictionary.list o.names.names u → Before u o
@@ -264,7 +258,8 @@ by_closed limits u kind o None = (
   (
       λ e h. (
         record {
-          of_finished = cells_join u o.code.finished (closed_cells o.code.scale kind (place_behind o.code.finished) o.code.opened)
+          of_finished = all_join (CellStands u)
+              o.code.finished (closed_cells o.code.scale kind (place_behind o.code.finished) o.code.opened)
               h.0.of_finished (closed_stand u o.code.scale kind (place_behind o.code.finished) o.code.opened h.0.of_opened);
           of_opened = tt;
           of_kept = h.0.of_kept;
@@ -278,9 +273,7 @@ by_closed limits u kind o (Some (CloseFault.Full limit)) = (
   (λ e h. (record { of_finished = h.0.of_finished; of_opened = tt; of_kept = h.0.of_kept }, h.1)),
 )
 by_closed limits u kind o (Some (CloseFault.LabelMissing label)) = none_open_keeps u o
-by_closed limits u kind o (Some (CloseFault.LabelTwice label)) = none_open_keeps u o
-by_closed limits u kind o (Some CloseFault.TooFar) = none_open_keeps u o
-by_closed limits u kind o (Some CloseFault.Memory) = none_open_keeps u o
+by_closed limits u kind o other = none_open_keeps u o
 
 labels_keep : (limits : Limits) (u : Out) (left : Option ℕ) → Keeps u (with_labels_left limits left)
 labels_keep limits u None o = (limit_before limits u o o.code CodeLimit.Labels, (λ e h. h))
@@ -376,17 +369,13 @@ word_keeps limits u text how is_plural o =
     fault = add_fault limits (word_of text o.tables.dictionary.list) how o.tables.dictionary
 
     complete : (f : Option WordFault) → is_short_by (with_word_by limits f text how is_plural o).past ≡ false → is_short_by o.past ≡ false
-    complete None e = e
     complete (Some WordFault.Full) e = never (sym (or_true (past_of limits o).symbols) ∙ e)
-    complete (Some WordFault.OtherVerb) e = e
-    complete (Some WordFault.Memory) e = e
+    complete other e = e
 
     holds : (f : Option WordFault) → is_short_by (with_word_by limits f text how is_plural o).past ≡ false → Holds u o
         → Holds u (with_word_by limits f text how is_plural o)
-    holds None e h = h
     holds (Some WordFault.Full) e h = never (sym (or_true (past_of limits o).symbols) ∙ e)
-    holds (Some WordFault.OtherVerb) e h = h
-    holds (Some WordFault.Memory) e h = h
+    holds other e h = h
 
 -- a word that is used stands wherever the output behind its use comes before
 pub word_stands : (limits : Limits) (u : Out) (text : Text) (how : WordUse) (is_plural : Bool) (o : Out)
@@ -423,10 +412,6 @@ declare_goes limits u name place m o = go (declare_fault limits name o.names) re
     go (Some (DeclareFault.Present first)) is = ((λ e. e), (λ s e h. h))
     go (Some DeclareFault.Memory) is = ((λ e. e), (λ s e h. h))
 
-pub declare_keeps : (limits : Limits) (u : Out) (name : List ℕ) (place : Place) (m : Meaning) → MeaningStands u m
-    → Keeps u (declared limits name place m)
-declare_keeps limits u name place m s o = let g = declare_goes limits u name place m o in (g.0, g.1 (λ free. s))
-
 -- a name is used, as far as it is among the names then
 used_goes : (u : Out) (f : Found Place) (name : List ℕ) (place : Place) (o : Out)
     → Goes u o (record o { names = with_used_by f name place o.names })
@@ -441,8 +426,7 @@ used_goes u Found.Unknown name place o = (
   (λ e h. (h.0, (h.1.0, (h.1.1.0, names_put u (folded name) (IsUsed name place) o.names.names tt h.1.1.1)))),
 )
 used_goes u Found.Used name place o = goes_nowhere u o
-used_goes u (Found.System m) name place o = goes_nowhere u o
-used_goes u (Found.Declared m first) name place o = goes_nowhere u o
+used_goes u f name place o = goes_nowhere u o
 
 pub refer_keeps : (limits : Limits) (u : Out) (name : List ℕ) (place : Place) → Keeps u (referred limits name place)
 refer_keeps limits u name place o = go (refer_fault limits name o.names)

@@ -16,16 +16,14 @@ use Rattle.inf_declarations.specs.Abbreviations.{low_added, low_added_by}
 use Rattle.inf_code_walk.specs.Made.{As, Asks, Binds, By, Either, Handed, Instructs, Jumps, Laid, Lays, Lows, Made, Marks, Names, Nothing}
 use Rattle.inf_code_walk.specs.Made.{Packs, Prints, Takes, Then, Wide}
 use Rattle.inf_code_walk.proofs.Statements.{FixedMeet}
-use Rattle.inf_step_walk.specs.{Lists.NamesStand, Outputs.CodeStands, Outputs.Holds, Standing.Before, Standing.IsBefore}
-use Rattle.inf_step_walk.specs.Walking.{Abbreviates, Closes, Declares, Follows, Gives, Grown, LowTexts, Opens, Passes, Refers, Rest, Scales}
-use Rattle.inf_step_walk.specs.Walking.{Stays, Stood, Tables, TablesHold, Texts, Uses, rest}
+use Rattle.inf_step_walk.specs.Standing.{Before, CodeStands, Holds, IsBefore, NamesStand}
+use Rattle.inf_step_walk.specs.Walking.{Abbreviates, Closes, Declares, Follows, Gives, Grown, LowTexts, Opens, Passes, Premises, Refers}
+use Rattle.inf_step_walk.specs.Walking.{Rest, Scales, Stays, Stood, Tables, TablesHold, Texts, Uses, rest}
 use Rattle.inf_step_walk.proofs.{Lists.routine_stands, Premises.SimpleStands, Premises.SimplesStand, Premises.There, Premises.all_more}
 use Rattle.inf_step_walk.proofs.Outputs.{Goes, GoesIf, Sound, close_keeps, declare_goes, goes_nowhere, goes_then, if_nowhere, if_then}
 use Rattle.inf_step_walk.proofs.Outputs.{instruction_before, instruction_keeps, item_keeps, jump_keeps, low_text_keeps, mark_keeps}
 use Rattle.inf_step_walk.proofs.Outputs.{naming_keeps, open_keeps, refer_keeps, scale_keeps, table_keeps, text_keeps, used_keeps}
 use Rattle.inf_step_walk.proofs.Outputs.{word_keeps}
-
--- Pieces of code put together
 
 -- Pieces of code put together
 
@@ -166,7 +164,7 @@ tables_hold u o p same f h =
       (t.0, (t.1, subst (λ (r : Rest). NamesStand u r.4) (sym same) h.1.1.1)),
     )
 
-pub goes : {limits : Limits} {Q : Type 0} {o v : Out} → Grown limits Q o v → (u : Out) → Goes u o v
+pub goes : {limits : Limits} {Q : Premises} {o v : Out} → Grown limits Q o v → (u : Out) → Goes u o v
 goes (Stays {o}) u = goes_nowhere u o
 goes (Follows {o} {p} {v} f g) u = goes_then u o p v (goes f u) (goes g u)
 goes (Gives {o} m) u =
@@ -191,5 +189,5 @@ goes (Tables {o} {p} {v} later same f) u =
     )
 
 -- an output comes before each one before which a later one comes
-pub before : {limits : Limits} {Q : Type 0} {o v : Out} → Grown limits Q o v → (u : Out) → Before u v → Before u o
+pub before : {limits : Limits} {Q : Premises} {o v : Out} → Grown limits Q o v → (u : Out) → Before u v → Before u o
 before g u = (goes g u).0

@@ -1,7 +1,7 @@
 -- Operands and trees that meet a premise, and with it a wider one. Trees of a unit meet it where its operands do.
 use Rattle.std.specs.Prelude.{if◌then◌else◌, map, reverse, ◌-◌, ◌==◌}
-use Rattle.std.proofs.Common.{Bool, List, None, Option, Some, [], false, subst, suc, sym, true, zero, ℕ, ◌++◌, ◌∷◌}
 use Rattle.std.proofs.lemmas.List.{reverse-append}
+use Rattle.std.proofs.Common.{Bool, List, None, Option, Some, [], false, subst, suc, sym, true, zero, ℕ, ◌++◌, ◌∷◌}
 use Rattle.inf_area.specs.declared.targets.Target.{Target}
 use Rattle.inf_expressions.specs.{Rooted.Rooted, Rooted.bracketed_latest, Rooted.with_two, Rooted.with_unary, Trees.Leaf, Trees.One}
 use Rattle.inf_expressions.specs.{Trees.Tree, Trees.Two, declared.operators.Binary.Binary, declared.operators.Function.Function}
@@ -13,8 +13,14 @@ use Rattle.inf_expressions.specs.Units.{trees_of, with_unary_of}
 use Rattle.inf_output.specs.{Output.Out, declared.operands.Simple.Simple}
 use Rattle.inf_constructs.specs.Roots.{tree_in}
 use Rattle.inf_code_walk.specs.Made.{AllMeet, LeafMeets, Meets, TreeMeets, TreesMeet}
-use Rattle.inf_word_laws.specs.Operands.{AllOf}
+use Rattle.inf_word_laws.specs.Standing.{AllOf}
 use Rattle.inf_step_walk.specs.{Standing.TargetStands, Walking.RootsMeet}
+
+-- Lists joined
+
+pub all_join : {A : Type 0} (P : A → Type 0) (a b : List A) → AllOf P a → AllOf P b → AllOf P (a ++ b)
+all_join P [] b h k = k
+all_join P (item ∷ a) b h k = (h.0, all_join P a b h.1 k)
 
 -- Premises
 
@@ -29,9 +35,6 @@ SimpleStands u P s = Meets (There u P) s
 
 abbrev pub SimplesStand : Out → Type 0 → List Simple → Type 0
 SimplesStand u P simples = AllMeet (There u P) simples
-
-abbrev pub TreesStand : Out → Type 0 → List Tree → Type 0
-TreesStand u P trees = TreesMeet (There u P) trees
 
 module _ {L M : Target → Type 0} (wide : (t : Target) → L t → M t) where
   meets_more : (s : Simple) → Meets L s → Meets M s
@@ -51,10 +54,6 @@ module _ {L M : Target → Type 0} (wide : (t : Target) → L t → M t) where
   tree_more (Leaf x) h = leaf_more x h
   tree_more (One op a) h = tree_more a h
   tree_more (Two op a b) h = (tree_more a h.0, tree_more b h.1)
-
-  pub trees_more : (trees : List Tree) → TreesMeet L trees → TreesMeet M trees
-  trees_more [] h = tt
-  trees_more (e ∷ trees) h = (tree_more e h.0, trees_more trees h.1)
 
   pub roots_more : (trees : List Rooted) → RootsMeet L trees → RootsMeet M trees
   roots_more [] h = tt
@@ -77,16 +76,7 @@ module _ (L : Target → Type 0) where
       → TreeMeets L (built op f a b)
   built_stands Binary.Call (Some f) a b h k = k
   built_stands Binary.Call None a b h k = (h, k)
-  built_stands (Binary.Operation o) f a b h k = (h, k)
-  built_stands (Binary.Property p) f a b h k = (h, k)
-  built_stands (Binary.Test t) f a b h k = (h, k)
-  built_stands (Binary.Fails t) f a b h k = (h, k)
-  built_stands Binary.Assign f a b h k = (h, k)
-  built_stands Binary.Comma f a b h k = (h, k)
-  built_stands Binary.And f a b h k = (h, k)
-  built_stands Binary.Or f a b h k = (h, k)
-  built_stands Binary.Then f a b h k = (h, k)
-  built_stands Binary.To f a b h k = (h, k)
+  built_stands op f a b h k = (h, k)
 
   two_stand : (op : Binary) (trees : List Rooted) → RootsMeet L trees → RootsMeet L (with_two op trees)
   two_stand op [] h = tt
@@ -126,11 +116,7 @@ module _ (L : Target → Type 0) where
   parted_stands : (w : Wanted) (unit : ℕ) (g : Gathered) → RootsMeet L g.trees
       → RootsMeet L (parted w unit g).trees
   parted_stands Wanted.Case unit g h = h
-  parted_stands Wanted.Value unit g h = two_stand Binary.Comma g.trees h
-  parted_stands Wanted.Loop unit g h = two_stand Binary.Comma g.trees h
-  parted_stands Wanted.Constant unit g h = two_stand Binary.Comma g.trees h
-  parted_stands Wanted.Operand unit g h = two_stand Binary.Comma g.trees h
-  parted_stands Wanted.Number unit g h = two_stand Binary.Comma g.trees h
+  parted_stands wanted unit g h = two_stand Binary.Comma g.trees h
 
   at_stands : (operands : List Operand) (leaf : ℕ) → OperandsMeet L operands
       → LeafMeets L (operand_at operands leaf)
@@ -157,15 +143,11 @@ module _ (L : Target → Type 0) where
 
   -- All trees of a unit, from the first on
 
-  roots_join : (a b : List Rooted) → RootsMeet L a → RootsMeet L b → RootsMeet L (a ++ b)
-  roots_join [] b h k = k
-  roots_join (r ∷ a) b h k = (h.0, roots_join a b h.1 k)
-
   reversed_stand : (trees : List Rooted) → RootsMeet L trees → RootsMeet L (reverse trees)
   reversed_stand [] h = tt
   reversed_stand (r ∷ trees) h =
       subst (λ (all : List Rooted). RootsMeet L all) (sym (reverse-append (r ∷ []) trees))
-      (roots_join (reverse trees) (r ∷ []) (reversed_stand trees h.1) (h.0, tt))
+      (all_join (λ (r : Rooted). TreeMeets L r.tree) (reverse trees) (r ∷ []) (reversed_stand trees h.1) (h.0, tt))
 
   pub roots_stand : (w : Wanted) (unit : ℕ) (operands : List Operand) (symbols : List Symbol)
       → OperandsMeet L operands → RootsMeet L (trees_of w unit operands symbols)

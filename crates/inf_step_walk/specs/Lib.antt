@@ -1,4 +1,2 @@
 pub mod Standing
-pub mod Lists
-pub mod Outputs
 pub mod Walking

@@ -1,4 +1,2 @@
 pub mod Walked
-pub mod Whole
-pub mod Areas
 pub mod Story

@@ -2,7 +2,7 @@
 ghost use Rattle.inf_settings.specs.Bounds.{Limits};
 ghost use Rattle.inf_devices.specs.Files.{Sources};
 ghost use Rattle.inf_session.specs.Choices.{Choices};
-ghost use Rattle.inf_target_laws.specs.{Laws.StepsKeepTargets, Laws.TargetsStand, Story.StoriesAreWhole};
+ghost use Rattle.inf_target_laws.specs.Laws.{StepsKeepTargets, StoriesAreWhole, TargetsStand};
 
 /// Shows that each action of the grammar, each token, each bad token, and the end of a conditional directive keep targets: all that stand
 /// behind them, if all stood before.

@@ -1,4 +1,2 @@
 pub mod Steps
 pub mod Numbering
-pub mod Settling
-pub mod Values

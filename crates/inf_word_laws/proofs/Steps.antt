@@ -1,34 +1,30 @@
 -- Steps that leave the dictionary as it is, and those that add to it.
-use Rattle.std.proofs.Common.{◌≡◌, ℕ, List, [], ◌∷◌, Bool, true, false, ◌&&◌, ◌||◌, Option, Some, None, refl, ◌∙◌, ap, ◌⊎◌, inl, inr}
-use Rattle.std.proofs.Common.{Ordering, Less, Equal, Greater, is_none, is_some, nat_le, if◌then◌else◌, length, is_eq, nat_cmp}
 use Rattle.std.specs.{Cmp.Lexicographic.lists_total, Cmp.Lexicographic.slice_cmp, Cmp.nat_cmp_total, Ordering.ordering_reverse}
-use Rattle.inf_settings.specs.{Bounds.Limits, declared.setting.Setting.Setting}
+use Rattle.std.proofs.Common.{Bool, Equal, Greater, Less, List, None, Option, Ordering, Some, [], ap, false, if◌then◌else◌, inl, inr, is_eq}
+use Rattle.std.proofs.Common.{is_none, is_some, length, nat_cmp, nat_le, refl, true, ℕ, ◌&&◌, ◌||◌, ◌∙◌, ◌∷◌, ◌≡◌, ◌⊎◌}
 use Rattle.inf_scanner.specs.declared.tokens.Place.{Place}
-use Rattle.inf_assembler.specs.{declared.routines.CloseFault.CloseFault, declared.routines.Limit.Limit as CodeLimit}
-use Rattle.inf_assembler.specs.{declared.routines.RoutineKind.RoutineKind}
-use Rattle.inf_code.specs.Code.{Routines, fault_closed, full_begun, full_opened, is_lost_in, with_none_open}
+use Rattle.inf_settings.specs.{Bounds.Limits, declared.setting.Setting.Setting}
 use Rattle.inf_dictionary.specs.{Texts.Text, Uses.UseOf, declared.dictionary.AddFault.AddFault, declared.uses.Word.Word}
 use Rattle.inf_dictionary.specs.{declared.uses.WordUse.WordUse}
 use Rattle.inf_dictionary.specs.Words.{add_fault, is_of_other_verb, joined, with_use, word_of}
 use Rattle.inf_dictionary.proofs.Known.{known_by_all}
-use Rattle.inf_names.specs.declared.{meanings.Meaning.Meaning, symbols.DeclareFault.DeclareFault, symbols.ReferFault.ReferFault}
-use Rattle.inf_names.specs.Symbols.{declare_fault, refer_fault}
+use Rattle.inf_tables.specs.{LowStrings.low_fits, Tables.references}
+use Rattle.inf_assembler.specs.{declared.routines.CloseFault.CloseFault, declared.routines.Limit.Limit as CodeLimit}
+use Rattle.inf_assembler.specs.{declared.routines.RoutineKind.RoutineKind}
+use Rattle.inf_names.specs.{Symbols.declare_fault, Symbols.refer_fault, declared.meanings.Meaning.Meaning}
+use Rattle.inf_names.specs.{declared.symbols.DeclareFault.DeclareFault, declared.symbols.ReferFault.ReferFault}
+use Rattle.inf_code.specs.Code.{Routines, fault_closed, full_begun, full_opened, is_lost_in, with_none_open}
 use Rattle.inf_output.specs.{Strings.fits, declared.items.Item.Item, declared.past.Past.Past}
 use Rattle.inf_output.specs.Output.{Out, begun_by, behind, closed_by, code_closed, counted, declared_by, fitted, full_item, full_of}
 use Rattle.inf_output.specs.Output.{full_past, in_routine, laid, laid_by, less, next_label, opened_by, or_full, passed_limit, passed_table}
 use Rattle.inf_output.specs.Output.{past_by, past_of, referred_by, with_labels_left, with_low_text_by, with_text_by, with_word_by, without}
 use Rattle.inf_output.specs.Output.{without_item, without_lost}
-use Rattle.inf_tables.specs.{LowStrings.low_fits, Tables.references}
 use Rattle.inf_word_laws.specs.Standing.{Keeps, StandingAreThere, Stands, StepsKeepWords, UsedWordsStand, has_word, is_limited}
 use Rattle.inf_word_laws.specs.Standing.{is_limited_by}
 
 or-true : (b : Bool) → (b || true) ≡ true
 or-true true = refl
 or-true false = refl
-
-or-false : (b : Bool) → (b || false) ≡ b
-or-false true = refl
-or-false false = refl
 
 -- A step that changes neither the words nor whether a limit of tables was passed keeps words.
 
@@ -90,8 +86,7 @@ keeps_item limits item = record { keeps = λ text o stands. laid_stands limits i
 
 pub limit_tables : (limit : CodeLimit) (past : Past) → (passed_limit limit past).tables ≡ past.tables
 limit_tables CodeLimit.Labels past = refl
-limit_tables CodeLimit.Code past = refl
-limit_tables CodeLimit.Refs past = refl
+limit_tables limit past = refl
 
 opened_stands : (limits : Limits) (f : Option CodeLimit) (locals : ℕ) (is_lost : Bool) (text : Text) (o : Out) → Stands text o
     → Stands text (opened_by limits f locals is_lost o)
@@ -109,15 +104,11 @@ begun_stands limits (Some limit) text o stands =
 
 closed_stands : (limits : Limits) (f : Option CloseFault) (kind : RoutineKind) (text : Text) (o : Out) → Stands text o
     → Stands text (closed_by limits f kind o)
-closed_stands limits None kind text o stands = stands
 closed_stands limits (Some (CloseFault.Full limit)) kind text o stands =
     let code = with_none_open o.code in
     with_past text limits o (closed_by limits (Some (CloseFault.Full limit)) kind o) code (passed_limit limit (past_by limits o.past code))
     (limit_tables limit (past_by limits o.past code)) refl refl stands
-closed_stands limits (Some (CloseFault.LabelMissing label)) kind text o stands = stands
-closed_stands limits (Some (CloseFault.LabelTwice label)) kind text o stands = stands
-closed_stands limits (Some CloseFault.TooFar) kind text o stands = stands
-closed_stands limits (Some CloseFault.Memory) kind text o stands = stands
+closed_stands limits other kind text o stands = stands
 
 left_stands : (limits : Limits) (rest : Option ℕ) (text : Text) (o : Out) → Stands text o → Stands text (with_labels_left limits rest o)
 left_stands limits None text o stands =
@@ -142,13 +133,11 @@ low_text_stands limits false bytes text o stands = limit_stands limits Setting.L
 
 declared_stands : (limits : Limits) (f : Option (DeclareFault Place)) (name : List ℕ) (place : Place) (m : Meaning) (text : Text) (o : Out)
     → Stands text o → Stands text (declared_by limits f name place m o)
-declared_stands limits None name place m text o stands = stands
 declared_stands limits (Some DeclareFault.Full) name place m text o stands =
     with_past text limits o (declared_by limits (Some DeclareFault.Full) name place m o) o.code
     (record (past_of limits o) { symbols = true })
     refl refl refl stands
-declared_stands limits (Some (DeclareFault.Present first)) name place m text o stands = stands
-declared_stands limits (Some DeclareFault.Memory) name place m text o stands = stands
+declared_stands limits other name place m text o stands = stands
 
 referred_stands : (limits : Limits) (f : Option ReferFault) (name : List ℕ) (place : Place) (text : Text) (o : Out) → Stands text o
     → Stands text (referred_by limits f name place o)

@@ -1,4 +1,1 @@
 pub mod Standing
-pub mod Operands
-pub mod Names
-pub mod Values

@@ -1,6 +1,6 @@
 //! Laws of the words that a source uses.
 ghost use Rattle.inf_settings.specs.Bounds.{Limits};
-ghost use Rattle.inf_word_laws.specs.{Names.OperandsNamed, Operands.OperandsStand, Values.NamesAreFound};
+ghost use Rattle.inf_word_laws.specs.Standing.{NamesAreFound, OperandsNamed, OperandsStand};
 ghost use Rattle.inf_word_laws.specs.Standing.{StandingAreThere, StepsKeepWords, UsedWordsStand};
 
 /// Shows that a word stands once it is used, and that each word that stands is one of the dictionary where no limit is told.

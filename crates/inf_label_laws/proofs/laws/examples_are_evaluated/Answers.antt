@@ -1,5 +1,5 @@
 -- Lemmas are the answers.
-use Rattle.inf_label_laws.proofs.Examples.{examples_are_evaluated, waiting_values_are_lost}
+use Rattle.inf_label_laws.proofs.Programs.{examples_are_evaluated, waiting_values_are_lost}
 use Rattle.inf_label_laws.proofs.laws.examples_are_evaluated.Goals as goal
 
 pub returns-clause-printed : goal.returns-clause-printed

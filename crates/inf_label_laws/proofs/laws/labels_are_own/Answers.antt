@@ -1,5 +1,5 @@
 -- The lemma is the answer.
-use Rattle.inf_label_laws.proofs.OwnCode.{labels_are_own}
+use Rattle.inf_label_laws.proofs.Owning.{labels_are_own}
 use Rattle.inf_label_laws.proofs.laws.labels_are_own.Goals as goal
 
 pub returns : goal.returns

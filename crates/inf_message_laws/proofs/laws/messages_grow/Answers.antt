@@ -1,4 +1,4 @@
-use Rattle.inf_message_laws.proofs.Happened.{messages_grow}
+use Rattle.inf_message_laws.proofs.Walked.{messages_grow}
 use Rattle.inf_message_laws.proofs.laws.messages_grow.Goals as goal
 
 pub returns : goal.returns

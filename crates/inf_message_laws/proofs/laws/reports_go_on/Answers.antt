@@ -1,4 +1,4 @@
-use Rattle.inf_message_laws.proofs.Happened.{reports_go_on}
+use Rattle.inf_message_laws.proofs.Walked.{reports_go_on}
 use Rattle.inf_message_laws.proofs.laws.reports_go_on.Goals as goal
 
 pub returns : goal.returns

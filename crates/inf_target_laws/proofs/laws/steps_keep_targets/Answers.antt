@@ -1,4 +1,4 @@
-use Rattle.inf_target_laws.proofs.Whole.{steps_keep_targets}
+use Rattle.inf_target_laws.proofs.Walked.{steps_keep_targets}
 use Rattle.inf_target_laws.proofs.laws.steps_keep_targets.Goals as goal
 
 pub returns : goal.returns

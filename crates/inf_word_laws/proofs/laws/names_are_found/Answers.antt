@@ -1,4 +1,4 @@
-use Rattle.inf_word_laws.proofs.Values.{names_are_found}
+use Rattle.inf_word_laws.proofs.Numbering.{names_are_found}
 use Rattle.inf_word_laws.proofs.laws.names_are_found.Goals as goal
 
 pub returns : goal.returns

@@ -1,4 +1,4 @@
-use Rattle.inf_word_laws.proofs.Settling.{operands_stand}
+use Rattle.inf_word_laws.proofs.Numbering.{operands_stand}
 use Rattle.inf_word_laws.proofs.laws.operands_stand_for_words.Goals as goal
 
 pub returns : goal.returns
