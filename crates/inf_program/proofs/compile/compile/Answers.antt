@@ -42,3 +42,6 @@ returns-clause-part g c = λ honest.
     let was = g.S.Sink.taken c.args.story.now in
     let now = g.S.Sink.taken c.compile.new.story in
     part_written c.compile.result named o c.args.date name before after was now (c.compile.ensures.part honest)
+
+pub returns-clause-clean : goal.returns-clause-clean
+returns-clause-clean g c = c.compile.ensures.clean
