@@ -22,8 +22,8 @@ use Rattle.inf_language.proofs.Derivations.{happenings-append, last_apart, seen_
 use Rattle.inf_language.proofs.ExpressionsTold.{fields_stay, nothing_told}
 use Rattle.inf_language.proofs.TextsSplit.{assign_steps, only_steps, split}
 use Rattle.inf_trees.specs.Trees.{tokens_told, with_outer, with_value}
-use Rattle.inf_trees.proofs.{RuleRows.of_rows, Semicolons.last_atom, Semicolons.last_seen, ValueForms.expression_form, ValueForms.form_of}
-use Rattle.inf_trees.proofs.UnitsRead.{before-append, expressed_does, note_first, one_taken, tokens_count, tokens_opening, value_reads}
+use Rattle.inf_trees.proofs.{RuleRows.of_rows, Semicolons.last_atom, Semicolons.last_seen, UnitsRead.before-append, UnitsRead.expressed_does}
+use Rattle.inf_trees.proofs.UnitsRead.{expression_form, form_of, note_first, one_taken, tokens_count, tokens_opening, value_reads}
 use Rattle.inf_calls.specs.Calls.{alone_constant, alone_expression}
 use Rattle.inf_call_laws.specs.Laid.{IsOne, Kind, kinds, text_read}
 

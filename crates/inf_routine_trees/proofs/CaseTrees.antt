@@ -1,30 +1,30 @@
 -- A case is a tree: the way in which it begins, its values, and its colon.
 use Rattle.std.proofs.Common.{◌≡◌, ◌+◌, ◌≤◌, ◌<◌, List, [], ◌∷◌, ◌++◌, length, Bool, true, false, None, refl, sym, ◌∙◌, ap, subst}
 use Rattle.std.proofs.Common.{append_assoc, arith, nat_lt, not, ◌&&◌}
-use Rattle.std.proofs.{lemmas.Bool.and_parts, lemmas.Bool.ltb-false, lemmas.Bool.ltb-true, lemmas.List.length-append}
-use Rattle.inf_settings.specs.Bounds.{Limits}
+use Rattle.std.proofs.lemmas.Bool.{and_parts, ltb-false, ltb-true}
+use Rattle.std.proofs.lemmas.List.{length-append}
 use Rattle.inf_scanner.specs.declared.tokens.Place.{Place}
+use Rattle.inf_settings.specs.Bounds.{Limits}
 use Rattle.inf_machine.specs.{Grammar.Did, Grammar.Event, Grammar.IsText, Grammar.Took, declared.symbols.Symbol.Symbol}
-use Rattle.inf_syntax.specs.{declared.actions.Action.Action}
+use Rattle.inf_syntax.specs.declared.actions.Action.{Action}
 use Rattle.inf_grammar.specs.Language.{grammar}
 use Rattle.inf_unit.specs.Units.{Unit as UnitAtHand, no_unit}
 use Rattle.inf_compilation.specs.{Actions.Compilation, Context.Context}
 use Rattle.inf_reader.specs.Acting.{act}
-use Rattle.inf_expression_laws.specs.Gathered.{AreSeen}
 use Rattle.inf_statement_laws.specs.{Laid.run, Nested.Case, Nested.Plain, Nested.Then as After, Readings.Seen, Readings.plainly_at}
 use Rattle.inf_statement_laws.specs.Happenings.{Acts, Happening, Quiet, Takes, happen_quietly}
+use Rattle.inf_expression_laws.specs.Gathered.{AreSeen}
 use Rattle.inf_language.specs.{Texts.atoms_of, Texts.happenings_before, Texts.tokens_of, Units.TakeAll}
 use Rattle.inf_language.proofs.Derivations.{seen_front, texts_take_all}
+use Rattle.inf_trees.specs.{Ends.case_first, Room.have_room}
 use Rattle.inf_trees.specs.Trees.{AreWritten, Part, all_seen, parts_told, with_parts}
-use Rattle.inf_trees.specs.Ends.{case_first}
-use Rattle.inf_trees.proofs.{UnitStates.Ended, UnitStates.Free, UnitStates.Typed, UnitWalks.OfCase, UnitWalks.declared}
+use Rattle.inf_trees.proofs.{Pending.OfFree, StatementsRead.take_front, Symbols.act_first, UnitStates.Ended, UnitStates.Free}
+use Rattle.inf_trees.proofs.{UnitStates.Typed, UnitWalks.OfCase, UnitWalks.declared, UnitsGo.AreQuiet, UnitsGo.Going}
+use Rattle.inf_trees.proofs.{UnitsTyped.units_typed}
+use Rattle.inf_trees.proofs.ItemTexts.{Begun, CaseStart, Directly, SwitchWord, TopWord}
 use Rattle.inf_trees.proofs.UnitsRead.{before-append, place_before, ready, seen_parts}
-use Rattle.inf_simple_trees.specs.Room.{have_room}
-use Rattle.inf_simple_trees.proofs.{SimpleRead.take_front, UnitsGo.AreQuiet, UnitsGo.Going, UnitsTyped.OfFree, UnitsTyped.units_typed}
-use Rattle.inf_simple_trees.proofs.ItemTexts.{Begun, CaseStart, Directly, SwitchWord, TopWord}
-use Rattle.inf_simple_trees.proofs.Symbols.{act_first}
-use Rattle.inf_routine_trees.specs.Bodies.{AtTop, Case as CaseTree, OfSwitch, Standing, Start, WithNext, WithUnit, WithWord, count_of, fits}
-use Rattle.inf_routine_trees.specs.Bodies.{start_seen, started, token_done}
+use Rattle.inf_routine_trees.specs.Bodies.{AtTop, Case as CaseTree, OfSwitch, Standing, Start, WithNext, WithUnit, WithWord, count_of}
+use Rattle.inf_routine_trees.specs.Bodies.{fits, start_seen, started, token_done}
 use Rattle.inf_routine_trees.proofs.Pieces.{word_happens, worded}
 use Rattle.inf_routine_trees.proofs.Trees.{AreAll, IsTree, happen_quiet, moved_seen, room_lays}
 

@@ -1,20 +1,21 @@
 -- The effects behind statements that are closed ahead, among happenings and in nested statements.
 use Rattle.std.proofs.Common.{◌≡◌, List, [], ◌∷◌, ◌++◌, Bool, true, false, Option, Some, None, refl, sym, ◌∙◌, ap, ◌&&◌, if◌then◌else◌}
 use Rattle.std.proofs.lemmas.Bool.{and_parts}
-use Rattle.inf_settings.specs.Bounds.{Limits}
 use Rattle.inf_scanner.specs.declared.tokens.Place.{Place}
+use Rattle.inf_settings.specs.Bounds.{Limits}
 use Rattle.inf_machine.specs.Grammar.{Did, Event, Took}
 use Rattle.inf_syntax.specs.declared.actions.Action.{Action}
 use Rattle.inf_compilation.specs.{Actions.Compilation, Actions.took, Context.Context}
-use Rattle.inf_statement_laws.specs.{Laid.happens, Laid.next_comes, Laid.passed, Laid.run, Readings.Seen, Readings.plainly_at}
+use Rattle.inf_statement_laws.specs.Readings.{Seen, plainly_at}
 use Rattle.inf_statement_laws.specs.Happenings.{Acts, Between, Happening, Moment, Quiet, Takes, happen_quietly, is_quiet}
+use Rattle.inf_statement_laws.specs.Laid.{happens, next_comes, passed, run}
 use Rattle.inf_statement_laws.specs.Nested.{Case, Do, For, If, IfElse, Nested, NoStep, Objectloop, Plain, Step, StepEnds, Switch, Then}
 use Rattle.inf_statement_laws.specs.Nested.{While, happenings, step_happenings}
 use Rattle.inf_language.specs.{Texts.happenings_before, Units.TakeAll}
-use Rattle.inf_routine_trees.specs.Bodies.{Block, Case as CaseTree, Do as DoTree, For as ForTree, If as IfTree, IfElse as ElseTree, Nothing}
-use Rattle.inf_routine_trees.specs.Bodies.{Objectloop as LoopTree, Simple, Switch as SwitchTree, Then as ThenTree, Tree, While as WhileTree}
-use Rattle.inf_routine_trees.specs.Bodies.{With, bracketed_seen, is_close, later_effects, maybe_seen, next_effect, tree_laid, tree_seen, with_effect}
-use Rattle.inf_routine_trees.specs.Bodies.{with_effects}
+use Rattle.inf_routine_trees.specs.Bodies.{Block, Case as CaseTree, Do as DoTree, For as ForTree, If as IfTree, IfElse as ElseTree}
+use Rattle.inf_routine_trees.specs.Bodies.{Nothing, Objectloop as LoopTree, Simple, Switch as SwitchTree, Then as ThenTree, Tree}
+use Rattle.inf_routine_trees.specs.Bodies.{While as WhileTree, With, bracketed_seen, is_close, later_effects, maybe_seen, next_effect}
+use Rattle.inf_routine_trees.specs.Bodies.{tree_laid, tree_seen, with_effect, with_effects}
 use Rattle.inf_routine_trees.proofs.Endings.{act_opening, both_true, last_took}
 
 abbrev pub Effects : Type 0

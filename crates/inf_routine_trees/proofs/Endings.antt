@@ -2,24 +2,24 @@
 -- for its report behind it.
 use Rattle.std.proofs.Common.{◌≡◌, ℕ, List, [], ◌∷◌, ◌++◌, Bool, true, false, ◌&&◌, ◌||◌, ◌-◌, None, refl, sym, ◌∙◌, ap, subst, nat_lt}
 use Rattle.std.proofs.lemmas.Bool.{agree_below, and_parts}
-use Rattle.inf_settings.specs.Bounds.{Limits}
 use Rattle.inf_scanner.specs.declared.tokens.Place.{Place}
+use Rattle.inf_settings.specs.Bounds.{Limits}
 use Rattle.inf_machine.specs.declared.symbols.Symbol.{Symbol}
 use Rattle.inf_machine.specs.Grammar.{Did, Event, IsOneOf, Leads, Row, Took, action, here, row, token}
-use Rattle.inf_syntax.specs.Parts.{case_end, do_rest, else_part, end, for_rest, give_rest, if_rest, jump_rest, mark_statement, move_rest}
-use Rattle.inf_syntax.specs.Parts.{objectloop_rest, of_expression, print_rest, return_rest, statement, statement_3, statement_end}
-use Rattle.inf_syntax.specs.Parts.{string_rest, style_rest, switch_rest, text_more, text_statement, text_statement_1, top_following}
+use Rattle.inf_syntax.specs.declared.actions.Action.{Action}
+use Rattle.inf_syntax.specs.Parts.{case_end, do_rest, else_part, end, first_case, first_case_1, first_case_2, first_case_4, for_rest}
+use Rattle.inf_syntax.specs.Parts.{give_rest, if_rest, jump_rest, mark_statement, minus_following, minus_more, minus_more_1, move_rest}
+use Rattle.inf_syntax.specs.Parts.{objectloop_rest, of_expression, outer_following, outer_following_1, outer_more, print_rest, return_rest}
+use Rattle.inf_syntax.specs.Parts.{statement, statement_3, statement_end, string_rest, style_rest, switch_following, switch_item}
+use Rattle.inf_syntax.specs.Parts.{switch_item_1, switch_item_10, switch_item_11, switch_item_12, switch_item_13, switch_item_14}
+use Rattle.inf_syntax.specs.Parts.{switch_item_15, switch_item_17, switch_item_18, switch_item_19, switch_item_2, switch_item_20}
+use Rattle.inf_syntax.specs.Parts.{switch_item_21, switch_item_22, switch_item_24, switch_item_25, switch_item_26, switch_item_3}
+use Rattle.inf_syntax.specs.Parts.{switch_item_4, switch_item_5, switch_item_7, switch_item_8, switch_more, switch_next, switch_next_1}
+use Rattle.inf_syntax.specs.Parts.{switch_rest, switch_word, switch_word_1, text_more, text_statement, text_statement_1, top_following}
 use Rattle.inf_syntax.specs.Parts.{top_following_1, top_item, top_item_1, top_item_10, top_item_12, top_item_13, top_item_14, top_item_15}
 use Rattle.inf_syntax.specs.Parts.{top_item_16, top_item_17, top_item_19, top_item_2, top_item_20, top_item_21, top_item_5, top_item_6}
 use Rattle.inf_syntax.specs.Parts.{top_item_7, top_item_8, top_item_9, top_more, top_next, top_range, top_values, top_word, top_word_1}
-use Rattle.inf_syntax.specs.Parts.{first_case, first_case_1, first_case_2, first_case_4, minus_following, minus_more, minus_more_1}
-use Rattle.inf_syntax.specs.Parts.{outer_following, outer_following_1, outer_more, switch_following, switch_item, switch_item_1}
-use Rattle.inf_syntax.specs.Parts.{switch_item_10, switch_item_11, switch_item_12, switch_item_13, switch_item_14, switch_item_15}
-use Rattle.inf_syntax.specs.Parts.{switch_item_17, switch_item_18, switch_item_19, switch_item_2, switch_item_20, switch_item_21}
-use Rattle.inf_syntax.specs.Parts.{switch_item_22, switch_item_24, switch_item_25, switch_item_26, switch_item_3, switch_item_4}
-use Rattle.inf_syntax.specs.Parts.{switch_item_5, switch_item_7, switch_item_8, switch_more, switch_next, switch_next_1, switch_word}
-use Rattle.inf_syntax.specs.Parts.{switch_word_1, values, while_rest}
-use Rattle.inf_syntax.specs.declared.actions.Action.{Action}
+use Rattle.inf_syntax.specs.Parts.{values, while_rest}
 use Rattle.inf_grammar.specs.Language.{grammar}
 use Rattle.inf_unit.proofs.Cases.{of_both}
 use Rattle.inf_compilation.specs.{Actions.Compilation, Context.Context, Nesting.construct_closed, Nesting.construct_ended}

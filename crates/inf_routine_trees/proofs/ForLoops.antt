@@ -1,34 +1,35 @@
 -- A `for` is a tree.
-use Rattle.std.proofs.Common.{◌≡◌, ℕ, suc, ◌+◌, ◌≤◌, ◌<◌, List, [], ◌∷◌, ◌++◌, length, Bool, true, false, Option, Some, None, refl, sym, ◌∙◌, ap}
-use Rattle.std.proofs.Common.{append_assoc, append-nil, arith}
+use Rattle.std.proofs.Common.{◌≡◌, ℕ, suc, ◌+◌, ◌≤◌, ◌<◌, List, [], ◌∷◌, ◌++◌, length, Bool, true, false, Option, Some, None, refl, sym}
+use Rattle.std.proofs.Common.{◌∙◌, ap, append_assoc, append-nil, arith}
 use Rattle.std.proofs.lemmas.Bool.{and_from}
-use Rattle.inf_settings.specs.Bounds.{Limits}
 use Rattle.inf_scanner.specs.declared.tokens.Place.{Place}
+use Rattle.inf_settings.specs.Bounds.{Limits}
 use Rattle.inf_machine.specs.{Grammar.Event, Grammar.IsText, declared.symbols.Symbol.Symbol}
 use Rattle.inf_syntax.specs.{Rows.row, declared.actions.Action.Action}
-use Rattle.inf_syntax.specs.Parts.{ !close, !end_for_start, !end_for_step, !end_for_test, !for_top, !open_for, 'close_parenthesis', 'colon'}
-use Rattle.inf_syntax.specs.Parts.{'for', 'open_parenthesis', for_rest, for_rest_1, for_rest_2, for_rest_3, statement}
+use Rattle.inf_syntax.specs.Parts.{ !close, !end_for_start, !end_for_step, !end_for_test, !for_top, !open_for, 'close_parenthesis'}
+use Rattle.inf_syntax.specs.Parts.{'colon', 'for', 'open_parenthesis', for_rest, for_rest_1, for_rest_2, for_rest_3, statement}
 use Rattle.inf_grammar.specs.Language.{grammar}
-use Rattle.inf_constructs.specs.{declared.constructs.Construct.Construct, declared.constructs.Kind.Kind}
-use Rattle.inf_constructs.specs.Constructs.{between, opened}
 use Rattle.inf_unit.specs.Units.{Unit as UnitAtHand, no_unit}
+use Rattle.inf_constructs.specs.{Constructs.between, Constructs.opened, declared.constructs.Construct.Construct}
+use Rattle.inf_constructs.specs.{declared.constructs.Kind.Kind}
 use Rattle.inf_compilation.specs.{Actions.Compilation, Context.Context}
 use Rattle.inf_reader.specs.Acting.{act}
+use Rattle.inf_statement_laws.specs.Readings.{Seen, plainly_at}
 use Rattle.inf_statement_laws.specs.Happenings.{Acts, Happening, Moment, Quiet, Takes, happen_quietly, is_quiet}
 use Rattle.inf_statement_laws.specs.Laid.{ended_as, holding, laid, opened_at, run, with_step_in}
-use Rattle.inf_statement_laws.specs.Nested.{For, Nested, NoStep, Plain, Step, StepEnds, happenings, step_happenings, Then as After}
-use Rattle.inf_statement_laws.specs.Readings.{Seen, plainly_at}
-use Rattle.inf_statement_laws.proofs.{Acts.inside_act, Acts.is_inside, Acts.quiet_run, Acts.took_none, Laying.run_then, Rules.number}
+use Rattle.inf_statement_laws.specs.Nested.{For, Nested, NoStep, Plain, Step, StepEnds, Then as After, happenings, step_happenings}
+use Rattle.inf_statement_laws.proofs.{Laying.run_then, Rules.number}
+use Rattle.inf_statement_laws.proofs.Acts.{inside_act, is_inside, quiet_run, took_none}
 use Rattle.inf_language.specs.Texts.{atoms_of, happenings_before}
 use Rattle.inf_trees.specs.Trees.{Part}
-use Rattle.inf_trees.proofs.{RuleRows.of_rows, StatementTexts.Rows, StatementsRead.bracketed_units_are_trees}
-use Rattle.inf_trees.proofs.UnitsRead.{place_before, seen_parts}
-use Rattle.inf_routine_trees.specs.Bodies.{For as ForTree, MaybeWritten, Standing, maybe_done, maybe_seen, token_done, tree_laid}
-use Rattle.inf_routine_trees.specs.Bodies.{Tree, later_effects, next_effect, tree_seen, with_effect, with_effects, word_done}
+use Rattle.inf_trees.proofs.{RuleRows.Rows, RuleRows.by_rows, RuleRows.of_rows, StatementsRead.bracketed_units_are_trees}
+use Rattle.inf_trees.proofs.{UnitsRead.place_before, UnitsRead.seen_parts}
+use Rattle.inf_trees.proofs.Symbols.{ActFirst, PartsOf, TokenFirst, act_first, nothing_left, parts_of, token_first}
+use Rattle.inf_routine_trees.specs.Bodies.{For as ForTree, MaybeWritten, Standing, Tree, later_effects, maybe_done, maybe_seen}
+use Rattle.inf_routine_trees.specs.Bodies.{next_effect, token_done, tree_laid, tree_seen, with_effect, with_effects, word_done}
 use Rattle.inf_routine_trees.proofs.Effects.{Effects, put, with_behind}
 use Rattle.inf_routine_trees.proofs.Pieces.{Worded, before_word, quiet-append, quiet_text, unit_quiet, unit_symbols, word_happens, worded}
 use Rattle.inf_routine_trees.proofs.Trees.{AreAll, Below, BodyText, IsTree, body_text, moved_seen, word_closed, word_quiet}
-use Rattle.inf_simple_trees.proofs.Symbols.{ActFirst, PartsOf, TokenFirst, act_first, nothing_left, parts_of, token_first}
 
 -- A unit that may be missing, before another token at a place, with the action that ends it
 record MaybeText (limits : Limits) (end : Action) (place : Place) (seen : List Seen) (events : List (Event Action)) : Type 0 where
@@ -209,159 +210,136 @@ for_text limits n below stands next seen events wd text are_seen few fewer =
       body = body;
     }
 
-abbrev start_quiet : {limits : Limits} {stands : Standing} {next : Place} {seen : List Seen} {events : List (Event Action)}
-    {wd : Worded limits stands (for_rest ∷ []) seen events} → ForText limits stands next seen events wd → Quiet
-start_quiet x = record { all = Takes x.t.s.token x.t.s.behind ∷ x.start.happens; are = x.start.quiet refl }
+module _ {limits : Limits} {stands : Standing} {next : Place} {seen : List Seen} {events : List (Event Action)}
+    {wd : Worded limits stands (for_rest ∷ []) seen events} (x : ForText limits stands next seen events wd) where
+  abbrev start_quiet : Quiet
+  start_quiet = record { all = Takes x.t.s.token x.t.s.behind ∷ x.start.happens; are = x.start.quiet refl }
 
-abbrev between_colons : {limits : Limits} {stands : Standing} {next : Place} {seen : List Seen} {events : List (Event Action)}
-    {wd : Worded limits stands (for_rest ∷ []) seen events} → ForText limits stands next seen events wd → List Happening
-between_colons x = Takes x.d.s.token x.d.s.behind ∷ []
+  abbrev between_colons : List Happening
+  between_colons = Takes x.d.s.token x.d.s.behind ∷ []
 
-abbrev test_quiet : {limits : Limits} {stands : Standing} {next : Place} {seen : List Seen} {events : List (Event Action)}
-    {wd : Worded limits stands (for_rest ∷ []) seen events} → ForText limits stands next seen events wd → Quiet
-test_quiet x = record {
-  all = Takes x.c.s.token x.c.s.behind ∷ (x.test.happens ++ between_colons x);
-  are = quiet-append x.test.happens (between_colons x) (x.test.quiet refl) refl;
-}
+  abbrev test_quiet : Quiet
+  test_quiet = record {
+    all = Takes x.c.s.token x.c.s.behind ∷ (x.test.happens ++ between_colons);
+    are = quiet-append x.test.happens between_colons (x.test.quiet refl) refl;
+  }
 
-abbrev closing_quiet : {limits : Limits} {stands : Standing} {next : Place} {seen : List Seen} {events : List (Event Action)}
-    {wd : Worded limits stands (for_rest ∷ []) seen events} → ForText limits stands next seen events wd → Quiet
-closing_quiet x = record { all = Takes x.e.s.token x.e.s.behind ∷ []; are = refl }
+  abbrev closing_quiet : Quiet
+  closing_quiet = record { all = Takes x.e.s.token x.e.s.behind ∷ []; are = refl }
 
-abbrev step_is : {limits : Limits} {stands : Standing} {next : Place} {seen : List Seen} {events : List (Event Action)}
-    {wd : Worded limits stands (for_rest ∷ []) seen events} → ForText limits stands next seen events wd → Step
-step_is x = x.step.step refl
+  abbrev step_is : Step
+  step_is = x.step.step refl
 
-abbrev opens : {limits : Limits} {stands : Standing} {next : Place} {seen : List Seen} {events : List (Event Action)}
-    {wd : Worded limits stands (for_rest ∷ []) seen events} → ForText limits stands next seen events wd → Moment
-opens x = plainly_at x.t.s.token.place
+  abbrev opens : Moment
+  opens = plainly_at x.t.s.token.place
 
-abbrev top_at : {limits : Limits} {stands : Standing} {next : Place} {seen : List Seen} {events : List (Event Action)}
-    {wd : Worded limits stands (for_rest ∷ []) seen events} → ForText limits stands next seen events wd → Moment
-top_at x = plainly_at x.c.s.token.place
+  abbrev top_at : Moment
+  top_at = plainly_at x.c.s.token.place
 
-abbrev last : {limits : Limits} {stands : Standing} {next : Place} {seen : List Seen} {events : List (Event Action)}
-    {wd : Worded limits stands (for_rest ∷ []) seen events} → ForText limits stands next seen events wd → List Happening
-last {next = next} x = happenings x.body.nested ++ Acts (plainly_at next) Action.Close ∷ []
+  abbrev last : List Happening
+  last = happenings x.body.nested ++ Acts (plainly_at next) Action.Close ∷ []
 
-abbrev behind_second : {limits : Limits} {stands : Standing} {next : Place} {seen : List Seen} {events : List (Event Action)}
-    {wd : Worded limits stands (for_rest ∷ []) seen events} → ForText limits stands next seen events wd → List Happening
-behind_second x = step_happenings (step_is x) ++ Takes x.e.s.token x.e.s.behind ∷ last x
+  abbrev behind_second : List Happening
+  behind_second = step_happenings step_is ++ Takes x.e.s.token x.e.s.behind ∷ last
 
-abbrev with_body : {b : Bool} {limits : Limits} {stands : Standing} {next : Place} {seen : List Seen} {events : List (Event Action)}
-    {wd : Worded limits stands (for_rest ∷ []) seen events} → ForText limits stands next seen events wd → Nested false → Moment → Nested b
-with_body x body closes =
-    For (opens x) (start_quiet x) (top_at x) (test_quiet x) (step_is x) (closing_quiet x) body closes
+  abbrev with_body : {b : Bool} → Nested false → Moment → Nested b
+  with_body body closes = For opens start_quiet top_at test_quiet step_is closing_quiet body closes
 
-abbrev tree_for : {limits : Limits} {stands : Standing} {next : Place} {seen : List Seen} {events : List (Event Action)}
-    {wd : Worded limits stands (for_rest ∷ []) seen events} → ForText limits stands next seen events wd → Tree → Tree
-tree_for {stands = stands} {wd = wd} x body =
-    ForTree stands wd.word x.t.s x.start.unit x.c.s x.test.unit x.d.s x.step.unit x.e.s body
+  abbrev tree_for : Tree → Tree
+  tree_for body = ForTree stands wd.word x.t.s x.start.unit x.c.s x.test.unit x.d.s x.step.unit x.e.s body
 
-abbrev nested_for : {b : Bool} {limits : Limits} {stands : Standing} {next : Place} {seen : List Seen} {events : List (Event Action)}
-    {wd : Worded limits stands (for_rest ∷ []) seen events} → ForText limits stands next seen events wd → Nested b
-nested_for {next = next} x =
-    For (opens x) (start_quiet x) (top_at x) (test_quiet x) (step_is x) (closing_quiet x) x.body.nested (plainly_at next)
+  abbrev nested_for : {b : Bool} → Nested b
+  nested_for {b} = with_body {b = b} x.body.nested (plainly_at next)
 
-from_step : {limits : Limits} {stands : Standing} {next : Place} {seen : List Seen} {events : List (Event Action)}
-    {wd : Worded limits stands (for_rest ∷ []) seen events} (x : ForText limits stands next seen events wd) → happenings_before next x.d.late x.d.rest ≡ behind_second x
-from_step {next = next} x =
-    x.r.happen next
-    ∙ (ap (λ y. happenings_before y x.r.early x.r.front ++ happenings_before next x.r.late x.r.rest) (x.e.place next)
-    ∙ (ap (λ l. l ++ happenings_before next x.r.late x.r.rest) (x.step.same ∙ sym (x.step.step_same refl))
-    ∙ ap (λ l. step_happenings (step_is x) ++ l) (x.e.happen next ∙ ap (λ l. Takes x.e.s.token x.e.s.behind ∷ l) x.body.happen)))
+  from_step : happenings_before next x.d.late x.d.rest ≡ behind_second
+  from_step =
+      x.r.happen next
+      ∙ (ap (λ y. happenings_before y x.r.early x.r.front ++ happenings_before next x.r.late x.r.rest) (x.e.place next)
+      ∙ (ap (λ l. l ++ happenings_before next x.r.late x.r.rest) (x.step.same ∙ sym (x.step.step_same refl))
+      ∙ ap (λ l. step_happenings step_is ++ l) (x.e.happen next ∙ ap (λ l. Takes x.e.s.token x.e.s.behind ∷ l) x.body.happen)))
 
-from_test : {limits : Limits} {stands : Standing} {next : Place} {seen : List Seen} {events : List (Event Action)}
-    {wd : Worded limits stands (for_rest ∷ []) seen events} (x : ForText limits stands next seen events wd)
-    → happenings_before next x.c.late x.c.rest ≡ (x.test.happens ++ between_colons x) ++ behind_second x
-from_test {next = next} x =
-    x.q.happen next
-    ∙ (ap (λ y. happenings_before y x.q.early x.q.front ++ happenings_before next x.q.late x.q.rest) (x.d.place next)
-    ∙ (ap (λ l. l ++ happenings_before next x.q.late x.q.rest) x.test.same
-    ∙ (ap (λ l. x.test.happens ++ l) (x.d.happen next ∙ ap (λ l. Takes x.d.s.token x.d.s.behind ∷ l) (from_step x))
-    ∙ sym (append_assoc x.test.happens (between_colons x) (behind_second x)))))
+  from_test : happenings_before next x.c.late x.c.rest ≡ (x.test.happens ++ between_colons) ++ behind_second
+  from_test =
+      x.q.happen next
+      ∙ (ap (λ y. happenings_before y x.q.early x.q.front ++ happenings_before next x.q.late x.q.rest) (x.d.place next)
+      ∙ (ap (λ l. l ++ happenings_before next x.q.late x.q.rest) x.test.same
+      ∙ (ap (λ l. x.test.happens ++ l) (x.d.happen next ∙ ap (λ l. Takes x.d.s.token x.d.s.behind ∷ l) from_step)
+      ∙ sym (append_assoc x.test.happens between_colons behind_second))))
 
-from_start : {limits : Limits} {stands : Standing} {next : Place} {seen : List Seen} {events : List (Event Action)}
-    {wd : Worded limits stands (for_rest ∷ []) seen events} (x : ForText limits stands next seen events wd)
-    → happenings_before next x.t.late x.t.rest
-    ≡ x.start.happens ++ Acts (top_at x) Action.ForTop ∷ ((test_quiet x).all ++ behind_second x)
-from_start {next = next} x =
-    x.p.happen next
-    ∙ (ap (λ y. happenings_before y x.p.early x.p.front ++ happenings_before next x.p.late x.p.rest) (x.c.place next)
-    ∙ (ap (λ l. l ++ happenings_before next x.p.late x.p.rest) x.start.same
-    ∙ ap (λ l. x.start.happens ++ l) (x.j.happen next
-    ∙ (ap (λ y. Acts (plainly_at y) Action.ForTop ∷ happenings_before next x.j.late x.p.rest) (x.c.place next)
-    ∙ ap (λ l. Acts (top_at x) Action.ForTop ∷ l) (x.c.happen next ∙ ap (λ l. Takes x.c.s.token x.c.s.behind ∷ l) (from_test x))))))
+  from_start : happenings_before next x.t.late x.t.rest
+      ≡ x.start.happens ++ Acts top_at Action.ForTop ∷ (test_quiet.all ++ behind_second)
+  from_start =
+      x.p.happen next
+      ∙ (ap (λ y. happenings_before y x.p.early x.p.front ++ happenings_before next x.p.late x.p.rest) (x.c.place next)
+      ∙ (ap (λ l. l ++ happenings_before next x.p.late x.p.rest) x.start.same
+      ∙ ap (λ l. x.start.happens ++ l) (x.j.happen next
+      ∙ (ap (λ y. Acts (plainly_at y) Action.ForTop ∷ happenings_before next x.j.late x.p.rest) (x.c.place next)
+      ∙ ap (λ l. Acts top_at Action.ForTop ∷ l) (x.c.happen next ∙ ap (λ l. Takes x.c.s.token x.c.s.behind ∷ l) from_test)))))
 
-for_same : (b : Bool) {limits : Limits} {stands : Standing} {next : Place} {seen : List Seen} {events : List (Event Action)}
-    {wd : Worded limits stands (for_rest ∷ []) seen events} (x : ForText limits stands next seen events wd)
-    → happenings_before next events seen ≡ word_happens stands wd.word ++ happenings (nested_for {b = b} x)
-for_same b {stands = stands} {next} {wd = wd} x =
-    wd.happen next
-    ∙ ap (λ y. word_happens stands wd.word ++ y) (x.o.happen next
-    ∙ (ap (λ y. Acts (plainly_at y) Action.OpenFor ∷ happenings_before next x.o.late wd.rest) (x.t.place next)
-    ∙ ap (λ y. Acts (opens x) Action.OpenFor ∷ y) (x.t.happen next ∙ ap (λ y. Takes x.t.s.token x.t.s.behind ∷ y) (from_start x))))
+  for_same : (b : Bool) → happenings_before next events seen ≡ word_happens stands wd.word ++ happenings (nested_for {b = b})
+  for_same b =
+      wd.happen next
+      ∙ ap (λ y. word_happens stands wd.word ++ y) (x.o.happen next
+      ∙ (ap (λ y. Acts (plainly_at y) Action.OpenFor ∷ happenings_before next x.o.late wd.rest) (x.t.place next)
+      ∙ ap (λ y. Acts opens Action.OpenFor ∷ y) (x.t.happen next ∙ ap (λ y. Takes x.t.s.token x.t.s.behind ∷ y) from_start)))
 
-for_all : {limits : Limits} {stands : Standing} {next : Place} {seen : List Seen} {events : List (Event Action)}
-    {wd : Worded limits stands (for_rest ∷ []) seen events} (x : ForText limits stands next seen events wd)
-    → tree_seen (ForTree stands wd.word x.t.s x.start.unit x.c.s x.test.unit x.d.s x.step.unit x.e.s x.body.tree) ≡ seen
-for_all {wd = wd} x =
-    let word = λ (y : List Seen). wd.word ∷ x.t.s ∷ y in
-    let started = λ (y : List Seen). word (x.p.front ++ y) in
-    let tested = λ (y : List Seen). started (x.c.s ∷ (x.q.front ++ y)) in
-    let stepped = λ (y : List Seen). tested (x.d.s ∷ (x.r.front ++ y)) in
-    let rest = x.e.s ∷ tree_seen x.body.tree in
-    ap (λ y. word (y ++ x.c.s ∷ (maybe_seen x.test.unit ++ x.d.s ∷ (maybe_seen x.step.unit ++ rest)))) x.start.all
-    ∙ (ap (λ y. started (x.c.s ∷ (y ++ x.d.s ∷ (maybe_seen x.step.unit ++ rest)))) x.test.all
-    ∙ (ap (λ y. tested (x.d.s ∷ (y ++ rest))) x.step.all
-    ∙ (ap (λ y. stepped (x.e.s ∷ y)) x.body.all
-    ∙ (ap stepped x.e.same
-    ∙ (ap (λ y. tested (x.d.s ∷ y)) x.r.same
-    ∙ (ap tested x.d.same
-    ∙ (ap (λ y. started (x.c.s ∷ y)) x.q.same
-    ∙ (ap started x.c.same ∙ (ap word x.p.same ∙ (ap (λ y. wd.word ∷ y) x.t.same ∙ wd.same))))))))))
+  for_all : tree_seen (ForTree stands wd.word x.t.s x.start.unit x.c.s x.test.unit x.d.s x.step.unit x.e.s x.body.tree) ≡ seen
+  for_all =
+      let word = λ (y : List Seen). wd.word ∷ x.t.s ∷ y in
+      let started = λ (y : List Seen). word (x.p.front ++ y) in
+      let tested = λ (y : List Seen). started (x.c.s ∷ (x.q.front ++ y)) in
+      let stepped = λ (y : List Seen). tested (x.d.s ∷ (x.r.front ++ y)) in
+      let rest = x.e.s ∷ tree_seen x.body.tree in
+      ap (λ y. word (y ++ x.c.s ∷ (maybe_seen x.test.unit ++ x.d.s ∷ (maybe_seen x.step.unit ++ rest)))) x.start.all
+      ∙ (ap (λ y. started (x.c.s ∷ (y ++ x.d.s ∷ (maybe_seen x.step.unit ++ rest)))) x.test.all
+      ∙ (ap (λ y. tested (x.d.s ∷ (y ++ rest))) x.step.all
+      ∙ (ap (λ y. stepped (x.e.s ∷ y)) x.body.all
+      ∙ (ap stepped x.e.same
+      ∙ (ap (λ y. tested (x.d.s ∷ y)) x.r.same
+      ∙ (ap tested x.d.same
+      ∙ (ap (λ y. started (x.c.s ∷ y)) x.q.same
+      ∙ (ap started x.c.same ∙ (ap word x.p.same ∙ (ap (λ y. wd.word ∷ y) x.t.same ∙ wd.same))))))))))
 
-for_lays : (b : Bool) (limits : Limits) (stands : Standing) (next : Place) (seen : List Seen) (events : List (Event Action))
-    (wd : Worded limits stands (for_rest ∷ []) seen events) (x : ForText limits stands next seen events wd)
-    (effects : Effects) (context : Context) (w : Compilation) → w.closed ≡ 0 → w.opening ≡ None
-    → laid limits context (After (Plain (word_quiet wd)) (with_body {b = b} x (put effects x.body.nested).0 (plainly_at next))) w
-    ≡ tree_laid limits context (tree_for x (with_effects effects x.body.tree).0) w
-for_lays b limits stands next seen events wd x effects context w ahead none =
-    let inner = put effects x.body.nested in
-    let v = word_done limits context stands wd.word w in
-    let k = opened limits Kind.For v.output in
-    let begins = opened_at context (opens x) k v in
-    let closed_by = λ (top : Construct) (z : Compilation).
-    let own = with_step_in z.constructs top in
-    ended_as limits (plainly_at next) own v.constructs
-    (laid limits context inner.0 (token_done context x.e.s (record z { constructs = own ∷ v.constructs }))) in
-    let behind_start = λ (z : Compilation).
-    let top = between limits k.0 z.output in
-    closed_by top.0 (run limits context (step_happenings (step_is x)) (run limits context (test_quiet x).all (holding (top_at x) top v.constructs z))) in
-    let y = token_done context x.t.s begins in
-    let y_closed = took_none context x.t.s.token begins ∙ word_closed wd context w ahead in
-    let started = maybe_done limits context Action.EndForStart x.c.s.token.place x.start.unit y in
-    let started_closed = maybe_closed x.start context y refl y_closed in
-    let top = between limits k.0 started.output in
-    let held = holding (top_at x) top v.constructs started in
-    let z = token_done context x.c.s held in
-    let z_closed = took_none context x.c.s.token held ∙ started_closed in
-    let in_test = maybe_done limits context Action.EndForTest x.d.s.token.place x.test.unit z in
-    let in_test_closed = maybe_closed x.test context z refl z_closed in
-    let tested = token_done context x.d.s in_test in
-    let tested_closed = took_none context x.d.s.token in_test ∙ in_test_closed in
-    let stepped = maybe_done limits context Action.EndForStep x.e.s.token.place x.step.unit tested in
-    let stepped_closed = maybe_closed x.step context tested refl tested_closed in
-    let own = with_step_in stepped.constructs top.0 in
-    let inside = record stepped { constructs = own ∷ v.constructs } in
-    ap (laid {b = b} limits context (with_body x inner.0 (plainly_at next))) (wd.runs context w)
-    ∙ (ap behind_start (x.start.runs context y refl)
-    ∙ (ap (λ g. closed_by top.0 (run limits context (step_happenings (step_is x)) g))
-    (run_then limits context x.test.happens (between_colons x) z ∙ ap (token_done context x.d.s) (x.test.runs context z refl))
-    ∙ (ap (closed_by top.0)
-    (ap (λ hs. run limits context hs tested) (x.step.step_same refl) ∙ x.step.runs context tested refl)
-    ∙ ap (λ g. ended_as limits (plainly_at next) own v.constructs g)
-    (x.body.lays effects context (token_done context x.e.s inside) (took_none context x.e.s.token inside ∙ stepped_closed) refl))))
+  for_lays : (b : Bool) (effects : Effects) (context : Context) (w : Compilation) → w.closed ≡ 0 → w.opening ≡ None
+      → laid limits context (After (Plain (word_quiet wd)) (with_body {b = b} (put effects x.body.nested).0 (plainly_at next))) w
+      ≡ tree_laid limits context (tree_for (with_effects effects x.body.tree).0) w
+  for_lays b effects context w ahead none =
+      let inner = put effects x.body.nested in
+      let v = word_done limits context stands wd.word w in
+      let k = opened limits Kind.For v.output in
+      let begins = opened_at context opens k v in
+      let closed_by = λ (top : Construct) (z : Compilation).
+      let own = with_step_in z.constructs top in
+      ended_as limits (plainly_at next) own v.constructs
+      (laid limits context inner.0 (token_done context x.e.s (record z { constructs = own ∷ v.constructs }))) in
+      let behind_start = λ (z : Compilation).
+      let top = between limits k.0 z.output in
+      closed_by top.0 (run limits context (step_happenings step_is) (run limits context test_quiet.all
+      (holding top_at top v.constructs z))) in
+      let y = token_done context x.t.s begins in
+      let y_closed = took_none context x.t.s.token begins ∙ word_closed wd context w ahead in
+      let started = maybe_done limits context Action.EndForStart x.c.s.token.place x.start.unit y in
+      let started_closed = maybe_closed x.start context y refl y_closed in
+      let top = between limits k.0 started.output in
+      let held = holding top_at top v.constructs started in
+      let z = token_done context x.c.s held in
+      let z_closed = took_none context x.c.s.token held ∙ started_closed in
+      let in_test = maybe_done limits context Action.EndForTest x.d.s.token.place x.test.unit z in
+      let in_test_closed = maybe_closed x.test context z refl z_closed in
+      let tested = token_done context x.d.s in_test in
+      let tested_closed = took_none context x.d.s.token in_test ∙ in_test_closed in
+      let stepped = maybe_done limits context Action.EndForStep x.e.s.token.place x.step.unit tested in
+      let stepped_closed = maybe_closed x.step context tested refl tested_closed in
+      let own = with_step_in stepped.constructs top.0 in
+      let inside = record stepped { constructs = own ∷ v.constructs } in
+      ap (laid {b = b} limits context (with_body inner.0 (plainly_at next))) (wd.runs context w)
+      ∙ (ap behind_start (x.start.runs context y refl)
+      ∙ (ap (λ g. closed_by top.0 (run limits context (step_happenings step_is) g))
+      (run_then limits context x.test.happens between_colons z ∙ ap (token_done context x.d.s) (x.test.runs context z refl))
+      ∙ (ap (closed_by top.0)
+      (ap (λ hs. run limits context hs tested) (x.step.step_same refl) ∙ x.step.runs context tested refl)
+      ∙ ap (λ g. ended_as limits (plainly_at next) own v.constructs g)
+      (x.body.lays effects context (token_done context x.e.s inside) (took_none context x.e.s.token inside ∙ stepped_closed) refl))))
 
 for_built : {b : Bool} (limits : Limits) (stands : Standing) (next : Place) (seen : List Seen) (events : List (Event Action))
     (wd : Worded limits stands (for_rest ∷ []) seen events) → ForText limits stands next seen events wd → IsTree b limits next seen events
@@ -370,26 +348,23 @@ for_built {b} limits stands next seen events wd x = record {
   all = for_all x;
   written = (x.start.written, (x.test.written, (x.step.written, x.body.written)));
   nested = After (Plain (word_quiet wd)) (nested_for x);
-  same = sym (for_same b x);
+  same = sym (for_same x b);
   lays = λ effects context w ahead none.
       let inner = put effects x.body.nested in
       let holding_body = tree_for x (with_effects effects x.body.tree).0 in
       with_behind limits context (next_effect inner.1) holding_body w next
       (λ at. laid {b = b} limits context (After (Plain (word_quiet wd)) (with_body x inner.0 at)) w) (λ m. refl)
-      (for_lays b limits stands next seen events wd x effects context w ahead none)
+      (for_lays x b effects context w ahead none)
       ∙ ap (λ r. tree_laid limits context (with_effect (next_effect r) holding_body) w) (x.body.rests effects);
   rests = λ effects. ap later_effects (x.body.rests effects);
 }
 
-for_rows : Rows for_rest (row (!open_for ∷ for_symbols) ∷ [])
-unfolding grammar
-for_rows = refl
-
 pub for_tree : {b : Bool} (limits : Limits) (n : ℕ) → Below limits n → (stands : Standing) (next : Place) (seen : List Seen)
     (events : List (Event Action)) → IsText grammar (before_word stands ++ 'for' ∷ for_rest ∷ []) (atoms_of seen) events
     → AreAll seen → length seen + 1 < 4294967295 → length seen ≤ suc n → IsTree b limits next seen events
+unfolding grammar
 for_tree {b} limits n below stands next seen events text are_seen few fewer =
     let wd = worded limits stands _ (for_rest ∷ []) seen events text in
-    of_rows (IsTree b limits next seen events) (number for_rest) (row (!open_for ∷ for_symbols) ∷ []) (atoms_of wd.rest) wd.late for_rows
+    by_rows (IsTree b limits next seen events) (number for_rest)
     ((λ t. for_built limits stands next seen events wd (for_text limits n below stands next seen events wd t are_seen few fewer)), tt)
     wd.text

@@ -1,9 +1,10 @@
 -- The header of a routine is a tree: its name and the names of its locals.
 use Rattle.std.proofs.Common.{◌≡◌, ℕ, zero, suc, ◌≤◌, List, [], ◌∷◌, length, None, refl, sym, ◌∙◌, ap, arith}
-use Rattle.inf_settings.specs.Bounds.{Limits}
 use Rattle.inf_scanner.specs.declared.tokens.Place.{Place}
+use Rattle.inf_settings.specs.Bounds.{Limits}
 use Rattle.inf_machine.specs.Grammar.{Event, IsText}
-use Rattle.inf_syntax.specs.{Parts.!local, Parts.'open_bracket', Parts.NAME, Parts.directive_1, Rows.row, declared.actions.Action.Action}
+use Rattle.inf_syntax.specs.declared.actions.Action.{Action}
+use Rattle.inf_syntax.specs.Parts.{ !local, 'open_bracket', NAME, directive_1}
 use Rattle.inf_grammar.specs.Language.{grammar}
 use Rattle.inf_unit.specs.{Units.Unit as UnitAtHand, Units.noted, Units.taken, declared.roles.Note.Note}
 use Rattle.inf_compilation.specs.{Actions.Compilation, Context.Context}
@@ -11,13 +12,9 @@ use Rattle.inf_statement_laws.specs.{Laid.passed, Laid.run, Readings.Seen}
 use Rattle.inf_statement_laws.proofs.Rules.{header_parts as header_symbols, number}
 use Rattle.inf_language.specs.Texts.{atoms_of, happenings_before}
 use Rattle.inf_trees.specs.Trees.{Part, Single, parts_told, told_at, with_parts}
-use Rattle.inf_trees.proofs.{RuleRows.of_rows, StatementTexts.Rows, UnitsRead.note_first, UnitsRead.one_taken, UnitsRead.told_at_opening}
-use Rattle.inf_simple_trees.proofs.Symbols.{act_first, nothing_left, token_first}
+use Rattle.inf_trees.proofs.{RuleRows.by_rows, Symbols.act_first, Symbols.nothing_left, Symbols.token_first, UnitsRead.note_first}
+use Rattle.inf_trees.proofs.{UnitsRead.one_taken, UnitsRead.told_at_opening}
 use Rattle.inf_routine_trees.specs.Routines.{local_parts}
-
-local_rows : Rows directive_1 (row (NAME ∷ !local ∷ directive_1 ∷ []) ∷ row [] ∷ [])
-unfolding grammar
-local_rows = refl
 
 -- the names of locals are read, behind any unit
 record Locals (limits : Limits) (seen : List Seen) (events : List (Event Action)) : Type 0 where
@@ -60,9 +57,9 @@ local_by limits n others seen events text few =
 
 locals_read : (limits : Limits) (n : ℕ) (seen : List Seen) (events : List (Event Action))
     → IsText grammar (directive_1 ∷ []) (atoms_of seen) events → length seen ≤ n → Locals limits seen events
+unfolding grammar
 locals_read limits zero seen events text few =
-    of_rows (Locals limits seen events) (number directive_1) (row (NAME ∷ !local ∷ directive_1 ∷ []) ∷ row [] ∷ []) (atoms_of seen) events
-    local_rows ((λ t. no_more t), ((λ t. no_locals limits seen events t), tt)) text
+    by_rows (Locals limits seen events) (number directive_1) ((λ t. no_more t), ((λ t. no_locals limits seen events t), tt)) text
   where
     none : 1 ≤ 0 → ⊥
     none e = omega (arith, e)
@@ -73,8 +70,8 @@ locals_read limits zero seen events text few =
         let count : suc (length f.rest) ≡ length seen = ap length f.same in
         absurd (none (omega (arith, few, count)))
 locals_read limits (suc n) seen events text few =
-    of_rows (Locals limits seen events) (number directive_1) (row (NAME ∷ !local ∷ directive_1 ∷ []) ∷ row [] ∷ []) (atoms_of seen) events
-    local_rows ((λ t. local_by limits n (locals_read limits n) seen events t few), ((λ t. no_locals limits seen events t), tt)) text
+    by_rows (Locals limits seen events) (number directive_1)
+    ((λ t. local_by limits n (locals_read limits n) seen events t few), ((λ t. no_locals limits seen events t), tt)) text
 
 -- A header before its end
 pub record HeaderText (limits : Limits) (seen : List Seen) (events : List (Event Action)) : Type 0 where

@@ -5,6 +5,7 @@ pub mod Wider
 pub mod Trees
 pub mod ObjectLoops
 pub mod ForLoops
+pub mod Lists
 pub mod Loops
 pub mod CaseTrees
 pub mod Switches

@@ -1,14 +1,14 @@
 -- A loop over objects is a tree.
 use Rattle.std.proofs.Common.{◌≡◌, ℕ, suc, ◌+◌, ◌≤◌, ◌<◌, List, [], ◌∷◌, ◌++◌, length, Bool, refl, sym, ◌∙◌, ap, append_assoc, arith}
-use Rattle.inf_settings.specs.Bounds.{Limits}
 use Rattle.inf_scanner.specs.declared.tokens.Place.{Place}
+use Rattle.inf_settings.specs.Bounds.{Limits}
 use Rattle.inf_machine.specs.{Grammar.Event, Grammar.IsText, declared.symbols.Symbol.Symbol}
-use Rattle.inf_syntax.specs.{Rows.row, declared.actions.Action.Action}
-use Rattle.inf_syntax.specs.Parts.{ !close, !end_objectloop, !loop, !open_objectloop, 'close_parenthesis', 'objectloop', 'open_parenthesis'}
-use Rattle.inf_syntax.specs.Parts.{objectloop_rest, statement}
+use Rattle.inf_syntax.specs.declared.actions.Action.{Action}
+use Rattle.inf_syntax.specs.Parts.{ !close, !end_objectloop, !loop, !open_objectloop, 'close_parenthesis', 'objectloop'}
+use Rattle.inf_syntax.specs.Parts.{'open_parenthesis', objectloop_rest, statement}
 use Rattle.inf_grammar.specs.Language.{grammar}
-use Rattle.inf_constructs.specs.{Constructs.between, Constructs.opened, declared.constructs.Kind.Kind, declared.constructs.Over.Over}
 use Rattle.inf_unit.specs.Units.{Unit as UnitAtHand, no_unit}
+use Rattle.inf_constructs.specs.{Constructs.between, Constructs.opened, declared.constructs.Kind.Kind, declared.constructs.Over.Over}
 use Rattle.inf_compilation.specs.Actions.{Compilation}
 use Rattle.inf_reader.specs.Acting.{act}
 use Rattle.inf_statement_laws.specs.{Nested.Objectloop, Nested.Plain, Nested.Then as After, Readings.Seen, Readings.plainly_at}
@@ -17,13 +17,13 @@ use Rattle.inf_statement_laws.specs.Laid.{ended_as, holding, laid, opened_at, ru
 use Rattle.inf_statement_laws.proofs.{Acts.inside_act, Acts.quiet_run, Acts.took_none, Rules.number}
 use Rattle.inf_language.specs.Texts.{atoms_of, happenings_before}
 use Rattle.inf_trees.specs.Trees.{all_seen}
-use Rattle.inf_trees.proofs.{RuleRows.of_rows, StatementTexts.Rows, StatementsRead.bracketed_units_are_trees, UnitsRead.seen_parts}
-use Rattle.inf_routine_trees.specs.Bodies.{Bracketed, Objectloop as LoopTree, Standing, opening_of, token_done}
-use Rattle.inf_routine_trees.specs.Bodies.{later_effects, next_effect, tree_laid, unit_done, with_effect, with_effects, word_done}
+use Rattle.inf_trees.proofs.{RuleRows.by_rows, StatementsRead.bracketed_units_are_trees, Symbols.act_first, Symbols.parts_of}
+use Rattle.inf_trees.proofs.{Symbols.token_first, UnitsRead.seen_parts}
+use Rattle.inf_routine_trees.specs.Bodies.{Bracketed, Objectloop as LoopTree, Standing, later_effects, next_effect, opening_of, token_done}
+use Rattle.inf_routine_trees.specs.Bodies.{tree_laid, unit_done, with_effect, with_effects, word_done}
 use Rattle.inf_routine_trees.proofs.Effects.{put, with_behind}
 use Rattle.inf_routine_trees.proofs.Pieces.{Worded, before_word, quiet_text, unit_quiet, unit_symbols, word_happens, worded}
 use Rattle.inf_routine_trees.proofs.Trees.{AreAll, Below, IsTree, body_text, moved_seen, word_closed, word_quiet}
-use Rattle.inf_simple_trees.proofs.Symbols.{act_first, parts_of, token_first}
 
 abbrev behind_unit : List (Symbol Action)
 behind_unit = !end_objectloop ∷ !loop ∷ 'close_parenthesis' ∷ statement ∷ !close ∷ []
@@ -121,14 +121,11 @@ loop_row_tree {b} limits n below stands next seen events wd text are_seen few fe
       rests = λ effects. ap later_effects (body.rests effects);
     }
 
-loop_rows : Rows objectloop_rest (row (!open_objectloop ∷ loop_symbols) ∷ [])
-unfolding grammar
-loop_rows = refl
-
 pub loop_tree : {b : Bool} (limits : Limits) (n : ℕ) → Below limits n → (stands : Standing) (next : Place) (seen : List Seen)
     (events : List (Event Action)) → IsText grammar (before_word stands ++ 'objectloop' ∷ objectloop_rest ∷ []) (atoms_of seen) events
     → AreAll seen → length seen + 1 < 4294967295 → length seen ≤ suc n → IsTree b limits next seen events
+unfolding grammar
 loop_tree {b} limits n below stands next seen events text are_seen few fewer =
     let wd = worded limits stands _ (objectloop_rest ∷ []) seen events text in
-    of_rows (IsTree b limits next seen events) (number objectloop_rest) (row (!open_objectloop ∷ loop_symbols) ∷ []) (atoms_of wd.rest) wd.late
-    loop_rows ((λ t. loop_row_tree limits n below stands next seen events wd t are_seen few fewer), tt) wd.text
+    by_rows (IsTree b limits next seen events) (number objectloop_rest)
+    ((λ t. loop_row_tree limits n below stands next seen events wd t are_seen few fewer), tt) wd.text

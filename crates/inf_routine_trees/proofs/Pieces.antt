@@ -1,28 +1,28 @@
 -- The pieces of statements that hold others: their tokens, events and happenings.
-use Rattle.std.proofs.Common.{◌≡◌, ℕ, suc, ◌+◌, ◌≤◌, ◌<◌, List, [], ◌∷◌, ◌++◌, length, true, refl, sym, ◌∙◌, ap, subst, append_assoc, arith}
+use Rattle.std.proofs.Common.{◌≡◌, ℕ, suc, ◌+◌, ◌≤◌, ◌<◌, List, [], ◌∷◌, ◌++◌, length, true, refl, sym, ◌∙◌, ap, subst, append_assoc}
+use Rattle.std.proofs.Common.{arith}
 use Rattle.std.proofs.lemmas.Bool.{and_from, and_parts}
-use Rattle.inf_settings.specs.Bounds.{Limits}
 use Rattle.inf_scanner.specs.declared.tokens.Place.{Place}
+use Rattle.inf_settings.specs.Bounds.{Limits}
 use Rattle.inf_machine.specs.declared.symbols.Symbol.{Symbol}
-use Rattle.inf_machine.specs.Grammar.{Did, Event, IsText, Took, action, here, token}
-use Rattle.inf_syntax.specs.Parts.{ !begin, !close, !deeper, !maybe_deeper, !outer, 'close_parenthesis', 'open_parenthesis', expression}
+use Rattle.inf_machine.specs.Grammar.{Did, Event, IsText, Took, action, here}
 use Rattle.inf_syntax.specs.declared.actions.Action.{Action}
+use Rattle.inf_syntax.specs.Parts.{ !begin, !close, !deeper, !maybe_deeper, !outer, 'close_parenthesis', 'open_parenthesis', expression}
 use Rattle.inf_grammar.specs.Language.{grammar}
 use Rattle.inf_unit.specs.Units.{Unit as UnitAtHand, no_unit}
 use Rattle.inf_compilation.specs.{Actions.Compilation, Context.Context}
-use Rattle.inf_expression_laws.specs.Gathered.{AreSeen}
 use Rattle.inf_statement_laws.specs.{Laid.run, Readings.Seen, Readings.plainly_at}
 use Rattle.inf_statement_laws.specs.Happenings.{Acts, AreOf, Happening, Takes, happen_quietly, happens_quietly, is_quiet}
 use Rattle.inf_statement_laws.proofs.{Laying.run_then, Nesting.quiet_parts, Nesting.quiet_rule, Rules.all_quiet, Rules.is_quiet_rule}
 use Rattle.inf_statement_laws.proofs.{Texts.OfRule, Texts.deep}
+use Rattle.inf_expression_laws.specs.Gathered.{AreSeen}
 use Rattle.inf_language.specs.{Texts.atoms_of, Texts.happenings_before, Texts.tokens_of, Units.TakeAll}
 use Rattle.inf_language.proofs.Derivations.{texts_take_all}
-use Rattle.inf_trees.specs.Ends.{case_first}
-use Rattle.inf_trees.specs.Trees.{all_seen}
-use Rattle.inf_trees.proofs.{StatementsRead.bracketed_units_are_trees, UnitsRead.place_before, UnitsRead.seen_parts}
+use Rattle.inf_trees.specs.{Ends.case_first, Trees.all_seen}
+use Rattle.inf_trees.proofs.{StatementsRead.bracketed_units_are_trees, Symbols.act_first, Symbols.parts_of, Symbols.token_first}
+use Rattle.inf_trees.proofs.{UnitsRead.place_before, UnitsRead.seen_parts}
 use Rattle.inf_routine_trees.specs.Bodies.{AtTop, Bracketed, Inner, OfSwitch, Standing, UnitWritten, bracketed_done, bracketed_seen}
 use Rattle.inf_routine_trees.specs.Bodies.{token_done, unit_done, word_done}
-use Rattle.inf_simple_trees.proofs.Symbols.{act_first, parts_of, token_first}
 
 -- The happenings of events
 
@@ -35,7 +35,8 @@ are_of next (Did a ∷ events) (s ∷ seen) all = (refl, are_of next events (s �
 are_of next (Took atom ∷ events) [] all = absurd all
 are_of next (Took atom ∷ events) (s ∷ seen) all = are_of next events seen all
 
-pub quiet_text : (symbols : List (Symbol Action)) → all_quiet symbols ≡ true → (next : Place) (seen : List Seen) (events : List (Event Action))
+pub quiet_text : (symbols : List (Symbol Action)) → all_quiet symbols ≡ true
+    → (next : Place) (seen : List Seen) (events : List (Event Action))
     → IsText grammar symbols (atoms_of seen) events → happen_quietly (happenings_before next events seen) ≡ true
 quiet_text symbols quiet next seen events text =
     let hs = happenings_before next events seen in
@@ -125,7 +126,8 @@ bracketed_text limits end symbols seen events text are_seen few =
     }
 
 -- the happenings of such a unit with its end and its closing bracket
-abbrev pub test_happens : {limits : Limits} {end : Action} {symbols : List (Symbol Action)} {seen : List Seen} {events : List (Event Action)}
+abbrev pub test_happens : {limits : Limits} {end : Action} {symbols : List (Symbol Action)} {seen : List Seen}
+    {events : List (Event Action)}
     → BracketedText limits end symbols seen events → List Happening
 test_happens {end = end} b =
     Takes b.tree.bracket.token b.tree.bracket.behind
@@ -244,5 +246,6 @@ closed_by : {atoms : List ℕ} {events : List (Event Action)} → IsText grammar
 closed_by (action here) [] is = record { none = refl; happen = λ next. refl }
 closed_by (action here) (s ∷ seen) is = cc
 
-pub closed_text : (seen : List Seen) (events : List (Event Action)) → IsText grammar (!close ∷ []) (atoms_of seen) events → Closed seen events
+pub closed_text : (seen : List Seen) (events : List (Event Action)) → IsText grammar (!close ∷ []) (atoms_of seen) events
+    → Closed seen events
 closed_text seen events text = closed_by text seen refl

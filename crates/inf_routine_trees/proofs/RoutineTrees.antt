@@ -1,32 +1,32 @@
 -- Routines are trees.
-use Rattle.std.proofs.Common.{◌≡◌, ℕ, suc, ◌+◌, ◌<◌, None, List, [], ◌∷◌, ◌++◌, length, refl, sym, ◌∙◌, ap, subst}
-use Rattle.std.proofs.Common.{append-nil, append_assoc, arith}
-use Rattle.inf_settings.specs.Bounds.{Limits}
+use Rattle.std.proofs.Common.{◌≡◌, ℕ, suc, ◌+◌, ◌<◌, None, List, [], ◌∷◌, ◌++◌, length, refl, sym, ◌∙◌, ap, subst, append-nil}
+use Rattle.std.proofs.Common.{append_assoc, arith}
 use Rattle.inf_scanner.specs.declared.tokens.Place.{Place}
+use Rattle.inf_settings.specs.Bounds.{Limits}
 use Rattle.inf_machine.specs.declared.symbols.Symbol.{Symbol}
-use Rattle.inf_machine.specs.Grammar.{Event, IsOneOf, IsText, Took, first, here, token, row as a_row}
+use Rattle.inf_machine.specs.Grammar.{Event, IsOneOf, IsText, Took, first, here, row as a_row, token}
 use Rattle.inf_syntax.specs.{Rows.row, declared.actions.Action.Action}
 use Rattle.inf_syntax.specs.Parts.{ !end_locals, !end_routine, !routine, 'close_bracket', 'open_bracket', 'semicolon', NAME, directive}
 use Rattle.inf_syntax.specs.Parts.{directive_1, directive_2}
 use Rattle.inf_grammar.specs.Language.{grammar}
+use Rattle.inf_compilation.specs.{Actions.Compilation, Context.Context}
 use Rattle.inf_reader.specs.Acting.{act}
-use Rattle.inf_expression_laws.proofs.OperatorRows.{free}
-use Rattle.inf_statement_laws.specs.{Laid.next_comes, Laid.run, Readings.Seen, Readings.plainly_at}
-use Rattle.inf_statement_laws.specs.Happenings.{Acts, Happening, Takes}
+use Rattle.inf_statement_laws.specs.{Happenings.Acts, Happenings.Happening, Happenings.Takes, Laid.next_comes, Laid.run, Readings.Seen}
+use Rattle.inf_statement_laws.specs.{Readings.plainly_at}
 use Rattle.inf_statement_laws.proofs.{Acts.inside_act, Acts.quiet_run, Acts.took_none, Laying.run_then, Rules.header_parts, Rules.number}
 use Rattle.inf_statement_laws.proofs.{Rules.quiet_header}
+use Rattle.inf_expression_laws.specs.Gathered.{AreSeen}
+use Rattle.inf_expression_laws.proofs.OperatorRows.{free}
 use Rattle.inf_language.specs.Texts.{atoms_of, happenings_before, happenings_of, tokens_of}
 use Rattle.inf_language.proofs.{Derivations.happenings-append, Derivations.texts_take_all, TextsActed.texts_do_their_actions}
-use Rattle.inf_compilation.specs.{Actions.Compilation, Context.Context}
 use Rattle.inf_trees.specs.Trees.{parts_told, with_parts}
 use Rattle.inf_trees.proofs.UnitsRead.{before-append, place_before, seen_parts}
-use Rattle.inf_expression_laws.specs.Gathered.{AreSeen}
+use Rattle.inf_trees.proofs.Symbols.{act_first, nothing_left, parts_of, token_first}
 use Rattle.inf_routine_trees.specs.Bodies.{Tree, TreeWritten, token_done}
 use Rattle.inf_routine_trees.specs.Routines.{Header, Routine, RoutinesAreTrees, header_parts as parts_of_header, routine_done}
 use Rattle.inf_routine_trees.specs.Routines.{routine_seen, routine_symbols, routine_with}
 use Rattle.inf_routine_trees.proofs.{BodyTrees.body_tree, Headers.header_text, Pieces.quiet_text, Trees.moved_seen, Trees.tree_runs}
 use Rattle.inf_routine_trees.proofs.Effects.{Effects, given, given-append, given_behind, none_effects, none_given}
-use Rattle.inf_simple_trees.proofs.Symbols.{act_first, nothing_left, parts_of, token_first}
 
 -- A routine is a directive.
 
@@ -84,7 +84,8 @@ pub record Runs (limits : Limits) (seen : List Seen) (events : List (Event Actio
   pub runs : (effects : Effects) (context : Context) (w : Compilation) → w.closed ≡ 0 → w.opening ≡ None
       → run limits context (given effects (happenings_of events seen)) w ≡ routine_done limits context (routine_with effects tree) w
 
-pub routine_runs : (limits : Limits) (seen : List Seen) (events : List (Event Action)) → IsText grammar routine_symbols (atoms_of seen) events
+pub routine_runs : (limits : Limits) (seen : List Seen) (events : List (Event Action))
+    → IsText grammar routine_symbols (atoms_of seen) events
     → AreSeen (atoms_of seen) (tokens_of seen) → length seen + 1 < 4294967295 → Runs limits seen events
 routine_runs limits seen events text are_seen few =
     let h =

@@ -1,8 +1,8 @@
 -- A `switch` is a tree: the value that it is over, and its cases with the statements among them.
-use Rattle.std.proofs.Common.{◌≡◌, ℕ, zero, suc, ◌+◌, ◌≤◌, ◌<◌, List, [], ◌∷◌, ◌++◌, length, Bool, true, false, None, refl, sym, ◌∙◌, ap}
-use Rattle.std.proofs.Common.{append_assoc, arith}
-use Rattle.inf_settings.specs.Bounds.{Limits}
+use Rattle.std.proofs.Common.{◌≡◌, ℕ, suc, ◌+◌, ◌≤◌, ◌<◌, List, [], ◌∷◌, ◌++◌, length, Bool, true, false, refl, sym, ◌∙◌, ap, append_assoc}
+use Rattle.std.proofs.Common.{arith}
 use Rattle.inf_scanner.specs.declared.tokens.Place.{Place}
+use Rattle.inf_settings.specs.Bounds.{Limits}
 use Rattle.inf_machine.specs.{Grammar.Event, Grammar.IsText, declared.symbols.Symbol.Symbol}
 use Rattle.inf_syntax.specs.{Rows.row, declared.actions.Action.Action}
 use Rattle.inf_syntax.specs.Parts.{ !begin, !close, !end_switch, !open_switch, !outer, 'close_brace', 'close_parenthesis', 'open_brace'}
@@ -10,22 +10,22 @@ use Rattle.inf_syntax.specs.Parts.{'open_parenthesis', 'switch', expression, fir
 use Rattle.inf_syntax.specs.Parts.{switch_rest_2}
 use Rattle.inf_grammar.specs.Language.{grammar}
 use Rattle.inf_constructs.specs.{Constructs.opened, declared.constructs.Case.Case, declared.constructs.Kind.Kind}
-use Rattle.inf_compilation.specs.{Actions.Compilation, Context.Context}
-use Rattle.inf_statement_laws.specs.{Happenings.Acts, Happenings.Happening, Happenings.Quiet, Happenings.Takes, Nested.Plain, Nested.Switch}
-use Rattle.inf_statement_laws.specs.{Nested.Then as After, Nested.happenings, Readings.Seen, Readings.plainly_at}
+use Rattle.inf_compilation.specs.Actions.{Compilation}
+use Rattle.inf_statement_laws.specs.Readings.{Seen, plainly_at}
+use Rattle.inf_statement_laws.specs.Happenings.{Acts, Happening, Quiet, Takes}
 use Rattle.inf_statement_laws.specs.Laid.{ended_as, laid, opened_at, run, with_kind_in}
+use Rattle.inf_statement_laws.specs.Nested.{Plain, Switch, Then as After, happenings}
 use Rattle.inf_statement_laws.proofs.{Acts.quiet_run, Laying.run_then, Rules.number}
 use Rattle.inf_language.specs.Texts.{atoms_of, happenings_before}
-use Rattle.inf_language.proofs.Derivations.{texts_take_all}
-use Rattle.inf_trees.proofs.{RuleRows.of_rows, StatementTexts.Rows, UnitsRead.place_before, UnitsRead.seen_parts}
-use Rattle.inf_simple_trees.proofs.Symbols.{PartsOf, act_first, nothing_left, parts_of, token_first}
-use Rattle.inf_routine_trees.specs.Bodies.{Nothing, Standing, Switch as SwitchTree, Then, bracketed_done, bracketed_seen, opening_of}
-use Rattle.inf_routine_trees.specs.Bodies.{later_effects, next_effect, token_done, tree_laid, tree_seen, with_effect, with_effects, word_done}
-use Rattle.inf_routine_trees.proofs.{Effects.Effects, Effects.put, Effects.with_behind, Endings.end_so, Endings.ends, Endings.text_ends}
-use Rattle.inf_routine_trees.proofs.{Loops.nonempty}
+use Rattle.inf_trees.proofs.{RuleRows.Rows, RuleRows.by_rows, Symbols.act_first, Symbols.parts_of, Symbols.token_first}
+use Rattle.inf_trees.proofs.{UnitsRead.place_before, UnitsRead.seen_parts}
+use Rattle.inf_routine_trees.specs.Bodies.{Standing, Switch as SwitchTree, bracketed_done, bracketed_seen, later_effects, next_effect}
+use Rattle.inf_routine_trees.specs.Bodies.{opening_of, token_done, tree_laid, with_effect, with_effects, word_done}
+use Rattle.inf_routine_trees.proofs.{Effects.put, Effects.with_behind, Endings.end_so, Endings.ends}
+use Rattle.inf_routine_trees.proofs.Lists.{IsList, items_by, list_trees, no_items}
 use Rattle.inf_routine_trees.proofs.Pieces.{Worded, before_word, bracketed_text, closed_text, quiet-append, test_happen, test_happens}
 use Rattle.inf_routine_trees.proofs.Pieces.{test_quiet, test_runs, word_happens, worded}
-use Rattle.inf_routine_trees.proofs.Trees.{AreAll, IsTree, moved_seen, tree_closed, tree_opening, word_closed, word_quiet}
+use Rattle.inf_routine_trees.proofs.Trees.{AreAll, IsTree, OfSymbol, moved_seen, word_closed, word_quiet}
 
 pub switch_ends : end_so false (switch_item ∷ []) ≡ true
 unfolding ends
@@ -34,10 +34,6 @@ switch_ends = refl
 pub first_ends : end_so false (first_case ∷ []) ≡ true
 unfolding ends
 first_ends = refl
-
-first_rows : Rows switch_rest_1 (row (first_case ∷ switch_rest_2 ∷ []) ∷ row [] ∷ [])
-unfolding grammar
-first_rows = refl
 
 item_rows : Rows switch_rest_2 (row (switch_item ∷ switch_rest_2 ∷ []) ∷ row [] ∷ [])
 unfolding grammar
@@ -48,132 +44,25 @@ switch_symbols =
     'open_parenthesis' ∷ !begin ∷ !outer ∷ expression ∷ !end_switch ∷ 'close_parenthesis' ∷ 'open_brace' ∷ switch_rest_1 ∷ 'close_brace' ∷
     !close ∷ []
 
-switch_row : Rows switch_rest (row (!open_switch ∷ switch_symbols) ∷ [])
-unfolding grammar
-switch_row = refl
-
--- Texts of one symbol, of at most `n` tokens, are trees, among which cases may be.
-abbrev pub OfSymbol : Symbol Action → Limits → ℕ → Type 0
-OfSymbol symbol limits n =
-    (next : Place) (seen : List Seen) (events : List (Event Action)) → IsText grammar (symbol ∷ []) (atoms_of seen) events
-    → AreAll seen → length seen + 1 < 4294967295 → length seen ≤ n → IsTree true limits next seen events
-
--- Items one behind the other, and the word that no word waits behind them where none waits before them
-record Items (limits : Limits) (next : Place) (seen : List Seen) (events : List (Event Action)) : Type 0 where
-  list : IsTree true limits next seen events
-  opening : (effects : Effects) (context : Context) (w : Compilation) → w.closed ≡ 0 → w.opening ≡ None
-      → (tree_laid limits context (with_effects effects list.tree).0 w).opening ≡ None
-
-no_items : (limits : Limits) (next : Place) (seen : List Seen) (events : List (Event Action)) → IsText grammar [] (atoms_of seen) events
-    → Items limits next seen events
-no_items limits next seen events text =
-    let n = nothing_left seen events text in
-    record {
-      list = record {
-        tree = Nothing;
-        all = sym n.none;
-        written = tt;
-        nested = Plain (record { all = []; are = refl });
-        same = sym (n.happen next);
-        lays = λ effects context w ahead none. refl;
-        rests = λ effects. refl;
-      };
-      opening = λ effects context w ahead none. none;
-    }
-
-module _ (limits : Limits) (next : Place) (seen : List Seen) (events : List (Event Action)) where
-  items_by : (head_symbol : Symbol Action) → end_so false (head_symbol ∷ []) ≡ true → (p : PartsOf (head_symbol ∷ []) (switch_rest_2 ∷ []) seen events)
-      → IsTree true limits (place_before p.rest next) p.front p.early → Items limits next p.rest p.late → Items limits next seen events
-  items_by head_symbol so p head rest =
-      let place = place_before p.rest next in
-      let all = texts_take_all p.of_front p.front refl in
-      let last = text_ends p.of_front refl false so in
-      record {
-        list = record {
-          tree = Then head.tree rest.list.tree;
-          all =
-              ap (λ l. l ++ tree_seen rest.list.tree) head.all ∙ (ap (λ l. p.front ++ l) rest.list.all ∙ p.same);
-          written = (head.written, rest.list.written);
-          nested = After head.nested rest.list.nested;
-          same =
-              ap (λ l. l ++ happenings rest.list.nested) head.same
-              ∙ (ap (λ l. happenings_before place p.early p.front ++ l) rest.list.same ∙ sym (p.happen next));
-          lays = λ effects context w ahead none.
-              let x = put effects head.nested in
-              let y = with_effects effects head.tree in
-              ap (laid limits context (put x.1 rest.list.nested).0) (head.lays effects context w ahead none)
-              ∙ (rest.list.lays x.1 context (tree_laid limits context y.0 w)
-              (tree_closed limits place p.front p.early head effects context w ahead none)
-              (tree_opening limits place p.front p.early head all last effects context w ahead none)
-              ∙ ap (λ r. tree_laid limits context (with_effects r rest.list.tree).0 (tree_laid limits context y.0 w)) (head.rests effects));
-          rests = λ effects.
-              rest.list.rests (put effects head.nested).1 ∙ ap (λ r. (with_effects r rest.list.tree).1) (head.rests effects);
-        };
-        opening = λ effects context w ahead none.
-            rest.opening (with_effects effects head.tree).1 context (tree_laid limits context (with_effects effects head.tree).0 w)
-            (tree_closed limits place p.front p.early head effects context w ahead none)
-            (tree_opening limits place p.front p.early head all last effects context w ahead none);
-      }
-
--- the items behind the first case, of at most `m` tokens, where items of at most `n` tokens are trees
-abbrev Others : Limits → ℕ → ℕ → Type 0
-Others limits n m =
-    (next : Place) (seen : List Seen) (events : List (Event Action)) → IsText grammar (switch_rest_2 ∷ []) (atoms_of seen) events
-    → AreAll seen → length seen + 1 < 4294967295 → length seen ≤ n → length seen ≤ m → Items limits next seen events
-
-module _ (limits : Limits) (n : ℕ) (items : OfSymbol switch_item limits n) where
-  some_items : (m : ℕ) → Others limits n m → (next : Place) (seen : List Seen) (events : List (Event Action))
-      → IsText grammar (switch_item ∷ switch_rest_2 ∷ []) (atoms_of seen) events → AreAll seen → length seen + 1 < 4294967295
-      → length seen ≤ n → length seen ≤ suc m → Items limits next seen events
-  some_items m others next seen events text are_seen few fewer small =
-      let p = parts_of (switch_item ∷ []) (switch_rest_2 ∷ []) seen events text in
-      let parts = seen_parts p.front p.rest (moved_seen (sym p.same) are_seen) in
-      let one = nonempty p.early p.front (texts_take_all p.of_front p.front refl) (text_ends p.of_front refl false switch_ends) in
-      items_by limits next seen events switch_item switch_ends p
-      (items (place_before p.rest next) p.front p.early p.of_front parts.0 (omega (arith, few, p.count)) (omega (arith, fewer, p.count)))
-      (others next p.rest p.late p.of_rest parts.1 (omega (arith, few, p.count)) (omega (arith, fewer, p.count))
-      (omega (arith, small, one, p.count)))
-
-  no_more : (next : Place) (seen : List Seen) (events : List (Event Action))
-      → IsText grammar (switch_item ∷ switch_rest_2 ∷ []) (atoms_of seen) events → length seen ≤ 0 → Items limits next seen events
-  no_more next seen events text small =
-      let p = parts_of (switch_item ∷ []) (switch_rest_2 ∷ []) seen events text in
-      let one = nonempty p.early p.front (texts_take_all p.of_front p.front refl) (text_ends p.of_front refl false switch_ends) in
-      absurd (none (omega (arith, small, one, p.count)))
-    where
-      none : 1 ≤ 0 → ⊥
-      none e = omega (arith, e)
-
-  other_items : (m : ℕ) → Others limits n m
-  other_items zero next seen events text are_seen few fewer small =
-      of_rows (Items limits next seen events) (number switch_rest_2) (row (switch_item ∷ switch_rest_2 ∷ []) ∷ row [] ∷ []) (atoms_of seen)
-      events item_rows
-      ((λ t. no_more next seen events t small), ((λ t. no_items limits next seen events t), tt)) text
-  other_items (suc m) next seen events text are_seen few fewer small =
-      of_rows (Items limits next seen events) (number switch_rest_2) (row (switch_item ∷ switch_rest_2 ∷ []) ∷ row [] ∷ []) (atoms_of seen)
-      events item_rows (
-        (λ t. some_items m (other_items m) next seen events t are_seen few fewer small),
-        ((λ t. no_items limits next seen events t), tt),
-      )
-      text
-
-  all_items : OfSymbol first_case limits n → (next : Place) (seen : List Seen) (events : List (Event Action))
+module _ (limits : Limits) (n : ℕ) (items : OfSymbol true switch_item limits n) where
+  all_items : OfSymbol true first_case limits n → (next : Place) (seen : List Seen) (events : List (Event Action))
       → IsText grammar (switch_rest_1 ∷ []) (atoms_of seen) events → AreAll seen → length seen + 1 < 4294967295 → length seen ≤ n
-      → Items limits next seen events
+      → IsList true limits next seen events
+  unfolding grammar
   all_items first_cases next seen events text are_seen few fewer =
-      of_rows (Items limits next seen events) (number switch_rest_1) (row (first_case ∷ switch_rest_2 ∷ []) ∷ row [] ∷ []) (atoms_of seen)
-      events first_rows (
+      by_rows (IsList true limits next seen events) (number switch_rest_1) (
         (λ t. let p = parts_of (first_case ∷ []) (switch_rest_2 ∷ []) seen events t in
             let parts = seen_parts p.front p.rest (moved_seen (sym p.same) are_seen) in
-            items_by limits next seen events first_case first_ends p
-            (first_cases (place_before p.rest next) p.front p.early p.of_front parts.0 (omega (arith, few, p.count)) (omega (arith, fewer, p.count)))
-            (other_items (length p.rest) next p.rest p.late p.of_rest parts.1 (omega (arith, few, p.count)) (omega (arith, fewer, p.count))
-            (omega arith))),
+            items_by limits first_case switch_rest_2 first_ends next seen events p
+            (first_cases (place_before p.rest next) p.front p.early p.of_front parts.0 (omega (arith, few, p.count))
+            (omega (arith, fewer, p.count)))
+            (list_trees limits switch_item switch_ends (number switch_rest_2) item_rows n items (length p.rest) next p.rest p.late p.of_rest
+            parts.1 (omega (arith, few, p.count)) (omega (arith, fewer, p.count)) (omega arith))),
         ((λ t. no_items limits next seen events t), tt),
       )
       text
 
-  switch_row_tree : {b : Bool} → OfSymbol first_case limits n → (stands : Standing) (next : Place) (seen : List Seen)
+  switch_row_tree : {b : Bool} → OfSymbol true first_case limits n → (stands : Standing) (next : Place) (seen : List Seen)
       (events : List (Event Action)) → (wd : Worded limits stands (switch_rest ∷ []) seen events)
       → IsText grammar (!open_switch ∷ switch_symbols) (atoms_of wd.rest) wd.late → AreAll seen → length seen + 1 < 4294967295
       → length seen ≤ suc n → IsTree b limits next seen events
@@ -232,7 +121,8 @@ module _ (limits : Limits) (n : ℕ) (items : OfSymbol switch_item limits n) whe
             let reads : run limits context q.all x ≡ y =
             run_then limits context (test_happens t) brace x ∙ ap (token_done context br.s) (test_runs t context x) in
             let y_closed =
-            ap (λ (z : Compilation). z.closed) (sym reads) ∙ ((quiet_run limits context q.all x q.are).1 ∙ word_closed wd context w ahead) in
+            ap (λ (z : Compilation). z.closed) (sym reads)
+            ∙ ((quiet_run limits context q.all x q.are).1 ∙ word_closed wd context w ahead) in
             let ended = λ (z : Compilation). let inside = token_done context c.s z in
             ended_as limits closes (with_kind_in inside.constructs d.0) v.constructs inside in
             with_behind limits context (next_effect cases.1) holding_cases w next
@@ -242,10 +132,11 @@ module _ (limits : Limits) (n : ℕ) (items : OfSymbol switch_item limits n) whe
             ∙ ap (λ r. tree_laid limits context (with_effect (next_effect r) holding_cases) w) (inner.list.rests effects);
       }
 
-  pub switch_tree : {b : Bool} → OfSymbol first_case limits n → (stands : Standing) (next : Place) (seen : List Seen)
+  pub switch_tree : {b : Bool} → OfSymbol true first_case limits n → (stands : Standing) (next : Place) (seen : List Seen)
       (events : List (Event Action)) → IsText grammar (before_word stands ++ 'switch' ∷ switch_rest ∷ []) (atoms_of seen) events
       → AreAll seen → length seen + 1 < 4294967295 → length seen ≤ suc n → IsTree b limits next seen events
+  unfolding grammar
   switch_tree {b} first_cases stands next seen events text are_seen few fewer =
       let wd = worded limits stands _ (switch_rest ∷ []) seen events text in
-      of_rows (IsTree b limits next seen events) (number switch_rest) (row (!open_switch ∷ switch_symbols) ∷ []) (atoms_of wd.rest) wd.late
-      switch_row ((λ t. switch_row_tree first_cases stands next seen events wd t are_seen few fewer), tt) wd.text
+      by_rows (IsTree b limits next seen events) (number switch_rest)
+      ((λ t. switch_row_tree first_cases stands next seen events wd t are_seen few fewer), tt) wd.text

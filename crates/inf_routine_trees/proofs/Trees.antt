@@ -2,35 +2,34 @@
 use Rattle.std.proofs.Common.{◌≡◌, ℕ, suc, ◌+◌, ◌≤◌, ◌<◌, List, [], ◌∷◌, ◌++◌, length, Bool, true, false, None, refl, sym, ◌∙◌, ap, subst}
 use Rattle.std.proofs.Common.{append-nil, arith, if◌then◌else◌}
 use Rattle.std.proofs.lemmas.Bool.{and_from}
-use Rattle.inf_settings.specs.Bounds.{Limits}
 use Rattle.inf_scanner.specs.declared.tokens.Place.{Place}
+use Rattle.inf_settings.specs.Bounds.{Limits}
 use Rattle.inf_machine.specs.{Grammar.Did, Grammar.Event, Grammar.IsText, Grammar.Took, declared.symbols.Symbol.Symbol}
-use Rattle.inf_syntax.specs.{Rows.row, Rows.row_unless, declared.actions.Action.Action}
+use Rattle.inf_syntax.specs.declared.actions.Action.{Action}
 use Rattle.inf_syntax.specs.Parts.{ !begin, !close, !else, !end_if, !end_while, !open_if, !open_while, !outer, 'close_parenthesis', 'else'}
 use Rattle.inf_syntax.specs.Parts.{'if', 'open_parenthesis', 'while', else_part, expression, if_rest, statement, while_rest}
 use Rattle.inf_grammar.specs.Language.{grammar}
-use Rattle.inf_constructs.specs.{Constructs.between, Constructs.opened, declared.constructs.Kind.Kind}
 use Rattle.inf_unit.specs.Units.{Unit as UnitAtHand, begun, no_unit}
+use Rattle.inf_constructs.specs.{Constructs.between, Constructs.opened, declared.constructs.Kind.Kind}
 use Rattle.inf_compilation.specs.{Actions.Compilation, Context.Context}
-use Rattle.inf_expression_laws.specs.Gathered.{AreSeen}
-use Rattle.inf_statement_laws.specs.{Happenings.Acts, Happenings.Quiet, Happenings.Takes, Happenings.happen_quietly, Happenings.is_quiet}
-use Rattle.inf_statement_laws.specs.{Laid.ended_as, Laid.holding, Laid.laid, Laid.opened_at, Laid.run, Readings.Seen, Readings.plainly_at}
-use Rattle.inf_statement_laws.specs.Nested.{If, IfElse, Nested, Plain, While, happenings, Then as After}
+use Rattle.inf_statement_laws.specs.Readings.{Seen, plainly_at}
+use Rattle.inf_statement_laws.specs.Happenings.{Acts, Quiet, Takes, happen_quietly, is_quiet}
+use Rattle.inf_statement_laws.specs.Laid.{ended_as, holding, laid, opened_at, run}
+use Rattle.inf_statement_laws.specs.Nested.{If, IfElse, Nested, Plain, Then as After, While, happenings}
 use Rattle.inf_statement_laws.proofs.{Acts.quiet_run, Laying.laid_as, Rules.number}
+use Rattle.inf_expression_laws.specs.Gathered.{AreSeen}
 use Rattle.inf_language.specs.{Texts.atoms_of, Texts.happenings_before, Texts.tokens_of, Units.TakeAll}
-use Rattle.inf_trees.specs.Statements.{statement_done}
-use Rattle.inf_trees.proofs.{RuleRows.of_rows, StatementTexts.Rows, StatementsRead.behind, StatementsRead.parted}
-use Rattle.inf_trees.proofs.{UnitsRead.place_before, UnitsRead.seen_parts}
-use Rattle.inf_routine_trees.specs.Bodies.{Simple, Standing, Tree, TreeWritten, bracketed_done, bracketed_seen, later_effects, next_effect}
-use Rattle.inf_routine_trees.specs.Bodies.{opening_of, token_done, tree_laid, tree_seen, with_effect, with_effects, word_done, If as IfTree}
-use Rattle.inf_routine_trees.specs.Bodies.{IfElse as ElseTree, While as WhileTree}
-use Rattle.inf_simple_trees.specs.Room.{have_room}
-use Rattle.inf_routine_trees.proofs.Effects.{Effects, given, none_behind, none_effects, none_given, put, put_happens, with_behind}
+use Rattle.inf_trees.specs.{Room.have_room, Statements.statement_done}
+use Rattle.inf_trees.proofs.{RuleRows.by_rows, StatementsRead.BegunUnit, StatementsRead.is_statement, StatementsRead.unit_quiet}
+use Rattle.inf_trees.proofs.{UnitsGo.AreQuiet, UnitsRead.place_before, UnitsRead.seen_parts}
+use Rattle.inf_trees.proofs.Symbols.{PartsOf, act_first, parts_of, token_first}
+use Rattle.inf_routine_trees.specs.Bodies.{If as IfTree, IfElse as ElseTree, Simple, Standing, Tree, TreeWritten, While as WhileTree}
+use Rattle.inf_routine_trees.specs.Bodies.{bracketed_done, bracketed_seen, later_effects, next_effect, opening_of, token_done, tree_laid}
+use Rattle.inf_routine_trees.specs.Bodies.{tree_seen, with_effect, with_effects, word_done}
 use Rattle.inf_routine_trees.proofs.Endings.{last_took}
-use Rattle.inf_routine_trees.proofs.Pieces.{BracketedText, bracketed_text, Worded, closed_text, test_happen, test_happens, test_quiet}
-use Rattle.inf_routine_trees.proofs.Pieces.{test_runs, before_word, word_happens, worded}
-use Rattle.inf_simple_trees.proofs.{SimpleRead.BegunUnit, SimpleRead.is_simple, SimpleRead.parted_quiet, UnitsGo.AreQuiet}
-use Rattle.inf_simple_trees.proofs.Symbols.{PartsOf, act_first, parts_of, token_first}
+use Rattle.inf_routine_trees.proofs.Effects.{Effects, given, none_behind, none_effects, none_given, put, put_happens, with_behind}
+use Rattle.inf_routine_trees.proofs.Pieces.{BracketedText, Worded, before_word, bracketed_text, closed_text, test_happen, test_happens}
+use Rattle.inf_routine_trees.proofs.Pieces.{test_quiet, test_runs, word_happens, worded}
 
 -- Tokens are a tree, which lays what the happenings of some events lay, nested by their words, before another token at a place.
 pub record IsTree (b : Bool) (limits : Limits) (next : Place) (seen : List Seen) (events : List (Event Action)) : Type 0 where
@@ -98,15 +97,14 @@ pub room_lays : (b : Bool) (done one_by_one : Compilation) → (b ≡ true → o
 room_lays true done one_by_one same = same refl
 room_lays false done one_by_one same = refl
 
-pub simple_tree : {b : Bool} (limits : Limits) (next : Place) (seen : List Seen) (events : List (Event Action)) → BegunUnit limits seen events
+pub simple_tree : {b : Bool} (limits : Limits) (next : Place) (seen : List Seen) (events : List (Event Action))
+    → BegunUnit limits seen events
     → AreSeen (atoms_of seen) (tokens_of seen) → length seen + 1 < 4294967295 → IsTree b limits next seen events
 simple_tree limits next seen events b are_seen few =
-    let p = b.parted in
-    let simple = λ (u : UnitAtHand). is_simple limits u seen events b.behind b.are p are_seen few in
-    let late : List (Event Action) = Did Action.EndStatement ∷ Took p.atom ∷ [] in
-    let are : events ≡ Did Action.Begin ∷ (p.early ++ late) = b.are ∙ ap (λ l. Did Action.Begin ∷ l) p.are in
+    let simple = λ (u : UnitAtHand). is_statement limits u seen events b are_seen few in
+    let late : List (Event Action) = Did Action.EndStatement ∷ Took b.atom ∷ [] in
     let quiet : AreQuiet events =
-    subst AreQuiet (sym are) (refl, quiet_joined p.early late (parted_quiet limits seen b.behind p are_seen few) (refl, tt)) in
+    subst AreQuiet (sym b.are) (refl, quiet_joined b.early late (unit_quiet limits seen events b are_seen few) (refl, tt)) in
     let q : Quiet = record { all = happenings_before next events seen; are = happen_quiet next events seen quiet } in
     record {
       tree = Simple (λ u. (simple u).tree) q;
@@ -122,19 +120,23 @@ simple_tree limits next seen events b are_seen few =
 
 -- Statements that hold others
 
--- Texts of statements with fewer tokens are trees.
-abbrev pub Below : Limits → ℕ → Type 0
-Below limits n =
-    (next : Place) (seen : List Seen) (events : List (Event Action)) → IsText grammar (statement ∷ []) (atoms_of seen) events
-    → AreSeen (atoms_of seen) (tokens_of seen) → length seen + 1 < 4294967295 → length seen ≤ n → IsTree false limits next seen events
-
 abbrev pub AreAll : List Seen → Type 0
 AreAll seen = AreSeen (atoms_of seen) (tokens_of seen)
 
 pub moved_seen : {xs ys : List Seen} → xs ≡ ys → AreAll xs → AreAll ys
 moved_seen same are = subst AreAll same are
 
-abbrev pub word_quiet : {limits : Limits} {stands : Standing} {symbols : List (Symbol Action)} {seen : List Seen} {events : List (Event Action)}
+-- Texts of one symbol, of at most `n` tokens, are trees, among which cases may be where `b` says so; those of statements with fewer tokens.
+abbrev pub OfSymbol : Bool → Symbol Action → Limits → ℕ → Type 0
+OfSymbol b symbol limits n =
+    (next : Place) (seen : List Seen) (events : List (Event Action)) → IsText grammar (symbol ∷ []) (atoms_of seen) events
+    → AreAll seen → length seen + 1 < 4294967295 → length seen ≤ n → IsTree b limits next seen events
+
+abbrev pub Below : Limits → ℕ → Type 0
+Below limits n = OfSymbol false statement limits n
+
+abbrev pub word_quiet : {limits : Limits} {stands : Standing} {symbols : List (Symbol Action)} {seen : List Seen}
+    {events : List (Event Action)}
     → Worded limits stands symbols seen events → Quiet
 word_quiet {stands = stands} wd = record { all = word_happens stands wd.word; are = wd.quiet }
 
@@ -186,7 +188,8 @@ body_text limits n below next seen events text are_seen few fewer =
 
 while_row_tree : {b : Bool} (limits : Limits) (n : ℕ) → Below limits n → (stands : Standing) (next : Place) (seen : List Seen)
     (events : List (Event Action)) → (wd : Worded limits stands (while_rest ∷ []) seen events)
-    → IsText grammar (!open_while ∷ 'open_parenthesis' ∷ !begin ∷ !outer ∷ expression ∷ !end_while ∷ 'close_parenthesis' ∷ statement ∷ !close ∷ [])
+    → IsText grammar (!open_while ∷ 'open_parenthesis' ∷ !begin ∷ !outer ∷ expression ∷ !end_while ∷ 'close_parenthesis' ∷ statement ∷
+    !close ∷ [])
     (atoms_of wd.rest) wd.late → AreAll seen → length seen + 1 < 4294967295 → length seen ≤ suc n → IsTree b limits next seen events
 while_row_tree {b} limits n below stands next seen events wd text are_seen few fewer =
     let all = moved_seen (sym wd.same) are_seen in
@@ -195,7 +198,8 @@ while_row_tree {b} limits n below stands next seen events wd text are_seen few f
     act_first Action.OpenWhile
     ('open_parenthesis' ∷ !begin ∷ !outer ∷ expression ∷ !end_while ∷ 'close_parenthesis' ∷ statement ∷ !close ∷ []) wd.rest wd.late text in
     let t = bracketed_text limits Action.EndWhile (statement ∷ !close ∷ []) wd.rest o.late o.text all.1 (omega (arith, few, count)) in
-    let body = body_text limits n below next t.rest t.late t.text t.seen_rest (omega (arith, few, count, t.fewer)) (omega (arith, fewer, count, t.fewer)) in
+    let body = body_text limits n below next t.rest t.late t.text t.seen_rest (omega (arith, few, count, t.fewer))
+    (omega (arith, fewer, count, t.fewer)) in
     let q : Quiet = record { all = test_happens t; are = test_quiet t refl } in
     let opens = opening_of t.tree in
     let closes = plainly_at next in
@@ -227,19 +231,13 @@ while_row_tree {b} limits n below stands next seen events wd text are_seen few f
       rests = λ effects. ap later_effects (body.rests effects);
     }
 
-while_rows : Rows while_rest
-    (row (!open_while ∷ 'open_parenthesis' ∷ !begin ∷ !outer ∷ expression ∷ !end_while ∷ 'close_parenthesis' ∷ statement ∷ !close ∷ []) ∷ [])
-unfolding grammar
-while_rows = refl
-
 pub while_tree : {b : Bool} (limits : Limits) (n : ℕ) → Below limits n → (stands : Standing) (next : Place) (seen : List Seen)
     (events : List (Event Action)) → IsText grammar (before_word stands ++ 'while' ∷ while_rest ∷ []) (atoms_of seen) events
     → AreAll seen → length seen + 1 < 4294967295 → length seen ≤ suc n → IsTree b limits next seen events
+unfolding grammar
 while_tree {b} limits n below stands next seen events text are_seen few fewer =
     let wd = worded limits stands _ (while_rest ∷ []) seen events text in
-    of_rows (IsTree b limits next seen events) (number while_rest)
-    (row (!open_while ∷ 'open_parenthesis' ∷ !begin ∷ !outer ∷ expression ∷ !end_while ∷ 'close_parenthesis' ∷ statement ∷ !close ∷ []) ∷ [])
-    (atoms_of wd.rest) wd.late while_rows
+    by_rows (IsTree b limits next seen events) (number while_rest)
     ((λ t. while_row_tree limits n below stands next seen events wd t are_seen few fewer), tt) wd.text
 
 -- The rest of an `if` behind its body: its closing, or its `else`
@@ -249,10 +247,6 @@ data ElseText (limits : Limits) (next : Place) (seen : List Seen) (events : List
       → happenings_before next events seen
       ≡ Acts (plainly_at joins.token.place) Action.Else ∷ Takes joins.token joins.behind ∷ happenings_before next late rest
       → BodyText limits next rest late → ElseText limits next seen events
-
-else_rows : Rows else_part (row (!else ∷ 'else' ∷ statement ∷ !close ∷ []) ∷ row_unless 115 (!close ∷ []) ∷ [])
-unfolding grammar
-else_rows = refl
 
 else_with : (limits : Limits) (n : ℕ) → Below limits n → (next : Place) (seen : List Seen) (events : List (Event Action))
     → IsText grammar (!else ∷ 'else' ∷ statement ∷ !close ∷ []) (atoms_of seen) events → AreAll seen → length seen + 1 < 4294967295
@@ -271,9 +265,9 @@ else_with limits n below next seen events text are_seen few fewer =
 else_text : (limits : Limits) (n : ℕ) → Below limits n → (next : Place) (seen : List Seen) (events : List (Event Action))
     → IsText grammar (else_part ∷ []) (atoms_of seen) events → AreAll seen → length seen + 1 < 4294967295
     → length seen ≤ n → ElseText limits next seen events
+unfolding grammar
 else_text limits n below next seen events text are_seen few fewer =
-    of_rows (ElseText limits next seen events) (number else_part)
-    (row (!else ∷ 'else' ∷ statement ∷ !close ∷ []) ∷ row_unless 115 (!close ∷ []) ∷ []) (atoms_of seen) events else_rows (
+    by_rows (ElseText limits next seen events) (number else_part) (
       (λ t. else_with limits n below next seen events t are_seen few fewer),
       ((λ t. let c = closed_text seen events t in Without c.none (c.happen next)), tt),
     )
@@ -425,17 +419,13 @@ if_by {b} limits n stands next seen events i (With joins rest late same happen o
           ∙ ap (λ r. later_effects (with_effects r other.tree).1) (i.body.rests effects);
     }
 
-if_rows : Rows if_rest (row (!open_if ∷ (if_front ++ statement ∷ else_part ∷ [])) ∷ [])
-unfolding grammar
-if_rows = refl
-
 pub if_tree : {b : Bool} (limits : Limits) (n : ℕ) → Below limits n → (stands : Standing) (next : Place) (seen : List Seen)
     (events : List (Event Action)) → IsText grammar (before_word stands ++ 'if' ∷ if_rest ∷ []) (atoms_of seen) events
     → AreAll seen → length seen + 1 < 4294967295 → length seen ≤ suc n → IsTree b limits next seen events
+unfolding grammar
 if_tree {b} limits n below stands next seen events text are_seen few fewer =
     let wd = worded limits stands _ (if_rest ∷ []) seen events text in
-    of_rows (IsTree b limits next seen events) (number if_rest) (row (!open_if ∷ (if_front ++ statement ∷ else_part ∷ [])) ∷ [])
-    (atoms_of wd.rest) wd.late if_rows (
+    by_rows (IsTree b limits next seen events) (number if_rest) (
       (λ t. let i = if_text limits n below stands next seen events wd t are_seen few fewer in
           if_by limits n stands next seen events i
           (else_text limits n below next i.parts.rest i.parts.late i.parts.of_rest i.seen_rest i.few i.fewer)),

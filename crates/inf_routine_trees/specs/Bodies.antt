@@ -1,24 +1,23 @@
 -- The statements of a routine as trees: each that is one unit with this unit, each that holds others with the units in its brackets and
 -- with its body; and cases, among the statements of a routine and of a `switch`, each with its values.
-use Rattle.std.specs.Prelude.{◌≡◌, ℕ, ◌+◌, ◌<◌, List, [], ◌∷◌, ◌++◌, length, nat_lt, Bool, true, false, not, ◌&&◌, if◌then◌else◌, Option, Some}
-use Rattle.std.specs.Prelude.{None}
-use Rattle.inf_settings.specs.Bounds.{Limits}
+use Rattle.std.specs.Prelude.{◌≡◌, ℕ, ◌+◌, ◌<◌, List, [], ◌∷◌, ◌++◌, length, nat_lt, Bool, true, false, not, ◌&&◌, if◌then◌else◌, Option}
+use Rattle.std.specs.Prelude.{Some, None}
 use Rattle.inf_scanner.specs.declared.tokens.Place.{Place}
+use Rattle.inf_settings.specs.Bounds.{Limits}
 use Rattle.inf_machine.specs.Grammar.{Event, IsText}
 use Rattle.inf_syntax.specs.{Parts.directive_2, Parts.statement, declared.actions.Action.Action}
 use Rattle.inf_grammar.specs.Language.{grammar}
+use Rattle.inf_unit.specs.Units.{Unit as UnitAtHand, begun, no_unit}
 use Rattle.inf_constructs.specs.{Constructs.between, Constructs.opened, declared.constructs.Kind.Kind, declared.constructs.Over.Over}
 use Rattle.inf_constructs.specs.declared.constructs.Case.TheVariants as case
-use Rattle.inf_unit.specs.Units.{Unit as UnitAtHand, begun, no_unit}
 use Rattle.inf_compilation.specs.{Actions.Compilation, Actions.took, Context.Context}
 use Rattle.inf_reader.specs.Acting.{act}
-use Rattle.inf_expression_laws.specs.Gathered.{AreSeen}
 use Rattle.inf_statement_laws.specs.{Happenings.Between, Happenings.Moment, Happenings.Quiet, Readings.Seen, Readings.plainly_at}
 use Rattle.inf_statement_laws.specs.Laid.{ended_as, holding, next_comes, opened_at, passed, run, with_kind_in, with_step_in}
+use Rattle.inf_expression_laws.specs.Gathered.{AreSeen}
 use Rattle.inf_language.specs.Texts.{atoms_of, happenings_before, tokens_of}
-use Rattle.inf_trees.specs.Statements.{Statement, statement_done, with_unit}
+use Rattle.inf_trees.specs.{Room.have_room, Statements.Statement, Statements.statement_done, Statements.with_unit}
 use Rattle.inf_trees.specs.Trees.{AreWritten, Part, all_seen, parts_told, with_parts}
-use Rattle.inf_simple_trees.specs.Room.{have_room}
 
 -- A unit in brackets. The places of its tokens are by the unit before it: where a token stands between the two, it is counted.
 pub record Bracketed : Type 0 where

@@ -2,15 +2,15 @@
 use Rattle.std.specs.Prelude.{◌≡◌, ◌+◌, ◌<◌, List, [], ◌∷◌, ◌++◌, length, Option}
 use Rattle.inf_settings.specs.Bounds.{Limits}
 use Rattle.inf_machine.specs.{Grammar.Event, Grammar.IsText, declared.symbols.Symbol.Symbol}
+use Rattle.inf_syntax.specs.declared.actions.Action.{Action}
 use Rattle.inf_syntax.specs.Parts.{ !end_locals, !end_routine, !routine, 'close_bracket', 'open_bracket', 'semicolon', NAME, directive}
 use Rattle.inf_syntax.specs.Parts.{directive_1, directive_2}
-use Rattle.inf_syntax.specs.declared.actions.Action.{Action}
 use Rattle.inf_grammar.specs.Language.{grammar}
 use Rattle.inf_unit.specs.declared.roles.Note.{Note}
 use Rattle.inf_compilation.specs.{Actions.Compilation, Context.Context}
 use Rattle.inf_reader.specs.Acting.{act}
-use Rattle.inf_expression_laws.specs.Gathered.{AreSeen}
 use Rattle.inf_statement_laws.specs.{Happenings.Between, Laid.next_comes, Readings.Seen, Readings.all_taken}
+use Rattle.inf_expression_laws.specs.Gathered.{AreSeen}
 use Rattle.inf_language.specs.Texts.{NoneClosesAhead, atoms_of, tokens_of}
 use Rattle.inf_trees.specs.Trees.{Noted, Part, Single, parts_told, with_parts}
 use Rattle.inf_routine_trees.specs.Bodies.{Tree, TreeWritten, token_done, tree_laid, tree_seen, with_effects}

@@ -1,11 +1,12 @@
 -- The changes that tokens, and steps of an expression, make in a compilation.
 use Rattle.std.proofs.Common.{◌≡◌, ℕ, Bool, true, false, Option, Some, None, refl, ◌∙◌, ap, ◌&&◌, is_some}
-use Rattle.inf_settings.specs.Bounds.{Limits}
 use Rattle.inf_scanner.specs.declared.tokens.Place.{Place}
+use Rattle.inf_settings.specs.Bounds.{Limits}
 use Rattle.inf_syntax.specs.declared.actions.Action.{Action}
-use Rattle.inf_constructs.specs.Constructs.{depth as open_depth}
-use Rattle.inf_unit.specs.{Roles.role_of, Steps.step_in, Tokens.SourceToken, declared.roles.Role.Role, declared.steps.GatherStep.GatherStep}
+use Rattle.inf_unit.specs.{Roles.role_of, Steps.step_in, Tokens.SourceToken, declared.roles.Role.Role}
+use Rattle.inf_unit.specs.{declared.steps.GatherStep.GatherStep}
 use Rattle.inf_unit.specs.Units.{Unit, acted, played as unit_played, stepped}
+use Rattle.inf_constructs.specs.Constructs.{depth as open_depth}
 use Rattle.inf_compilation.specs.{Actions.Compilation, Actions.nested, Actions.opens, Context.Context}
 use Rattle.inf_reader.specs.Acting.{act, played}
 use Rattle.inf_language.specs.{Constants.is_too_deep, Constants.length_told, Constants.token_told, Units.is_step}
@@ -28,7 +29,7 @@ told_opening context t brackets (Some place) count w =
 
 -- A step changes nothing but what is gathered.
 
-stepped_gathers : (s : GatherStep) (u : Unit) → stepped s u ≡ record u { gathering = (stepped s u).gathering }
+pub stepped_gathers : (s : GatherStep) (u : Unit) → stepped s u ≡ record u { gathering = (stepped s u).gathering }
 stepped_gathers GatherStep.Leaf u = refl
 stepped_gathers GatherStep.Action u = refl
 stepped_gathers GatherStep.System u = refl

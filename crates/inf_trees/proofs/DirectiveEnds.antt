@@ -1,30 +1,30 @@
 -- Behind the end of each directive that is one unit the unit is over, but for its semicolon.
 use Rattle.std.proofs.Common.{◌≡◌, ℕ, List, [], ◌∷◌, map, Bool, true, Option, Some, None, refl, ◌∙◌, ap, nat_lt}
-use Rattle.inf_settings.specs.Bounds.{Limits}
-use Rattle.inf_scanner.specs.declared.tokens.Place.{Place}
-use Rattle.inf_expressions.specs.{Findings.out_of_range, declared.findings.Finding.Finding, declared.units.Wanted.Wanted}
 use Rattle.inf_letters.specs.{Letters.ignores, declared.letters.Letters.Letters}
+use Rattle.inf_expressions.specs.{Findings.out_of_range, declared.findings.Finding.Finding, declared.units.Wanted.Wanted}
+use Rattle.inf_scanner.specs.declared.tokens.Place.{Place}
+use Rattle.inf_settings.specs.Bounds.{Limits}
 use Rattle.inf_names.specs.{Spellings.Name, Symbols.declare_fault, declared.meanings.Meaning.Meaning}
 use Rattle.inf_names.specs.{declared.symbols.DeclareFault.DeclareFault}
 use Rattle.inf_output.specs.Output.{declared}
+use Rattle.inf_report.specs.declared.messages.FixedLimit.{FixedLimit}
 use Rattle.inf_unit.specs.{Directives.directive_of, declared.directives.Directive.Directive}
 use Rattle.inf_unit.specs.Units.{directive_word, first_place, name_order, names_in, over, quoted_in}
 use Rattle.inf_unit.proofs.Cases.{of_both}
 use Rattle.inf_constructs.specs.Roots.{tree_in}
-use Rattle.inf_report.specs.declared.messages.FixedLimit.{FixedLimit}
 use Rattle.inf_compilation.specs.{Context.Context, Findings.again_by, Findings.found_alone, Findings.nothing_found}
 use Rattle.inf_compilation.specs.Actions.{Compilation, constant, constant_added, constant_declared, constant_ended, constant_finding}
 use Rattle.inf_compilation.specs.Actions.{constant_findings, constant_meaning, constant_of, finding_at, is_first_declared, new_stub}
 use Rattle.inf_compilation.specs.Actions.{operands_of, replace, routine_declared, stub, stub_code, stub_locals, stubbed, trees_at}
 use Rattle.inf_compilation.specs.Actions.{unit_ended}
-use Rattle.inf_declarations.specs.{Abbreviations.low_string, Defaults.default, Globals.global_variable}
-use Rattle.inf_declarations.specs.Properties.{property, property_named, property_names, property_order, property_with}
-use Rattle.inf_declarations.specs.Attributes.{attribute, attribute_with}
-use Rattle.inf_declarations.specs.Headers.{known_number, release, release_finding, release_told, serial_by, serial_in}
-use Rattle.inf_declarations.specs.Switches.{has_code, letters_behind, switches, switches_by}
 use Rattle.inf_named_values.specs.Declarations.{alias_told, is_additive, is_alias}
-use Rattle.inf_reader.specs.Directives.{carried_out, code_begun_by, directive_end, directive_of_names}
+use Rattle.inf_declarations.specs.{Abbreviations.low_string, Attributes.attribute, Attributes.attribute_with, Defaults.default}
+use Rattle.inf_declarations.specs.{Globals.global_variable}
+use Rattle.inf_declarations.specs.Headers.{known_number, release, release_finding, release_told, serial_by, serial_in}
+use Rattle.inf_declarations.specs.Properties.{property, property_named, property_names, property_order, property_with}
+use Rattle.inf_declarations.specs.Switches.{has_code, letters_behind, switches, switches_by}
 use Rattle.inf_verb_lines.specs.Verbs.{fake_action}
+use Rattle.inf_reader.specs.Directives.{carried_out, code_begun_by, directive_end, directive_of_names}
 
 -- whether the unit of a compilation is that of another, over but for its last token
 abbrev pub IsOver : Compilation → Compilation → Type 0

@@ -1,21 +1,21 @@
 -- A text of a piece that begins as a directive that is one unit: the unit, its end and the semicolon.
-use Rattle.std.proofs.Common.{◌≡◌, ℕ, List, [], ◌∷◌, ◌++◌, true, false, ◌&&◌, ◌==◌, refl, sym, ◌∙◌, ap, inl, inr, bit_and}
+use Rattle.std.proofs.Common.{◌≡◌, ℕ, ◌≤◌, List, [], ◌∷◌, true, false, ◌&&◌, ◌==◌, refl, sym, ◌∙◌, ap, inl, inr, bit_and, arith, is_some}
+use Rattle.std.proofs.Common.{Bool, ◌++◌, Option, Some, subst}
 use Rattle.std.proofs.lemmas.Bool.{and_from, and_parts, eqb-true, or_cases}
 use Rattle.inf_scanner.specs.declared.tokens.Mark.{Mark}
 use Rattle.inf_machine.specs.{Machine.fits, declared.symbols.Symbol.Symbol}
-use Rattle.inf_machine.specs.Grammar.{Event, IsText, Row, action, has, token}
+use Rattle.inf_machine.specs.Grammar.{Event, IsOneOf, IsText, Leads, Row, action, has, here, row, token}
 use Rattle.inf_machine.proofs.{Sets.has_and, Sets.has_zero, Taking.leads_only}
 use Rattle.inf_syntax.specs.{Atoms.mark_atom, Rows.row as row_of, declared.actions.Action.Action}
-use Rattle.inf_syntax.specs.Parts.{ !end_body, !end_directive, !end_header, !end_locals, !end_routine, !end_text, !routine, 'abbreviate'}
-use Rattle.inf_syntax.specs.Parts.{'array', 'class', 'close_bracket', 'extend', 'hash', 'nearby', 'object', 'open_bracket', 'semicolon'}
-use Rattle.inf_syntax.specs.Parts.{'verb', BODYNAME, NAME, OFCLASS, TEXT, WORD, body, directive, directive_1, directive_10, directive_11}
-use Rattle.inf_syntax.specs.Parts.{directive_12, directive_2, directive_3, directive_4, directive_5, directive_6, directive_7, directive_8}
-use Rattle.inf_syntax.specs.Parts.{directive_9, object, piece, whole_directive}
+use Rattle.inf_syntax.specs.Parts.{ !end_directive, 'hash', 'semicolon', directive, piece, whole_directive}
 use Rattle.inf_grammar.specs.{Evaluated.language_is_decided, Language.grammar, Language.known}
-use Rattle.inf_statement_laws.proofs.Rules.{number}
 use Rattle.inf_grammar.proofs.Spaced.{rule_is_spaced}
+use Rattle.inf_statement_laws.proofs.Rules.{number}
 use Rattle.inf_trees.specs.Directives.{begins_directive, is_word, words}
-use Rattle.inf_trees.proofs.{RuleRows.of_rows, UnitTexts.NoNotes, UnitTexts.is_flat, UnitTexts.is_unit}
+use Rattle.inf_trees.proofs.{ItemTexts.same_symbols, Needs.Bytes, Needs.Kind, Needs.Places, Needs.needs_in, RuleRows.of_rows}
+use Rattle.inf_trees.proofs.{RuleRows.of_rule, UnitStates.Ended, UnitStates.Free, UnitStates.Typed}
+use Rattle.inf_trees.proofs.UnitWalks.{bind, declared, each_row, from_some, holds, or_else, walk}
+use Rattle.inf_trees.proofs.Weights.{AllKeep, directive_bytes, directive_places, of_directives, weighed, weight}
 
 -- Atoms that are in no two sets
 
@@ -28,83 +28,59 @@ apart xs ys atom none x y =
     absurd_of : true ≡ false → ⊥
     absurd_of same = cc
 
--- A token of some classes is none of the words.
+-- Symbols that begin with a token that is none of the words
 
-abbrev pub OutsideWords : ℕ → Type 0
-OutsideWords class = bit_and (grammar.atoms_of class) words ≡ 0
+abbrev pub outside : List (Symbol Action) → Bool
+outside (Symbol.Token class ∷ symbols) = bit_and (grammar.atoms_of class) words == 0
+outside (Symbol.Act a ∷ symbols) = outside symbols
+outside _ = false
 
-no_word : (class atom : ℕ) → OutsideWords class → has (grammar.atoms_of class) atom ≡ true → is_word atom ≡ true → ⊥
+pub outside-append : (xs ys : List (Symbol Action)) → outside xs ≡ true → outside (xs ++ ys) ≡ true
+outside-append [] ys is = cc
+outside-append (Symbol.Token class ∷ xs) ys is = is
+outside-append (Symbol.Act a ∷ xs) ys is = outside-append xs ys is
+outside-append (Symbol.Rule rule ∷ xs) ys is = cc
+
+same_first : {x y : ℕ} {xs ys : List ℕ} → x ∷ xs ≡ y ∷ ys → x ≡ y
+same_first same = cc
+
+no_word_first : (class first atom : ℕ) → (bit_and (grammar.atoms_of class) words == 0) ≡ true → has (grammar.atoms_of class) first ≡ true
+    → first ≡ atom → is_word atom ≡ true → ⊥
 unfolding is_word
-no_word class atom none h is = apart (grammar.atoms_of class) words atom none h is
+no_word_first class first atom out h same is =
+    apart (grammar.atoms_of class) words first (eqb-true (bit_and (grammar.atoms_of class) words) 0 out) h
+    (ap (λ n. has words n) same ∙ is)
 
-pub outside_0 : OutsideWords 0
-unfolding grammar
-outside_0 = refl
+pub no_word : {symbols left : List (Symbol Action)} {atoms : List ℕ} {events : List (Event Action)}
+    → Leads grammar symbols atoms events left
+    → outside symbols ≡ true → (atom : ℕ) (rest : List ℕ) → atoms ≡ atom ∷ rest → is_word atom ≡ true → ⊥
+no_word here out atom rest same is = cc
+no_word (token {class} {atom = one} h leads) out atom rest same is = no_word_first class one atom out h (same_first same) is
+no_word (action leads) out atom rest same is = no_word leads out atom rest same is
+no_word (row m free leads) out atom rest same is = cc
 
-pub outside_1 : OutsideWords 1
+pub sign_outside : (symbols : List (Symbol Action)) → outside ('hash' ∷ symbols) ≡ true
 unfolding grammar
-outside_1 = refl
-
-pub outside_2 : OutsideWords 2
-unfolding grammar
-outside_2 = refl
-
-pub outside_5 : OutsideWords 5
-unfolding grammar
-outside_5 = refl
-
-pub outside_7 : OutsideWords 7
-unfolding grammar
-outside_7 = refl
-
-pub outside_8 : OutsideWords 8
-unfolding grammar
-outside_8 = refl
-
-pub outside_10 : OutsideWords 10
-unfolding grammar
-outside_10 = refl
-
-pub outside_11 : OutsideWords 11
-unfolding grammar
-outside_11 = refl
-
-pub outside_12 : OutsideWords 12
-unfolding grammar
-outside_12 = refl
-
-pub outside_13 : OutsideWords 13
-unfolding grammar
-outside_13 = refl
-
-pub outside_15 : OutsideWords 15
-unfolding grammar
-outside_15 = refl
+sign_outside symbols = refl
 
 -- Rows
 
 abbrev pub unit_end : List (Symbol Action)
 unit_end = !end_directive ∷ 'semicolon' ∷ []
 
-abbrev pub directive_rows : List (Row Action)
-directive_rows =
-    row_of
-    (!routine ∷ 'open_bracket' ∷ NAME ∷ directive_1 ∷ !end_locals ∷ 'semicolon' ∷ directive_2 ∷ !end_routine ∷ 'close_bracket'
-    ∷ 'semicolon' ∷ [])
-    ∷ row_of ('abbreviate' ∷ !end_header ∷ TEXT ∷ !end_text ∷ directive_3 ∷ 'semicolon' ∷ [])
-    ∷ row_of ('array' ∷ NAME ∷ directive_4 ∷ !end_header ∷ directive_5 ∷ 'semicolon' ∷ [])
-    ∷ row_of ('class' ∷ BODYNAME ∷ !end_header ∷ body ∷ !end_body ∷ 'semicolon' ∷ [])
-    ∷ row_of ('object' ∷ directive_6 ∷ object ∷ [])
-    ∷ row_of ('nearby' ∷ object ∷ [])
-    ∷ row_of (OFCLASS ∷ directive_7 ∷ object ∷ [])
-    ∷ row_of ('extend' ∷ WORD ∷ directive_8 ∷ !end_header ∷ directive_9 ∷ 'semicolon' ∷ [])
-    ∷ row_of ('verb' ∷ directive_10 ∷ WORD ∷ directive_11 ∷ directive_12 ∷ 'semicolon' ∷ [])
-    ∷ row_of (whole_directive ∷ unit_end)
-    ∷ []
+-- A row of a directive is that of those that are one unit, or begins with none of the words.
+pub data DirectiveRow : List (Symbol Action) → Type 0 where
+  IsWhole : DirectiveRow (whole_directive ∷ unit_end)
+  IsOutside : {parts : List (Symbol Action)} → outside parts ≡ true → DirectiveRow parts
 
-pub directives_have : grammar.rows_of (number directive) ≡ directive_rows
+abbrev directive_kind : (parts : List (Symbol Action)) → Option (DirectiveRow parts)
+directive_kind parts =
+    or_else (bind (holds (outside parts)) (λ is. Some (IsOutside is)))
+    (bind (same_symbols parts (whole_directive ∷ unit_end)) (λ same. Some (subst DirectiveRow (sym same) IsWhole)))
+
+pub directive_row : (r : Row Action) → IsOneOf r (grammar.rows_of (number directive)) → DirectiveRow r.parts
 unfolding grammar
-directives_have = refl
+directive_row r m = from_some (each_row DirectiveRow directive_kind (grammar.rows_of (number directive))) refl r m
 
 abbrev pub piece_rows : List (Row Action)
 piece_rows = row_of ('semicolon' ∷ []) ∷ row_of ('hash' ∷ directive ∷ []) ∷ row_of (directive ∷ []) ∷ []
@@ -113,47 +89,18 @@ pub pieces_have : grammar.rows_of (number piece) ≡ piece_rows
 unfolding grammar
 pieces_have = refl
 
--- A directive that begins with one of the words is the last of the rows.
+-- A directive that begins with one of the words is one unit.
 
-pub by_word : (class atom : ℕ) (symbols : List (Symbol Action)) (atoms : List ℕ) (events : List (Event Action)) → OutsideWords class
-    → is_word atom ≡ true → IsText grammar (Symbol.Token class ∷ symbols) (atom ∷ atoms) events → ⊥
-by_word class atom symbols atoms events none is (token h leads) = no_word class atom none h is
-
-pub routine_no_word : (atom : ℕ) (symbols : List (Symbol Action)) (atoms : List ℕ) (events : List (Event Action)) → is_word atom ≡ true
-    → IsText grammar (!routine ∷ 'open_bracket' ∷ symbols) (atom ∷ atoms) events → ⊥
-routine_no_word atom symbols atoms events is (action {events = rest} leads) =
-    by_word 2 atom symbols atoms rest outside_2 is leads
+by_row : {parts : List (Symbol Action)} {atoms : List ℕ} {events : List (Event Action)} → DirectiveRow parts
+    → IsText grammar parts atoms events
+    → (atom : ℕ) (rest : List ℕ) → atoms ≡ atom ∷ rest → is_word atom ≡ true → IsText grammar (whole_directive ∷ unit_end) atoms events
+by_row IsWhole text atom rest same is = text
+by_row (IsOutside out) text atom rest same is = absurd (no_word text out atom rest same is)
 
 directive_text : (atom : ℕ) (atoms : List ℕ) (events : List (Event Action)) → is_word atom ≡ true
     → IsText grammar (directive ∷ []) (atom ∷ atoms) events → IsText grammar (whole_directive ∷ unit_end) (atom ∷ atoms) events
 directive_text atom atoms events is text =
-    let P = IsText grammar (whole_directive ∷ unit_end) (atom ∷ atoms) events in
-    of_rows P (number directive) directive_rows (atom ∷ atoms) events directives_have (
-      (λ t. absurd (routine_no_word atom _ atoms events is t)),
-      (
-        (λ t. absurd (by_word 5 atom _ atoms events outside_5 is t)),
-        (
-          (λ t. absurd (by_word 7 atom _ atoms events outside_7 is t)),
-          (
-            (λ t. absurd (by_word 8 atom _ atoms events outside_8 is t)),
-            (
-              (λ t. absurd (by_word 10 atom _ atoms events outside_10 is t)),
-              (
-                (λ t. absurd (by_word 11 atom _ atoms events outside_11 is t)),
-                (
-                  (λ t. absurd (by_word 12 atom _ atoms events outside_12 is t)),
-                  (
-                    (λ t. absurd (by_word 13 atom _ atoms events outside_13 is t)),
-                    ((λ t. absurd (by_word 15 atom _ atoms events outside_15 is t)), ((λ t. t), tt)),
-                  ),
-                ),
-              ),
-            ),
-          ),
-        ),
-      ),
-    )
-    text
+    of_rule (number directive) text (λ r m t. by_row (directive_row r m) t atom atoms refl is)
 
 -- No directive begins with the sign.
 sign_unfit : fits grammar known (mark_atom Mark.Hash) (directive ∷ []) ≡ false
@@ -169,33 +116,66 @@ no_sign atom atoms events is text =
     contrary : true ≡ false → ⊥
     contrary same = cc
 
--- The text of a directive that is one unit: symbols of a unit, then its end.
+-- The text of a directive that is one unit, which is read as such up to its end, and needs nothing
 pub record UnitText (atoms : List ℕ) (events : List (Event Action)) : Type 0 where
-  pub front : List (Symbol Action)
-  pub flat : is_flat NoNotes false front ≡ true
-  pub text : IsText grammar (front ++ unit_end) atoms events
+  pub symbols : List (Symbol Action)
+  pub typed : Typed declared Action.EndDirective Free symbols Ended
+  pub text : IsText grammar symbols atoms events
+  pub bytes : needs_in Bytes events ≤ 0
+  pub places : needs_in Places events ≤ 0
 
-word_flat : is_flat NoNotes false (whole_directive ∷ []) ≡ true
-unfolding is_unit
-word_flat = refl
+word_typed : is_some (walk 80 Action.EndDirective Free (whole_directive ∷ unit_end) Ended) ≡ true
+unfolding grammar declared
+word_typed = refl
 
-sign_flat : is_flat NoNotes false ('hash' ∷ whole_directive ∷ []) ≡ true
-unfolding is_unit
-sign_flat = refl
+sign_typed : is_some (walk 80 Action.EndDirective Free ('hash' ∷ whole_directive ∷ unit_end) Ended) ≡ true
+unfolding grammar declared
+sign_typed = refl
 
-semicolon_none : (first second : ℕ) (atoms : List ℕ) (events : List (Event Action)) → IsText grammar ('semicolon' ∷ []) (first ∷ second ∷ atoms)
+free_of : (kind : Kind) → weight of_directives kind (whole_directive ∷ unit_end) ≡ 0
+unfolding of_directives
+free_of Bytes = refl
+free_of Places = refl
+
+directives_keep : (kind : Kind) → AllKeep of_directives kind
+directives_keep Bytes = directive_bytes
+directives_keep Places = directive_places
+
+no_needs : (kind : Kind) {atoms : List ℕ} {events : List (Event Action)} → IsText grammar (whole_directive ∷ unit_end) atoms events
+    → needs_in kind events ≤ 0
+no_needs kind text =
+    let none = free_of kind in
+    let less = weighed of_directives kind (directives_keep kind) text (omega (arith, none)) in
+    omega (arith, none, less)
+
+semicolon_none : (first second : ℕ) (atoms : List ℕ) (events : List (Event Action))
+    → IsText grammar ('semicolon' ∷ []) (first ∷ second ∷ atoms)
     events → ⊥
 semicolon_none first second atoms events (token h leads) = elim leads [ ]
 
 with_sign : (first second : ℕ) (atoms : List ℕ) (events : List (Event Action)) → is_word second ≡ true
     → IsText grammar ('hash' ∷ directive ∷ []) (first ∷ second ∷ atoms) events → UnitText (first ∷ second ∷ atoms) events
 with_sign first second atoms events is (token {events = rest} h leads) =
-    record { front = 'hash' ∷ whole_directive ∷ []; flat = sign_flat; text = token h (directive_text second atoms rest is leads) }
+    let text = directive_text second atoms rest is leads in
+    record {
+      symbols = 'hash' ∷ whole_directive ∷ unit_end;
+      typed = from_some (walk 80 Action.EndDirective Free ('hash' ∷ whole_directive ∷ unit_end) Ended) sign_typed;
+      text = token h text;
+      bytes = no_needs Bytes text;
+      places = no_needs Places text;
+    }
 
 without_sign : (first second : ℕ) (atoms : List ℕ) (events : List (Event Action)) → is_word first ≡ true
     → IsText grammar (directive ∷ []) (first ∷ second ∷ atoms) events → UnitText (first ∷ second ∷ atoms) events
 without_sign first second atoms events is text =
-    record { front = whole_directive ∷ []; flat = word_flat; text = directive_text first (second ∷ atoms) events is text }
+    let text = directive_text first (second ∷ atoms) events is text in
+    record {
+      symbols = whole_directive ∷ unit_end;
+      typed = from_some (walk 80 Action.EndDirective Free (whole_directive ∷ unit_end) Ended) word_typed;
+      text = text;
+      bytes = no_needs Bytes text;
+      places = no_needs Places text;
+    }
 
 pub piece_text : (atoms : List ℕ) (events : List (Event Action)) → begins_directive atoms ≡ true → IsText grammar (piece ∷ []) atoms events
     → UnitText atoms events
@@ -207,7 +187,7 @@ piece_text (first ∷ second ∷ atoms) events begins text =
       (λ t. absurd (semicolon_none first second atoms events t)),
       (
         (λ t. elim (or_cases (is_word first) ((first == mark_atom Mark.Hash) && is_word second) begins) [
-          | inl is ↦ absurd (by_word 1 first _ (second ∷ atoms) events outside_1 is t)
+          | inl is ↦ absurd (no_word t (sign_outside (directive ∷ [])) first (second ∷ atoms) refl is)
           | inr both ↦ with_sign first second atoms events (and_parts (first == mark_atom Mark.Hash) (is_word second) both).1 t
         ]),
         (

@@ -1,5 +1,6 @@
 -- The semicolon behind a unit: it opens no bracket, and has no report.
-use Rattle.std.proofs.{lemmas.Bool.eqb-false, lemmas.Bool.eqb-true, lemmas.Nat.Bits.bit_at-pow_other}
+use Rattle.std.proofs.lemmas.Bool.{eqb-false, eqb-true}
+use Rattle.std.proofs.lemmas.Nat.Bits.{bit_at-pow_other}
 use Rattle.std.proofs.Common.{◌≡◌, ℕ, ◌^◌, List, [], ◌∷◌, ◌++◌, Bool, true, false, ◌==◌, refl, sym, ◌∙◌, ap}
 use Rattle.inf_scanner.specs.declared.tokens.Mark.{Mark}
 use Rattle.inf_machine.specs.Grammar.{has}
@@ -7,8 +8,8 @@ use Rattle.inf_syntax.specs.Atoms.{mark_atom}
 use Rattle.inf_grammar.specs.Language.{grammar}
 use Rattle.inf_unit.specs.Units.{Unit as UnitAtHand, over, taken}
 use Rattle.inf_compilation.specs.{Actions.Compilation, Actions.opens, Actions.took, Context.Context}
-use Rattle.inf_expression_laws.specs.Gathered.{AreSeen, IsSeen}
 use Rattle.inf_statement_laws.specs.Readings.{Seen}
+use Rattle.inf_expression_laws.specs.Gathered.{AreSeen, IsSeen}
 use Rattle.inf_language.specs.Texts.{atoms_of, tokens_of}
 use Rattle.inf_language.proofs.ExpressionsTold.{nothing_told, took_is_told}
 use Rattle.inf_trees.specs.Trees.{told_at}

@@ -1,14 +1,15 @@
 -- Behind the end of a statement its unit is over, but for its semicolon.
 use Rattle.std.proofs.Common.{◌≡◌, ℕ, List, true, Option, Some, None, refl, ◌∙◌, ap}
-use Rattle.inf_settings.specs.Bounds.{Limits}
-use Rattle.inf_scanner.specs.declared.tokens.Place.{Place}
 use Rattle.inf_expressions.specs.{Rooted.Rooted, declared.findings.Finding.Finding}
+use Rattle.inf_scanner.specs.declared.tokens.Place.{Place}
+use Rattle.inf_settings.specs.Bounds.{Limits}
 use Rattle.inf_unit.specs.Units.{Unit as UnitAtHand, jump_of, over, own_place, prepared_by}
 use Rattle.inf_unit.proofs.Cases.{of_both}
 use Rattle.inf_statements.specs.declared.statements.Statement.{Statement}
-use Rattle.inf_compilation.specs.{Actions.Compilation, Actions.named, Actions.passed, Actions.settled_of, Actions.trees_at, Context.Context}
-use Rattle.inf_parts.specs.Parts.{found_in, order_of, part_carried, part_effect, part_ended, part_finished, part_prepared, wanted_of}
+use Rattle.inf_compilation.specs.Context.{Context}
+use Rattle.inf_compilation.specs.Actions.{Compilation, named, passed, settled_of, trees_at}
 use Rattle.inf_parts.specs.declared.parts.Part.{Part}
+use Rattle.inf_parts.specs.Parts.{found_in, order_of, part_carried, part_effect, part_ended, part_finished, part_prepared, wanted_of}
 
 effect_unit : (limits : Limits) (context : Context) (s : Statement) (trees : List Rooted) (w : Compilation)
     → (part_effect limits context (Part.Statement s) trees w).unit ≡ w.unit

@@ -1,35 +1,37 @@
--- Tokens that are a statement of one unit are that unit as a tree, and have its effect.
-use Rattle.std.proofs.{lemmas.Bool.cond-false, lemmas.Bool.le-ltb, lemmas.List.length-append, lemmas.List.length-take}
-use Rattle.std.proofs.Common.{◌≡◌, ℕ, ◌+◌, ◌≤◌, ◌<◌, List, [], ◌∷◌, ◌++◌, length, true, false, refl, sym, ◌∙◌, ap, subst, append-nil, arith}
-use Rattle.std.specs.Prelude.{nat_lt, take}
-use Rattle.inf_settings.specs.{Bounds.Limits, declared.setting.Setting.Setting}
-use Rattle.inf_unit.specs.{Tokens.SourceToken, declared.roles.Note.Note}
-use Rattle.inf_unit.specs.Units.{Unit as UnitAtHand, begun, depth_behind, is_some_mark, kind_at, noted, text_passed}
-use Rattle.inf_reader.specs.Acting.{act, is_crowded}
+-- Statements of one unit, items at the top of a routine, and units in brackets are trees.
+use Rattle.std.proofs.Common.{◌≡◌, ℕ, ◌+◌, ◌≤◌, ◌<◌, List, [], ◌∷◌, ◌++◌, length, Bool, true, false, ◌||◌, refl, sym, ◌∙◌, ap, subst}
+use Rattle.std.proofs.Common.{arith, append-nil}
+use Rattle.std.proofs.lemmas.Bool.{eqb-true}
+use Rattle.std.proofs.lemmas.List.{length-append, length-take}
+use Rattle.std.specs.Prelude.{take}
 use Rattle.inf_scanner.specs.{declared.tokens.Mark.Mark, declared.tokens.Place.Place}
-use Rattle.inf_expression_laws.specs.{Gathered.AreSeen, Laws.forms}
-use Rattle.inf_machine.specs.Grammar.{Did, Event, IsOneOf, IsText, Leads, Took, action, has, here, token}
+use Rattle.inf_settings.specs.Bounds.{Limits}
 use Rattle.inf_machine.specs.declared.symbols.Symbol.{Symbol}
-use Rattle.inf_syntax.specs.Parts.{ !end_statement, !outer, !outer_maybe, expression, !print_text, 'semicolon', TEXT}
+use Rattle.inf_machine.specs.Grammar.{Did, Event, IsText, Took, first, has, later}
 use Rattle.inf_syntax.specs.declared.actions.Action.{Action}
+use Rattle.inf_syntax.specs.Parts.{ !begin, !deeper, !outer, expression}
 use Rattle.inf_grammar.specs.Language.{grammar}
+use Rattle.inf_unit.specs.Tokens.{SourceToken, is_mark}
+use Rattle.inf_unit.specs.Units.{Unit as UnitAtHand, begun, is_some_mark, kind_at, no_unit}
 use Rattle.inf_compilation.specs.{Actions.Compilation, Actions.opens, Context.Context}
 use Rattle.inf_parts.specs.Parts.{part_ended, statement_at}
 use Rattle.inf_parts.specs.declared.parts.Part.TheVariants as part
 use Rattle.inf_statement_laws.specs.{Happenings.Acts, Happenings.Happening, Happenings.Takes, Laid.next_comes, Laid.passed, Laid.run}
 use Rattle.inf_statement_laws.specs.{Readings.Seen, Readings.plainly_at}
 use Rattle.inf_statement_laws.proofs.Laying.{run_then}
+use Rattle.inf_expression_laws.specs.Gathered.{AreSeen}
 use Rattle.inf_language.specs.{Texts.atoms_of, Texts.happenings_before, Texts.tokens_of, Units.TakeAll}
-use Rattle.inf_language.proofs.{Derivations.last_apart, Derivations.seen_front, Derivations.texts_take_all, TextsSplit.split}
-use Rattle.inf_trees.specs.Statements.{BracketedUnitsAreTrees, IsOneUnit, IsStatement, One, Other, Statement, StatementsAreTrees}
-use Rattle.inf_trees.specs.Trees.{Part}
-use Rattle.inf_trees.specs.Statements.{begins_line, other_items, other_statements, statement_done, with_unit}
-use Rattle.inf_trees.proofs.{StatementEnds.statement_over, TopTexts.item_text}
-use Rattle.inf_trees.proofs.Semicolons.{last_atom, last_seen, opens_nothing, over_taken}
-use Rattle.inf_trees.proofs.StatementTexts.{Flat, Formed, OnlySteps, Others, Printed, StatementText, statement_text, unit_end}
-use Rattle.inf_trees.proofs.UnitTexts.{Expressed, Finished, Kinds, NoNotes, OperandEnds, Reads, parsed}
-use Rattle.inf_trees.proofs.UnitsRead.{NoLine, Read, alone_reads, before-append, note_first, noted_reads, ready, units_read}
-use Rattle.inf_trees.proofs.ValueForms.{HasForm, formed, expression_form, form_of}
+use Rattle.inf_language.proofs.Derivations.{seen_front, texts_take_all}
+use Rattle.inf_trees.specs.{Ends.case_first, Trees.Part, Trees.Value}
+use Rattle.inf_trees.specs.Statements.{BracketedUnitsAreTrees, Case, IsOneUnit, IsStatement, One, Other, Statement, StatementsAreTrees}
+use Rattle.inf_trees.specs.Statements.{begins_list, block, is_list_atom, statement_done, with_unit}
+use Rattle.inf_trees.proofs.{Pending.OfFree, Semicolons.last_seen, Semicolons.opens_nothing, Semicolons.over_taken}
+use Rattle.inf_trees.proofs.{StatementEnds.statement_over, Symbols.act_first, UnitStates.Ended, UnitStates.Free, UnitStates.Typed}
+use Rattle.inf_trees.proofs.{UnitWalks.OfStatement, UnitWalks.declared, UnitsGo.AreQuiet, UnitsGo.Going, UnitsTyped.units_typed}
+use Rattle.inf_trees.proofs.{Weights.is_small, Weights.small_needs}
+use Rattle.inf_trees.proofs.ItemTexts.{ABlock, ACase, AUnit, Holds, ItemText, statement_text, top_item_text}
+use Rattle.inf_trees.proofs.Needs.{Bytes, NoLine, front_needs, little_room, needs_in}
+use Rattle.inf_trees.proofs.UnitsRead.{before-append, expressed_does, expression_form, gathers, note_first}
 
 -- The tokens between a unit and the one before
 
@@ -40,140 +42,71 @@ kind_behind : (xs ys : List SourceToken) → kind_at (xs ++ ys) (length xs) ≡ 
 kind_behind [] ys = refl
 kind_behind (x ∷ xs) ys = kind_behind xs ys
 
-no_line : (before : List SourceToken) (tokens : List Seen) → begins_line tokens ≡ false
+or_right_false : (a b : Bool) → (a || b) ≡ false → b ≡ false
+or_right_false true b none = cc
+or_right_false false b none = none
+
+no_line : (before : List SourceToken) (tokens : List Seen) → begins_list tokens ≡ false
     → NoLine (before ++ tokens_of tokens) (length before)
 no_line before [] plain = ap (is_some_mark Mark.At) (kind_behind before [])
-no_line before (s ∷ tokens) plain = ap (is_some_mark Mark.At) (kind_behind before (s.token ∷ tokens_of tokens)) ∙ plain
+no_line before (s ∷ tokens) plain = ap (is_some_mark Mark.At) (kind_behind before (s.token ∷ tokens_of tokens))
+    ∙ or_right_false (is_list_atom s.atom) (is_mark Mark.At s.token.kind) plain
 
-plain_front : (tokens rest seen : List Seen) → tokens ++ rest ≡ seen → begins_line seen ≡ false → begins_line tokens ≡ false
-plain_front [] rest seen same plain = refl
-plain_front (s ∷ tokens) rest seen same plain = subst (λ l. begins_line l ≡ false) (sym same) plain
+-- The unit of a text, and its semicolon
 
--- A unit that is read from where it begins
+none_left : (acts : List (Event Action)) (e : Action) (atom : ℕ) → TakeAll (acts ++ Did e ∷ Took atom ∷ []) [] → ⊥
+none_left [] e atom all = all
+none_left (Did a ∷ acts) e atom all = none_left acts e atom all
+none_left (Took n ∷ acts) e atom all = all
 
--- These tokens are read as a unit, whichever is before it.
-abbrev IsReader : List Seen → List (Event Action) → Type 0
-IsReader tokens events =
-    (limits : Limits) (u : UnitAtHand) → begins_line tokens ≡ false → AreSeen (atoms_of tokens) (tokens_of tokens)
-    → length tokens + 1 < 4294967295 → Read limits (begun u) tokens events
+pub take_front : (e : Action) (atom : ℕ) (acts : List (Event Action)) (body : List Seen) (last : Seen)
+    → TakeAll (acts ++ Did e ∷ Took atom ∷ []) (body ++ last ∷ []) → TakeAll acts body
+take_front e atom [] [] last all = tt
+take_front e atom [] (x ∷ []) last all = absurd all
+take_front e atom [] (x ∷ y ∷ body) last all = absurd all
+take_front e atom (Did a ∷ acts) body last all = take_front e atom acts body last all
+take_front e atom (Took n ∷ acts) [] last all = absurd (none_left acts e atom all)
+take_front e atom (Took n ∷ acts) (x ∷ body) last all = take_front e atom acts body last all
 
-begun_read : (tokens : List Seen) (events : List (Event Action)) → Reads OperandEnds tokens events → IsReader tokens events
-begun_read tokens events reads limits u plain are_seen few =
-    let before = few_before u.tokens in
-    units_read limits reads refl (begun u) (λ e. no_line (take 1 u.tokens) tokens plain) are_seen (omega arith) (omega (arith, few, before))
-
--- A text that is printed
-
-text_acts : (limits : Limits) (context : Context) (place : Place) (u : UnitAtHand) (w : Compilation) → u.code ≡ 0
-    → act limits context place Action.PrintText (record w { unit = u }) ≡ record w { unit = noted Note.PrintText u }
-text_acts limits context place u w none =
-    let begins = record w { unit = u } in
-    let few : is_crowded limits begins ≡ false =
-    ap (λ (n : ℕ). nat_lt (limits Setting.Code) n) none ∙ le-ltb (limits Setting.Code) 0 (omega arith) in
-    cond-false (is_crowded limits begins) (record w { unit = text_passed u }) (record w { unit = noted Note.PrintText u }) few
-
-text_read : (limits : Limits) (s : Seen) (atom : ℕ) (u : UnitAtHand)
-    → Read limits (begun u) (s ∷ []) (Did Action.OuterMaybe ∷ Took atom ∷ Did Action.PrintText ∷ [])
-text_read limits s atom u =
-    let open_unit = noted (Note.Outer false) (begun u) in
-    let with_token = record open_unit {
-      tokens = open_unit.tokens ++ s.token ∷ [];
-      depth = depth_behind s.token.kind open_unit.depth;
-    } in
-    let with_text = noted Note.PrintText with_token in
-    let last : Read limits with_text [] [] = record { parts = []; same = refl; written = tt; does = λ context next w none. refl } in
-    noted_reads limits Action.OuterMaybe (Note.Outer false) (begun u) open_unit (s ∷ []) (Took atom ∷ Did Action.PrintText ∷ []) refl
-    (λ context place w. refl)
-    (alone_reads limits s atom open_unit [] (Did Action.PrintText ∷ [])
-    (noted_reads limits Action.PrintText Note.PrintText with_token with_text [] [] refl
-    (λ context place w. text_acts limits context place (ready with_token) w refl) last))
-
-printed_read : {atoms : List ℕ} {events : List (Event Action)} → IsText grammar (!outer_maybe ∷ TEXT ∷ !print_text ∷ []) atoms events
-    → (tokens : List Seen) → atoms_of tokens ≡ atoms → IsReader tokens events
-printed_read (action (token {atom = atom} h (action here))) [] is limits u plain are_seen few = cc
-printed_read (action (token {atom = atom} h (action here))) (s ∷ []) is limits u plain are_seen few = text_read limits s atom u
-printed_read (action (token {atom = atom} h (action here))) (s ∷ t ∷ tokens) is limits u plain are_seen few = cc
-
--- The end of the unit, and the semicolon
-
-record EndsUnit (atoms : List ℕ) (events : List (Event Action)) : Type 0 where
-  atom : ℕ
-  one : atoms ≡ atom ∷ []
-  are : events ≡ Did Action.EndStatement ∷ Took atom ∷ []
-  is_semicolon : has (grammar.atoms_of 0) atom ≡ true
-
-ends_unit : (atoms : List ℕ) (events : List (Event Action)) → Leads grammar (!end_statement ∷ 'semicolon' ∷ []) atoms events []
-    → EndsUnit atoms events
-ends_unit atoms events (action (token {atom = atom} h here)) = record { atom = atom; one = refl; are = refl; is_semicolon = h }
-
--- The tokens of a unit and its semicolon, with the events behind its begin, and what holds of how these are read
-pub record Parted (Reading : List Seen → List (Event Action) → Type 0) (seen : List Seen) (events : List (Event Action)) : Type 0 where
+pub record BegunUnit (limits : Limits) (seen : List Seen) (events : List (Event Action)) : Type 0 where
   pub tokens : List Seen
   pub semicolon : Seen
   pub early : List (Event Action)
   pub atom : ℕ
   pub same : tokens ++ semicolon ∷ [] ≡ seen
-  pub are : events ≡ early ++ Did Action.EndStatement ∷ Took atom ∷ []
+  pub are : events ≡ Did Action.Begin ∷ (early ++ Did Action.EndStatement ∷ Took atom ∷ [])
   pub is_semicolon : has (grammar.atoms_of 0) semicolon.atom ≡ true
   pub all : TakeAll early tokens
-  pub read : Reading tokens early
+  pub going : Going limits tokens early
+  pub little : begins_list seen ≡ false → needs_in Bytes early ≤ 1
 
-pub parted : (Reading : List Seen → List (Event Action) → Type 0) (xs : List (Symbol Action)) (seen : List Seen)
-    (events : List (Event Action)) → IsText grammar (xs ++ unit_end) (atoms_of seen) events
-    → ((tokens : List Seen) (early : List (Event Action)) → IsText grammar xs (atoms_of tokens) early → Reading tokens early)
-    → Parted Reading seen events
-parted Reading xs seen events text reads =
-    let parts = split text refl xs unit_end refl in
-    let end = ends_unit parts.rest parts.late parts.of_rest in
-    let all_atoms = parts.atoms_are ∙ ap (λ r. parts.front ++ r) end.one in
-    let l = last_apart parts.front end.atom seen all_atoms in
-    let atom = last_atom l.tokens l.last parts.front end.atom l.atoms (ap atoms_of l.same ∙ all_atoms) in
+pub begun_unit : (limits : Limits) (symbols : List (Symbol Action)) → Typed declared Action.EndStatement Free symbols Ended
+    → is_small symbols ≡ true → (seen : List Seen) (events : List (Event Action)) → case_first events ≡ false
+    → IsText grammar (!begin ∷ symbols) (atoms_of seen) events → BegunUnit limits seen events
+begun_unit limits symbols typed small seen events kind text =
+    let b = act_first Action.Begin symbols seen events text in
+    let u = units_typed limits OfStatement b.text refl seen refl typed refl (sym (ap case_first b.are) ∙ kind) [] [] OfFree in
+    let all = texts_take_all b.text seen refl in
+    let late : List (Event Action) = Did Action.EndStatement ∷ Took u.atom ∷ [] in
+    let front = front_needs Bytes u.acts late in
+    let count = ap (needs_in Bytes) u.are in
     record {
-      tokens = l.tokens;
-      semicolon = l.last;
-      early = parts.early;
-      atom = end.atom;
-      same = l.same;
-      are = parts.events_are ∙ ap (λ x. parts.early ++ x) end.are;
-      is_semicolon = ap (λ n. has (grammar.atoms_of 0) n) atom ∙ end.is_semicolon;
-      all = texts_take_all parts.of_front l.tokens l.atoms;
-      read = reads l.tokens parts.early (subst (λ a. IsText grammar xs a parts.early) (sym l.atoms) parts.of_front);
-    }
-
--- an expression behind the action that begins it
-expressed : (notes : Kinds) (tokens : List Seen) (steps : List (Event Action)) → HasForm (atoms_of tokens) steps
-    → Reads notes tokens (Did Action.Outer ∷ steps)
-expressed notes tokens steps f =
-    Expressed Action.Outer tokens [] steps [] refl (append-nil tokens) (sym (append-nil steps)) f Finished
-
-outer_parted : (symbols : List (Symbol Action)) (level : ℕ) → IsOneOf (form_of symbols level) forms → OnlySteps symbols
-    → (seen : List Seen) (events : List (Event Action)) → IsText grammar (symbols ++ unit_end) (atoms_of seen) events
-    → Parted IsReader seen (Did Action.Outer ∷ events)
-outer_parted symbols level is_form only seen events text =
-    let parts = split text refl symbols unit_end refl in
-    let end = ends_unit parts.rest parts.late parts.of_rest in
-    let all_atoms = parts.atoms_are ∙ ap (λ r. parts.front ++ r) end.one in
-    let l = last_apart parts.front end.atom seen all_atoms in
-    let atom = last_atom l.tokens l.last parts.front end.atom l.atoms (ap atoms_of l.same ∙ all_atoms) in
-    let of_front = subst (λ a. IsText grammar symbols a parts.early) (sym l.atoms) parts.of_front in
-    record {
-      tokens = l.tokens;
-      semicolon = l.last;
-      early = Did Action.Outer ∷ parts.early;
-      atom = end.atom;
-      same = l.same;
-      are = ap (λ x. Did Action.Outer ∷ x) (parts.events_are ∙ ap (λ x. parts.early ++ x) end.are);
-      is_semicolon = ap (λ n. has (grammar.atoms_of 0) n) atom ∙ end.is_semicolon;
-      all = texts_take_all parts.of_front l.tokens l.atoms;
-      read =
-          begun_read l.tokens (Did Action.Outer ∷ parts.early)
-          (expressed OperandEnds l.tokens parts.early
-          (record { symbols = symbols; level = level; passes = formed is_form; text = of_front; steps = only (atoms_of l.tokens) parts.early of_front }));
+      tokens = u.body;
+      semicolon = u.last;
+      early = u.acts;
+      atom = u.atom;
+      same = u.same;
+      are = b.are ∙ ap (λ l. Did Action.Begin ∷ l) (sym u.are);
+      is_semicolon = subst (λ c. has (grammar.atoms_of c) u.last.atom ≡ true) (eqb-true u.class 0 u.closes) u.is;
+      all = take_front Action.EndStatement u.atom u.acts u.body u.last
+          (subst (λ l. TakeAll l (u.body ++ u.last ∷ [])) (sym u.are) (subst (λ l. TakeAll b.late l) (sym u.same) all));
+      going = u.going;
+      little = λ plain. let few = small_needs symbols seen b.late small b.text plain in omega (arith, few, front, count);
     }
 
 -- The effect of a statement
 
-pub statement_runs : (limits : Limits) (context : Context) (next : Place) (u : UnitAtHand) (tokens : List Seen) (semicolon : Seen)
+statement_runs : (limits : Limits) (context : Context) (next : Place) (u : UnitAtHand) (tokens : List Seen) (semicolon : Seen)
     (early : List (Event Action)) (atom : ℕ) (w : Compilation) (parts : List Part)
     → run limits context (happenings_before semicolon.token.place early tokens) (record w { unit = begun u })
     ≡ with_unit context parts (record w { unit = u })
@@ -197,84 +130,88 @@ statement_runs limits context next u tokens semicolon early atom w parts reads a
     ∙ ap (λ x. next_comes (passed semicolon.behind x))
     (over_taken context semicolon ready.unit ended plain (statement_over limits context place (statement_at ready) ready)))))
 
-is_statement : (limits : Limits) (u : UnitAtHand) (seen : List Seen) (events behind : List (Event Action))
-    → events ≡ Did Action.Begin ∷ behind → Parted IsReader seen behind → begins_line seen ≡ false
-    → AreSeen (atoms_of seen) (tokens_of seen) → length seen + 1 < 4294967295 → IsStatement limits u seen events
-is_statement limits u seen events behind are p plain are_seen few =
+-- The events of the unit neither open a statement that holds others nor go on with one nor end one.
+pub unit_quiet : (limits : Limits) (seen : List Seen) (events : List (Event Action)) → (p : BegunUnit limits seen events)
+    → AreSeen (atoms_of seen) (tokens_of seen) → length seen + 1 < 4294967295 → AreQuiet p.early
+unit_quiet limits seen events p are_seen few =
     let seen_again = subst (λ x. AreSeen (atoms_of x) (tokens_of x)) (sym p.same) are_seen in
     let count : length p.tokens + 1 ≡ length seen = sym (length-append p.tokens (p.semicolon ∷ [])) ∙ ap length p.same in
-    let r =
-    p.read limits u (plain_front p.tokens (p.semicolon ∷ []) seen p.same plain)
-    (seen_front p.tokens p.semicolon seen_again) (omega (arith, few, count)) in
+    (p.going no_unit (seen_front p.tokens p.semicolon seen_again) (omega arith) (omega (arith, few, count))).quiet
+
+plain_front : (tokens rest seen : List Seen) → tokens ++ rest ≡ seen → begins_list seen ≡ false → begins_list tokens ≡ false
+plain_front [] rest seen same plain = refl
+plain_front (s ∷ tokens) rest seen same plain = subst (λ l. begins_list l ≡ false) (sym same) plain
+
+pub is_statement : (limits : Limits) (u : UnitAtHand) (seen : List Seen) (events : List (Event Action)) → BegunUnit limits seen events
+    → AreSeen (atoms_of seen) (tokens_of seen) → length seen + 1 < 4294967295 → IsStatement limits u seen events
+is_statement limits u seen events p are_seen few =
+    let seen_again = subst (λ x. AreSeen (atoms_of x) (tokens_of x)) (sym p.same) are_seen in
+    let count : length p.tokens + 1 ≡ length seen = sym (length-append p.tokens (p.semicolon ∷ [])) ∙ ap length p.same in
+    let before = few_before u.tokens in
+    let r = p.going (begun u) (seen_front p.tokens p.semicolon seen_again) (omega arith) (omega (arith, few, count, before)) in
+    let weighs = r.weighs Bytes in
     record {
       tree = record { unit = r.parts; semicolon = p.semicolon };
       same = ap (λ l. l ++ p.semicolon ∷ []) r.same ∙ p.same;
       written = r.written;
-      does = λ context next w none.
+      room = λ plain.
+          let little = p.little plain in
+          little_room limits r.parts (begun u) (record {
+            on = refl;
+            line = λ e.
+                subst (λ l. NoLine (take 1 u.tokens ++ tokens_of l) (length (take 1 u.tokens))) (sym r.same)
+                (no_line (take 1 u.tokens) p.tokens (plain_front p.tokens (p.semicolon ∷ []) seen p.same plain));
+            once = omega (arith, weighs, little);
+            first = λ e. refl;
+          });
+      does = λ context next w none room.
           let before = record w { unit = u } in
           ap (λ l. run limits context (happenings_before next events l) before) (sym p.same)
-          ∙ (ap (λ es. run limits context (happenings_before next es (p.tokens ++ p.semicolon ∷ [])) before) are
-          ∙ (ap (λ es. run limits context (happenings_before next (Did Action.Begin ∷ es) (p.tokens ++ p.semicolon ∷ [])) before) p.are
+          ∙ (ap (λ es. run limits context (happenings_before next es (p.tokens ++ p.semicolon ∷ [])) before) p.are
           ∙ statement_runs limits context next u p.tokens p.semicolon p.early p.atom w r.parts
-          (r.does context p.semicolon.token.place before none) p.all
-          (opens_nothing p.semicolon p.is_semicolon (last_seen p.tokens p.semicolon seen_again))));
+          (r.does context p.semicolon.token.place before none room) p.all
+          (opens_nothing p.semicolon p.is_semicolon (last_seen p.tokens p.semicolon seen_again)));
     }
 
--- The text behind its first action
-pub record Behind (a : Action) (symbols : List (Symbol Action)) (atoms : List ℕ) (events : List (Event Action)) : Type 0 where
-  pub rest : List (Event Action)
-  pub are : events ≡ Did a ∷ rest
-  pub text : IsText grammar symbols atoms rest
-
-pub behind : (a : Action) (symbols : List (Symbol Action)) (atoms : List ℕ) (events : List (Event Action))
-    → IsText grammar (Symbol.Act a ∷ symbols) atoms events → Behind a symbols atoms events
-behind a symbols atoms events (action {events = rest} text) = record { rest = rest; are = refl; text = text }
-
-by_text : (limits : Limits) (others : List (List (Symbol Action))) (u : UnitAtHand) (seen : List Seen) (events : List (Event Action))
-    → StatementText others (atoms_of seen) events → begins_line seen ≡ false → AreSeen (atoms_of seen) (tokens_of seen)
-    → length seen + 1 < 4294967295 → IsOneUnit limits others u seen events
-by_text limits others u seen events (Flat front flat text) plain are_seen few =
-    let b = behind Action.Begin (front ++ unit_end) (atoms_of seen) events text in
-    One (is_statement limits u seen events b.rest b.are
-    (parted IsReader front seen b.rest b.text (λ tokens early t. begun_read tokens early (parsed OperandEnds t refl tokens refl [] front refl flat))) plain
-    are_seen few)
-by_text limits others u seen events (Formed symbols level is_form only text) plain are_seen few =
-    let b = behind Action.Begin (!outer ∷ (symbols ++ unit_end)) (atoms_of seen) events text in
-    let o = behind Action.Outer (symbols ++ unit_end) (atoms_of seen) b.rest b.text in
-    One (is_statement limits u seen events (Did Action.Outer ∷ o.rest) (b.are ∙ ap (λ x. Did Action.Begin ∷ x) o.are)
-    (outer_parted symbols level is_form only seen o.rest o.text) plain are_seen few)
-by_text limits others u seen events (Printed text) plain are_seen few =
-    let b = behind Action.Begin (!outer_maybe ∷ TEXT ∷ !print_text ∷ unit_end) (atoms_of seen) events text in
-    One (is_statement limits u seen events b.rest b.are
-    (parted IsReader (!outer_maybe ∷ TEXT ∷ !print_text ∷ []) seen b.rest b.text (λ tokens early t. printed_read t tokens refl)) plain are_seen few)
-by_text limits others u seen events (Others symbols is_other text) plain are_seen few = Other symbols is_other text
+by_text : {cases : Bool} (limits : Limits) (before : List (Symbol Action)) (u : UnitAtHand) (seen : List Seen)
+    (events : List (Event Action))
+    → ItemText before (atoms_of seen) events cases → AreSeen (atoms_of seen) (tokens_of seen) → length seen + 1 < 4294967295
+    → IsOneUnit limits before u seen events cases
+by_text limits before u seen events (AUnit symbols typed small kind text) are_seen few =
+    One (is_statement limits u seen events (begun_unit limits symbols typed small seen events kind text) are_seen few)
+by_text limits before u seen events (ABlock text) are_seen few = Other block first text
+by_text limits before u seen events (Holds symbols is text) are_seen few = Other symbols (later is) text
+by_text limits before u seen events (ACase start symbols is typed kind text) are_seen few = Case kind
 
 pub statements_are_trees : (limits : Limits) → StatementsAreTrees limits
 statements_are_trees limits = record {
-  statements = λ u seen events text plain are_seen few.
-      by_text limits other_statements u seen events (statement_text (atoms_of seen) events text) plain are_seen few;
-  items = λ u seen events text plain are_seen few.
-      by_text limits other_items u seen events (item_text (atoms_of seen) events text) plain are_seen few;
+  statements = λ u seen events text are_seen few.
+      by_text limits (!deeper ∷ []) u seen events (statement_text limits seen events text) are_seen few;
+  items = λ u seen events text are_seen few. by_text limits [] u seen events (top_item_text limits seen events text) are_seen few;
 }
 
 -- Units in brackets
 
 pub bracketed_units_are_trees : (limits : Limits) → BracketedUnitsAreTrees limits
 bracketed_units_are_trees limits u seen events text are_seen few =
-    let b = behind Action.Begin (!outer ∷ expression ∷ []) (atoms_of seen) events text in
-    let o = behind Action.Outer (expression ∷ []) (atoms_of seen) b.rest b.text in
-    let f = expression_form (atoms_of seen) o.rest o.text in
+    let b = act_first Action.Begin (!outer ∷ expression ∷ []) seen events text in
+    let o = act_first Action.Outer (expression ∷ []) seen b.late b.text in
     let before = few_before u.tokens in
-    let r =
-    units_read limits (expressed NoNotes seen o.rest f) refl (begun u) (λ e. cc) are_seen (omega arith) (omega (arith, few, before)) in
+    let form = expression_form (atoms_of seen) o.late o.text in
+    let all = texts_take_all o.text seen refl in
+    let g = gathers (begun u) seen o.late form all are_seen (omega arith) (omega (arith, few, before)) in
     record {
-      parts = r.parts;
-      same = r.same;
-      written = r.written;
+      parts = Value g.level seen g.value ∷ [];
+      same = append-nil seen;
+      written = (g.written, tt);
       does = λ context next w none.
           ap (λ es. run limits context (happenings_before next es seen) (record w { unit = u }))
           (b.are ∙ ap (λ x. Did Action.Begin ∷ x) o.are)
-          ∙ (note_first limits context next Action.Begin seen (Did Action.Outer ∷ o.rest) (record w { unit = u })
+          ∙ (note_first limits context next Action.Begin seen (Did Action.Outer ∷ o.late) (record w { unit = u })
           (record w { unit = begun u }) (λ p. refl)
-          ∙ r.does context next (record w { unit = u }) none);
+          ∙ (ap (λ es. run limits context (happenings_before next (Did Action.Outer ∷ es) seen) (record w { unit = begun u }))
+          (sym (append-nil o.late))
+          ∙ (ap (λ l. run limits context (happenings_before next (Did Action.Outer ∷ (o.late ++ [])) l) (record w { unit = begun u }))
+          (sym (append-nil seen))
+          ∙ expressed_does limits context next (begun u) seen [] o.late [] g.value (record w { unit = u }) g.reads g.only all none)));
     }

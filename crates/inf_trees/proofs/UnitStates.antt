@@ -1,21 +1,17 @@
 -- States of a unit that is read, and the symbols of the grammar by which it goes on, whichever rows they are of.
 use Rattle.std.proofs.Common.{◌≡◌, ℕ, List, [], ◌∷◌, ◌++◌, Bool, true, false, not, ◌==◌, Option, Some, None, refl, subst, append_assoc}
-use Rattle.std.proofs.Common.{is_some}
-use Rattle.inf_machine.specs.Grammar.{IsOneOf, Row}
-use Rattle.inf_machine.specs.declared.symbols.Symbol.{Symbol}
+use Rattle.std.proofs.Common.{is_some, ◌&&◌}
+use Rattle.std.proofs.lemmas.Bool.{and_parts}
+use Rattle.inf_machine.specs.{Grammar.IsOneOf, Grammar.Row, declared.symbols.Symbol.Symbol}
 use Rattle.inf_syntax.specs.{Parts.!outer_sure, declared.actions.Action.Action}
 use Rattle.inf_grammar.specs.Language.{grammar}
-use Rattle.inf_unit.specs.{Roles.role_of, Steps.step_in, Steps.step_of, declared.roles.Role.Role}
-use Rattle.std.proofs.lemmas.Bool.{and_parts}
-use Rattle.std.proofs.Common.{◌&&◌}
-use Rattle.inf_unit.specs.declared.steps.GatherStep.{GatherStep}
-use Rattle.inf_trees.specs.Ends.{by_end, end_in, end_kind, is_case}
+use Rattle.inf_unit.specs.{Roles.role_of, Steps.step_in, Steps.step_of, declared.roles.Role.Role, declared.steps.GatherStep.GatherStep}
 use Rattle.inf_expression_laws.specs.Precedence.{primaries}
 use Rattle.inf_expression_laws.proofs.ActionSteps.{is_sure}
-use Rattle.inf_expression_laws.proofs.Items.{Item, Sign, Whole, Within}
-use Rattle.inf_expression_laws.proofs.Typed.{Change, Passes, act as passes_act, close, done, rule as passes_rule, rule_change, step_changes}
-use Rattle.inf_expression_laws.proofs.Typed.{sure, token as passes_token}
-use Rattle.inf_expression_laws.proofs.Items.{within_same}
+use Rattle.inf_expression_laws.proofs.Items.{Item, Sign, Whole, Within, within_same}
+use Rattle.inf_expression_laws.proofs.Typed.{Change, Passes, act as passes_act, close, done, rule as passes_rule, rule_change}
+use Rattle.inf_expression_laws.proofs.Typed.{step_changes, sure, token as passes_token}
+use Rattle.inf_trees.specs.Ends.{by_end, end_in, end_kind}
 
 -- A state says what is open: nothing; an expression, of which these items were read, behind a print rule or not; the first tokens of one,
 -- where it is sure that they are or not; the word of a statement as a value; a print rule. Or this is not known any more; or the unit has
@@ -33,17 +29,24 @@ pub data State : Type 0 where
 -- The ends of units
 
 -- whether an end is that of a case where a statement is read, or the other way round
-abbrev pub is_other : Option Bool → Bool → Bool
-is_other None is = false
-is_other (Some true) is = not is
-is_other (Some false) is = is
+abbrev pub is_other : Option Bool → Option Bool → Bool
+is_other (Some true) (Some is) = not is
+is_other (Some false) (Some is) = is
+is_other _ _ = false
 
-pub ends_otherwise : (o : Option Bool) (is others : Bool) → is_other o is ≡ true → by_end o others ≡ is → ⊥
-ends_otherwise None is others other first = cc
-ends_otherwise (Some true) true others other first = cc
-ends_otherwise (Some true) false others other first = cc
-ends_otherwise (Some false) true others other first = cc
-ends_otherwise (Some false) false others other first = cc
+-- whether the first end among events is that of what is read, if this is a case or a statement
+abbrev pub Agrees : Option Bool → Bool → Type 0
+Agrees None first = Unit {0}
+Agrees (Some is) first = first ≡ is
+
+pub ends_otherwise : (o e : Option Bool) (others : Bool) → is_other o e ≡ true → Agrees e (by_end o others) → ⊥
+ends_otherwise None e others other first = cc
+ends_otherwise (Some true) None others other first = cc
+ends_otherwise (Some true) (Some true) others other first = cc
+ends_otherwise (Some true) (Some false) others other first = cc
+ends_otherwise (Some false) None others other first = cc
+ends_otherwise (Some false) (Some true) others other first = cc
+ends_otherwise (Some false) (Some false) others other first = cc
 
 role_plain : (r : Role) → is_some (step_in r) ≡ true → end_in r ≡ None
 role_plain (Role.Gather s) is = refl
@@ -123,9 +126,6 @@ pub data ActMove : State → Action → State → Type 0 where
   ByRule : {level : ℕ} → ActMove (Open true (Whole level ∷ [])) Action.PrintRule Free
   Misses : {a : Action} → ActMove Lost a Lost
 
--- The rules whose rows have them again, with what is open before them and behind: lists of items, operands and values; and what stands
--- behind a comma where both a case and a statement may go on.
-
 abbrev pub goes_on : State → Bool
 goes_on Ended = false
 goes_on _ = true
@@ -139,7 +139,7 @@ pub data Typed (declared : Action → ℕ → Option (State × State)) (e : Acti
       → Typed declared e next symbols t → Typed declared e s (Symbol.Act a ∷ symbols) t
   Ends : {s : State} {class : ℕ} → Fits s Free → closes_with e class ≡ true
       → Typed declared e s (Symbol.Act e ∷ Symbol.Token class ∷ []) Ended
-  Else : {s t : State} {a : Action} {symbols : List (Symbol Action)} → is_other (end_kind a) (is_case e) ≡ true
+  Else : {s t : State} {a : Action} {symbols : List (Symbol Action)} → is_other (end_kind a) (end_kind e) ≡ true
       → Typed declared e s (Symbol.Act a ∷ symbols) t
   Changes : {s t : State} {rule : ℕ} {symbols : List (Symbol Action)} {ruled : Bool} {items : List Item} (c : Change) (rest : List Item)
       → Fits s (Open ruled items) → rule_change rule ≡ Some c → Within items (c.old ++ rest)
@@ -174,7 +174,8 @@ step_is None c m = elim m [ ]
 step_is (Some s) c m = refl
 
 module _ {declared : Action → ℕ → Option (State × State)} {e : Action} where
-  pub fitted_before : {s m t : State} {symbols : List (Symbol Action)} → Fits s m → Typed declared e m symbols t → Typed declared e s symbols t
+  pub fitted_before : {s m t : State} {symbols : List (Symbol Action)} → Fits s m → Typed declared e m symbols t
+      → Typed declared e s symbols t
   fitted_before f (Done g) = Done (fits_then f g)
   fitted_before f (Takes g move typed) = Takes (fits_then f g) move typed
   fitted_before f (Does g move plain typed) = Does (fits_then f g) move plain typed

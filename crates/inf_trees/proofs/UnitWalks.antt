@@ -1,23 +1,20 @@
 -- Texts of a unit by evaluation: what is open behind symbols is computed, each with what shows it, over the rows of the grammar.
 use Rattle.std.proofs.Common.{◌≡◌, ℕ, zero, suc, List, [], ◌∷◌, ◌++◌, Bool, true, false, ◌||◌, ◌==◌, Option, Some, None, refl, ap, sym}
 use Rattle.std.proofs.Common.{subst, is_some, inl, inr, if◌then◌else◌, ◌∙◌}
-use Rattle.std.proofs.lemmas.Bool.{agree_below, agree_below_at, cases_lt}
-use Rattle.inf_machine.specs.Grammar.{IsOneOf, Row, first, later}
-use Rattle.inf_machine.specs.declared.symbols.Symbol.{Symbol}
-use Rattle.std.proofs.lemmas.Bool.{and_parts}
-use Rattle.inf_machine.specs.Pieces.{all_rows}
-use Rattle.inf_syntax.specs.Parts.{ !outer_sure, give_rest_1, operands_1, print_rest_1, switch_next, top_next, top_values_1, values_1}
+use Rattle.std.proofs.lemmas.Bool.{agree_below, agree_below_at, cases_lt, and_parts}
+use Rattle.inf_machine.specs.{Grammar.IsOneOf, Grammar.Row, Grammar.first, Grammar.later, Pieces.all_rows, declared.symbols.Symbol.Symbol}
 use Rattle.inf_syntax.specs.declared.actions.Action.{Action}
+use Rattle.inf_syntax.specs.Parts.{ !outer_sure, give_rest_1, operands_1, print_rest_1, switch_next, top_next, top_values_1, values_1}
 use Rattle.inf_grammar.specs.{Evaluated.rows_past, Language.grammar}
 use Rattle.inf_unit.specs.Steps.{step_of}
 use Rattle.inf_expression_laws.specs.Precedence.{commas}
 use Rattle.inf_expression_laws.proofs.Items.{Item, Sign, Whole, all_fit, all_fit_sound, all_popped, all_popped_sound, within_same}
 use Rattle.inf_expression_laws.proofs.Typed.{Change, Passes, passed, passed_sound, rule_change}
-use Rattle.inf_trees.proofs.UnitStates.{ActMove, Alone, ByRows, ByRule, Begins, Changes, Closes, Commas, Does, Done, Else, Ended, Ends, Fits}
-use Rattle.inf_trees.proofs.UnitStates.{ForLine, Free, Gathers, Into, Joint, Known, LaterWord, Lead, Leading, Lists, Loses, Lost, Marking}
-use Rattle.inf_trees.proofs.UnitStates.{MayBegin, Misread, Misses, Names, Narrow, Notes, Open, Others, Passed, Printed, Prints}
+use Rattle.inf_trees.specs.Ends.{end_kind}
+use Rattle.inf_trees.proofs.UnitStates.{ActMove, Alone, Begins, ByRows, ByRule, Changes, Closes, Commas, Does, Done, Else, Ended, Ends}
+use Rattle.inf_trees.proofs.UnitStates.{Fits, ForLine, Free, Gathers, Into, Joint, Known, LaterWord, Lead, Leading, Lists, Loses, Lost}
+use Rattle.inf_trees.proofs.UnitStates.{Marking, MayBegin, Misread, Misses, Names, Narrow, Notes, Open, Others, Passed, Printed, Prints}
 use Rattle.inf_trees.proofs.UnitStates.{Ranges, Rules, RulesBy, Ruling, Same, State, Tails, Takes, TokenMove, Turns, Typed, Worded, Words}
-use Rattle.inf_trees.specs.Ends.{end_kind, is_case}
 use Rattle.inf_trees.proofs.UnitStates.{all_steps, closes_with, fits_then, is_note, is_other, no_sure}
 
 -- Values that are computed, with the equation that shows each
@@ -26,7 +23,7 @@ abbrev found : {A : Type 0} (o : Option A) → Option ((a : A) × (o ≡ Some a)
 found None = None
 found (Some a) = Some (a, refl)
 
-abbrev holds : (b : Bool) → Option (b ≡ true)
+abbrev pub holds : (b : Bool) → Option (b ≡ true)
 holds true = Some refl
 holds false = None
 
@@ -34,11 +31,11 @@ abbrev is_none : {A : Type 0} (o : Option A) → Option (o ≡ None)
 is_none None = Some refl
 is_none (Some a) = None
 
-abbrev bind : {A B : Type 0} → Option A → (A → Option B) → Option B
+abbrev pub bind : {A B : Type 0} → Option A → (A → Option B) → Option B
 bind None next = None
 bind (Some a) next = next a
 
-abbrev or_else : {A : Type 0} → Option A → Option A → Option A
+abbrev pub or_else : {A : Type 0} → Option A → Option A → Option A
 or_else (Some a) other = Some a
 or_else None other = other
 
@@ -61,7 +58,8 @@ turned symbols _ p = None
 abbrev free : (s : State) → Option (Fits s Free)
 free Free = Some Same
 free (Open ruled items) = closed ruled items
-free (Lead true symbols) = bind (found (passed symbols [])) (λ f. turned symbols f.0 (passed_sound symbols [] f.0 f.0 f.1 (within_same f.0)))
+free (Lead true symbols) =
+    bind (found (passed symbols [])) (λ f. turned symbols f.0 (passed_sound symbols [] f.0 f.0 f.1 (within_same f.0)))
 free _ = None
 
 abbrev narrowed : {s : State} (ruled : Bool) (items : List Item) → Fits s (Open ruled items) → (other : Bool) (wide : List Item)
@@ -106,7 +104,8 @@ plain_token s class =
 
 abbrev token_step : (e : Action) (s : State) (class : ℕ) → Option (TokenStep s class)
 token_step e s class =
-    or_else (bind (holds (is_joint e class)) (λ j. bind (free s) (λ f. Some (record { at = Free; to = Open false []; fits = f; moves = Joint }))))
+    or_else (bind (holds (is_joint e class)) (λ j. bind (free s) (λ f.
+    Some (record { at = Free; to = Open false []; fits = f; moves = Joint }))))
     (plain_token s class)
 
 -- Actions
@@ -152,7 +151,8 @@ maybe_step (Symbol.Token class ∷ []) Action.PrintText =
     Some (record { at = Lead false (Symbol.Token class ∷ []); to = Free; fits = Same; moves = Printed })
 maybe_step (Symbol.Token class ∷ []) Action.AsmText =
     Some (record { at = Lead false (Symbol.Token class ∷ []); to = Free; fits = Same; moves = ForLine })
-maybe_step (Symbol.Token one ∷ Symbol.Act Action.Bracket ∷ Symbol.Token two ∷ Symbol.Act Action.Name ∷ Symbol.Token three ∷ []) Action.Rule =
+maybe_step (Symbol.Token one ∷ Symbol.Act Action.Bracket ∷ Symbol.Token two ∷ Symbol.Act Action.Name ∷ Symbol.Token three ∷ [])
+    Action.Rule =
     Some (record {
       at = Lead false (Symbol.Token one ∷ Symbol.Act Action.Bracket ∷ Symbol.Token two ∷ Symbol.Act Action.Name ∷ Symbol.Token three ∷ []);
       to = Ruling false;
@@ -160,7 +160,8 @@ maybe_step (Symbol.Token one ∷ Symbol.Act Action.Bracket ∷ Symbol.Token two 
       moves = Rules;
     })
 maybe_step
-    (Symbol.Token one ∷ Symbol.Act Action.Bracket ∷ Symbol.Act Action.OuterEnd ∷ Symbol.Token two ∷ Symbol.Act Action.Name ∷ Symbol.Token three
+    (Symbol.Token one ∷ Symbol.Act Action.Bracket ∷ Symbol.Act Action.OuterEnd ∷ Symbol.Token two ∷ Symbol.Act Action.Name
+    ∷ Symbol.Token three
     ∷ []) Action.Rule =
     Some (record {
       at = Lead false
@@ -193,7 +194,7 @@ pub one_of : (P : List (Symbol Action) → Type 0) (x : Row Action) (rows : List
 one_of P x rows p others _ first = p
 one_of P x rows p others r (later m) = others r m
 
-abbrev each_row : (P : List (Symbol Action) → Type 0) → ((parts : List (Symbol Action)) → Option (P parts)) → (rows : List (Row Action))
+abbrev pub each_row : (P : List (Symbol Action) → Type 0) → ((parts : List (Symbol Action)) → Option (P parts)) → (rows : List (Row Action))
     → Option ((r : Row Action) → IsOneOf r rows → P r.parts)
 each_row P check [] = Some (λ r m. elim m [ ])
 each_row P check (x ∷ rows) =
@@ -221,7 +222,8 @@ declared _ rule = None
 
 -- The walk
 
-abbrev ended : (e a : Action) (s : State) (symbols : List (Symbol Action)) (t : State) → Option (Typed declared e s (Symbol.Act a ∷ symbols) t)
+abbrev ended : (e a : Action) (s : State) (symbols : List (Symbol Action)) (t : State)
+    → Option (Typed declared e s (Symbol.Act a ∷ symbols) t)
 ended Action.EndCase Action.EndCase s (Symbol.Token class ∷ []) Ended =
     bind (free s) (λ f. bind (holds (closes_with Action.EndCase class)) (λ is. Some (Ends f is)))
 ended Action.EndStatement Action.EndStatement s (Symbol.Token class ∷ []) Ended =
@@ -231,7 +233,8 @@ ended Action.EndDirective Action.EndDirective s (Symbol.Token class ∷ []) Ende
 ended _ _ _ _ _ = None
 
 -- a rule of an expression, and one of those rules, with what is walked behind them
-abbrev changing : (e : Action) (s : State) (rule : ℕ) (c : Change) → rule_change rule ≡ Some c → (symbols : List (Symbol Action)) (t : State)
+abbrev changing : (e : Action) (s : State) (rule : ℕ) (c : Change) → rule_change rule ≡ Some c
+    → (symbols : List (Symbol Action)) (t : State)
     → ((next : State) → Option (Typed declared e next symbols t)) → Option (Typed declared e s (Symbol.Rule rule ∷ symbols) t)
 changing e s rule c is symbols t behind =
     or_else
@@ -239,7 +242,8 @@ changing e s rule c is symbols t behind =
     (λ typed. Some (Changes c rest.0 o.2 is (all_popped_sound c.old o.1 rest.0 rest.1) typed)))))
     (bind (behind Lost) (λ typed. Some (Misread c is typed)))
 
-abbrev listing : (e : Action) (s : State) (rule : ℕ) (p : State × State) → declared e rule ≡ Some p → (symbols : List (Symbol Action)) (t : State)
+abbrev listing : (e : Action) (s : State) (rule : ℕ) (p : State × State) → declared e rule ≡ Some p
+    → (symbols : List (Symbol Action)) (t : State)
     → ((next : State) → Option (Typed declared e next symbols t)) → Option (Typed declared e s (Symbol.Rule rule ∷ symbols) t)
 listing e s rule (before, Ended) is [] Ended behind = bind (fitted s before) (λ f. Some (Tails before is f))
 listing e s rule (before, Free) is symbols t behind =
@@ -255,7 +259,7 @@ walk (suc n) e s (Symbol.Token class ∷ symbols) t =
     bind (token_step e s class) (λ m. bind (walk n e m.to symbols t) (λ typed. Some (Takes m.fits m.moves typed)))
 walk (suc n) e s (Symbol.Act a ∷ symbols) t =
     or_else (ended e a s symbols t)
-    (or_else (bind (holds (is_other (end_kind a) (is_case e))) (λ is. Some (Else is)))
+    (or_else (bind (holds (is_other (end_kind a) (end_kind e))) (λ is. Some (Else is)))
     (bind (is_none (end_kind a))
     (λ plain. bind (act_step s a) (λ m. bind (walk n e m.to symbols t) (λ typed. Some (Does m.fits m.moves plain typed))))))
 walk (suc n) e s (Symbol.Rule rule ∷ symbols) t =

@@ -1,15 +1,15 @@
 -- The directives that are one unit, as trees, and their effects as a whole.
 use Rattle.std.specs.Prelude.{◌≡◌, ℕ, ◌+◌, ◌<◌, List, [], ◌∷◌, ◌++◌, length, codes, Bool, true, false, ◌&&◌, ◌||◌, ◌==◌}
-use Rattle.inf_settings.specs.Bounds.{Limits}
 use Rattle.inf_scanner.specs.declared.tokens.Mark.{Mark}
+use Rattle.inf_settings.specs.Bounds.{Limits}
 use Rattle.inf_machine.specs.Grammar.{Event, IsText, has}
 use Rattle.inf_syntax.specs.{Atoms.joined, Atoms.mark_atom, Atoms.of_word, Parts.piece, declared.actions.Action.Action}
 use Rattle.inf_grammar.specs.Language.{grammar}
 use Rattle.inf_unit.specs.Units.{no_unit}
 use Rattle.inf_compilation.specs.{Actions.Compilation, Actions.piece_begun, Context.Context}
 use Rattle.inf_reader.specs.Directives.{directive_end}
-use Rattle.inf_expression_laws.specs.Gathered.{AreSeen}
 use Rattle.inf_statement_laws.specs.{Laid.passed, Readings.Seen, Readings.all_taken}
+use Rattle.inf_expression_laws.specs.Gathered.{AreSeen}
 use Rattle.inf_language.specs.{Constants.piece_done, Texts.NoneClosesAhead, Texts.atoms_of, Texts.tokens_of}
 use Rattle.inf_trees.specs.Trees.{AreWritten, Part, all_seen, parts_told, with_parts}
 

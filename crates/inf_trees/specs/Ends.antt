@@ -13,10 +13,6 @@ end_in _ = None
 abbrev pub end_kind : Action → Option Bool
 end_kind a = end_in (role_of a)
 
-abbrev pub is_case : Action → Bool
-is_case Action.EndCase = true
-is_case _ = false
-
 abbrev pub by_end : Option Bool → Bool → Bool
 by_end None others = others
 by_end (Some is) others = is

@@ -1,4 +1,5 @@
 pub mod Trees
+pub mod Room
+pub mod Ends
 pub mod Directives
 pub mod Statements
-pub mod Ends

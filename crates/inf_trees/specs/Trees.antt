@@ -1,12 +1,12 @@
--- The units of a source as trees: tokens by themselves, expressions, and notes behind them. A unit is what its parts make of it, one by one, and its
--- tokens tell what is wrong with them as far as that is seen before the unit is whole.
+-- The units of a source as trees: tokens by themselves, expressions, and notes behind them. A unit is what its parts make of it, one by
+-- one, and its tokens tell what is wrong with them as far as that is seen before the unit is whole.
 use Rattle.std.specs.Prelude.{ℕ, List, [], ◌∷◌, ◌++◌, length, false, true, None, Some}
 use Rattle.inf_expressions.specs.Sources.{Source}
 use Rattle.inf_unit.specs.{Tokens.SourceToken, declared.roles.Note.Note, declared.steps.GatherStep.GatherStep}
 use Rattle.inf_unit.specs.Units.{Unit as UnitAtHand, action_gathered, leaf_gathered, long_at, noted, outer_tokens, ruled, stepped, taken}
 use Rattle.inf_compilation.specs.{Actions.Compilation, Context.Context, Context.longest}
-use Rattle.inf_expression_laws.specs.{Gathered.with_source, Precedence.Written}
 use Rattle.inf_statement_laws.specs.{Laid.passed, Readings.Seen}
+use Rattle.inf_expression_laws.specs.{Gathered.with_source, Precedence.Written}
 use Rattle.inf_language.specs.{Constants.brackets_behind, Constants.length_told, Constants.token_told, Texts.atoms_of, Texts.tokens_of}
 
 -- A part of a unit: a token by itself; the tokens of an expression, with the expression that they are, and the level at which its

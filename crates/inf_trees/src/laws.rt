@@ -8,9 +8,10 @@ pub fn directives_are_trees()
     ensures { (limits : Limits) → DirectivesAreTrees limits }
 {}
 
-/// Shows that tokens that are a text of a statement, or of an item at the top of a routine, are one of some others, or a
-/// statement that is one unit, as a tree, and that taking them then has the effect of the statement as a whole (Designer's
-/// Manual, fourth edition, section 1.7).
+/// Shows that tokens that are a text of a statement, or of an item at the top of a routine, are one that holds others or may be
+/// a case, or a statement that is one unit, as a tree, and that taking them then has the effect of the statement as a whole,
+/// where there is room for what it prints, gives or takes; and that there is, where it is none of those that do so one by one
+/// (Designer's Manual, fourth edition, section 1.7).
 pub fn statements_are_trees()
     ensures { (limits : Limits) → StatementsAreTrees limits }
 {}

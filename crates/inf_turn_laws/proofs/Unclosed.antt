@@ -2,23 +2,22 @@
 use Rattle.std.proofs.Common.{◌≡◌, inl, inr, ℕ, List, [], ◌∷◌, ◌++◌, Bool, true, false, not, ◌&&◌, ◌==◌, refl, subst}
 use Rattle.std.proofs.lemmas.Bool.{agree_below, and_from, and_parts, eqb-true, or_cases}
 use Rattle.inf_scanner.specs.declared.tokens.Mark.{Mark}
-use Rattle.inf_machine.specs.Grammar.{Event, IsOneOf, IsText, Leads, Row, action, first, here, later, row, token}
 use Rattle.inf_machine.specs.declared.symbols.Symbol.{Symbol}
+use Rattle.inf_machine.specs.Grammar.{Event, IsOneOf, IsText, Leads, Row, action, first, here, later, row, token}
 use Rattle.inf_syntax.specs.{Atoms.mark_atom, declared.actions.Action.Action}
-use Rattle.inf_syntax.specs.Parts.{address_operator, address_tail, after_prim, after_unary, array_operator, array_tail, assign, assign_tail}
-use Rattle.inf_syntax.specs.Parts.{assign_tail_1, bit, bracketed, call, call_1, call_2, directive, expression, expression_tail, inc}
-use Rattle.inf_syntax.specs.Parts.{initial, initial_1, logic, logic_operator, logic_tail, neg, negated, other_assign, other_prim, piece}
-use Rattle.inf_syntax.specs.Parts.{plain_prim, post, post_tail, prefixed, prim, step_operator, step_prefix, step_tail, sum, sum_operator}
-use Rattle.inf_syntax.specs.Parts.{sum_tail, term, term_operator, term_tail, test, test_tail, test_tail_1, tested, tested_1}
-use Rattle.inf_syntax.specs.Parts.{whole_directive, whole_directive_1, whole_directive_2, whole_directive_3, whole_directive_4}
+use Rattle.inf_syntax.specs.Parts.{address_operator, address_tail, after_prim, after_unary, array_operator, array_tail, assign}
+use Rattle.inf_syntax.specs.Parts.{assign_tail, assign_tail_1, bit, bracketed, call, call_1, call_2, directive, expression}
+use Rattle.inf_syntax.specs.Parts.{expression_tail, inc, initial, initial_1, logic, logic_operator, logic_tail, neg, negated, other_assign}
+use Rattle.inf_syntax.specs.Parts.{other_prim, piece, plain_prim, post, post_tail, prefixed, prim, step_operator, step_prefix, step_tail}
+use Rattle.inf_syntax.specs.Parts.{sum, sum_operator, sum_tail, term, term_operator, term_tail, test, test_tail, test_tail_1, tested}
+use Rattle.inf_syntax.specs.Parts.{tested_1, whole_directive, whole_directive_1, whole_directive_2, whole_directive_3, whole_directive_4}
 use Rattle.inf_syntax.specs.Parts.{whole_directive_5, whole_directive_6}
 use Rattle.inf_grammar.specs.{Language.grammar, Routines.closings}
 use Rattle.inf_statement_laws.specs.Readings.{Seen}
 use Rattle.inf_trees.specs.Directives.{begins_directive, is_word}
-use Rattle.inf_trees.proofs.DirectiveTexts.{by_word, directive_rows, directives_have, no_sign, outside_1, outside_10, outside_11, outside_12}
-use Rattle.inf_trees.proofs.DirectiveTexts.{outside_13, outside_15, outside_5, outside_7, outside_8, piece_rows, pieces_have}
-use Rattle.inf_trees.proofs.DirectiveTexts.{routine_no_word, unit_end}
 use Rattle.inf_trees.proofs.RuleRows.{is_among, keeps, passes}
+use Rattle.inf_trees.proofs.DirectiveTexts.{DirectiveRow, IsOutside, IsWhole, directive_row, no_sign, no_word, outside-append, piece_rows}
+use Rattle.inf_trees.proofs.DirectiveTexts.{pieces_have, sign_outside, unit_end}
 use Rattle.inf_program.specs.definition.Fronts.{ends_in}
 use Rattle.inf_turn_laws.proofs.Merged.{ClosesNone}
 
@@ -31,7 +30,8 @@ is_close _ = false
 abbrev open_rules : List (Symbol Action)
 open_rules =
     whole_directive ∷ whole_directive_1 ∷ whole_directive_2 ∷ whole_directive_3 ∷ whole_directive_4 ∷ whole_directive_5 ∷ whole_directive_6
-    ∷ initial ∷ initial_1 ∷ expression ∷ expression_tail ∷ assign ∷ assign_tail ∷ assign_tail_1 ∷ other_assign ∷ prefixed ∷ logic ∷ logic_tail
+    ∷ initial ∷ initial_1 ∷ expression ∷ expression_tail ∷ assign ∷ assign_tail ∷ assign_tail_1 ∷ other_assign ∷ prefixed ∷ logic ∷
+    logic_tail
     ∷ logic_operator ∷ negated ∷ test ∷ test_tail ∷ test_tail_1 ∷ tested ∷ tested_1 ∷ sum ∷ sum_operator ∷ sum_tail ∷ term ∷ term_operator
     ∷ term_tail ∷ bit ∷ array_operator ∷ array_tail ∷ neg ∷ inc ∷ step_operator ∷ step_prefix ∷ step_tail ∷ address_operator ∷ address_tail
     ∷ post ∷ post_tail ∷ call ∷ call_1 ∷ call_2 ∷ prim ∷ other_prim ∷ plain_prim ∷ bracketed ∷ after_prim ∷ after_unary ∷ []
@@ -90,31 +90,15 @@ whole_is_open = refl
 
 -- A piece that begins as such a directive
 
-directive_row_ends : (r : Row Action) → IsOneOf r directive_rows → (atom : ℕ) (atoms : List ℕ) (events : List (Event Action))
-    → is_word atom ≡ true → (leads : Leads grammar (r.parts ++ []) (atom ∷ atoms) events []) → AllZero (ends_in leads)
-directive_row_ends r first atom atoms events is leads = absurd (routine_no_word atom _ atoms events is leads)
-directive_row_ends r (later first) atom atoms events is leads = absurd (by_word 5 atom _ atoms events outside_5 is leads)
-directive_row_ends r (later (later first)) atom atoms events is leads = absurd (by_word 7 atom _ atoms events outside_7 is leads)
-directive_row_ends r (later (later (later first))) atom atoms events is leads = absurd (by_word 8 atom _ atoms events outside_8 is leads)
-directive_row_ends r (later (later (later (later first)))) atom atoms events is leads =
-    absurd (by_word 10 atom _ atoms events outside_10 is leads)
-directive_row_ends r (later (later (later (later (later first))))) atom atoms events is leads =
-    absurd (by_word 11 atom _ atoms events outside_11 is leads)
-directive_row_ends r (later (later (later (later (later (later first)))))) atom atoms events is leads =
-    absurd (by_word 12 atom _ atoms events outside_12 is leads)
-directive_row_ends r (later (later (later (later (later (later (later first))))))) atom atoms events is leads =
-    absurd (by_word 13 atom _ atoms events outside_13 is leads)
-directive_row_ends r (later (later (later (later (later (later (later (later first)))))))) atom atoms events is leads =
-    absurd (by_word 15 atom _ atoms events outside_15 is leads)
-directive_row_ends r (later (later (later (later (later (later (later (later (later first))))))))) atom atoms events is leads =
-    open_ends leads whole_is_open
-directive_row_ends r (later (later (later (later (later (later (later (later (later (later missing)))))))))) atom atoms events is leads =
-    elim missing [ ]
+row_ends : {parts : List (Symbol Action)} → DirectiveRow parts → (atom : ℕ) (atoms : List ℕ) (events : List (Event Action))
+    → is_word atom ≡ true → (leads : Leads grammar (parts ++ []) (atom ∷ atoms) events []) → AllZero (ends_in leads)
+row_ends IsWhole atom atoms events is leads = open_ends leads whole_is_open
+row_ends (IsOutside {parts} out) atom atoms events is leads =
+    absurd (no_word leads (outside-append parts [] out) atom atoms refl is)
 
 directive_ends : (atom : ℕ) (atoms : List ℕ) (events : List (Event Action)) → is_word atom ≡ true
     → (leads : IsText grammar (directive ∷ []) (atom ∷ atoms) events) → AllZero (ends_in leads)
-directive_ends atom atoms events is (row {r = r} is_row free leads) =
-    directive_row_ends r (subst (λ rows. IsOneOf r rows) directives_have is_row) atom atoms events is leads
+directive_ends atom atoms events is (row {r = r} is_row free leads) = row_ends (directive_row r is_row) atom atoms events is leads
 
 -- a piece whose first row is that of the sign, or of a directive
 piece_row_ends : (r : Row Action) → IsOneOf r piece_rows → (one two : ℕ) (atoms : List ℕ) (events : List (Event Action))
@@ -123,7 +107,7 @@ piece_row_ends : (r : Row Action) → IsOneOf r piece_rows → (one two : ℕ) (
 piece_row_ends r first one two atoms events begins (token h leads) = elim leads [ ]
 piece_row_ends r (later first) one two atoms events begins (token {events = rest} h leads) =
     elim (or_cases (is_word one) ((one == mark_atom Mark.Hash) && is_word two) begins) [
-      | inl is ↦ absurd (by_word 1 one _ (two ∷ atoms) events outside_1 is (token h leads))
+      | inl is ↦ absurd (no_word (token h leads) (sign_outside (directive ∷ [])) one (two ∷ atoms) refl is)
       | inr both ↦ (refl, directive_ends two atoms rest (and_parts (one == mark_atom Mark.Hash) (is_word two) both).1 leads)
     ]
 piece_row_ends r (later (later first)) one two atoms events begins leads =

@@ -1,27 +1,28 @@
 -- The parts of a unit, read one behind the other, where there is room for them.
 use Rattle.std.proofs.Common.{◌≡◌, ℕ, ◌+◌, ◌≤◌, ◌<◌, List, [], ◌∷◌, ◌++◌, length, Bool, true, false, not, Option, None, refl, sym, ◌∙◌, ap}
 use Rattle.std.proofs.Common.{arith, subst, is_some, nat_lt}
-use Rattle.std.proofs.{lemmas.Bool.and_parts, lemmas.Bool.cond-false, lemmas.List.length-append}
-use Rattle.inf_settings.specs.{Bounds.Limits, declared.setting.Setting.Setting}
+use Rattle.std.proofs.lemmas.Bool.{and_parts, cond-false}
+use Rattle.std.proofs.lemmas.List.{length-append}
 use Rattle.inf_scanner.specs.declared.tokens.Place.{Place}
+use Rattle.inf_gathering.specs.Gatherings.{Gathering}
+use Rattle.inf_settings.specs.{Bounds.Limits, declared.setting.Setting.Setting}
 use Rattle.inf_machine.specs.Grammar.{Did, Event, Took}
 use Rattle.inf_syntax.specs.declared.actions.Action.{Action}
-use Rattle.inf_gathering.specs.Gatherings.{Gathering}
 use Rattle.inf_unit.specs.{Roles.role_of, Steps.step_in, declared.items.Item.Item, declared.roles.Note.Note, declared.roles.Role.Role}
 use Rattle.inf_unit.specs.Units.{Unit as UnitAtHand, action_gathered, depth_behind, is_full, noted, taken, text_passed}
 use Rattle.inf_compilation.specs.{Actions.Compilation, Context.Context}
 use Rattle.inf_reader.specs.Acting.{act, operands_named, value_noted}
-use Rattle.inf_expression_laws.specs.Gathered.{AreSeen}
 use Rattle.inf_statement_laws.specs.{Happenings.is_quiet, Happenings.is_quiet_role, Laid.passed, Laid.run, Readings.Seen}
+use Rattle.inf_expression_laws.specs.Gathered.{AreSeen}
 use Rattle.inf_language.specs.{Texts.atoms_of, Texts.happenings_before, Texts.tokens_of, Units.AllSteps}
 use Rattle.inf_language.proofs.Derivations.{texts_take_all}
-use Rattle.inf_trees.specs.Trees.{AreWritten, Named, Noted, Part, Single, Value, all_seen, parts_told, told_at, tokens_told, with_outer, with_parts}
-use Rattle.inf_trees.specs.Trees.{with_value}
+use Rattle.inf_trees.specs.Room.{has_room, have_room}
+use Rattle.inf_trees.specs.Trees.{AreWritten, Named, Noted, Part, Single, Value, all_seen, parts_told, tokens_told, told_at, with_outer}
+use Rattle.inf_trees.specs.Trees.{with_parts, with_value}
 use Rattle.inf_trees.proofs.UnitStates.{is_note}
-use Rattle.inf_trees.proofs.UnitsRead.{expressed_does, gathers, note_first, one_taken, ready, seen_parts, told_at_opening, tokens_count}
-use Rattle.inf_trees.proofs.UnitsRead.{tokens_opening}
-use Rattle.inf_trees.proofs.ValueForms.{HasForm}
-use Rattle.inf_simple_trees.specs.Room.{has_room, have_room}
+use Rattle.inf_trees.proofs.Needs.{Kind, counted, counted_more, need_of, needs, needs_in, note_need, steps_need}
+use Rattle.inf_trees.proofs.UnitsRead.{HasForm, expressed_does, gathers, note_first, one_taken, ready, seen_parts, tokens_count}
+use Rattle.inf_trees.proofs.UnitsRead.{tokens_opening, told_at_opening}
 
 -- The actions among some events neither open a statement that holds others nor go on with one nor end one.
 abbrev pub AreQuiet : List (Event Action) → Type 0
@@ -43,6 +44,7 @@ pub record Goes (limits : Limits) (u : UnitAtHand) (seen : List Seen) (events : 
   pub parts : List Part
   pub same : all_seen parts ≡ seen
   pub quiet : AreQuiet events
+  pub weighs : (kind : Kind) → needs kind parts ≤ needs_in kind events
   pub written : AreWritten (ready u) parts
   pub does : (context : Context) (next : Place) (w : Compilation) → w.opening ≡ None → have_room limits (ready u) parts ≡ true
       → run limits context (happenings_before next events seen) (record w { unit = ready u })
@@ -62,7 +64,14 @@ moved limits {others = others} {events = events} same are on =
 -- Nothing more
 
 pub nothing_goes : (limits : Limits) (u : UnitAtHand) → Goes limits u [] []
-nothing_goes limits u = record { parts = []; same = refl; quiet = tt; written = tt; does = λ context next w none room. refl }
+nothing_goes limits u = record {
+  parts = [];
+  same = refl;
+  quiet = tt;
+  weighs = λ kind. omega arith;
+  written = tt;
+  does = λ context next w none room. refl;
+}
 
 pub nothing : (limits : Limits) → Going limits [] []
 nothing limits u are_seen begun few = nothing_goes limits u
@@ -76,6 +85,7 @@ alone_goes limits s atom u seen events on = record {
   parts = Single s ∷ on.parts;
   same = ap (λ l. s ∷ l) on.same;
   quiet = on.quiet;
+  weighs = on.weighs;
   written = on.written;
   does = λ context next w none room.
       let v = taken s.token (ready u) in
@@ -94,14 +104,17 @@ alone limits s atom seen events on u are_seen begun few =
 -- Notes
 
 pub noted_goes : (limits : Limits) (a : Action) (n : Note) (u v : UnitAtHand) (seen : List Seen) (events : List (Event Action))
-    → is_quiet a ≡ true → noted n (ready u) ≡ ready v
+    → is_quiet a ≡ true → need_of a ≡ note_need n → noted n (ready u) ≡ ready v
     → ((context : Context) (place : Place) (w : Compilation) → has_room limits n (ready u) ≡ true
     → act limits context place a (record w { unit = ready u }) ≡ record w { unit = noted n (ready u) })
     → Goes limits v seen events → Goes limits u seen (Did a ∷ events)
-noted_goes limits a n u v seen events quiet is acts on = record {
+noted_goes limits a n u v seen events quiet need is acts on = record {
   parts = Noted n ∷ on.parts;
   same = on.same;
   quiet = (quiet, on.quiet);
+  weighs = λ kind.
+      subst (λ o. counted (note_need n) kind (needs kind on.parts) ≤ counted o kind (needs_in kind events)) (sym need)
+      (counted_more (note_need n) kind (needs kind on.parts) (needs_in kind events) (on.weighs kind));
   written = subst (λ x. AreWritten x on.parts) (sym is) on.written;
   does = λ context next w none room.
       let both = and_parts (has_room limits n (ready u)) (have_room limits (noted n (ready u)) on.parts) room in
@@ -118,6 +131,7 @@ named_goes limits u seen events on = record {
   parts = Named ∷ on.parts;
   same = on.same;
   quiet = (refl, on.quiet);
+  weighs = on.weighs;
   written = on.written;
   does = λ context next w none room.
       note_first limits context next Action.Action seen events (record w { unit = ready u })
@@ -205,37 +219,39 @@ pub note_goes : (limits : Limits) {a : Action} → IsAny a → (u : UnitAtHand) 
     → Goes limits u seen (Did a ∷ events)
 note_goes limits AnEnd u seen events on =
     let v = noted Note.OuterEnd u in
-    noted_goes limits Action.OuterEnd Note.OuterEnd u v seen events refl refl (λ context place w. end_acts limits context place (ready u) w)
+    noted_goes limits Action.OuterEnd Note.OuterEnd u v seen events refl refl refl
+    (λ context place w. end_acts limits context place (ready u) w)
     (on v.gathering v.items v.code v.outer)
 note_goes limits AText u seen events on =
     let v = noted Note.PrintText u in
-    noted_goes limits Action.PrintText Note.PrintText u v seen events refl refl
+    noted_goes limits Action.PrintText Note.PrintText u v seen events refl refl refl
     (λ context place w. text_acts limits context place (ready u) w) (on v.gathering v.items v.code v.outer)
 note_goes limits AValue u seen events on =
     let v = noted Note.PrintValue u in
-    noted_goes limits Action.PrintValue Note.PrintValue u v seen events refl refl
+    noted_goes limits Action.PrintValue Note.PrintValue u v seen events refl refl refl
     (λ context place w. value_acts limits context place (ready u) w) (on v.gathering v.items v.code v.outer)
 note_goes limits ASet u seen events on =
     let v = noted Note.Set u in
-    noted_goes limits Action.Set Note.Set u v seen events refl refl (λ context place w. set_acts limits context place (ready u) w)
+    noted_goes limits Action.Set Note.Set u v seen events refl refl refl (λ context place w. set_acts limits context place (ready u) w)
     (on v.gathering v.items v.code v.outer)
 note_goes limits AClear u seen events on =
     let v = noted Note.Clear u in
-    noted_goes limits Action.Clear Note.Clear u v seen events refl refl (λ context place w. clear_acts limits context place (ready u) w)
+    noted_goes limits Action.Clear Note.Clear u v seen events refl refl refl
+    (λ context place w. clear_acts limits context place (ready u) w)
     (on v.gathering v.items v.code v.outer)
 note_goes limits AName u seen events on =
     let v = action_gathered u in named_goes limits u seen events (on v.gathering v.items v.code v.outer)
 note_goes limits AStore u seen events on =
     let v = noted Note.Store u in
-    noted_goes limits Action.Store Note.Store u v seen events refl refl (λ context place w room. refl)
+    noted_goes limits Action.Store Note.Store u v seen events refl refl refl (λ context place w room. refl)
     (on v.gathering v.items v.code v.outer)
 note_goes limits ABranch u seen events on =
     let v = noted (Note.Branch true) u in
-    noted_goes limits Action.Branch (Note.Branch true) u v seen events refl refl (λ context place w room. refl)
+    noted_goes limits Action.Branch (Note.Branch true) u v seen events refl refl refl (λ context place w room. refl)
     (on v.gathering v.items v.code v.outer)
 note_goes limits ABranchNot u seen events on =
     let v = noted (Note.Branch false) u in
-    noted_goes limits Action.BranchNot (Note.Branch false) u v seen events refl refl (λ context place w room. refl)
+    noted_goes limits Action.BranchNot (Note.Branch false) u v seen events refl refl refl (λ context place w room. refl)
     (on v.gathering v.items v.code v.outer)
 
 -- An expression
@@ -256,6 +272,7 @@ expressed limits tokens rest steps late form on u are_seen begun few =
       parts = Value g.level tokens g.value ∷ more.parts;
       same = ap (λ l. tokens ++ l) more.same;
       quiet = (refl, steps_quiet steps late g.only more.quiet);
+      weighs = λ kind. steps_need kind steps late (needs kind more.parts) g.only (more.weighs kind);
       written = (g.written, more.written);
       does = λ context next w none room.
           expressed_does limits context next u tokens rest steps late g.value w g.reads g.only all none
@@ -276,9 +293,10 @@ text_printed limits s atom rest late on u are_seen begun few =
     let v = noted (Note.Outer false) u in
     let x = record v { tokens = v.tokens ++ s.token ∷ []; depth = depth_behind s.token.kind v.depth } in
     let count = length-append u.tokens (s.token ∷ []) in
-    noted_goes limits Action.OuterMaybe (Note.Outer false) u v (s ∷ rest) (Took atom ∷ Did Action.PrintText ∷ late) refl refl
+    noted_goes limits Action.OuterMaybe (Note.Outer false) u v (s ∷ rest) (Took atom ∷ Did Action.PrintText ∷ late) refl refl refl
     (λ context place w room. refl)
     (alone_goes limits s atom v rest (Did Action.PrintText ∷ late)
     (note_goes limits AText x rest late
-    (λ g items code outer. on (record x { gathering = g; items = items; code = code; outer = outer }) are_seen.1 (omega (arith, begun, count))
+    (λ g items code outer. on (record x { gathering = g; items = items; code = code; outer = outer }) are_seen.1
+    (omega (arith, begun, count))
     (omega (arith, few, count)))))

@@ -1,180 +1,34 @@
 -- The tokens of a unit are parts of it, whichever rows of the grammar they are a text of: each token and each action goes on with what is
 -- open, or parts are whole.
-use Rattle.std.proofs.Common.{◌≡◌, ℕ, List, [], ◌∷◌, ◌++◌, Bool, true, false, refl, sym, ◌∙◌, ap, subst, append_assoc, append-nil}
-use Rattle.std.proofs.Common.{None, ◌+◌, ◌≤◌, ◌<◌, is_some, arith, length, if◌then◌else◌}
-use Rattle.std.proofs.lemmas.Bool.{and_parts}
-use Rattle.std.proofs.lemmas.List.{length-append, map-append}
+use Rattle.std.proofs.Common.{◌≡◌, ℕ, List, [], ◌∷◌, ◌++◌, Bool, true, false, refl, sym, ◌∙◌, ap, subst, append_assoc, append-nil, None}
+use Rattle.std.proofs.Common.{Option, ◌+◌, ◌≤◌, ◌<◌, arith, length, if◌then◌else◌}
+use Rattle.std.proofs.lemmas.List.{length-append}
 use Rattle.inf_settings.specs.Bounds.{Limits}
 use Rattle.inf_machine.specs.declared.symbols.Symbol.{Symbol}
-use Rattle.inf_trees.proofs.UnitStates.{is_other}
-use Rattle.inf_machine.specs.Grammar.{Did, Event, IsOneOf, IsText, Row, Leads, Took, action, has, here, row, token}
+use Rattle.inf_machine.specs.Grammar.{Did, Event, IsOneOf, IsText, Leads, Row, Took, action, has, here, row, token}
 use Rattle.inf_syntax.specs.{Parts.!outer_sure, declared.actions.Action.Action}
 use Rattle.inf_grammar.specs.Language.{grammar}
-use Rattle.inf_unit.specs.{Steps.step_of, declared.items.Item.Item as UnitItem, declared.roles.Note.Note}
-use Rattle.inf_unit.specs.{Opcodes.takes_text, Units.bytes_at, Units.last_leaf, Units.leaf_gathered, Units.next_place, Units.noted}
-use Rattle.inf_unit.specs.Units.{Unit as UnitAtHand, depth_behind, with_item}
-use Rattle.inf_expression_laws.specs.Gathered.{AreSeen}
-use Rattle.inf_expression_laws.proofs.{ExpressionsRead.passed_are_read, Items.Item, Items.Whole, Items.Within, Items.bottom}
-use Rattle.inf_expression_laws.proofs.Typed.{Passes, below, done as passes_done, joined, row_passes}
+use Rattle.inf_unit.specs.{Opcodes.takes_text, declared.items.Item.Item as UnitItem, declared.roles.Note.Note}
+use Rattle.inf_unit.specs.Units.{Unit as UnitAtHand, bytes_at, depth_behind, last_leaf, leaf_gathered, next_place, noted, with_item}
 use Rattle.inf_statement_laws.specs.Readings.{Seen}
+use Rattle.inf_expression_laws.specs.Gathered.{AreSeen}
+use Rattle.inf_expression_laws.proofs.{ExpressionsRead.passed_are_read, Items.Whole, Typed.Passes, Typed.below, Typed.row_passes}
 use Rattle.inf_language.specs.{Texts.atoms_of, Texts.tokens_of, Units.AllSteps}
 use Rattle.inf_language.proofs.Derivations.{texts_take_all}
-use Rattle.inf_trees.proofs.{UnitsRead.ready, ValueForms.HasForm}
-use Rattle.inf_trees.proofs.UnitStates.{ActMove, Alone, ByRows, ByRule, Begins, Changes, Closes, Commas, Does, Done, Else, Ended, Ends, Fits}
-use Rattle.inf_trees.proofs.UnitStates.{ForLine, Free, Gathers, Into, Joint, Known, LaterWord, Lead, Leading, Lists, Loses, Lost, Marking}
-use Rattle.inf_trees.proofs.UnitStates.{MayBegin, Misread, Misses, Names, Narrow, Never, Notes, Open, Others, Passed, Printed, Prints, Ranges}
-use Rattle.inf_trees.proofs.UnitStates.{Rules, RulesBy, Ruling, Same, State, Tails, Takes, TokenMove, Turns, Typed, Worded, Words, all_steps}
-use Rattle.inf_trees.proofs.UnitStates.{behind, closes_with, ends_otherwise, fits_then, fitted_before}
-use Rattle.inf_trees.specs.Ends.{by_end, case_first, end_kind, is_case}
-use Rattle.inf_trees.proofs.UnitStates.{row_lost, row_opened}
+use Rattle.inf_trees.specs.Ends.{by_end, case_first, end_kind}
+use Rattle.inf_trees.proofs.{Doubts.IsDoubted, Doubts.doubted_expression, PrintRules.rule_events, PrintRules.ruled_value, UnitsRead.ready}
+use Rattle.inf_trees.proofs.Pending.{ALeaf, AnAct, Consumed, First, Later, Leaves, NoLeaf, OfFree, OfLead, OfLost, OfMaybe, OfOpen, OfRule}
+use Rattle.inf_trees.proofs.Pending.{OfWord, Opened, Pending, Ruled, Sure, free_none, has_form, is_last, leaves_behind, leaves_of}
+use Rattle.inf_trees.proofs.Pending.{leaves_text, none_last, nothing_consumed, only_leaves, opened_on, opened_wide, steps_behind}
+use Rattle.inf_trees.proofs.UnitStates.{ActMove, Agrees, Alone, Begins, ByRows, ByRule, Changes, Closes, Commas, Does, Done, Else, Ended}
+use Rattle.inf_trees.proofs.UnitStates.{Ends, Fits, ForLine, Free, Gathers, Into, Joint, Known, LaterWord, Leading, Lists, Loses, Marking}
+use Rattle.inf_trees.proofs.UnitStates.{MayBegin, Misread, Misses, Names, Narrow, Notes, Others, Passed, Printed, Prints, Ranges, Rules}
+use Rattle.inf_trees.proofs.UnitStates.{RulesBy, Same, State, Tails, Takes, TokenMove, Turns, Typed, Words, all_steps, behind, closes_with}
+use Rattle.inf_trees.proofs.UnitStates.{ends_otherwise, fits_then, fitted_before, is_other, row_lost, row_opened}
 use Rattle.inf_trees.proofs.UnitWalks.{IsEnd, declared, listed_row, row_unsure}
-use Rattle.inf_simple_trees.proofs.Doubts.{IsDoubted, doubted_expression}
-use Rattle.inf_simple_trees.proofs.{PrintRules.rule_events, PrintRules.ruled_value}
-use Rattle.inf_simple_trees.proofs.UnitsGo.{Goes, Going, IsAny, alone, alone_goes, any_of}
-use Rattle.inf_simple_trees.proofs.UnitsGo.{Leading as Prefix, expressed, moved, note_goes, noted_goes, nothing, text_printed}
-use Rattle.inf_simple_trees.proofs.Values.{comma_joined, default_noted, further, outer_noted, range_joined, worded}
-
--- Tokens and actions, one by one
-
-pub data Leaves : List (Symbol Action) → List ℕ → List (Event Action) → Type 0 where
-  NoLeaf : Leaves [] [] []
-  ALeaf : {class atom : ℕ} {symbols : List (Symbol Action)} {atoms : List ℕ} {events : List (Event Action)}
-      → has (grammar.atoms_of class) atom ≡ true → Leaves symbols atoms events
-      → Leaves (Symbol.Token class ∷ symbols) (atom ∷ atoms) (Took atom ∷ events)
-  AnAct : {a : Action} {symbols : List (Symbol Action)} {atoms : List ℕ} {events : List (Event Action)} → Leaves symbols atoms events
-      → Leaves (Symbol.Act a ∷ symbols) atoms (Did a ∷ events)
-
-leaves_text : {symbols : List (Symbol Action)} {atoms : List ℕ} {events : List (Event Action)} → Leaves symbols atoms events
-    → IsText grammar symbols atoms events
-leaves_text NoLeaf = here
-leaves_text (ALeaf h leaves) = token h (leaves_text leaves)
-leaves_text (AnAct leaves) = action (leaves_text leaves)
-
-leaves_behind : {xs ys : List (Symbol Action)} {front rest : List ℕ} {early late : List (Event Action)} → Leaves xs front early
-    → Leaves ys rest late → Leaves (xs ++ ys) (front ++ rest) (early ++ late)
-leaves_behind NoLeaf others = others
-leaves_behind (ALeaf h leaves) others = ALeaf h (leaves_behind leaves others)
-leaves_behind (AnAct leaves) others = AnAct (leaves_behind leaves others)
-
-leaves_of : {xs ys : List (Symbol Action)} (front rest : List Seen) {early late : List (Event Action)} → Leaves xs (atoms_of front) early
-    → Leaves ys (atoms_of rest) late → Leaves (xs ++ ys) (atoms_of (front ++ rest)) (early ++ late)
-leaves_of {xs} {ys} front rest {early} {late} leaves others =
-    subst (λ l. Leaves (xs ++ ys) l (early ++ late)) (sym (map-append (λ (s : Seen). s.atom) front rest)) (leaves_behind leaves others)
-
-only_leaves : {symbols : List (Symbol Action)} {atoms : List ℕ} {events : List (Event Action)} → Leaves symbols atoms events
-    → all_steps symbols ≡ true → AllSteps events
-only_leaves NoLeaf all = tt
-only_leaves (ALeaf h leaves) all = only_leaves leaves all
-only_leaves (AnAct {a} {symbols} leaves) all =
-    let both = and_parts (is_some (step_of a)) (all_steps symbols) all in (both.0, only_leaves leaves both.1)
-
-steps_behind : (steps late : List (Event Action)) → AllSteps steps → AllSteps late → AllSteps (steps ++ late)
-steps_behind [] late steps others = others
-steps_behind (Did a ∷ events) late steps others = (steps.0, steps_behind events late steps.1 others)
-steps_behind (Took atom ∷ events) late steps others = steps_behind events late steps others
-
--- Expressions that are open
-
--- tokens and steps of an expression, of which some items were read
-pub record Consumed (items : List Item) (tokens : List Seen) (steps : List (Event Action)) : Type 0 where
-  symbols : List (Symbol Action)
-  passes : Passes [] symbols items
-  leaves : Leaves symbols (atoms_of tokens) steps
-  only : AllSteps steps
-
-nothing_consumed : Consumed [] [] []
-nothing_consumed = record { symbols = []; passes = passes_done bottom; leaves = NoLeaf; only = tt }
-
-widened : {symbols : List (Symbol Action)} {items wide : List Item} → Passes [] symbols items → Within items wide → Passes [] symbols wide
-widened {symbols} {wide = wide} p w = subst (λ l. Passes [] l wide) (append-nil symbols) (joined p (passes_done w))
-
-module _ {x : Symbol Action} {items now : List Item} (p : Passes items (x ∷ []) now) (seen : List Seen) (events : List (Event Action))
-    (leaves : Leaves (x ∷ []) (atoms_of seen) events) (only : AllSteps events) where
-  consumed_on : {tokens : List Seen} {steps : List (Event Action)} → Consumed items tokens steps → Consumed now (tokens ++ seen) (steps ++ events)
-  consumed_on {tokens} {steps} c = record {
-    symbols = c.symbols ++ x ∷ [];
-    passes = joined c.passes p;
-    leaves = leaves_of tokens seen c.leaves leaves;
-    only = steps_behind steps events c.only only;
-  }
-
-has_form : {level : ℕ} {tokens : List Seen} {steps : List (Event Action)} → Consumed (Whole level ∷ []) tokens steps
-    → HasForm (atoms_of tokens) steps
-has_form {level} c =
-    record { symbols = c.symbols; level = level; passes = c.passes; text = leaves_text c.leaves; steps = c.only }
-
--- An expression by its beginning: behind an action for it, behind a sign in a case, behind tokens of which it was not known that they begin
--- one, and behind a print rule.
-pub data Opened : Bool → List Item → List Seen → List (Event Action) → Type 0 where
-  First : {items : List Item} {tokens : List Seen} {steps : List (Event Action)} → Consumed items tokens steps
-      → Opened false items tokens (Did Action.Outer ∷ steps)
-  Later : {items : List Item} {tokens : List Seen} {steps : List (Event Action)} → Consumed items tokens steps
-      → Opened false items tokens steps
-  Sure : {fronts more : List (Symbol Action)} {items : List Item} (front tokens : List Seen) (early steps : List (Event Action))
-      → Passes [] (fronts ++ !outer_sure ∷ more) items → Leaves fronts (atoms_of front) early → Leaves more (atoms_of tokens) steps
-      → AllSteps early → AllSteps steps
-      → Opened false items (front ++ tokens) (Did Action.OuterMaybe ∷ (early ++ Did Action.OuterSure ∷ steps))
-  Ruled : {items : List Item} {tokens : List Seen} {steps : List (Event Action)} (ends : Bool) (bracket name closing : Seen)
-      (one two three : ℕ) → Consumed items tokens steps
-      → Opened true items (bracket ∷ name ∷ closing ∷ tokens) (rule_events ends one two three (Did Action.Outer ∷ steps))
-
-module _ {x : Symbol Action} {items now : List Item} (p : Passes items (x ∷ []) now) (seen : List Seen) (events : List (Event Action))
-    (leaves : Leaves (x ∷ []) (atoms_of seen) events) (only : AllSteps events) where
-  opened_on : {ruled : Bool} {before : List Seen} {early : List (Event Action)} → Opened ruled items before early
-      → Opened ruled now (before ++ seen) (early ++ events)
-  opened_on (First c) = First (consumed_on p seen events leaves only c)
-  opened_on (Later c) = Later (consumed_on p seen events leaves only c)
-  opened_on (Sure {fronts} {more} front tokens early steps q l m a b) =
-      let all = Did Action.OuterSure ∷ steps in
-      subst (λ k. Opened false now k ((Did Action.OuterMaybe ∷ (early ++ all)) ++ events)) (sym (append_assoc front tokens seen))
-      (subst (λ k. Opened false now (front ++ (tokens ++ seen)) (Did Action.OuterMaybe ∷ k)) (sym (append_assoc early all events))
-      (Sure front (tokens ++ seen) early (steps ++ events)
-      (subst (λ k. Passes [] k now) (append_assoc fronts (!outer_sure ∷ more) (x ∷ [])) (joined q p)) l
-      (leaves_of tokens seen m leaves) a (steps_behind steps events b only)))
-  opened_on (Ruled true bracket name closing one two three c) =
-      Ruled true bracket name closing one two three (consumed_on p seen events leaves only c)
-  opened_on (Ruled false bracket name closing one two three c) =
-      Ruled false bracket name closing one two three (consumed_on p seen events leaves only c)
-
-opened_wide : {ruled : Bool} {items wide : List Item} {seen : List Seen} {events : List (Event Action)} → Within items wide
-    → Opened ruled items seen events → Opened ruled wide seen events
-opened_wide w (First c) = First (record { symbols = c.symbols; passes = widened c.passes w; leaves = c.leaves; only = c.only })
-opened_wide w (Later c) = Later (record { symbols = c.symbols; passes = widened c.passes w; leaves = c.leaves; only = c.only })
-opened_wide w (Sure front tokens early steps q l m a b) = Sure front tokens early steps (widened q w) l m a b
-opened_wide w (Ruled ends bracket name closing one two three c) =
-    Ruled ends bracket name closing one two three
-    (record { symbols = c.symbols; passes = widened c.passes w; leaves = c.leaves; only = c.only })
-
--- A state with the tokens and events of what is open
-pub data Pending : State → List Seen → List (Event Action) → Type 0 where
-  OfFree : Pending Free [] []
-  OfOpen : {ruled : Bool} {items : List Item} {seen : List Seen} {events : List (Event Action)} → Opened ruled items seen events
-      → Pending (Open ruled items) seen events
-  OfLead : {symbols : List (Symbol Action)} {seen : List Seen} {events : List (Event Action)} → Leaves symbols (atoms_of seen) events
-      → AllSteps events → Pending (Lead true symbols) seen (Did Action.Outer ∷ events)
-  OfMaybe : {symbols : List (Symbol Action)} {seen : List Seen} {events : List (Event Action)} → Leaves symbols (atoms_of seen) events
-      → Pending (Lead false symbols) seen (Did Action.OuterMaybe ∷ events)
-  OfWord : Pending Worded [] (Did Action.OuterWord ∷ [])
-  OfRule : (ends : Bool) (bracket name closing : Seen) (one two three : ℕ)
-      → Pending (Ruling ends) (bracket ∷ name ∷ closing ∷ []) (rule_events ends one two three [])
-  OfLost : {seen : List Seen} {events : List (Event Action)} → Pending Lost seen events
-
-free_none : {seen : List Seen} {events : List (Event Action)} → Pending Free seen events → (seen ≡ []) × (events ≡ [])
-free_none OfFree = (refl, refl)
-
-abbrev pub is_last : State → Bool
-is_last Ended = true
-is_last Never = true
-is_last _ = false
-
-none_last : {s : State} {seen : List Seen} {events : List (Event Action)} → is_last s ≡ true → Pending s seen events → ⊥
-none_last last OfFree = cc
-none_last last (OfOpen o) = cc
-none_last last (OfLead l a) = cc
-none_last last (OfMaybe l) = cc
-none_last last OfWord = cc
-none_last last (OfRule ends bracket name closing one two three) = cc
-none_last last OfLost = cc
+use Rattle.inf_trees.proofs.UnitsGo.{Goes, Going, IsAny, Leading as Prefix, alone, alone_goes, any_of, expressed, moved, note_goes}
+use Rattle.inf_trees.proofs.UnitsGo.{noted_goes, nothing, text_printed}
+use Rattle.inf_trees.proofs.Values.{comma_joined, default_noted, further, outer_noted, range_joined, worded}
 
 module _ (limits : Limits) where
   -- parts that are whole, and what is open behind them
@@ -295,7 +149,8 @@ module _ (limits : Limits) where
     same : s ∷ [] ≡ seen
     are : Took atom ∷ [] ≡ events
 
-  one_leaf : {class : ℕ} {atoms : List ℕ} {events : List (Event Action)} → Leaves (Symbol.Token class ∷ []) atoms events → (seen : List Seen)
+  one_leaf : {class : ℕ} {atoms : List ℕ} {events : List (Event Action)} → Leaves (Symbol.Token class ∷ []) atoms events
+      → (seen : List Seen)
       → atoms_of seen ≡ atoms → OneLeaf seen events
   one_leaf (ALeaf h NoLeaf) [] is = cc
   one_leaf (ALeaf {atom = atom} h NoLeaf) (s ∷ []) is = record { s = s; atom = atom; same = refl; are = refl }
@@ -312,7 +167,8 @@ module _ (limits : Limits) where
     are : rule_events ends one two three [] ≡ Did Action.OuterMaybe ∷ (events ++ Did Action.Rule ∷ [])
 
   ruler : {one two three : ℕ} {atoms : List ℕ} {events : List (Event Action)}
-      → Leaves (Symbol.Token one ∷ Symbol.Act Action.Bracket ∷ Symbol.Token two ∷ Symbol.Act Action.Name ∷ Symbol.Token three ∷ []) atoms events
+      → Leaves (Symbol.Token one ∷ Symbol.Act Action.Bracket ∷ Symbol.Token two ∷ Symbol.Act Action.Name ∷ Symbol.Token three ∷ []) atoms
+      events
       → (seen : List Seen) → atoms_of seen ≡ atoms → Ruler false seen events
   ruler (ALeaf h (AnAct (ALeaf i (AnAct (ALeaf j NoLeaf))))) [] is = cc
   ruler (ALeaf h (AnAct (ALeaf i (AnAct (ALeaf j NoLeaf))))) (b ∷ []) is = cc
@@ -338,11 +194,11 @@ module _ (limits : Limits) where
       → Goes limits u rest (Did Action.AsmText ∷ late)
   line_noted true u rest late is on =
       let v = with_item (UnitItem.Text (last_leaf u)) (ready u) in
-      noted_goes limits Action.AsmText Note.AsmText u v rest late refl (ap (λ c. if c then v else leaf_gathered (ready u)) is)
+      noted_goes limits Action.AsmText Note.AsmText u v rest late refl refl (ap (λ c. if c then v else leaf_gathered (ready u)) is)
       (λ context place w room. refl) on
   line_noted false u rest late is on =
       let v = leaf_gathered (ready u) in
-      noted_goes limits Action.AsmText Note.AsmText u v rest late refl
+      noted_goes limits Action.AsmText Note.AsmText u v rest late refl refl
       (ap (λ c. if c then with_item (UnitItem.Text (last_leaf u)) (ready u) else v) is) (λ context place w room. refl) on
 
   line_text : (s : Seen) (atom : ℕ) → Prefix limits (s ∷ []) (Did Action.OuterMaybe ∷ Took atom ∷ Did Action.AsmText ∷ [])
@@ -351,7 +207,7 @@ module _ (limits : Limits) where
       let x = record v { tokens = v.tokens ++ s.token ∷ []; depth = depth_behind s.token.kind v.depth } in
       let count = length-append u.tokens (s.token ∷ []) in
       let takes = takes_text (bytes_at x.tokens (next_place x.begun)) in
-      noted_goes limits Action.OuterMaybe (Note.Outer false) u v (s ∷ rest) (Took atom ∷ Did Action.AsmText ∷ late) refl refl
+      noted_goes limits Action.OuterMaybe (Note.Outer false) u v (s ∷ rest) (Took atom ∷ Did Action.AsmText ∷ late) refl refl refl
       (λ context place w room. refl)
       (alone_goes limits s atom v rest (Did Action.AsmText ∷ late)
       (line_noted takes x rest late refl (by_text takes x are_seen.1 (omega (arith, begun, count)) (omega (arith, few, count)))))
@@ -510,7 +366,8 @@ module _ (limits : Limits) where
   unit_moved {e} {t} {seen} {others} {events} {more} same are u =
       subst (λ l. UnitOf e t l more) same (subst (λ l. UnitOf e t seen l) are u)
 
-  behind_parts : {e : Action} {s t : State} {seen : List Seen} {events : List (Event Action)} (rest : List Seen) (late : List (Event Action))
+  behind_parts : {e : Action} {s t : State} {seen : List Seen} {events : List (Event Action)} (rest : List Seen)
+      (late : List (Event Action))
       (o : Outcome s seen events) → UnitOf e t (o.pend ++ rest) (o.left ++ late) → UnitOf e t (seen ++ rest) (events ++ late)
   behind_parts {e} rest late o u = record {
     body = o.done ++ u.body;
@@ -558,7 +415,8 @@ same_first same = cc
 
 module _ (limits : Limits) {e : Action} {s at next t : State} {before : List Seen} {early : List (Event Action)} (f : Fits s at)
     (p : Pending s before early) (seen : List Seen) (late : List (Event Action))
-    (others : (pend : List Seen) (left : List (Event Action)) → Pending next pend left → UnitOf limits e t (pend ++ seen) (left ++ late)) where
+    (others : (pend : List Seen) (left : List (Event Action)) → Pending next pend left → UnitOf limits e t (pend ++ seen) (left ++ late))
+    where
   behind_outcome : {now : List Seen} {events : List (Event Action)} → Outcome limits next now events
       → UnitOf limits e t (now ++ seen) (events ++ late)
   behind_outcome o = behind_parts limits seen late o (others o.pend o.left o.pending)
@@ -582,8 +440,9 @@ module _ (limits : Limits) {e : Action} {s at next t : State} {before : List See
           combined limits [] (Did a ∷ []) fits
           (subst (λ l. Outcome limits next l (fits.left ++ Did a ∷ [])) (sym (append-nil fits.pend)) (act_out limits move fits.pending))
 
-plain_rest : (a : Action) (late : List (Event Action)) (is : Bool) → end_kind a ≡ None → case_first (Did a ∷ late) ≡ is → case_first late ≡ is
-plain_rest a late is plain first = sym (ap (λ k. by_end k (case_first late)) plain) ∙ first
+plain_rest : (a : Action) (late : List (Event Action)) (e : Option Bool) → end_kind a ≡ None → Agrees e (case_first (Did a ∷ late))
+    → Agrees e (case_first late)
+plain_rest a late e plain first = subst (λ k. Agrees e (by_end k (case_first late))) plain first
 
 -- Symbols by their first one
 
@@ -611,10 +470,11 @@ token_typed : {e : Action} {s t : State} {class : ℕ} {symbols : List (Symbol A
 token_typed (Takes {at = at} {next = next} f move typed) = record { at = at; next = next; fits = f; move = move; typed = typed }
 
 data ActTyped (e : Action) (s : State) (a : Action) (symbols : List (Symbol Action)) (t : State) : Type 0 where
-  GoesOn : {at next : State} → Fits s at → ActMove at a next → end_kind a ≡ None → Typed declared e next symbols t → ActTyped e s a symbols t
+  GoesOn : {at next : State} → Fits s at → ActMove at a next → end_kind a ≡ None → Typed declared e next symbols t
+      → ActTyped e s a symbols t
   Stops : {class : ℕ} → Fits s Free → closes_with e class ≡ true → a ≡ e → symbols ≡ Symbol.Token class ∷ [] → t ≡ Ended
       → ActTyped e s a symbols t
-  Elsewhere : is_other (end_kind a) (is_case e) ≡ true → ActTyped e s a symbols t
+  Elsewhere : is_other (end_kind a) (end_kind e) ≡ true → ActTyped e s a symbols t
 
 act_typed : {e : Action} {s t : State} {a : Action} {symbols : List (Symbol Action)} → Typed declared e s (Symbol.Act a ∷ symbols) t
     → ActTyped e s a symbols t
@@ -652,7 +512,8 @@ none_second : {x y z : ℕ} {xs : List ℕ} → x ∷ y ∷ xs ≡ z ∷ [] → 
 none_second same = cc
 
 module _ (limits : Limits) {e : Action} where
-  end_read : {class : ℕ} {atoms : List ℕ} {late : List (Event Action)} → OneToken class atoms late → (seen : List Seen) → atoms_of seen ≡ atoms
+  end_read : {class : ℕ} {atoms : List ℕ} {late : List (Event Action)} → OneToken class atoms late → (seen : List Seen)
+      → atoms_of seen ≡ atoms
       → {before : List Seen} {early : List (Event Action)} → Outcome limits Free before early → closes_with e class ≡ true
       → UnitOf limits e Ended (before ++ seen) (early ++ Did e ∷ late)
   end_read k [] is o closes = absurd (none_first (is ∙ k.atoms_are))
@@ -664,12 +525,13 @@ module _ (limits : Limits) {e : Action} where
 
   act_read : {s t : State} (a : Action) {symbols left : List (Symbol Action)} {atoms : List ℕ} (late : List (Event Action))
       → ActTyped e s a symbols t → Leads grammar symbols atoms late left → left ≡ [] → (seen : List Seen) → atoms_of seen ≡ atoms
-      → case_first (Did a ∷ late) ≡ is_case e → (before : List Seen) (early : List (Event Action)) → Pending s before early
-      → ((next : State) → Typed declared e next symbols t → case_first late ≡ is_case e → (pend : List Seen) (rest : List (Event Action))
+      → Agrees (end_kind e) (case_first (Did a ∷ late)) → (before : List Seen) (early : List (Event Action)) → Pending s before early
+      → ((next : State) → Typed declared e next symbols t → Agrees (end_kind e) (case_first late) → (pend : List Seen)
+      (rest : List (Event Action))
       → Pending next pend rest → UnitOf limits e t (pend ++ seen) (rest ++ late))
       → UnitOf limits e t (before ++ seen) (early ++ Did a ∷ late)
   act_read a late (GoesOn {next = next} f move plain typed) leads none seen is first before early p on =
-      act_done limits f p seen late (λ pend rest q. on next typed (plain_rest a late (is_case e) plain first) pend rest q) a move
+      act_done limits f p seen late (λ pend rest q. on next typed (plain_rest a late (end_kind e) plain first) pend rest q) a move
   act_read {t = t} a {symbols} {atoms = atoms} late (Stops f closes same symbols_are over) leads none seen is first before early p on =
       let k =
       one_token (subst (λ l. Leads grammar l atoms late []) symbols_are (subst (λ l. Leads grammar symbols atoms late l) none leads)) in
@@ -677,20 +539,22 @@ module _ (limits : Limits) {e : Action} where
       subst (λ k. UnitOf limits e k (before ++ seen) (early ++ Did a ∷ late)) (sym over)
       (subst (λ b. UnitOf limits e Ended (before ++ seen) (early ++ Did b ∷ late)) (sym same) ends)
   act_read a late (Elsewhere other) leads none seen is first before early p on =
-      absurd (ends_otherwise (end_kind a) (is_case e) (case_first late) other first)
+      absurd (ends_otherwise (end_kind a) (end_kind e) (case_first late) other first)
 
 module _ (limits : Limits) {e : Action} (end : IsEnd e) where
   -- Symbols whose texts are units up to their end, behind what is open
   pub units_typed : {symbols left : List (Symbol Action)} {atoms : List ℕ} {events : List (Event Action)}
       → Leads grammar symbols atoms events left → left ≡ [] → (seen : List Seen) → atoms_of seen ≡ atoms → {s t : State}
-      → Typed declared e s symbols t → is_last t ≡ true → case_first events ≡ is_case e → (before : List Seen) (early : List (Event Action))
+      → Typed declared e s symbols t → is_last t ≡ true → Agrees (end_kind e) (case_first events)
+      → (before : List Seen) (early : List (Event Action))
       → Pending s before early → UnitOf limits e t (before ++ seen) (early ++ events)
   units_typed here none seen is typed last first before early p =
       absurd (none_last last (fit_out limits (typed_nothing none typed) p).pending)
   units_typed (token h leads) none [] is typed last first before early p = cc
   units_typed (token {class} {atom} {events = late} h leads) none (x ∷ seen) is typed last first before early p =
       let k = token_typed typed in
-      token_taken limits k.fits p seen late (λ pend left q. units_typed leads none seen (same_rest is) k.typed last first pend left q) atom x
+      token_taken limits k.fits p seen late (λ pend left q. units_typed leads none seen (same_rest is) k.typed last first pend left q) atom
+      x
       k.move (subst (λ n. has (grammar.atoms_of class) n ≡ true) (sym (same_first is)) h) (same_first is)
   units_typed (action {a} {events = late} leads) none seen is typed last first before early p =
       act_read limits a late (act_typed typed) leads none seen is first before early p

@@ -9,8 +9,7 @@ use Rattle.inf_grammar.specs.Language.{grammar}
 use Rattle.inf_statement_laws.specs.{Happenings.Acts, Happenings.Takes, Readings.Seen, Readings.plainly_at}
 use Rattle.inf_language.specs.Texts.{atoms_of, happenings_before}
 use Rattle.inf_language.proofs.{Derivations.texts_take_all, TextsSplit.split}
-use Rattle.inf_trees.proofs.UnitsRead.{before-append, place_before}
-use Rattle.inf_simple_trees.proofs.Doubts.{apart}
+use Rattle.inf_trees.proofs.{Doubts.apart, UnitsRead.before-append, UnitsRead.place_before}
 
 -- A token at the front of a text, and an action
 

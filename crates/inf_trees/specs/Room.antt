@@ -2,8 +2,8 @@
 -- has more operands than an instruction, the compiler keeps only those of its parts that matter.
 use Rattle.std.specs.Prelude.{List, [], ◌∷◌, ◌++◌, Bool, true, not, ◌&&◌, nat_lt}
 use Rattle.inf_settings.specs.{Bounds.Limits, declared.setting.Setting.Setting}
-use Rattle.inf_unit.specs.Units.{Unit as UnitAtHand, action_gathered, is_full, noted, stepped, taken}
 use Rattle.inf_unit.specs.declared.roles.Note.{Note}
+use Rattle.inf_unit.specs.Units.{Unit as UnitAtHand, action_gathered, is_full, noted, stepped, taken}
 use Rattle.inf_language.specs.Texts.{tokens_of}
 use Rattle.inf_trees.specs.Trees.{Doubtful, Further, Joined, Named, Noted, Part, Ruled, Single, Value, Worded, with_further, with_rule}
 use Rattle.inf_trees.specs.Trees.{with_value, with_word, without_outer}

@@ -2,27 +2,26 @@
 -- statements that are values.
 use Rattle.std.proofs.Common.{◌≡◌, ℕ, ◌+◌, ◌≤◌, ◌<◌, List, ◌∷◌, ◌++◌, length, true, None, refl, ◌∙◌, ap, arith}
 use Rattle.std.proofs.lemmas.List.{length-append}
-use Rattle.inf_settings.specs.Bounds.{Limits}
-use Rattle.inf_scanner.specs.declared.tokens.Place.{Place}
-use Rattle.inf_machine.specs.Grammar.{Did, Event}
-use Rattle.inf_syntax.specs.{declared.actions.Action.Action}
 use Rattle.inf_expressions.specs.{Sources.Source, declared.operators.Binary.Binary}
+use Rattle.inf_scanner.specs.declared.tokens.Place.{Place}
+use Rattle.inf_settings.specs.Bounds.{Limits}
+use Rattle.inf_machine.specs.Grammar.{Did, Event}
+use Rattle.inf_syntax.specs.declared.actions.Action.{Action}
 use Rattle.inf_unit.specs.{Tokens.SourceToken, declared.roles.Note.Note, declared.steps.GatherStep.GatherStep}
 use Rattle.inf_unit.specs.Units.{Unit as UnitAtHand, leaf_gathered, long_at, noted, outer_tokens, stepped}
 use Rattle.inf_compilation.specs.{Actions.Compilation, Context.Context, Context.longest}
+use Rattle.inf_statement_laws.specs.{Laid.run, Readings.Seen}
+use Rattle.inf_statement_laws.proofs.Laying.{run_then}
 use Rattle.inf_expression_laws.specs.{Gathered.AreSeen, Gathered.read_by, Gathered.with_source, Precedence.Written}
 use Rattle.inf_expression_laws.proofs.ExpressionsRead.{passed_are_read}
-use Rattle.inf_statement_laws.specs.{Laid.run, Readings.Seen}
-use Rattle.inf_statement_laws.proofs.{Laying.run_then}
-use Rattle.inf_language.specs.{Constants.brackets_behind, Units.AllSteps, Units.TakeAll}
-use Rattle.inf_language.specs.Texts.{atoms_of, happenings_before, tokens_of}
+use Rattle.inf_language.specs.{Constants.brackets_behind, Texts.atoms_of, Texts.happenings_before, Texts.tokens_of, Units.AllSteps}
+use Rattle.inf_language.specs.{Units.TakeAll}
 use Rattle.inf_language.proofs.{Derivations.texts_take_all, ExpressionsTold.fields_stay}
 use Rattle.inf_trees.specs.Trees.{Further, Joined, Worded, front_told, tokens_told, with_further, with_word}
-use Rattle.inf_trees.proofs.UnitsRead.{before-append, note_first, place_before, ready, seen_parts, told_beside, tokens_count}
-use Rattle.inf_trees.proofs.UnitsRead.{tokens_opening}
-use Rattle.inf_trees.proofs.ValueForms.{HasForm}
-use Rattle.inf_simple_trees.proofs.Doubts.{length_opening, sized_beside}
-use Rattle.inf_simple_trees.proofs.UnitsGo.{Going, noted_goes, steps_quiet}
+use Rattle.inf_trees.proofs.{Doubts.length_opening, Doubts.sized_beside, Needs.needs, Needs.steps_need, UnitsGo.Going, UnitsGo.noted_goes}
+use Rattle.inf_trees.proofs.{UnitsGo.steps_quiet}
+use Rattle.inf_trees.proofs.UnitsRead.{HasForm, before-append, note_first, place_before, ready, seen_parts, tokens_count, tokens_opening}
+use Rattle.inf_trees.proofs.UnitsRead.{told_beside}
 
 -- An expression behind others
 
@@ -93,6 +92,7 @@ further limits tokens rest steps late form on u are_seen begun few =
       parts = Further g.level tokens g.value ∷ more.parts;
       same = ap (λ l. tokens ++ l) more.same;
       quiet = steps_quiet steps late g.only more.quiet;
+      weighs = λ kind. steps_need kind steps late (needs kind more.parts) g.only (more.weighs kind);
       written = (g.written, more.written);
       does = λ context next w none room.
           further_does limits context next u tokens rest steps late g.value w g.reads g.only all none
@@ -110,6 +110,7 @@ range_joined limits rest late on u are_seen begun few =
       parts = Joined joint ∷ more.parts;
       same = more.same;
       quiet = (refl, more.quiet);
+      weighs = more.weighs;
       written = more.written;
       does = λ context next w none room.
           note_first limits context next Action.To rest late (record w { unit = ready u }) (record w { unit = stepped joint (ready u) })
@@ -125,6 +126,7 @@ comma_joined limits rest late on u are_seen begun few =
       parts = Joined GatherStep.Comma ∷ more.parts;
       same = more.same;
       quiet = (refl, more.quiet);
+      weighs = more.weighs;
       written = more.written;
       does = λ context next w none room.
           note_first limits context next Action.Comma rest late (record w { unit = ready u })
@@ -142,6 +144,7 @@ worded limits rest late on u are_seen begun few =
       parts = Worded ∷ more.parts;
       same = more.same;
       quiet = (refl, (refl, more.quiet));
+      weighs = more.weighs;
       written = more.written;
       does = λ context next w none room.
           let y = noted Note.OuterWord (ready u) in
@@ -157,10 +160,10 @@ pub outer_noted : (limits : Limits) (rest : List Seen) (late : List (Event Actio
     → Going limits rest (Did Action.Outer ∷ late)
 outer_noted limits rest late on u are_seen begun few =
     let v = noted (Note.Outer true) u in
-    noted_goes limits Action.Outer (Note.Outer true) u v rest late refl refl (λ context place w room. refl) (on v are_seen begun few)
+    noted_goes limits Action.Outer (Note.Outer true) u v rest late refl refl refl (λ context place w room. refl) (on v are_seen begun few)
 
 pub default_noted : (limits : Limits) (rest : List Seen) (late : List (Event Action)) → Going limits rest late
     → Going limits rest (Did Action.Default ∷ late)
 default_noted limits rest late on u are_seen begun few =
     let v = noted Note.Default u in
-    noted_goes limits Action.Default Note.Default u v rest late refl refl (λ context place w room. refl) (on v are_seen begun few)
+    noted_goes limits Action.Default Note.Default u v rest late refl refl refl (λ context place w room. refl) (on v are_seen begun few)

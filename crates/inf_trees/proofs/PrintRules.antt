@@ -1,25 +1,28 @@
 -- A print rule, which is a name in brackets, and the value that is printed by it.
-use Rattle.std.proofs.Common.{◌≡◌, ℕ, ◌+◌, ◌-◌, List, [], ◌∷◌, ◌++◌, length, Bool, true, false, Some, None, refl, ◌∙◌, ap, arith, ◌&&◌}
-use Rattle.std.proofs.{lemmas.Bool.and_parts, lemmas.Bool.ne_eqb, lemmas.List.length-append}
-use Rattle.inf_settings.specs.Bounds.{Limits}
+use Rattle.std.proofs.Common.{◌≡◌, ℕ, suc, ◌+◌, ◌-◌, ◌≤◌, List, [], ◌∷◌, ◌++◌, length, Bool, true, false, Some, None, refl, ◌∙◌, ap, arith}
+use Rattle.std.proofs.Common.{◌&&◌}
+use Rattle.std.proofs.lemmas.Bool.{and_parts, ne_eqb}
+use Rattle.std.proofs.lemmas.List.{length-append}
+use Rattle.inf_expressions.specs.Sources.{Source}
 use Rattle.inf_scanner.specs.declared.tokens.Place.{Place}
+use Rattle.inf_settings.specs.Bounds.{Limits}
 use Rattle.inf_machine.specs.Grammar.{Did, Event, Took}
 use Rattle.inf_syntax.specs.declared.actions.Action.{Action}
-use Rattle.inf_expressions.specs.Sources.{Source}
 use Rattle.inf_unit.specs.{declared.roles.Note.Note, declared.steps.GatherStep.GatherStep}
 use Rattle.inf_unit.specs.Units.{Unit as UnitAtHand, is_alone, is_assembly, kind_at, last_leaf, leaf_gathered, noted, stepped, taken}
 use Rattle.inf_unit.specs.Units.{with_last}
 use Rattle.inf_compilation.specs.{Actions.Compilation, Context.Context}
-use Rattle.inf_expression_laws.specs.Gathered.{read_by}
 use Rattle.inf_statement_laws.specs.{Happenings.Acts, Happenings.Happening, Happenings.Takes, Laid.passed, Laid.run, Readings.Seen}
 use Rattle.inf_statement_laws.specs.{Readings.nothing_between, Readings.plainly_at}
+use Rattle.inf_expression_laws.specs.Gathered.{read_by}
 use Rattle.inf_language.specs.{Texts.atoms_of, Texts.happenings_before, Texts.tokens_of, Units.AllSteps, Units.TakeAll}
 use Rattle.inf_language.proofs.Derivations.{texts_take_all}
+use Rattle.inf_trees.specs.Room.{has_room, have_room}
 use Rattle.inf_trees.specs.Trees.{Ruled, Value, tokens_told, with_outer, with_rule, with_value, without_outer}
-use Rattle.inf_trees.proofs.UnitsRead.{expressed_does, gathers, note_first, one_taken, ready, seen_parts, tokens_count, tokens_opening}
-use Rattle.inf_trees.proofs.ValueForms.{HasForm}
-use Rattle.inf_simple_trees.specs.Room.{has_room, have_room}
-use Rattle.inf_simple_trees.proofs.UnitsGo.{AreQuiet, Going, end_acts, noted_goes, rule_acts, steps_quiet}
+use Rattle.inf_trees.proofs.Needs.{Bytes, Kind, Places, needs, needs_in, steps_need}
+use Rattle.inf_trees.proofs.UnitsGo.{AreQuiet, Going, end_acts, noted_goes, rule_acts, steps_quiet}
+use Rattle.inf_trees.proofs.UnitsRead.{HasForm, expressed_does, gathers, note_first, one_taken, ready, seen_parts, tokens_count}
+use Rattle.inf_trees.proofs.UnitsRead.{tokens_opening}
 
 -- a unit whose next token may begin an expression, and units behind the tokens of the rule
 abbrev maybe : UnitAtHand → UnitAtHand
@@ -73,6 +76,12 @@ rule_events false one two three more =
 rule_quiet : (ends : Bool) (one two three : ℕ) (more : List (Event Action)) → AreQuiet more → AreQuiet (rule_events ends one two three more)
 rule_quiet true one two three more quiet = (refl, (refl, (refl, (refl, (refl, quiet)))))
 rule_quiet false one two three more quiet = (refl, (refl, (refl, (refl, quiet))))
+
+rule_needs : (ends : Bool) (kind : Kind) (one two three n : ℕ) (more : List (Event Action)) → n ≤ needs_in kind more
+    → suc (suc n) ≤ needs_in kind (rule_events ends one two three more)
+rule_needs true Bytes one two three n more less = omega (arith, less)
+rule_needs true Places one two three n more less = omega (arith, less)
+rule_needs false kind one two three n more less = omega (arith, less)
 
 -- the unit behind the rule: whether an expression may be open does not matter any more
 abbrev behind_rule : Bool → UnitAtHand → Seen → Seen → Seen → UnitAtHand
@@ -167,7 +176,7 @@ ruled_value ends limits bracket name closing one two three tokens rest steps lat
     let all_count = length-append r.tokens (tokens_of tokens) in
     let printed = noted Note.PrintRuled v in
     let more =
-    noted_goes limits Action.PrintRule Note.PrintRuled v printed rest late refl refl
+    noted_goes limits Action.PrintRule Note.PrintRuled v printed rest late refl refl refl
     (λ context place w. rule_acts limits context place (ready v) w)
     (on printed parts.1 (omega (arith, begun, rule_count, all_count, count))
     (omega (arith, few, seen_count, rule_count, all_count, count))) in
@@ -176,6 +185,9 @@ ruled_value ends limits bracket name closing one two three tokens rest steps lat
       same = ap (λ l. bracket ∷ name ∷ closing ∷ (tokens ++ l)) more.same;
       quiet = rule_quiet ends one two three (Did Action.Outer ∷ (steps ++ Did Action.PrintRule ∷ late))
           (refl, steps_quiet steps (Did Action.PrintRule ∷ late) g.only more.quiet);
+      weighs = λ kind.
+          rule_needs ends kind one two three (needs kind more.parts) (Did Action.Outer ∷ (steps ++ Did Action.PrintRule ∷ late))
+          (steps_need kind steps (Did Action.PrintRule ∷ late) (needs kind more.parts) g.only (more.weighs kind));
       written = (g.written, more.written);
       does = λ context next w none room.
           let both =

@@ -2,28 +2,26 @@
 use Rattle.std.proofs.Common.{◌≡◌, ℕ, ◌+◌, ◌≤◌, ◌<◌, List, [], ◌∷◌, ◌++◌, length, false, Option, Some, None, refl, sym, ◌∙◌, ap}
 use Rattle.std.proofs.Common.{append_assoc, append-nil, arith, subst}
 use Rattle.std.proofs.lemmas.List.{length-append, map-append}
-use Rattle.inf_settings.specs.Bounds.{Limits}
-use Rattle.inf_scanner.specs.declared.tokens.Place.{Place}
-use Rattle.inf_machine.specs.Grammar.{Did, Event, Took, first}
-use Rattle.inf_syntax.specs.{declared.actions.Action.Action}
 use Rattle.inf_expressions.specs.Sources.{Source}
+use Rattle.inf_scanner.specs.declared.tokens.Place.{Place}
 use Rattle.inf_gathering.specs.Gatherings.{Gathering}
+use Rattle.inf_settings.specs.Bounds.{Limits}
+use Rattle.inf_machine.specs.Grammar.{Did, Event, Took}
+use Rattle.inf_syntax.specs.declared.actions.Action.{Action}
 use Rattle.inf_unit.specs.Tokens.{SourceToken}
 use Rattle.inf_unit.specs.Units.{Unit as UnitAtHand, acted, depth_behind, long_at, outer_tokens, taken}
 use Rattle.inf_compilation.specs.{Actions.Compilation, Actions.stopped, Context.Context, Context.longest}
 use Rattle.inf_reader.specs.Acting.{act}
-use Rattle.inf_expression_laws.specs.{Precedence.Written}
-use Rattle.inf_expression_laws.specs.Gathered.{AreSeen, read_by, with_source}
 use Rattle.inf_statement_laws.specs.{Laid.passed, Laid.run, Readings.Seen}
 use Rattle.inf_statement_laws.proofs.Laying.{run_then}
-use Rattle.inf_language.specs.{Constants.brackets_behind, Constants.length_told, Units.AllSteps, Units.TakeAll}
-use Rattle.inf_language.specs.Texts.{atoms_of, happenings_before, tokens_of}
-use Rattle.inf_language.proofs.{ExpressionsTold.fields_stay}
-use Rattle.inf_trees.specs.Trees.{Doubtful, front_told, told_at, tokens_told, with_front, with_outer, with_value, without_outer}
-use Rattle.inf_trees.proofs.{Beside.acted_gathers, StatementsRead.behind}
-use Rattle.inf_trees.proofs.UnitsRead.{at, before-append, note_first, place_before, ready, seen_parts, told_beside, tokens_count}
-use Rattle.inf_trees.proofs.UnitsRead.{tokens_opening, value_reads}
-use Rattle.inf_simple_trees.proofs.UnitsGo.{Going, steps_quiet}
+use Rattle.inf_expression_laws.specs.{Gathered.AreSeen, Gathered.read_by, Gathered.with_source, Precedence.Written}
+use Rattle.inf_language.specs.{Constants.brackets_behind, Constants.length_told, Texts.atoms_of, Texts.happenings_before, Texts.tokens_of}
+use Rattle.inf_language.specs.{Units.AllSteps, Units.TakeAll}
+use Rattle.inf_language.proofs.ExpressionsTold.{fields_stay}
+use Rattle.inf_trees.specs.Trees.{Doubtful, front_told, tokens_told, told_at, with_front, with_outer, with_value, without_outer}
+use Rattle.inf_trees.proofs.{Beside.acted_gathers, Needs.needs, Needs.steps_need, UnitsGo.Going, UnitsGo.steps_quiet}
+use Rattle.inf_trees.proofs.UnitsRead.{at, before-append, note_first, place_before, ready, seen_parts, tokens_count, tokens_opening}
+use Rattle.inf_trees.proofs.UnitsRead.{told_beside, value_reads}
 
 -- Reading by two lists of events
 
@@ -85,7 +83,8 @@ abbrev early_gathering : UnitAtHand → List Seen → List (Event Action) → Ga
 early_gathering u front early = (read_by early (tokens_of front) (maybe u)).gathering
 
 abbrev doubted : UnitAtHand → List Seen → Gathering → UnitAtHand
-doubted u front g = record (maybe u) { tokens = u.tokens ++ tokens_of front; gathering = g; depth = brackets_behind (tokens_of front) u.depth }
+doubted u front g =
+    record (maybe u) { tokens = u.tokens ++ tokens_of front; gathering = g; depth = brackets_behind (tokens_of front) u.depth }
 
 front_read : (u : UnitAtHand) (front : List Seen) (early : List (Event Action)) → AllSteps early → TakeAll early front
     → read_by early (tokens_of front) (maybe u) ≡ doubted u front (early_gathering u front early)
@@ -183,12 +182,14 @@ doubted_does limits context next u front tokens rest early steps late value leve
     ∙ (note_first limits context next Action.OuterSure (tokens ++ rest) (steps ++ late) (record told { unit = doubted u front g })
     (record known { unit = sure u front g }) (λ place. sure_acts limits context place u front g told)
     ∙ (ap (λ hs. run limits context hs (record known { unit = sure u front g })) (before-append next steps late tokens rest d.all_steps)
-    ∙ (run_then limits context (happenings_before two steps tokens) (happenings_before next late rest) (record known { unit = sure u front g })
+    ∙ (run_then limits context (happenings_before two steps tokens) (happenings_before next late rest)
+    (record known { unit = sure u front g })
     ∙ (ap (run limits context (happenings_before next late rest))
     (told_beside limits context two (with_outer (ready u)) steps tokens (u.tokens ++ tokens_of front) g u.gathering
     (brackets_behind (tokens_of front) u.depth) known d.only_steps d.all_steps
     (length_opening context (long_at (longest context) v) (outer_tokens v) told ∙ told_none))
-    ∙ ap (λ y. run limits context (happenings_before next late rest) (record (tokens_told context v tokens known) { unit = y })) reads)))))))
+    ∙ ap (λ y. run limits context (happenings_before next late rest) (record (tokens_told context v tokens known) { unit = y }))
+    reads)))))))
 
 pub doubted_expression : (limits : Limits) (front tokens rest : List Seen) (early steps late : List (Event Action))
     → IsDoubted front tokens early steps → Going limits rest late
@@ -217,6 +218,9 @@ doubted_expression limits front tokens rest early steps late d on u are_seen beg
         steps_quiet early (Did Action.OuterSure ∷ (steps ++ late)) d.only_early
             (refl, steps_quiet steps late d.only_steps more.quiet),
       );
+      weighs = λ kind.
+          steps_need kind early (Did Action.OuterSure ∷ (steps ++ late)) (needs kind more.parts) d.only_early
+          (steps_need kind steps late (needs kind more.parts) d.only_steps (more.weighs kind));
       written = (v.written, more.written);
       does = λ context next w none room.
           let w1 = with_front (tokens_of front) (ready u) in
