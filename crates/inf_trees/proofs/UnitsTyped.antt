@@ -416,29 +416,29 @@ same_first same = cc
 module _ (limits : Limits) {e : Action} {s at next t : State} {before : List Seen} {early : List (Event Action)} (f : Fits s at)
     (p : Pending s before early) (seen : List Seen) (late : List (Event Action))
     (others : (pend : List Seen) (left : List (Event Action)) → Pending next pend left → UnitOf limits e t (pend ++ seen) (left ++ late))
-    where
-  behind_outcome : {now : List Seen} {events : List (Event Action)} → Outcome limits next now events
-      → UnitOf limits e t (now ++ seen) (events ++ late)
-  behind_outcome o = behind_parts limits seen late o (others o.pend o.left o.pending)
+  where
+    behind_outcome : {now : List Seen} {events : List (Event Action)} → Outcome limits next now events
+        → UnitOf limits e t (now ++ seen) (events ++ late)
+    behind_outcome o = behind_parts limits seen late o (others o.pend o.left o.pending)
 
-  token_taken : {class : ℕ} (atom : ℕ) (x : Seen) → TokenMove at class next → has (grammar.atoms_of class) x.atom ≡ true → x.atom ≡ atom
-      → UnitOf limits e t (before ++ x ∷ seen) (early ++ Took atom ∷ late)
-  token_taken atom x move h same =
-      subst (λ n. UnitOf limits e t (before ++ x ∷ seen) (early ++ Took n ∷ late)) same
-      (unit_moved limits (append_assoc before (x ∷ []) seen) (append_assoc early (Took x.atom ∷ []) late)
-      (behind_outcome (by_fits (fit_out limits f p))))
-    where
-      by_fits : Outcome limits at before early → Outcome limits next (before ++ x ∷ []) (early ++ Took x.atom ∷ [])
-      by_fits fits = combined limits (x ∷ []) (Took x.atom ∷ []) fits (token_out limits move x h fits.pending)
+    token_taken : {class : ℕ} (atom : ℕ) (x : Seen) → TokenMove at class next → has (grammar.atoms_of class) x.atom ≡ true → x.atom ≡ atom
+        → UnitOf limits e t (before ++ x ∷ seen) (early ++ Took atom ∷ late)
+    token_taken atom x move h same =
+        subst (λ n. UnitOf limits e t (before ++ x ∷ seen) (early ++ Took n ∷ late)) same
+        (unit_moved limits (append_assoc before (x ∷ []) seen) (append_assoc early (Took x.atom ∷ []) late)
+        (behind_outcome (by_fits (fit_out limits f p))))
+      where
+        by_fits : Outcome limits at before early → Outcome limits next (before ++ x ∷ []) (early ++ Took x.atom ∷ [])
+        by_fits fits = combined limits (x ∷ []) (Took x.atom ∷ []) fits (token_out limits move x h fits.pending)
 
-  act_done : (a : Action) → ActMove at a next → UnitOf limits e t (before ++ seen) (early ++ Did a ∷ late)
-  act_done a move =
-      unit_moved limits (append_assoc before [] seen) (append_assoc early (Did a ∷ []) late) (behind_outcome (by_fits (fit_out limits f p)))
-    where
-      by_fits : Outcome limits at before early → Outcome limits next (before ++ []) (early ++ Did a ∷ [])
-      by_fits fits =
-          combined limits [] (Did a ∷ []) fits
-          (subst (λ l. Outcome limits next l (fits.left ++ Did a ∷ [])) (sym (append-nil fits.pend)) (act_out limits move fits.pending))
+    act_done : (a : Action) → ActMove at a next → UnitOf limits e t (before ++ seen) (early ++ Did a ∷ late)
+    act_done a move =
+        unit_moved limits (append_assoc before [] seen) (append_assoc early (Did a ∷ []) late) (behind_outcome (by_fits (fit_out limits f p)))
+      where
+        by_fits : Outcome limits at before early → Outcome limits next (before ++ []) (early ++ Did a ∷ [])
+        by_fits fits =
+            combined limits [] (Did a ∷ []) fits
+            (subst (λ l. Outcome limits next l (fits.left ++ Did a ∷ [])) (sym (append-nil fits.pend)) (act_out limits move fits.pending))
 
 plain_rest : (a : Action) (late : List (Event Action)) (e : Option Bool) → end_kind a ≡ None → Agrees e (case_first (Did a ∷ late))
     → Agrees e (case_first late)
