@@ -42,7 +42,6 @@ impl Steps {
 }
 
 /// A conditional directive with a condition that is being read: by the grammar, as any other directive.
-#[derive(Drop)]
 pub struct Condition {
     alloc: Global,
     /// The rest of the directive that is still to be read.
@@ -66,6 +65,13 @@ impl Model for Condition {
     ghost invariant = { λ k. k.is_short ≡ true → IsReadBy k.tokens (condition_at k.rest (unit_of k.unit)) };
 }
 
+/// One call at each exit of a function that owns a condition, in place of a call for each part of each part.
+impl Drop for Condition {
+    fn drop(self) {
+        let _parts = self.into_parts();
+    }
+}
+
 /// The result of a condition.
 #[derive(Clone, Copy, Debug, PartialEq, Eq)]
 pub struct Verdict {
@@ -85,6 +91,18 @@ impl Condition {
             tokens: UnitTokens::new(alloc),
             is_short: false,
         }
+    }
+
+    /// Takes this condition apart.
+    fn into_parts(self) -> (Rest, Unit, UnitTokens) {
+        let Condition {
+            alloc: _,
+            rest,
+            unit,
+            tokens,
+            is_short: _,
+        } = self;
+        (rest, unit, tokens)
     }
 
     /// Begins the condition, before the word of its directive.

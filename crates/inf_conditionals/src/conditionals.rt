@@ -25,7 +25,6 @@ use std::marker::Model;
 use std::mem;
 
 /// The conditionals that are open, and the state of the conditional directive at hand.
-#[derive(Drop)]
 pub struct Conditionals {
     pub(crate) alloc: Global,
     /// The conditionals of the innermost file that were opened between its directives, the latest last.
@@ -100,6 +99,13 @@ fn may_act(kind: TokenKind, bytes: &[u8]) -> bool
     }
 }
 
+/// One call at each exit of a function that owns conditionals, in place of a call for each part of each part.
+impl Drop for Conditionals {
+    fn drop(self) {
+        let _parts = self.into_parts();
+    }
+}
+
 impl Conditionals {
     ghost use Rattle.inf_conditionals.specs.Ends.{file_ended, file_told, piece_ended, piece_told, with_among};
     ghost use Rattle.inf_conditionals.specs.Judging.{awaited, awaiting, begun, behind_front, behind_sign, held, in_side, is_behind_side};
@@ -125,6 +131,33 @@ impl Conditionals {
             spare: None,
             steps: Steps::new(alloc),
         }
+    }
+
+    /// Takes these conditionals apart: those that are open, the directives that are being read, and their conditions.
+    fn into_parts(
+        self,
+    ) -> (
+        [Vec<Conditional>; 2],
+        Vec<Pending>,
+        OpenConditions,
+        Option<Condition>,
+        Steps,
+    ) {
+        let Conditionals {
+            alloc: _,
+            among,
+            inner,
+            pending,
+            conditions,
+            left_out: _,
+            sign: _,
+            declared: _,
+            most_tokens: _,
+            said: _,
+            spare,
+            steps,
+        } = self;
+        ([among, inner], pending, conditions, spare, steps)
     }
 
     /// Returns whether a first look shows that `token` is kept without any further effect, as most tokens are.
