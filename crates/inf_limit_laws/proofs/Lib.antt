@@ -3,6 +3,7 @@ pub mod Outputs
 pub mod Constructs
 pub mod Ways
 pub mod Walked
+pub mod Stacks
 pub mod Conditions
 pub mod Turns
 pub mod Whole

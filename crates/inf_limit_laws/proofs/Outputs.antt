@@ -61,13 +61,11 @@ item_opened (Item.Mark label) code limit e = marked_opened code.opened limit e
 grown_counted : {was : Before} (limits : Limits) (item : Item) (o : Out) → Counted limits was o → o.past ≡ None →
     Counted limits was (fitted limits None item o)
 grown_counted {was} limits (Item.Instruction parts) o h none = record {
-  stays = h.stays;
   same = h.same;
   begun = λ e. h.begun (sym (some_item parts o.code.opened) ∙ e);
   room = λ p is free. let never : None ≡ Some p = sym none ∙ is in cc;
 }
 grown_counted {was} limits (Item.Mark label) o h none = record {
-  stays = h.stays;
   same = h.same;
   begun = λ e. h.begun (sym (some_mark label o.code.opened) ∙ e);
   room = λ p is free. let never : None ≡ Some p = sym none ∙ is in cc;
@@ -76,7 +74,6 @@ grown_counted {was} limits (Item.Mark label) o h none = record {
 passed_counted : {was : Before} (limits : Limits) (item : Item) (o : Out) → Counted limits was o
     → (full_past (past_of limits o) ≡ None → LeavesRoom limits o.code (past_of limits o)) → Counted limits was (passed limits item o)
 passed_counted {was} limits item o h room = record {
-  stays = h.stays;
   same = h.same;
   begun = h.begun;
   room = λ p is free.
@@ -160,13 +157,11 @@ open_keeps {was} limits locals is_lost o h = go (full_opened limits is_lost o.co
   where
     go : (full : Option CodeLimit) → Counted limits was (opened_by limits full locals is_lost o)
     go None = record {
-      stays = λ e. refl;
       same = h.same;
       begun = λ e. refl;
       room = λ p is free. opened_room limits locals is_lost o.code p (h.room p is free);
     }
     go (Some limit) = record {
-      stays = h.stays;
       same = h.same;
       begun = λ e. cc;
       room = λ p is free.
@@ -184,7 +179,6 @@ none_open_room limits code p r = record {
 -- the open routine is given up
 pub none_open_keeps : {was : Before} (limits : Limits) → Keeps limits was (λ o. record o { code = with_none_open o.code })
 none_open_keeps {was} limits o h = record {
-  stays = h.stays;
   same = h.same;
   begun = λ e. cc;
   room = λ p is free. none_open_room limits o.code p (h.room p is free);
@@ -258,13 +252,11 @@ closed_room limits kind o p r =
 by_closed : {was : Before} (limits : Limits) (kind : RoutineKind) (o : Out) → Counted limits was o → (fault : Option CloseFault)
     → Counted limits was (closed_by limits fault kind o)
 by_closed {was} limits kind o h None = record {
-  stays = h.stays;
   same = h.same;
   begun = λ e. cc;
   room = λ p is free. closed_room limits kind o p (h.room p is free);
 }
 by_closed {was} limits kind o h (Some (CloseFault.Full limit)) = record {
-  stays = h.stays;
   same = h.same;
   begun = λ e. cc;
   room = λ p is free.
@@ -277,7 +269,6 @@ by_closed {was} limits kind o h other = none_open_keeps limits o h
 labels_counted : {was : Before} (limits : Limits) (left : Option ℕ) (o : Out) → Counted limits was o →
     Counted limits was (with_labels_left limits left o)
 labels_counted {was} limits None o h = record {
-  stays = h.stays;
   same = h.same;
   begun = h.begun;
   room = λ p is free.
@@ -295,7 +286,6 @@ close_keeps {was} limits kind o h =
 begun_code : {was : Before} (limits : Limits) (o : Out) → Counted limits was o → (full : Option CodeLimit)
     → IsCounted limits was (begun_unless full o.code) o.past o.tables.low_strings.abbreviations
 begun_code {was} limits o h None = record {
-  stays = λ e. refl;
   same = h.same;
   begun = λ e. refl;
   room = λ p is free.
@@ -317,7 +307,6 @@ begin_keeps {was} limits o h = go (full_begun limits o.code)
     go : (full : Option CodeLimit) → Counted limits was (begun_by limits full o)
     go None = counted
     go (Some limit) = record {
-      stays = counted.stays;
       same = counted.same;
       begun = counted.begun;
       room = λ p is free. full_room (passed_limit limit (past_of limits o)) is (limit_full limit (past_of limits o)) free;
@@ -326,7 +315,6 @@ begin_keeps {was} limits o h = go (full_begun limits o.code)
 -- Packed addresses are multiplied by another scale.
 pub scale_keeps : {was : Before} (limits : Limits) (scale : Scale) → Keeps limits was (with_scale scale)
 scale_keeps {was} limits scale o h = record {
-  stays = h.stays;
   same = h.same;
   begun = h.begun;
   room = λ p is free.
@@ -338,7 +326,6 @@ scale_keeps {was} limits scale o h = record {
 
 pub table_keeps : {was : Before} (limits : Limits) (limit : Setting) → Keeps limits was (passed_table limits limit)
 table_keeps {was} limits limit o h = record {
-  stays = h.stays;
   same = h.same;
   begun = h.begun;
   room = λ p is free. full_room (table_passed limit (past_of limits o)) is (table_full limit (past_of limits o)) free;
@@ -346,7 +333,6 @@ table_keeps {was} limits limit o h = record {
 
 pub symbols_keeps : {was : Before} (limits : Limits) → Keeps limits was (symbols_passed limits)
 symbols_keeps {was} limits o h = record {
-  stays = h.stays;
   same = h.same;
   begun = h.begun;
   room = λ p is free. full_room (record (past_of limits o) { symbols = true }) is (symbols_full (past_of limits o)) free;
@@ -358,7 +344,6 @@ text_keeps {was} limits text o h = go (fits limits text o.strings)
     go : (b : Bool) → Counted limits was (with_text_by limits b text o)
     go true = h
     go false = record {
-      stays = h.stays;
       same = h.same;
       begun = h.begun;
       room = λ p is free. full_room (record (past_of limits o) { strings = true }) is (strings_full (past_of limits o)) free;

@@ -33,9 +33,10 @@ use Rattle.inf_session.specs.Session.{token_of, turn}
 use Rattle.inf_step_walk.specs.Walking.{Acts, Asks, Follows, Grown, Nowhere, Remains, Rests, Runs, Settles, Stays, Tells, Then, free}
 use Rattle.inf_step_walk.proofs.{Actions.all_acted_steps, Actions.cut_at_steps, Actions.took_steps, Operands.action_grows}
 use Rattle.inf_message_laws.proofs.Told.{error_adds, fatal_adds, remains}
-use Rattle.inf_limit_laws.specs.Within.{Ends, Lays, SignFits, Steps, is_loud, is_over, unfollowed}
+use Rattle.inf_limit_laws.specs.Within.{Ends, Lays, Steps, is_over, unfollowed}
 use Rattle.inf_limit_laws.proofs.Walked.{ahead_lays, counted, ran}
-use Rattle.inf_limit_laws.proofs.Conditions.{NoneRight, is_right, loud_is_over, right_ends, tokens_are_few}
+use Rattle.inf_limit_laws.proofs.Conditions.{AreTame, NoneRight, Same, is_loud, is_right, loud_is_over, right_ends, stacks_are_tame}
+use Rattle.inf_limit_laws.proofs.Conditions.{tokens_are_few}
 use Rattle.inf_limit_laws.proofs.Ways.{begun_ends, lay_of, lays_end, step_of, steps_then}
 
 -- Messages about tokens and conditionals
@@ -252,50 +253,50 @@ actions_grow {limits} tokens (l ∷ leaves) o =
 
 -- Where a conditional directive ends
 
-directive_ends : {limits : Limits} {context : Context} {begins strict : Bool} (place : Place) (s : ReaderState)
-    → Ends limits context (unfollowed begins strict) s.work (unit_ended limits (Some place) context s).work
-directive_ends {limits} {context} {begins} {strict} place s =
+directive_ends : {limits : Limits} {context : Context} {strict : Bool} (place : Place) (s : ReaderState)
+    → Ends limits context (unfollowed strict) s.work (unit_ended limits (Some place) context s).work
+directive_ends {limits} {context} {strict} place s =
     let w = closed_ahead limits (closings s.reading.stack) s.work in
     lays_end (ahead_lays (closings s.reading.stack) s.work) (begun_ends context.names place w)
 
 -- Messages about a condition. One that is right has its actions appear, before its directive ends.
 
-told_lays : {limits : Limits} {context : Context} {begins strict : Bool} (said : Option Said) (s : ReaderState)
-    → Lays limits context (unfollowed begins strict) s.work (said_told limits said context s).work
-told_lays {limits} {context} {begins} {strict} (Some (Right tokens leaves)) s = record {
+told_lays : {limits : Limits} {context : Context} {strict : Bool} (said : Option Said) (s : ReaderState)
+    → Lays limits context (unfollowed strict) s.work (said_told limits said context s).work
+told_lays {limits} {context} {strict} (Some (Right tokens leaves)) s = record {
   on = λ e. e;
   kept = λ e h. (h.0, (h.1.0, counted {Q = free} (λ q. refl) (actions_grow tokens leaves s.work.output) h.1.1));
 }
-told_lays {limits} {context} {begins} {strict} said s = record { on = said_stays context.names said s.work.report; kept = λ e h. h }
+told_lays {limits} {context} {strict} said s = record { on = said_stays context.names said s.work.report; kept = λ e h. h }
 
-told_steps : {limits : Limits} {context : Context} {begins strict : Bool} (said : Option Said) (s : ReaderState) → is_right said ≡ false
-    → Steps limits context (unfollowed begins strict) s.work (said_told limits said context s).work
-told_steps {limits} {context} {begins} {strict} (Some (Right tokens leaves)) s none = cc
-told_steps {limits} {context} {begins} {strict} said s none =
-    record { on = said_stays context.names said s.work.report; kept = λ e h. h; few = λ e b h k. k; near = λ e h k. k }
+told_steps : {limits : Limits} {context : Context} {strict : Bool} (said : Option Said) (s : ReaderState) → is_right said ≡ false
+    → Steps limits context (unfollowed strict) s.work (said_told limits said context s).work
+told_steps {limits} {context} {strict} (Some (Right tokens leaves)) s none = cc
+told_steps {limits} {context} {strict} said s none =
+    record { on = said_stays context.names said s.work.report; kept = λ e h. h; few = λ e h k. k }
 
 -- a turn in which a conditional directive ends
-ending_steps : {limits : Limits} {context : Context} {begins strict : Bool} (t : SourceToken) (j : Filtered) (said : Option Said)
+ending_steps : {limits : Limits} {context : Context} {strict : Bool} (t : SourceToken) (j : Filtered) (said : Option Said)
     (s : ReaderState)
-    (ended : Option Place) → is_some ended ≡ true → Ends limits context (unfollowed begins strict) s.work
+    (ended : Option Place) → is_some ended ≡ true → Ends limits context (unfollowed strict) s.work
     (unit_ended limits ended context (lone_told j.unmatched context (token_taken limits j.token context t (sign_taken limits j.sign context
     (said_told limits said context s))))).work
 ending_steps t j said s None e = cc
-ending_steps {limits} {context} {begins} {strict} t j said s (Some place) e =
+ending_steps {limits} {context} {strict} t j said s (Some place) e =
     let told = said_told limits said context s in
     lays_end (told_lays said s) (lays_end (lay_of (ran (between_walks t j told))) (directive_ends place
     (lone_told j.unmatched context (token_taken limits j.token context t (sign_taken limits j.sign context told)))))
 
-turned_steps : {limits : Limits} {context : Context} {begins strict : Bool} (t : SourceToken) (j : Filtered) (said : Option Said)
+turned_steps : {limits : Limits} {context : Context} {strict : Bool} (t : SourceToken) (j : Filtered) (said : Option Said)
     (s : ReaderState)
     → (is_right said ≡ true → is_some j.ended ≡ true)
-    → Steps limits context (unfollowed begins strict) s.work (judged_taken limits context t j (said_told limits said context s)).work
-turned_steps {limits} {context} {begins} {strict} t j said s ends = go (is_right said) refl
+    → Steps limits context (unfollowed strict) s.work (judged_taken limits context t j (said_told limits said context s)).work
+turned_steps {limits} {context} {strict} t j said s ends = go (is_right said) refl
   where
     told : ReaderState
     told = said_told limits said context s
 
-    go : (b : Bool) → is_right said ≡ b → Steps limits context (unfollowed begins strict) s.work (judged_taken limits context t j told).work
+    go : (b : Bool) → is_right said ≡ b → Steps limits context (unfollowed strict) s.work (judged_taken limits context t j told).work
     go true e = step_of (ending_steps t j said s j.ended (ends e))
     go false e = steps_then (told_steps said s e) (steps_then (ran (between_walks t j told)) (ran (ended_walks j.ended
         (lone_told j.unmatched context (token_taken limits j.token context t (sign_taken limits j.sign context told))))))
@@ -303,94 +304,98 @@ turned_steps {limits} {context} {begins} {strict} t j said s ends = go (is_right
 -- States
 
 -- one turn of tokens
-pub stepped_steps : {begins strict : Bool} (limits : Limits) (o : Choices) (s : State) → NoneRight s.conditions
-    → Steps limits (context_of o s) (unfollowed begins strict) s.work (stepped limits o s).work
+pub stepped_steps : {strict : Bool} (limits : Limits) (o : Choices) (s : State) → NoneRight s.conditions
+    → Steps limits (context_of o s) (unfollowed strict) s.work (stepped limits o s).work
 stepped_steps limits o s none =
     let site = site_of (context_of o s).settings s.reading in
     let b = judged site s.work.output (token_of s) s.conditions in
     turned_steps (token_of s) b.judged b.now.said (stand_of s) (right_ends site s.work.output (token_of s) s.conditions none)
 
-pub rested_steps : {limits : Limits} {context : Context} {begins strict : Bool} (s : State)
-    → Steps limits context (unfollowed begins strict) s.work (rested s).work
+pub rested_steps : {limits : Limits} {context : Context} {strict : Bool} (s : State)
+    → Steps limits context (unfollowed strict) s.work (rested s).work
 rested_steps s = ran (rested_walks s)
 
 -- a whole turn
-pub turn_steps : {begins strict : Bool} (limits : Limits) (sources : Sources) (o : Choices) (s : State) → NoneRight s.conditions
-    → Steps limits (context_of o s) (unfollowed begins strict) s.work (turn limits sources o s).work
+pub turn_steps : {strict : Bool} (limits : Limits) (sources : Sources) (o : Choices) (s : State) → NoneRight s.conditions
+    → Steps limits (context_of o s) (unfollowed strict) s.work (turn limits sources o s).work
 turn_steps limits sources o s none =
     let t = stepped limits o s in
     steps_then (stepped_steps limits o s none)
-    (steps_then (ran (followed_walks sources o t)) (record { on = λ e. e; kept = λ e h. h; few = λ e b h k. k; near = λ e h k. k }))
+    (steps_then (ran (followed_walks sources o t)) (record { on = λ e. e; kept = λ e h. h; few = λ e h k. k }))
 
--- Behind the token of a turn, the conditionals tell the same of a condition, and count the same tokens.
+-- Behind the token of a turn the conditionals tell the same, count the same tokens, and read the same conditions.
 
-abbrev Alike : Conditions → Conditions → Type 0
-Alike c d = (d.said ≡ c.said) × (d.most_tokens ≡ c.most_tokens)
+either_same : (c : Conditions) (b : Bool) (x y : State) → Same c x.conditions → Same c y.conditions → Same c (if b then x else y).conditions
+either_same c true x y h k = h
+either_same c false x y h k = k
 
-either_alike : (c : Conditions) (b : Bool) (x y : State) → Alike c x.conditions → Alike c y.conditions
-    → Alike c (if b then x else y).conditions
-either_alike c true x y h k = h
-either_alike c false x y h k = k
+left_same : (waiting : List Waiting) (s : State) → Same s.conditions (left_by waiting s).conditions
+left_same [] s = (refl, refl, refl)
+left_same (w ∷ waiting) s = (refl, refl, refl)
 
-left_alike : (waiting : List Waiting) (s : State) → Alike s.conditions (left_by waiting s).conditions
-left_alike [] s = (refl, refl)
-left_alike (w ∷ waiting) s = (refl, refl)
+why_same : (unit : Place) (text : List ℕ) (why : Included) (s : State) → Same s.conditions (none_included unit text why s).conditions
+why_same unit text Included.Entered s = (refl, refl, refl)
+why_same unit text why s = (refl, refl, refl)
 
-why_alike : (unit : Place) (text : List ℕ) (why : Included) (s : State) → Alike s.conditions (none_included unit text why s).conditions
-why_alike unit text Included.Entered s = (refl, refl)
-why_alike unit text why s = (refl, refl)
+included_same : (sources : Sources) (o : Choices) (unit : Place) (text : List ℕ) (i : Inclusion) (s : State)
+    → Same s.conditions (included_by sources o unit text i s).conditions
+included_same sources o unit text (Opens name) s = (refl, refl, refl)
+included_same sources o unit text (OpensNone why) s = why_same unit text why s
 
-included_alike : (sources : Sources) (o : Choices) (unit : Place) (text : List ℕ) (i : Inclusion) (s : State)
-    → Alike s.conditions (included_by sources o unit text i s).conditions
-included_alike sources o unit text (Opens name) s = (refl, refl)
-included_alike sources o unit text (OpensNone why) s = why_alike unit text why s
+answered_same : (r : Request) (sources : Sources) (o : Choices) (s : State) → Same s.conditions (answered r sources o s).conditions
+answered_same (Include text unit) sources o s =
+    included_same sources o unit text (inclusion sources o.directories text s.nesting) s
+answered_same other sources o s = (refl, refl, refl)
 
-answered_alike : (r : Request) (sources : Sources) (o : Choices) (s : State) → Alike s.conditions (answered r sources o s).conditions
-answered_alike (Include text unit) sources o s =
-    included_alike sources o unit text (inclusion sources o.directories text s.nesting) s
-answered_alike other sources o s = (refl, refl)
-
-carried_alike : (sources : Sources) (o : Choices) (s : State) → Alike s.conditions (carried_out sources o s).conditions
-carried_alike sources o s =
+carried_same : (sources : Sources) (o : Choices) (s : State) → Same s.conditions (carried_out sources o s).conditions
+carried_same sources o s =
     let answer = answered s.work.asked sources o (asked_nothing s) in
-    either_alike s.conditions s.work.report.counts.is_over s (if is_mode_ended s.reading.mode then left s else answer) (refl, refl)
-    (either_alike s.conditions (is_mode_ended s.reading.mode) (left s) answer (left_alike s.nesting.waiting (file_closed s))
-    (answered_alike s.work.asked sources o (asked_nothing s)))
+    either_same s.conditions s.work.report.counts.is_over s (if is_mode_ended s.reading.mode then left s else answer) (refl, refl, refl)
+    (either_same s.conditions (is_mode_ended s.reading.mode) (left s) answer (left_same s.nesting.waiting (file_closed s))
+    (answered_same s.work.asked sources o (asked_nothing s)))
 
-rested_alike : (s : State) → Alike s.conditions (rested s).conditions
-rested_alike s =
-    either_alike s.conditions (has_ended s) s (if is_resting s then piece_closed s else s) (refl, refl)
-    (either_alike s.conditions (is_resting s) (piece_closed s) s (refl, refl) (refl, refl))
+rested_same : (s : State) → Same s.conditions (rested s).conditions
+rested_same s =
+    either_same s.conditions (has_ended s) s (if is_resting s then piece_closed s else s) (refl, refl, refl)
+    (either_same s.conditions (is_resting s) (piece_closed s) s (refl, refl, refl) (refl, refl, refl))
 
-followed_alike : (sources : Sources) (o : Choices) (s : State) → Alike s.conditions (followed sources o s).conditions
-followed_alike sources o s =
-    let first = carried_alike sources o s in
-    let second = rested_alike (carried_out sources o s) in
-    (second.0 ∙ first.0, second.1 ∙ first.1)
+followed_same : (sources : Sources) (o : Choices) (s : State) → Same s.conditions (followed sources o s).conditions
+followed_same sources o s =
+    let first = carried_same sources o s in
+    let second = rested_same (carried_out sources o s) in
+    (second.0 ∙ first.0, second.1 ∙ first.1, second.2 ∙ first.2)
 
--- so nothing right is told behind a turn
-pub rested_none : (s : State) → NoneRight s.conditions → NoneRight (rested s).conditions
-rested_none s none = ap is_right (rested_alike s).0 ∙ none
+-- Conditionals between two tokens: nothing right is told, stacks are tame, and no condition had too many tokens, unless that is told.
+pub record Rest (o : Choices) (s : State) : Type 0 where
+  pub none : NoneRight s.conditions
+  pub tame : AreTame s.conditions.conditions
+  pub few : is_over s.work ≡ false → s.conditions.most_tokens ≤ number_of Setting.ExpressionNodes o.settings
 
-pub turn_none : (limits : Limits) (sources : Sources) (o : Choices) (s : State) → NoneRight (turn limits sources o s).conditions
-turn_none limits sources o s = ap is_right (followed_alike sources o (stepped limits o s)).0
-
--- Tokens of conditions
+-- those of another state, before which no fatal message stands
+rest_as : {o : Choices} {s t : State} → Same s.conditions t.conditions → (is_over t.work ≡ false → is_over s.work ≡ false) → Rest o s
+    → Rest o t
+rest_as {o} same on rest = record {
+  none = ap is_right same.0 ∙ rest.none;
+  tame = subst AreTame (sym same.2) rest.tame;
+  few = λ e. subst (λ (n : ℕ). n ≤ number_of Setting.ExpressionNodes o.settings) (sym same.1) (rest.few (on e));
+}
 
 -- no fatal message stood before a token where none stands behind it
-before_token : (limits : Limits) (context : Context) (begins strict : Bool) (t : SourceToken) (j : Filtered) (s : ReaderState)
+before_token : (limits : Limits) (context : Context) (t : SourceToken) (j : Filtered) (s : ReaderState)
     → is_over (judged_taken limits context t j s).work ≡ false → is_over s.work ≡ false
-before_token limits context begins strict t j s e =
+before_token limits context t j s e =
     let told = lone_told j.unmatched context (token_taken limits j.token context t (sign_taken limits j.sign context s)) in
     let f =
-    steps_then {limits = limits} {context = context} {was = unfollowed begins strict} (ran (between_walks t j s))
+    steps_then {limits = limits} {context = context} {was = unfollowed false} (ran (between_walks t j s))
     (ran (ended_walks j.ended told)) in
     f.on e
 
-stepped_few : (limits : Limits) (o : Choices) (s : State) → SignFits (site_of o.settings s.reading) s.conditions
-    → s.conditions.most_tokens ≤ number_of Setting.ExpressionNodes o.settings → is_over (stepped limits o s).work ≡ false
-    → (stepped limits o s).conditions.most_tokens ≤ number_of Setting.ExpressionNodes o.settings
-stepped_few limits o s none few e = go (is_loud b.now.said) refl
+pub stepped_rest : (limits : Limits) (o : Choices) (s : State) → Rest o s → Rest o (stepped limits o s)
+stepped_rest limits o s rest = record {
+  none = refl;
+  tame = stacks_are_tame site s.work.output (token_of s) s.conditions rest.tame;
+  few = λ e. go e (is_loud b.now.said) refl;
+}
   where
     site : Site
     site = site_of o.settings s.reading
@@ -401,21 +406,25 @@ stepped_few limits o s none few e = go (is_loud b.now.said) refl
     told : ReaderState
     told = said_told limits b.now.said (context_of o s) (stand_of s)
 
-    go : (loud : Bool) → is_loud b.now.said ≡ loud → b.now.most_tokens ≤ number_of Setting.ExpressionNodes o.settings
-    go true said =
+    go : is_over (stepped limits o s).work ≡ false → (loud : Bool) → is_loud b.now.said ≡ loud
+        → b.now.most_tokens ≤ number_of Setting.ExpressionNodes o.settings
+    go e true said =
         let stands : is_over told.work ≡ true = loud_is_over s.nesting.names b.now.said s.work.report said in
-        let free : is_over told.work ≡ false =
-        before_token limits (context_of o s) false false (token_of s) b.judged told e in
+        let free : is_over told.work ≡ false = before_token limits (context_of o s) (token_of s) b.judged told e in
         let never : true ≡ false = sym stands ∙ free in
         cc
-    go false said = tokens_are_few site s.work.output (token_of s) s.conditions none few said
+    go e false said =
+        let f = stepped_steps {strict = false} limits o s rest.none in
+        tokens_are_few site s.work.output (token_of s) s.conditions rest.tame (rest.few (f.on e)) said
 
-pub conditions_few : (limits : Limits) (sources : Sources) (o : Choices) (s : State)
-    → SignFits (site_of o.settings s.reading) s.conditions
-    → s.conditions.most_tokens ≤ number_of Setting.ExpressionNodes o.settings → is_over (turn limits sources o s).work ≡ false
-    → (turn limits sources o s).conditions.most_tokens ≤ number_of Setting.ExpressionNodes o.settings
-conditions_few limits sources o s none few e =
+pub rested_rest : {o : Choices} (s : State) → Rest o s → Rest o (rested s)
+rested_rest {o} s rest =
+    let f : Steps (λ n. 0) (context_of o s) (unfollowed false) s.work (rested s).work = rested_steps s in
+    rest_as (rested_same s) f.on rest
+
+pub turn_rest : (limits : Limits) (sources : Sources) (o : Choices) (s : State) → Rest o s → Rest o (turn limits sources o s)
+turn_rest limits sources o s rest =
     let t = stepped limits o s in
-    let f : Steps limits (context_of o s) (unfollowed false false) t.work (followed sources o t).work = ran (followed_walks sources o t) in
-    subst (λ (n : ℕ). n ≤ number_of Setting.ExpressionNodes o.settings) (sym (followed_alike sources o t).1)
-    (stepped_few limits o s none few (f.on e))
+    let f : Steps limits (context_of o s) (unfollowed false) t.work (followed sources o t).work = ran (followed_walks sources o t) in
+    let r : Rest o (followed sources o t) = rest_as (followed_same sources o t) f.on (stepped_rest limits o s rest) in
+    record { none = r.none; tame = r.tame; few = r.few }

@@ -1,6 +1,5 @@
 -- Changes of an output keep it counted, and walks keep the counts of a compilation.
 use Rattle.std.proofs.Common.{Bool, List, None, Some, ap, false, refl, subst, sym, true, ℕ, ◌+◌, ◌-◌, ◌∙◌, ◌≡◌, ◌≤◌}
-use Rattle.inf_area.specs.Cells.{later_count}
 use Rattle.inf_scanner.specs.declared.tokens.Place.{Place}
 use Rattle.inf_settings.specs.{Bounds.Limits, declared.setting.Setting.Setting}
 use Rattle.inf_tables.specs.{LowStrings.low_fits, Tables.references}
@@ -15,10 +14,10 @@ use Rattle.inf_compilation.specs.{Actions.Compilation, Actions.took, Context.Con
 use Rattle.inf_compilation.specs.Nesting.{closed_ahead, construct_ended, construct_joined, constructs_laid}
 use Rattle.inf_declarations.specs.Abbreviations.{low_added, low_added_by}
 use Rattle.inf_reader.specs.Acting.{act, cut_at}
-use Rattle.inf_step_walk.specs.Walking.{Abbreviates, Acts, After, Asks, Begins, Behind, Cases, Closes, Declares, Ends, Enters, Finishes}
-use Rattle.inf_step_walk.specs.Walking.{Follows, Gives, GivesUp, Grown, Inner, Joins, Leaves, Loops, LowTexts, Nests, Next, Nowhere, Opens}
-use Rattle.inf_step_walk.specs.Walking.{Over, Parts, Passes, Premises, Puts, Refers, Rest, Rests, Runs, Says, Scales, Settles, Shuts, Sizes}
-use Rattle.inf_step_walk.specs.Walking.{Starts, Stays, Tables, Tallies, Tells, Texts, Then, Uses, Walk, Warns, free}
+use Rattle.inf_step_walk.specs.Walking.{Abbreviates, Acts, After, Asks, Begins, Behind, Cases, Checks, Closes, Declares, Ends, Enters}
+use Rattle.inf_step_walk.specs.Walking.{Finishes, Follows, Gives, GivesUp, Grown, Inner, Joins, Leaves, Loops, LowTexts, Nests, Next}
+use Rattle.inf_step_walk.specs.Walking.{Nowhere, Opens, Over, Parts, Passes, Premises, Puts, Refers, Rest, Rests, Runs, Says, Scales, Settles, Shuts}
+use Rattle.inf_step_walk.specs.Walking.{Sizes, Starts, Stays, Tables, Tallies, Tells, Texts, Then, Uses, Walk, Warns, free}
 use Rattle.inf_step_walk.proofs.Actions.{act_steps as act_walks, cut_at_steps as cut_at_walks, took_steps as took_walks}
 use Rattle.inf_message_laws.proofs.Told.{remains, words_add}
 use Rattle.inf_limit_laws.specs.Within.{Before, Counted, IsCounted, Keeps, Lays, Steps, unfollowed}
@@ -27,8 +26,8 @@ use Rattle.inf_limit_laws.proofs.Constructs.{cases_gives, changed_gives, ended_f
 use Rattle.inf_limit_laws.proofs.Constructs.{looped_over_gives}
 use Rattle.inf_limit_laws.proofs.Outputs.{close_keeps, declare_keeps, low_text_keeps, open_keeps, refer_keeps, scale_keeps, table_keeps}
 use Rattle.inf_limit_laws.proofs.Outputs.{text_keeps, word_keeps}
-use Rattle.inf_limit_laws.proofs.Ways.{begun_ends, begun_steps, body_steps, close_as_ends, given_up_steps, lays_end, lays_step, lays_then}
-use Rattle.inf_limit_laws.proofs.Ways.{nested_steps, report_steps, sized_steps, step_of, steps_then, unit_ends}
+use Rattle.inf_limit_laws.proofs.Ways.{begun_ends, begun_lays, body_steps, close_as_ends, given_up_steps, lay_of, lays_end, lays_step, lays_then}
+use Rattle.inf_limit_laws.proofs.Ways.{limits_end, nested_steps, report_steps, sized_steps, stays, step_of, steps_then, unit_ends}
 
 -- Open statements
 
@@ -40,24 +39,22 @@ module _ {limits : Limits} {context : Context} {was : Before} where
     kept = λ e h. (h.0, (h.1.0, gives.keeps w.output h.1.1));
   }
 
-  constructs_step : (w : Compilation) (laying : Laying (List Construct)) → LayingGives limits was laying → ((whole : Bool)
-      → Few limits whole w.output → Few limits whole (laying w.output).1) → Steps limits context was w (constructs_laid laying w)
+  constructs_step : (w : Compilation) (laying : Laying (List Construct)) → LayingGives limits was laying
+      → (Few limits w.output → Few limits (laying w.output).1) → Steps limits context was w (constructs_laid laying w)
   constructs_step w laying gives few = record {
     on = λ e. e;
     kept = λ e h. (h.0, (h.1.0, gives.keeps w.output h.1.1));
-    few = λ e b h k. few true k;
-    near = λ e h k. few false k;
+    few = λ e h k. few k;
   }
 
   pub joining_steps : (w : Compilation) → Steps limits context was w (construct_joined limits w)
   joining_steps w =
       constructs_step w (changed (between limits) w.constructs) (changed_gives limits (between limits) (between_gives limits) w.constructs)
-      (λ whole. joined_few limits whole w.constructs w.output)
+      (joined_few limits w.constructs w.output)
 
   ending_steps : (w : Compilation) → Steps limits context was w (construct_ended limits w)
   ending_steps w =
-      constructs_step w (ended limits w.constructs) (ended_gives limits w.constructs)
-      (λ whole. ended_few limits whole w.constructs w.output)
+      constructs_step w (ended limits w.constructs) (ended_gives limits w.constructs) (ended_few limits w.constructs w.output)
 
   pub ahead_lays : (count : ℕ) (w : Compilation) → Lays limits context was w (closed_ahead limits count w)
   ahead_lays count w = record {
@@ -72,7 +69,6 @@ low_added_keeps {was} limits bytes none o h = go (low_fits limits bytes o.tables
   where
     go : (b : Bool) → Counted limits was (low_added_by limits b bytes o)
     go true = record {
-      stays = h.stays;
       begun = h.begun;
       room = h.room;
       same = λ known is. let never : None ≡ Some known = sym none ∙ is in cc;
@@ -133,11 +129,8 @@ module _ {limits : Limits} {context : Context} {was : Before} where
     kept = λ e h.
         subst (λ (t : Out × Tallies).
         (was.is_exact ≡ true → t.1.0 ≤ longest context) × ((t.1.1 ≤ limits Setting.Labels) × Counted limits was t.0)) (sym same) h;
-    few = λ e b h k.
+    few = λ e h k.
         subst (λ (t : Out × Tallies). reference_count t.0.code + references t.0.tables ≤ limits Setting.References) (sym same) k;
-    near = λ e h k.
-        subst (λ (t : Out × Tallies). 4 + later_count t.0.code.finished + references t.0.tables ≤ limits Setting.References)
-        (sym same) k;
   }
   walked none (After f g) = steps_then (walked none f) (walked none g)
   walked none (Behind {r} g f next) = steps_then (walked none f) (walked none (next r))
@@ -145,24 +138,25 @@ module _ {limits : Limits} {context : Context} {was : Before} where
   walked none (Says {w} place k words) =
       let at = location context.names place in report_steps w (with_words at k words) (remains (words_add at k words))
   walked none (Warns {w} has_warnings) = report_steps w (warnings_chosen has_warnings) (λ r free. free)
-  walked none (Asks request q) = record { on = λ e. e; kept = λ e h. h; few = λ e b h k. k; near = λ e h k. k }
+  walked none (Asks request q) = record { on = λ e. e; kept = λ e h. h; few = λ e h k. k }
   walked none (Sizes {w}) = sized_steps w
   walked none (Ends first has_last found v f) = lays_step (laid none f) (unit_ends first has_last found v)
   walked none (Finishes how place v f) = lays_step (laid none f) (close_as_ends how place v)
-  walked none (Begins {w}) = begun_steps w
+  walked none (Checks {w} first) = step_of (limits_end first w)
+  walked none (Begins {w} {v} first f) = lays_step (lays_then (begun_lays w) (lay_of (walked none f))) (limits_end first v)
   walked none (Leaves {w}) = body_steps w
   walked none (GivesUp {w}) = given_up_steps w
   walked none (Starts {w} k) =
       constructs_step w (begun limits k w.constructs) (begun_gives limits k w.constructs)
-      (λ whole. begun_few limits whole k w.constructs w.output)
+      (begun_few limits k w.constructs w.output)
   walked none (Joins {w}) = joining_steps w
   walked none (Shuts {w}) = ending_steps w
 
 -- Turns
 
-pub ran : {limits : Limits} {context : Context} {begins strict : Bool} {w v : Compilation} → Runs limits context w v
-    → Steps limits context (unfollowed begins strict) w v
-ran Nowhere = record { on = λ e. e; kept = λ e h. h; few = λ e b h k. k; near = λ e h k. k }
+pub ran : {limits : Limits} {context : Context} {strict : Bool} {w v : Compilation} → Runs limits context w v
+    → Steps limits context (unfollowed strict) w v
+ran (Nowhere {w}) = stays w
 ran (Acts f) = walked {Q = free} (λ q. refl) f
 ran (Then f g) = steps_then (ran f) (ran g)
 ran (Tells {w} tell remains) = report_steps w tell remains

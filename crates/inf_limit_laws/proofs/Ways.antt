@@ -3,9 +3,8 @@
 use Rattle.std.specs.List.{slice_get}
 use Rattle.std.specs.Prelude.{if◌then◌else◌, max, sum_by}
 use Rattle.std.proofs.{Math.Nat.max-le, lemmas.Bool.ltb-false, lemmas.List.Sums.sum_by-append}
-use Rattle.std.proofs.Common.{Bool, List, None, Option, Some, [], ap, arith, cond, false, length, ltb, option_map, refl, suc, sym, true}
+use Rattle.std.proofs.Common.{Bool, List, None, Option, Some, [], arith, cond, false, length, ltb, option_map, refl, suc, sym, true}
 use Rattle.std.proofs.Common.{zero, ℕ, ◌++◌, ◌+◌, ◌-◌, ◌∙◌, ◌∷◌, ◌≡◌, ◌≤◌}
-use Rattle.inf_area.specs.Cells.{later_count}
 use Rattle.inf_scanner.specs.declared.tokens.Place.{Place}
 use Rattle.inf_settings.specs.{Bounds.Limits, declared.setting.Setting.Setting}
 use Rattle.inf_objects.specs.{declared.body.Body.Body, declared.objects.Object.Object}
@@ -13,10 +12,10 @@ use Rattle.inf_objects.specs.Objects.{ended, is_lost, nothing_read, object_fixup
 use Rattle.inf_tables.specs.{Tables.AllTables, Tables.more, Tables.references, declared.faults.WorldFault.WorldFault}
 use Rattle.inf_tables.specs.World.{WorldOf, ended_objects, fixups_now, no_body_fault, with_end}
 use Rattle.inf_assembler.specs.{declared.routines.CloseFault.CloseFault, declared.routines.Limit.Limit}
-use Rattle.inf_assembler.specs.{declared.routines.Limit.Limit as CodeLimit, declared.routines.RoutineKind.RoutineKind}
-use Rattle.inf_code.specs.Code.{Routines, begun_unless, fault_closed, full_begun, labels, reference_count}
+use Rattle.inf_assembler.specs.declared.routines.RoutineKind.{RoutineKind}
+use Rattle.inf_code.specs.Code.{Routines, fault_closed, labels}
 use Rattle.inf_output.specs.declared.past.Past.{Past}
-use Rattle.inf_output.specs.Output.{Out, begun, begun_by, closed, closed_by, code_closed, counted, full, full_past, passed_limit, past_by}
+use Rattle.inf_output.specs.Output.{Out, begun, closed, closed_by, code_closed, counted, full, full_past, passed_limit, past_by}
 use Rattle.inf_output.specs.Output.{past_of, with_labels_left}
 use Rattle.inf_report.specs.{Messages.DeepNesting, Messages.Exceeded, Reports.Counts, Reports.with_fatal as fatal_counted}
 use Rattle.inf_unit.specs.Tokens.{SourceToken}
@@ -25,20 +24,12 @@ use Rattle.inf_unit.specs.Units.{Unit, long_at, long_by, long_from, outer_count,
 use Rattle.inf_compilation.specs.{Context.Context, Context.longest, Findings.Findings, Findings.nothing_found, Findings.told_as}
 use Rattle.inf_compilation.specs.Actions.{Compilation, begun_at, body_ended, close_as, code_begun, given_up, nested, sized, stopped}
 use Rattle.inf_compilation.specs.Actions.{unit_ended, with_all_unused, with_routine_fault, world_ended_by}
+use Rattle.inf_reader.specs.Directives.{limits_told}
 use Rattle.inf_step_walk.specs.Walking.{Remains}
 use Rattle.inf_message_laws.proofs.Told.{all_unused_add, end_adds, fatal_adds, full_adds, remains, routine_adds}
-use Rattle.inf_limit_laws.specs.Within.{AreFew, AreNear, Before, Counted, Ends, IsKept, Lays, Steps, is_over}
-use Rattle.inf_limit_laws.proofs.{Constructs.Few, Outputs.begin_keeps, Outputs.close_keeps, Outputs.none_open_keeps}
+use Rattle.inf_limit_laws.specs.Within.{Before, Counted, Ends, IsKept, Lays, Steps, is_over}
+use Rattle.inf_limit_laws.proofs.Outputs.{begin_keeps, close_keeps, none_open_keeps}
 use Rattle.inf_limit_laws.proofs.Rooms.{Fits, counted_free, limit_full, rest_some, unit_fits}
-
--- References with that of the first routine are no fewer than those without.
-
-least : (b : Bool) → 4 ≤ cond b 5 4
-least true = omega arith
-least false = omega arith
-
-pub near_of : (limits : Limits) (w : Compilation) → AreFew limits w → AreNear limits w
-near_of limits w few = omega (arith, few, least w.output.code.has_begun)
 
 -- One step behind another
 
@@ -60,16 +51,14 @@ module _ {limits : Limits} {context : Context} {was : Before} where
   steps_then {a} {b} {c} f g = record {
     on = λ e. f.on (g.on e);
     kept = λ e h. g.kept e (f.kept (g.on e) h);
-    few = λ e t h k. g.few e t (f.kept (g.on e) h) (f.few (g.on e) t h k);
-    near = λ e h k. g.near e (f.kept (g.on e) h) (f.near (g.on e) h k);
+    few = λ e h k. g.few e (f.kept (g.on e) h) (f.few (g.on e) h k);
   }
 
   pub step_of : {a b : Compilation} → Ends limits context was a b → Steps limits context was a b
   step_of {a} {b} f = record {
     on = f.on;
     kept = f.kept;
-    few = λ e t h k. f.few e h;
-    near = λ e h k. near_of limits b (f.few e h);
+    few = λ e h k. f.few e h;
   }
 
   pub lay_of : {a b : Compilation} → Steps limits context was a b → Lays limits context was a b
@@ -81,7 +70,7 @@ module _ {limits : Limits} {context : Context} {was : Before} where
 
   -- nothing happens
   pub stays : (w : Compilation) → Steps limits context was w w
-  stays w = record { on = λ e. e; kept = λ e h. h; few = λ e b h k. k; near = λ e h k. k }
+  stays w = record { on = λ e. e; kept = λ e h. h; few = λ e h k. k }
 
 -- Messages
 
@@ -106,7 +95,7 @@ none_full files unit (Some s) r free = no_fatal r.counts free
 pub report_steps : {limits : Limits} {context : Context} {was : Before} (w : Compilation) (tell : Reported → Reported) → Remains tell
     → Steps limits context was w (record w { report = tell w.report })
 report_steps {limits} {context} {was} w tell remains =
-    record { on = remains w.report; kept = λ e h. h; few = λ e b h k. k; near = λ e h k. k }
+    record { on = remains w.report; kept = λ e h. h; few = λ e h k. k }
 
 -- Units
 
@@ -126,6 +115,13 @@ module _ {limits : Limits} {context : Context} {was : Before} where
             (h.0, (max-le h.1.0 (fits_full limits context.names first w.output told e h.1.1).few_labels, h.1.1));
         few = λ e h. (fits_full limits context.names first w.output told e h.1.1).few_references;
       }
+
+  pub limits_end : (first : Place) (w : Compilation) → Ends limits context was w (limits_told limits context first w)
+  limits_end first w = record {
+    on = remains (full_adds context.names first (full limits w.output)) w.report;
+    kept = λ e h. h;
+    few = λ e h. (fits_full limits context.names first w.output w.report e h.1.1).few_references;
+  }
 
   pub begun_ends : (files : FileNames) (first : Place) (w : Compilation) → Ends limits context was w (begun_at limits files first w)
   begun_ends files first w = record {
@@ -175,8 +171,7 @@ module _ {limits : Limits} {context : Context} {was : Before} where
   stopped_steps None w e = record {
     on = λ free. free;
     kept = λ free h. ((λ x. max-le (h.0 x) (tokens_within (longest context) w.unit e)), h.1);
-    few = λ free b h k. k;
-    near = λ free h k. k;
+    few = λ free h k. k;
   }
   stopped_steps (Some place) w e =
       report_steps w (with_fatal (location context.names place) (Exceeded Setting.ExpressionNodes))
@@ -294,11 +289,7 @@ module _ {limits : Limits} {context : Context} {was : Before} where
   body_steps w = record {
     on = λ e. e;
     kept = λ e h. h;
-    few = λ e b h k.
-        let t = w.output.tables in
-        let ended = world_ended_by (no_body_fault t.world) t.world in
-        omega (arith, k, world_few t ended (by_few (no_body_fault t.world) t.world));
-    near = λ e h k.
+    few = λ e h k.
         let t = w.output.tables in
         let ended = world_ended_by (no_body_fault t.world) t.world in
         omega (arith, k, world_few t ended (by_few (no_body_fault t.world) t.world));
@@ -308,42 +299,9 @@ module _ {limits : Limits} {context : Context} {was : Before} where
   given_up_steps w = record {
     on = λ e. e;
     kept = λ e h. (h.0, (h.1.0, none_open_keeps limits w.output h.1.1));
-    few = λ e b h k. k;
-    near = λ e h k. k;
+    few = λ e h k. k;
   }
 
--- code that has begun goes on, and the references stay as they are
-begun_few : (limits : Limits) (o : Out) → o.code.has_begun ≡ true → Few limits true o → Few limits true (begun limits o)
-begun_few limits o has few = go (full_begun limits o.code)
-  where
-    counts : ◌≡◌ {A = ℕ} (cond o.code.has_begun 5 4) 5
-    counts = ap (λ (x : Bool). cond x 5 4) has
-
-    code : (full : Option CodeLimit)
-        → reference_count (begun_unless full o.code) + references o.tables ≤ limits Setting.References
-    code None = omega (arith, counts, few)
-    code (Some limit) = few
-
-    go : (full : Option CodeLimit) → Few limits true (begun_by limits full o)
-    go None = code (full_begun limits o.code)
-    go (Some limit) = code (full_begun limits o.code)
-
-begun_near : (limits : Limits) (o : Out) → Few limits false o → Few limits false (begun limits o)
-begun_near limits o few = go (full_begun limits o.code)
-  where
-    code : (full : Option CodeLimit)
-        → 4 + later_count (begun_unless full o.code).finished + references o.tables ≤ limits Setting.References
-    code None = few
-    code (Some limit) = few
-
-    go : (full : Option CodeLimit) → Few limits false (begun_by limits full o)
-    go None = code (full_begun limits o.code)
-    go (Some limit) = code (full_begun limits o.code)
-
-pub begun_steps : {limits : Limits} {context : Context} {was : Before} (w : Compilation) → Steps limits context was w (code_begun limits w)
-begun_steps {limits} {context} {was} w = record {
-  on = λ e. e;
-  kept = λ e h. (h.0, (h.1.0, begin_keeps limits w.output h.1.1));
-  few = λ e b h k. begun_few limits w.output (h.1.1.stays b) k;
-  near = λ e h k. begun_near limits w.output k;
-}
+  -- code begins
+  pub begun_lays : (w : Compilation) → Lays limits context was w (code_begun limits w)
+  begun_lays w = record { on = λ e. e; kept = λ e h. (h.0, (h.1.0, begin_keeps limits w.output h.1.1)) }

@@ -1,28 +1,26 @@
 -- Counts keep to their settings from the start of a reading on, in each state to which it comes.
 use Rattle.std.proofs.{Math.Nat.max-le, lemmas.Bool.ltb-false}
-use Rattle.std.proofs.Common.{Bool, List, None, Option, Some, arith, cond, false, if◌then◌else◌, length, ltb, refl, suc, sym, true, zero, ℕ}
-use Rattle.std.proofs.Common.{◌+◌, ◌-◌, ◌∙◌, ◌≡◌, ◌≤◌}
-use Rattle.inf_area.specs.Cells.{later_count}
+use Rattle.std.proofs.Common.{Bool, List, None, Option, Some, arith, cond, false, if◌then◌else◌, length, ltb, refl, suc, true, zero, ℕ}
+use Rattle.std.proofs.Common.{◌+◌, ◌-◌, ◌≡◌, ◌≤◌}
 use Rattle.inf_scanner.specs.declared.tokens.Place.{Place}
 use Rattle.inf_text_lexer.specs.TextReaders.{TextReader}
 use Rattle.inf_settings.specs.{Bounds.Limits, Bounds.limits_of, Settings.number_of, declared.setting.Setting.Setting}
 use Rattle.inf_settings.specs.{declared.settings.Settings.Settings}
 use Rattle.inf_tables.specs.Tables.{more, no_tables, references}
 use Rattle.inf_devices.specs.Files.{Sources}
-use Rattle.inf_output.specs.Output.{Out}
-use Rattle.inf_compilation.specs.{Actions.Compilation, Actions.letters_chosen, Actions.unit_ended, Context.Context, Findings.Findings}
+use Rattle.inf_compilation.specs.{Actions.Compilation, Actions.begun_at, Actions.letters_chosen, Actions.unit_ended, Context.Context, Findings.Findings}
 use Rattle.inf_reader.specs.Reading.{begun_stand}
 use Rattle.inf_ending.specs.Ending.{first_place}
-use Rattle.inf_session.specs.Choices.{Choices}
+use Rattle.inf_session.specs.{Choices.Choices, Uses.AreKept}
 use Rattle.inf_session.specs.Session.{State, context_of, has_ended, is_parted, part, rested, run, start, stepped, tables_full, turn}
 use Rattle.inf_session.specs.Veneer.{in_text, is_wanted, most_texts, next_text, supplied_at, supplied_by, text_begun, text_front, text_read}
 use Rattle.inf_session.specs.Veneer.{text_turns, veneer_text}
 use Rattle.inf_limit_laws.specs.Laws.{AbbreviationsStay, CountsKeepToSettings, StepsKeepCounts, abbreviations_of}
-use Rattle.inf_limit_laws.specs.Reached.{Begins, Goes, Here, IsBehind, IsReached, IsTurned, StatesComeBehind, Supplies, Turns}
-use Rattle.inf_limit_laws.specs.Within.{AreFew, AreNear, Before, Counted, IsKept, Steps, is_over, unfollowed}
-use Rattle.inf_limit_laws.proofs.{Conditions.NoneRight, Walked.act_steps, Walked.cut_at_steps, Walked.took_steps}
-use Rattle.inf_limit_laws.proofs.Turns.{conditions_few, rested_none, rested_steps, stepped_steps, turn_none, turn_steps}
-use Rattle.inf_limit_laws.proofs.Ways.{begun_ends, near_of, none_full, steps_then, unit_ends}
+use Rattle.inf_limit_laws.specs.Reached.{Here, IsBehind, IsReached, StatesComeBehind, Supplies, Turns}
+use Rattle.inf_limit_laws.specs.Within.{AreFew, Before, IsKept, Steps, is_over, unfollowed}
+use Rattle.inf_limit_laws.proofs.{Walked.act_steps, Walked.cut_at_steps, Walked.took_steps}
+use Rattle.inf_limit_laws.proofs.Turns.{Rest, rested_rest, rested_steps, stepped_rest, stepped_steps, turn_rest, turn_steps}
+use Rattle.inf_limit_laws.proofs.Ways.{begun_ends, none_full, steps_then, unit_ends}
 
 both_behind : {sources : Sources} {o : Choices} {s t : State} → IsBehind sources o s t → {u : State} → IsBehind sources o t u
     → IsBehind sources o s u
@@ -75,74 +73,60 @@ states_come_behind sources o = record {
 
 -- From the start on
 
--- nothing is known of a compilation before; or that code had begun; or that expressions were within their setting
-abbrev plain : Before
-plain = unfollowed false false
+-- Expressions were within their setting before.
+abbrev exact : Before
+exact = unfollowed true
 
--- A state whose counts are kept, and whose references are few where code had begun
-pub record Holds (o : Choices) (was : Before) (s : State) : Type 0 where
-  pub quiet : NoneRight s.conditions
-  pub kept : is_over s.work ≡ false → IsKept (limits_of o.settings) (context_of o s) was s.work
-  pub few : is_over s.work ≡ false → was.has_begun ≡ true → AreFew (limits_of o.settings) s.work
-  pub near : is_over s.work ≡ false → AreNear (limits_of o.settings) s.work
+-- A state whose counts are kept, and whose references are few
+pub record Holds (o : Choices) (s : State) : Type 0 where
+  pub rest : Rest o s
+  pub kept : is_over s.work ≡ false → IsKept (limits_of o.settings) (context_of o s) exact s.work
+  pub few : is_over s.work ≡ false → AreFew (limits_of o.settings) s.work
 
-holds_by : {o : Choices} {begins strict : Bool} {s t : State} → Holds o (unfollowed begins strict) s
-    → Steps (limits_of o.settings) (context_of o s) (unfollowed begins strict) s.work t.work → NoneRight t.conditions → Holds o
-    (unfollowed begins strict) t
-holds_by {o} {begins} {strict} {s} {t} h f none = record {
-  quiet = none;
+holds_by : {o : Choices} {s t : State} → Holds o s → Steps (limits_of o.settings) (context_of o s) exact s.work t.work → Rest o t
+    → Holds o t
+holds_by {o} {s} {t} h f rest = record {
+  rest = rest;
   kept = λ e. f.kept e (h.kept (f.on e));
-  few = λ e b. f.few e b (h.kept (f.on e)) (h.few (f.on e) b);
-  near = λ e. f.near e (h.kept (f.on e)) (h.near (f.on e));
+  few = λ e. f.few e (h.kept (f.on e)) (h.few (f.on e));
 }
 
-turn_holds : {o : Choices} {begins strict : Bool} {s : State} (sources : Sources) → Holds o (unfollowed begins strict) s
-    → Holds o (unfollowed begins strict) (turn (limits_of o.settings) sources o s)
-turn_holds {o} {begins} {strict} {s} sources h =
-    holds_by h (turn_steps (limits_of o.settings) sources o s h.quiet) (turn_none (limits_of o.settings) sources o s)
+turn_holds : {o : Choices} {s : State} (sources : Sources) → Holds o s → Holds o (turn (limits_of o.settings) sources o s)
+turn_holds {o} {s} sources h =
+    holds_by h (turn_steps (limits_of o.settings) sources o s h.rest.none) (turn_rest (limits_of o.settings) sources o s h.rest)
 
--- Supplied routines, whose tokens may come behind conditions with more than they may have
+-- Supplied routines, behind the conditions of the source
 
-either_holds : {o : Choices} {begins strict : Bool} (b : Bool) (s t : State) → Holds o (unfollowed begins strict) s →
-    Holds o (unfollowed begins strict) t → Holds o (unfollowed begins strict) (if b then s else t)
+either_holds : {o : Choices} (b : Bool) (s t : State) → Holds o s → Holds o t → Holds o (if b then s else t)
 either_holds true s t h k = h
 either_holds false s t h k = k
 
-turns_hold : {begins strict : Bool} (o : Choices) (n : ℕ) (s : State) → Holds o (unfollowed begins strict) s →
-    Holds o (unfollowed begins strict) (text_turns (limits_of o.settings) o n s)
+turns_hold : (o : Choices) (n : ℕ) (s : State) → Holds o s → Holds o (text_turns (limits_of o.settings) o n s)
 turns_hold o zero s h = h
 turns_hold o (suc n) s h =
     let t = stepped (limits_of o.settings) o s in
     either_holds (has_ended s) s (text_turns (limits_of o.settings) o n (rested t)) h
     (turns_hold o n (rested t)
-    (holds_by h (steps_then (stepped_steps (limits_of o.settings) o s h.quiet) (rested_steps t)) (rested_none t refl)))
+    (holds_by h (steps_then (stepped_steps (limits_of o.settings) o s h.rest.none) (rested_steps t))
+    (rested_rest t (stepped_rest (limits_of o.settings) o s h.rest))))
 
-begun_holds : {begins strict : Bool} (o : Choices) (s : State) → strict ≡ false → Holds o (unfollowed begins strict) s →
-    Holds o (unfollowed begins strict) (text_begun s)
-begun_holds {begins} {strict} o s loose h = record {
-  quiet = refl;
-  kept = λ e. let k = h.kept e in ((λ x. cc), k.1);
+begun_holds : (o : Choices) (l : TextReader) (s : State) → Holds o s → Holds o (in_text l (text_begun s))
+begun_holds o l s h = record {
+  rest = record { none = refl; tame = tt; few = λ e. omega arith };
+  kept = λ e. let k = h.kept e in ((λ x. max-le (k.0 x) (h.rest.few e)), k.1);
   few = h.few;
-  near = h.near;
 }
 
-in_text_holds : {begins strict : Bool} (o : Choices) (l : TextReader) (s : State) → Holds o (unfollowed begins strict) s →
-    Holds o (unfollowed begins strict) (in_text l s)
-in_text_holds o l s h = record { quiet = h.quiet; kept = h.kept; few = h.few; near = h.near }
-
-read_holds : {begins strict : Bool} (o : Choices) (n : ℕ) (s : State) → strict ≡ false → Holds o (unfollowed begins strict) s
-    → Holds o (unfollowed begins strict) (text_read (limits_of o.settings) o n s)
-read_holds o n s loose h =
+read_holds : (o : Choices) (n : ℕ) (s : State) → Holds o s → Holds o (text_read (limits_of o.settings) o n s)
+read_holds o n s h =
     let t = turns_hold o (suc (length (veneer_text n))) (in_text (text_front o n s) (text_begun s))
-    (in_text_holds o (text_front o n s) (text_begun s) (begun_holds o s loose h)) in
-    record { quiet = t.quiet; kept = t.kept; few = t.few; near = t.near }
+    (begun_holds o (text_front o n s) s h) in
+    record { rest = record { none = t.rest.none; tame = t.rest.tame; few = t.rest.few }; kept = t.kept; few = t.few }
 
-behind_holds : {o : Choices} {begins strict : Bool} {s : State} (sources : Sources) → strict ≡ false →
-    Holds o (unfollowed begins strict) s → {t : State}
-    → IsBehind sources o s t → Holds o (unfollowed begins strict) t
-behind_holds sources loose h Here = h
-behind_holds sources loose h (Turns behind) = turn_holds sources (behind_holds sources loose h behind)
-behind_holds {o} sources loose h (Supplies {t} number behind) = read_holds o number t loose (behind_holds sources loose h behind)
+behind_holds : {o : Choices} {s : State} (sources : Sources) → Holds o s → {t : State} → IsBehind sources o s t → Holds o t
+behind_holds sources h Here = h
+behind_holds sources h (Turns behind) = turn_holds sources (behind_holds sources h behind)
+behind_holds {o} sources h (Supplies {t} number behind) = read_holds o number t (behind_holds sources h behind)
 
 -- The start
 
@@ -181,116 +165,50 @@ start_few sources o name e =
           (tables_full o.settings) (letters_chosen o.letters (begun_stand o.settings).work).report e),
     )
 
-start_holds : (sources : Sources) (o : Choices) (name : List ℕ) → Holds o plain (start sources o name)
+start_holds : (sources : Sources) (o : Choices) (name : List ℕ) → Holds o (start sources o name)
 start_holds sources o name = record {
-  quiet = refl;
-  kept =
-      λ e. ((λ x. omega arith), (omega arith, record { stays = λ b. cc; begun = λ b. cc; room = λ p is free. cc; same = λ known is. cc }));
-  few = λ e b. cc;
-  near = λ e. near_of (limits_of o.settings) (start sources o name).work (start_few sources o name e);
+  rest = record { none = refl; tame = tt; few = λ e. omega arith };
+  kept = λ e. ((λ x. omega arith), (omega arith, record { begun = λ b. cc; room = λ p is free. cc; same = λ known is. cc }));
+  few = start_few sources o name;
 }
 
-pub reached_holds : (sources : Sources) (o : Choices) (name : List ℕ) (s : State) → IsReached sources o name s → Holds o plain s
-reached_holds sources o name s reached = behind_holds sources refl (start_holds sources o name) reached
+pub reached_holds : (sources : Sources) (o : Choices) (name : List ℕ) (s : State) → IsReached sources o name s → Holds o s
+reached_holds sources o name s reached = behind_holds sources (start_holds sources o name) reached
 
--- References behind a state in which code had begun
-
-abbrev begun : Before
-begun = unfollowed true false
-
-counted_behind : (limits : Limits) (o : Out) (was : Before) → (was.has_begun ≡ true → o.code.has_begun ≡ true)
-    → was.abbreviations ≡ None → Counted limits plain o → Counted limits was o
-counted_behind limits o was stays none h = record {
-  stays = stays;
-  begun = h.begun;
-  room = h.room;
-  same = λ known is. let never : None ≡ Some known = sym none ∙ is in cc;
-}
-
-from_begun : (o : Choices) (s : State) → Holds o plain s → s.work.output.code.has_begun ≡ true → AreFew (limits_of o.settings) s.work
-    → Holds o begun s
-from_begun o s h has few = record {
-  quiet = h.quiet;
-  kept = λ e. let k = h.kept e in ((λ x. cc), (k.1.0, counted_behind (limits_of o.settings) s.work.output begun (λ b. has) refl k.1.1));
-  few = λ e b. few;
-  near = h.near;
-}
-
--- one above the setting, at most, in any case
-near_within : (b : Bool) (later tables limit : ℕ) → 4 + later + tables ≤ limit → more (cond b 5 4 + later) tables ≤ limit + 1
-unfolding more
-near_within true later tables limit near = omega (arith, near)
-near_within false later tables limit near = omega (arith, near)
+-- All of it
 
 more_within : (a b limit : ℕ) → a + b ≤ limit → more a b ≤ limit
 unfolding more
 more_within a b limit few = omega (arith, few)
 
-references_keep : (sources : Sources) (o : Choices) (s t : State) → Holds o plain s → s.work.output.code.has_begun ≡ true
-    → AreFew (limits_of o.settings) s.work → IsBehind sources o s t → is_over t.work ≡ false → AreFew (limits_of o.settings) t.work
-references_keep sources o s t h has few behind e = (behind_holds sources refl (from_begun o s h has few) behind).few e refl
+within_by : (o : Choices) (s : State) (w : Compilation) → IsKept (limits_of o.settings) (context_of o s) exact w
+    → AreFew (limits_of o.settings) w → s.conditions.most_tokens ≤ number_of Setting.ExpressionNodes o.settings
+    → AreKept o.settings s.quoted s.conditions w
+within_by o s w kept few tokens =
+    (max-le (kept.0 refl) tokens, kept.1.0, more_within _ _ (number_of Setting.References o.settings) few)
 
--- Tokens of expressions, turn by turn
+pub reached_within : (sources : Sources) (o : Choices) (name : List ℕ) (s : State) → IsReached sources o name s → is_over s.work ≡ false
+    → AreKept o.settings s.quoted s.conditions s.work
+reached_within sources o name s reached e =
+    let h = reached_holds sources o name s reached in within_by o s s.work (h.kept e) (h.few e) (h.rest.few e)
 
-abbrev exact : Before
-exact = unfollowed false true
-
-tokens_keep : (sources : Sources) (o : Choices) (s : State) → Holds o plain s
-    → s.work.most_tokens ≤ number_of Setting.ExpressionNodes o.settings → is_over (turn (limits_of o.settings) sources o s).work ≡ false
-    → (turn (limits_of o.settings) sources o s).work.most_tokens ≤ number_of Setting.ExpressionNodes o.settings
-tokens_keep sources o s h few e = (f.kept e kept).0 refl
-  where
-    f : Steps (limits_of o.settings) (context_of o s) exact s.work (turn (limits_of o.settings) sources o s).work
-    f = turn_steps (limits_of o.settings) sources o s h.quiet
-
-    kept : IsKept (limits_of o.settings) (context_of o s) exact s.work
-    kept = let k = h.kept (f.on e) in ((λ x. few), (k.1.0, counted_behind (limits_of o.settings) s.work.output exact (λ b. cc) refl k.1.1))
-
-turned_reached : {sources : Sources} {o : Choices} {name : List ℕ} {s : State} → IsTurned sources o name s → IsReached sources o name s
-turned_reached Begins = Here
-turned_reached (Goes turned fits) = Turns (turned_reached turned)
-
-tokens_few : (sources : Sources) (o : Choices) (name : List ℕ) {s : State} → IsTurned sources o name s → is_over s.work ≡ false
-    → (s.work.most_tokens ≤ number_of Setting.ExpressionNodes o.settings)
-    × (s.conditions.most_tokens ≤ number_of Setting.ExpressionNodes o.settings)
-tokens_few sources o name Begins e = (omega arith, omega arith)
-tokens_few sources o name (Goes {s} turned fits) e =
-    let h = reached_holds sources o name s (turned_reached turned) in
-    let f = turn_steps {begins = false} {strict = true} (limits_of o.settings) sources o s h.quiet in
-    let few = tokens_few sources o name turned (f.on e) in
-    (tokens_keep sources o s h few.0 e, conditions_few (limits_of o.settings) sources o s fits few.1 e)
-
--- All of it
-
-unit_few : (o : Choices) (s : State) → Holds o plain s → (context : Context) (first : Place) (has_last : Bool) (found : Findings)
+unit_few : (o : Choices) (s : State) → Holds o s → (context : Context) (first : Place) (has_last : Bool) (found : Findings)
     → is_over (unit_ended (limits_of o.settings) context first has_last found s.work) ≡ false
     → AreFew (limits_of o.settings) (unit_ended (limits_of o.settings) context first has_last found s.work)
 unit_few o s h context first has_last found e =
-    let f = unit_ends {limits = limits_of o.settings} {context = context} {was = plain} first has_last found s.work in
+    let f = unit_ends {limits = limits_of o.settings} {context = context} {was = unfollowed false} first has_last found s.work in
     let k = h.kept (f.on e) in
-    f.few e ((λ x. cc), k.1)
+    f.few e ((λ x. cc), (k.1.0, record { begun = k.1.1.begun; room = k.1.1.room; same = λ known is. cc }))
 
 pub counts_keep_to_settings : (sources : Sources) (o : Choices) → CountsKeepToSettings sources o
 counts_keep_to_settings sources o = record {
-  labels = λ name s reached e. ((reached_holds sources o name s reached).kept e).1.0;
-  begins = start_few sources o;
+  within = reached_within sources o;
   units = λ name s reached. unit_few o s (reached_holds sources o name s reached);
   ends = λ name s reached e.
-      let f = begun_ends {limits = limits_of o.settings} {context = context_of o s} {was = plain} s.nesting.names first_place s.work in
-      let k = (reached_holds sources o name s reached).kept (f.on e) in
-      record {
-        labels = (f.kept e k).1.0;
-        references = more_within _ _ (number_of Setting.References o.settings) (f.few e k);
-      };
-  near = λ name s reached e.
-      near_within s.work.output.code.has_begun (later_count s.work.output.code.finished) (references s.work.output.tables)
-      (number_of Setting.References o.settings) ((reached_holds sources o name s reached).near e);
-  references = λ name s t reached has few behind e.
-      more_within _ _ (number_of Setting.References o.settings)
-      (references_keep sources o s t (reached_holds sources o name s reached) has few behind e);
-  expressions = λ name s reached. tokens_keep sources o s (reached_holds sources o name s reached);
-  conditions = conditions_few (limits_of o.settings) sources o;
-  tokens = λ name s turned e. let few = tokens_few sources o name turned e in max-le few.0 few.1;
+      let f = begun_ends {limits = limits_of o.settings} {context = context_of o s} {was = exact} s.nesting.names first_place s.work in
+      let h = reached_holds sources o name s reached in
+      let k = h.kept (f.on e) in
+      within_by o s (begun_at (limits_of o.settings) s.nesting.names first_place s.work) (f.kept e k) (f.few e k) (h.rest.few (f.on e));
 }
 
 pub steps_keep_counts : (limits : Limits) → StepsKeepCounts limits
@@ -305,14 +223,14 @@ steps_keep_counts limits = record {
 -- Abbreviations that are followed from one compilation on
 
 abbrev from : Compilation → Before
-from w = record { has_begun = false; is_exact = false; abbreviations = Some (abbreviations_of w) }
+from w = record { is_exact = false; abbreviations = Some (abbreviations_of w) }
 
 stay_by : {limits : Limits} {context : Context} {w v : Compilation} → Steps limits context (from w) w v
-    → IsKept limits context (unfollowed false false) w → is_over v ≡ false → abbreviations_of v ≡ abbreviations_of w
+    → IsKept limits context (unfollowed false) w → is_over v ≡ false → abbreviations_of v ≡ abbreviations_of w
 stay_by {limits} {context} {w} {v} f h e = (f.kept e kept).1.1.same (abbreviations_of w) refl
   where
     kept : IsKept limits context (from w) w
-    kept = (h.0, (h.1.0, record { stays = λ b. cc; begun = h.1.1.begun; room = h.1.1.room; same = λ known is. cc }))
+    kept = (h.0, (h.1.0, record { begun = h.1.1.begun; room = h.1.1.room; same = λ known is. cc }))
 
 pub abbreviations_stay : (limits : Limits) → AbbreviationsStay limits
 abbreviations_stay limits = record {

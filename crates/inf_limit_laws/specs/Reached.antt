@@ -2,10 +2,8 @@
 use Rattle.std.specs.Prelude.{List, ℕ}
 use Rattle.inf_settings.specs.Bounds.{limits_of}
 use Rattle.inf_devices.specs.Files.{Sources}
-use Rattle.inf_reader.specs.Handing.{site_of}
 use Rattle.inf_session.specs.{Choices.Choices, Veneer.next_supplied, Veneer.supplied, Veneer.text_read}
 use Rattle.inf_session.specs.Session.{State, part, run, start, turn}
-use Rattle.inf_limit_laws.specs.Within.{SignFits}
 
 -- A state comes behind another one, by turns and by supplied routines that are read, or is that one.
 pub data IsBehind (sources : Sources) (o : Choices) (s : State) : State → Type 0 where
@@ -16,13 +14,6 @@ pub data IsBehind (sources : Sources) (o : Choices) (s : State) : State → Type
 -- A state comes behind the start of the main source of a name.
 abbrev pub IsReached : Sources → Choices → List ℕ → State → Type 0
 IsReached sources o name s = IsBehind sources o (start sources o name) s
-
--- A state is one of the turns from the start of the main source of a name, on which no `#` waits that is the first token too many of a
--- condition.
-pub data IsTurned (sources : Sources) (o : Choices) (name : List ℕ) : State → Type 0 where
-  Begins : IsTurned sources o name (start sources o name)
-  Goes : {s : State} → IsTurned sources o name s → SignFits (site_of o.settings s.reading) s.conditions
-      → IsTurned sources o name (turn (limits_of o.settings) sources o s)
 
 -- States come behind the one from which some turns, a part, and supplied routines lead to them: the next one, and the rest of these.
 pub record StatesComeBehind (sources : Sources) (o : Choices) : Type 0 where

@@ -1,15 +1,11 @@
 -- The counts of a compilation that are compared with their settings where an expression or a unit has ended, within these settings; and the
 -- room that is left of limits beside code, where code is counted and no longer laid.
 use Rattle.std.specs.Prelude.{Bool, List, None, Option, Some, false, is_some, true, ℕ, ◌+◌, ◌≡◌, ◌≤◌}
-use Rattle.inf_area.specs.Cells.{later_count}
-use Rattle.inf_scanner.specs.declared.tokens.Place.{Place}
 use Rattle.inf_settings.specs.{Bounds.Limits, declared.setting.Setting.Setting}
 use Rattle.inf_tables.specs.Tables.{references}
 use Rattle.inf_code.specs.Code.{Routines, labels, reference_count, references_open}
 use Rattle.inf_output.specs.{Output.Code, Output.Out, Output.full_past, declared.past.Past.Past}
 use Rattle.inf_compilation.specs.{Actions.Compilation, Context.Context, Context.longest}
-use Rattle.inf_conditionals.specs.{Judging.sign_offered, Open.Conditions, declared.filtered.Site.Site}
-use Rattle.inf_conditionals.specs.Said.{Deep, Long, Right, Said, Wrong}
 
 -- Room
 
@@ -21,20 +17,18 @@ pub record LeavesRoom (limits : Limits) (code : Routines) (past : Past) : Type 0
   pub few_references : (left : ℕ) → past.refs ≡ Some left
       → reference_count code + references_open code.opened + left ≤ limits Setting.References
 
--- Knowledge of a compilation before: whether code had begun, whether all expressions were within their setting, and where its abbreviations
--- begin, if these are followed.
+-- Knowledge of a compilation before: whether all expressions were within their setting, and where its abbreviations begin, if these are
+-- followed.
 pub record Before : Type 0 where
-  pub has_begun : Bool
   pub is_exact : Bool
   pub abbreviations : Option (List ℕ)
 
-abbrev pub unfollowed : (begins strict : Bool) → Before
-unfollowed begins strict = record { has_begun = begins; is_exact = strict; abbreviations = None }
+abbrev pub unfollowed : (strict : Bool) → Before
+unfollowed strict = record { is_exact = strict; abbreviations = None }
 
--- Code has begun where a routine is open, and where it had begun before; and where code is counted alone, and passed no limit, it leaves
--- room. The abbreviations that are followed are those of before.
+-- Code has begun where a routine is open; and where code is counted alone, and passed no limit, it leaves room. The abbreviations that are
+-- followed are those of before.
 pub record IsCounted (limits : Limits) (was : Before) (code : Routines) (past : Option Past) (abbreviations : List ℕ) : Type 0 where
-  pub stays : was.has_begun ≡ true → code.has_begun ≡ true
   pub begun : is_some code.opened ≡ true → code.has_begun ≡ true
   pub room : (p : Past) → past ≡ Some p → full_past p ≡ None → LeavesRoom limits code p
   pub same : (known : List ℕ) → was.abbreviations ≡ Some known → abbreviations ≡ known
@@ -64,40 +58,20 @@ IsKept limits context was w =
 abbrev pub AreFew : Limits → Compilation → Type 0
 AreFew limits w = reference_count w.output.code + references w.output.tables ≤ limits Setting.References
 
--- The references of the source are within their setting, if not the one of the first routine, which calls `Main`.
-abbrev pub AreNear : Limits → Compilation → Type 0
-AreNear limits w = 4 + later_count w.output.code.finished + references w.output.tables ≤ limits Setting.References
-
 -- Within a unit a compilation goes from one state to another: a fatal message stays, and where none stands all but the references is kept.
 pub record Lays (limits : Limits) (context : Context) (was : Before) (w v : Compilation) : Type 0 where
   pub on : is_over v ≡ false → is_over w ≡ false
   pub kept : is_over v ≡ false → IsKept limits context was w → IsKept limits context was v
 
 -- From the end of a unit a compilation goes to that of another one, or to some place before: a fatal message stays, what is kept stays
--- kept, and references are few behind it where they were before and code had begun.
+-- kept, and references are few behind it where they were before.
 pub record Steps (limits : Limits) (context : Context) (was : Before) (w v : Compilation) : Type 0 where
   pub on : is_over v ≡ false → is_over w ≡ false
   pub kept : is_over v ≡ false → IsKept limits context was w → IsKept limits context was v
-  pub few : is_over v ≡ false → was.has_begun ≡ true → IsKept limits context was w → AreFew limits w → AreFew limits v
-  pub near : is_over v ≡ false → IsKept limits context was w → AreNear limits w → AreNear limits v
+  pub few : is_over v ≡ false → IsKept limits context was w → AreFew limits w → AreFew limits v
 
 -- Where a unit ends, they are few, whatever it laid.
 pub record Ends (limits : Limits) (context : Context) (was : Before) (w v : Compilation) : Type 0 where
   pub on : is_over v ≡ false → is_over w ≡ false
   pub kept : is_over v ≡ false → IsKept limits context was w → IsKept limits context was v
   pub few : is_over v ≡ false → IsKept limits context was w → AreFew limits v
-
--- A `#` that waits, and conditions that are too long
-
--- whether a condition is told to be too long or too deep, which is a fatal message
-abbrev pub is_loud : Option Said → Bool
-is_loud None = false
-is_loud (Some (Right tokens leaves)) = false
-is_loud (Some (Wrong directive blame)) = false
-is_loud (Some (Long place)) = true
-is_loud (Some (Deep place)) = true
-
--- A `#` that waits, if one does, is not the first token by which a condition is too long.
-abbrev pub SignFits : Site → Conditions → Type 0
-SignFits site c =
-    (place : Place) → c.sign ≡ Some place → is_loud (sign_offered c.pending place site (record c { sign = None })).now.said ≡ false

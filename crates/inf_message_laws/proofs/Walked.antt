@@ -11,15 +11,15 @@ use Rattle.inf_unit.specs.{Roles.role_of, Tokens.SourceToken, Units.long_at, dec
 use Rattle.inf_unit.specs.Messages.{Reported, location, warnings_chosen, with_fatal, with_fault, with_full, with_words}
 use Rattle.inf_compilation.specs.{Context.Context, Context.longest, Findings.nothing_found, Findings.told_as}
 use Rattle.inf_compilation.specs.Actions.{Compilation, close_as, stopped, took, unit_ended, with_all_unused, with_routine_fault}
-use Rattle.inf_reader.specs.Acting.{act, cut_at}
+use Rattle.inf_reader.specs.{Acting.act, Acting.cut_at, Directives.limits_told}
 use Rattle.inf_statement_laws.specs.Laid.{next_comes, passed, run}
 use Rattle.inf_statement_laws.specs.Happenings.{Acts, Between, Happening, Takes}
-use Rattle.inf_step_walk.specs.Walking.{After, Asks, Begins, Behind, Ends, Finishes, GivesUp, Joins, Leaves, Nests, Premises, Rests, Says}
-use Rattle.inf_step_walk.specs.Walking.{Shuts, Sizes, Starts, Tallies, Walk, Walks, Warns, free, with_report}
+use Rattle.inf_step_walk.specs.Walking.{After, Asks, Begins, Behind, Checks, Ends, Finishes, GivesUp, Joins, Leaves, Nests, Premises, Rests}
+use Rattle.inf_step_walk.specs.Walking.{Says, Shuts, Sizes, Starts, Tallies, Walk, Walks, Warns, free, with_report}
 use Rattle.inf_step_walk.proofs.{Actions.act_steps, Actions.cut_at_steps, Actions.took_steps, Units.inner_told}
 use Rattle.inf_message_laws.specs.Growing.{AllOnlyAdd, GoesOn, Grows, MessagesGrow, OnlyAdds, ReportsGoOn, told_before}
-use Rattle.inf_message_laws.proofs.Told.{Adds, all_unused_add, chosen_adds, end_adds, fatal_adds, nothing_adds, nothing_grows, routine_adds}
-use Rattle.inf_message_laws.proofs.Told.{then_adds, then_grows, words_add}
+use Rattle.inf_message_laws.proofs.Told.{Adds, all_unused_add, chosen_adds, end_adds, fatal_adds, full_adds, nothing_adds, nothing_grows}
+use Rattle.inf_message_laws.proofs.Told.{routine_adds, then_adds, then_grows, words_add}
 
 -- Along walks
 
@@ -95,7 +95,18 @@ module _ {Q : Premises} where
       (then_adds (with_routine_fault context place v.labels fault) (with_all_unused context place v.locals)
       (routine_adds context place v.labels fault) (all_unused_add context place v.locals)) (end_adds context.names place blame past))
       (ap (λ (t : Tallies). ended (tell t.2)) k.0) (ap (close_as limits how context place) k.1) (ap (λ (t : Tallies). t.3) k.0)
-  walk_told Begins = silent refl refl refl
+  walk_told {limits} {context} (Checks {w} first) =
+      let limit = full limits w.output in tells (with_full context.names first limit) (full_adds context.names first limit) refl refl refl
+  walk_told {limits} {context} (Begins {v} first f) =
+      let a = walk_told f in
+      let limit = full limits v.output in
+      let tell = with_full context.names first limit in record {
+        tell = λ s. tell (a.tell s);
+        adds = then_adds a.tell tell a.adds (full_adds context.names first limit);
+        report = ap tell a.report;
+        other = ap (limits_told limits context first) a.other;
+        asked = a.asked;
+      }
   walk_told Leaves = silent refl refl refl
   walk_told GivesUp = silent refl refl refl
   walk_told (Starts k) = silent refl refl refl

@@ -3,7 +3,8 @@ use Rattle.std.specs.Prelude.{List, [], ◌∷◌, true}
 use Rattle.inf_settings.specs.Bounds.{Limits}
 use Rattle.inf_scanner.specs.declared.tokens.Place.{Place}
 use Rattle.inf_names.specs.Spellings.{Name}
-use Rattle.inf_unit.specs.{Messages.location, Messages.with_words, declared.directives.Directive.Directive}
+use Rattle.inf_output.specs.Output.{full}
+use Rattle.inf_unit.specs.{Messages.location, Messages.with_full, Messages.with_words, declared.directives.Directive.Directive}
 use Rattle.inf_unit.specs.Directives.{Include, End, directive_of, weight_of}
 use Rattle.inf_unit.specs.Units.{directive_word, first_place, names_in, quoted_in}
 use Rattle.inf_compilation.specs.{Context.Context, Findings.nothing_found}
@@ -48,5 +49,12 @@ directive_of_names limits context first [] w = passed true w
 directive_of_names limits context first (word ∷ names) w =
     let d = directive_of (directive_word w.unit.tokens) in carried_out limits d context first names (code_begun_by limits d w)
 
+-- The first limit that was passed is told, at the place where a unit begins.
+abbrev pub limits_told : Limits → Context → Place → Compilation → Compilation
+limits_told limits context first w = record w { report = with_full context.names first (full limits w.output) w.report }
+
+-- Since code begins with a directive, the limits are looked at behind it, whatever it does.
 abbrev pub directive_end : Limits → Context → Place → Compilation → Compilation
-directive_end limits context place w = directive_of_names limits context (first_place w.unit.tokens place) (names_in w.unit.tokens) w
+directive_end limits context place w =
+    let first = first_place w.unit.tokens place in
+    limits_told limits context first (directive_of_names limits context first (names_in w.unit.tokens) w)

@@ -9,7 +9,7 @@ use Rattle.inf_unit.specs.Units.{directive_word, first_place, names_in}
 use Rattle.inf_bodies.specs.Objects.{class_header, object_header}
 use Rattle.inf_declarations.specs.{Abbreviations.abbreviate_header, Arrays.array_named}
 use Rattle.inf_verb_lines.specs.Verbs.{extend_header, verb_header}
-use Rattle.inf_reader.specs.declared.headers.Heading.{Heading}
+use Rattle.inf_reader.specs.{Directives.limits_told, declared.headers.Heading.Heading}
 
 abbrev pub class_named : Limits → Context → Place → List Name → Compilation → Compilation
 class_named limits context first [] w = passed false w
@@ -37,7 +37,8 @@ abbrev pub directive_header : Limits → Context → Place → List Name → Com
 directive_header limits context first [] w = passed false w
 directive_header limits context first (word ∷ names) w = header_as limits (heading_of (directive_word w.unit.tokens)) context first names w
 
--- Code begins with a header, unless it has begun.
+-- Code begins with a header, unless it has begun, and behind it the limits are looked at.
 abbrev pub header_ended : Limits → Context → Place → Compilation → Compilation
 header_ended limits context place w =
-    directive_header limits context (first_place w.unit.tokens place) (names_in w.unit.tokens) (code_begun limits w)
+    let first = first_place w.unit.tokens place in
+    limits_told limits context first (directive_header limits context first (names_in w.unit.tokens) (code_begun limits w))

@@ -3,7 +3,7 @@ ghost use Rattle.inf_compilation.specs.{Actions.constant, Actions.replace, Actio
 ghost use Rattle.std.specs.Prelude.{OnOk, map, ◌≡◌};
 ghost use Rattle.inf_names.specs.Spellings.{as_name};
 ghost use Rattle.inf_unit.specs.Directives.{Include, asked};
-ghost use Rattle.inf_reader.specs.Directives.{carried_out, code_begun_by, directive_end};
+ghost use Rattle.inf_reader.specs.Directives.{carried_out, code_begun_by, directive_end, directive_of_names, limits_told};
 ghost use Rattle.inf_declarations.specs.Defaults.{default};
 
 use inf_compilation::compilation::Compilation;
@@ -23,8 +23,8 @@ use inf_unit::directives::{Directive, Request, directive_of};
 use inf_verb_lines::verbs::fake_action;
 use std::alloc::AllocError;
 
-/// Ends a directive, before a token at `place`. Code begins with it, unless it has begun or the directive is
-/// `Switches`.
+/// Ends a directive, before a token at `place`. Code begins with it, unless it has begun or the directive is `Switches`, and
+/// behind it the first setting that was passed is told.
 pub(crate) fn end_directive<B: Bounds>(
     compilation: &mut Compilation<B>,
     context: &Context<'_>,
@@ -33,14 +33,44 @@ pub(crate) fn end_directive<B: Bounds>(
     ensures { OnOk result (work compilation.new ≡ directive_end B.most (handed context.now) place (work compilation.old)) }
 {
     let names = compilation.unit.tokens.names(compilation.alloc)?;
-    let Some((_, names)) = names.split_first() else {
-        compilation.pass(true);
-        return Ok(());
-    };
     let first = compilation.unit.first_place(place);
-    let directive = directive_of(compilation.unit.tokens.directive_word());
-    begin_code(compilation, directive);
-    carry_out(compilation, directive, context, first, names)
+    directive_of_names(compilation, context, first, names.as_slice())?;
+    tell_limits(compilation, context, first)
+}
+
+/// Ends the compilation by a fatal error at `first`, where a directive begins, if a setting was passed.
+pub(crate) fn tell_limits<B: Bounds>(
+    compilation: &mut Compilation<B>,
+    context: &Context<'_>,
+    first: Place,
+) -> Result<(), AllocError>
+    ensures { OnOk result (work compilation.new ≡ limits_told B.most (handed context.now) first (work compilation.old)) }
+{
+    let full = compilation.output.full();
+    compilation.report.full(context.files, first, full)
+}
+
+/// Carries out a directive that begins at `first` and has `names`, the first of which is its word.
+fn directive_of_names<B: Bounds>(
+    compilation: &mut Compilation<B>,
+    context: &Context<'_>,
+    first: Place,
+    names: &[Name],
+) -> Result<(), AllocError>
+    ensures { OnOk result (work compilation.new ≡ directive_of_names B.most (handed context.now) first (map as_name names.now)
+        (work compilation.old)) }
+{
+    match names.split_first() {
+        Some((_, names)) => {
+            let directive = directive_of(compilation.unit.tokens.directive_word());
+            begin_code(compilation, directive);
+            carry_out(compilation, directive, context, first, names)
+        }
+        None => {
+            compilation.pass(true);
+            Ok(())
+        }
+    }
 }
 
 /// Begins code with a directive, unless it has begun. `Switches`, whose letters say how code is laid, does not begin

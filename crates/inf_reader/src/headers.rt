@@ -5,6 +5,7 @@ ghost use Rattle.inf_names.specs.Spellings.{as_name};
 ghost use Rattle.inf_reader.specs.Headers.{class_named, header_as, header_ended, directive_header, heading_of};
 ghost use Rattle.inf_declarations.specs.Arrays.{array_named};
 
+use crate::directives::tell_limits;
 use inf_bodies::objects::{class_header, object_header};
 use inf_compilation::compilation::Compilation;
 use inf_compilation::context::Context;
@@ -42,7 +43,8 @@ fn heading_of(word: Option<Keyword>) -> Heading
     }
 }
 
-/// Ends the header of a directive with entries, before a token at `place`. Code begins with it, unless it has begun.
+/// Ends the header of a directive with entries, before a token at `place`. Code begins with it, unless it has begun,
+/// and behind it the first setting that was passed is told.
 pub(crate) fn end_directive_header<B: Bounds>(
     compilation: &mut Compilation<B>,
     context: &Context<'_>,
@@ -53,7 +55,8 @@ pub(crate) fn end_directive_header<B: Bounds>(
     let names = compilation.unit.tokens.names(compilation.alloc)?;
     let first = compilation.unit.first_place(place);
     compilation.output.begin();
-    directive_header(compilation, context, first, names.as_slice())
+    directive_header(compilation, context, first, names.as_slice())?;
+    tell_limits(compilation, context, first)
 }
 
 /// Ends the header of a directive that begins at `first` and has `names`, the first of which is its word.

@@ -1,20 +1,20 @@
 -- The amounts that the settings bound stay under them.
-use Rattle.std.proofs.Common.{min, nat_lt, is_none, ◌||◌, ◌≡◌, ℕ, ◌≤◌, Bool, true, false, cond, List, [], ◌∷◌, length, Option, Some, None}
+use Rattle.std.proofs.Common.{nat_lt, is_none, ◌||◌, ◌≡◌, ℕ, ◌≤◌, Bool, true, false, cond, List, [], ◌∷◌, length, Option, Some, None}
 use Rattle.std.proofs.Common.{refl, sym, ap, subst, ◌∙◌, arith}
-use Rattle.std.proofs.{Math.Nat.min-eq_left, lemmas.Bool.ltb-false}
+use Rattle.std.proofs.lemmas.Bool.{ltb-false}
 use Rattle.inf_sources.specs.Quoted.{is_quoted_kind}
 use Rattle.inf_scanner.specs.{declared.tokens.BadToken.BadToken, declared.tokens.TokenKind.TokenKind}
 use Rattle.inf_conditionals.specs.{declared.filtered.Filtered.Filtered, declared.filtered.Site.Site}
 use Rattle.inf_letters.specs.Letters.{warns}
 use Rattle.inf_settings.specs.{declared.setting.Setting.Setting, declared.settings.Settings.Settings}
-use Rattle.inf_settings.specs.Settings.{all_settings, number_of}
+use Rattle.inf_settings.specs.Settings.{number_of}
 use Rattle.inf_unit.proofs.Cases.{of_both}
 use Rattle.inf_unit.specs.{Messages.FileNames, Messages.none_reported, Messages.with_full, Tokens.SourceToken}
 use Rattle.inf_reader.specs.{Reading.ReaderState, Reading.has_ended_at, Standing.standing, declared.progress.Progress.Progress}
 use Rattle.inf_session.specs.{Choices.Choices, Choices.chosen, Choices.most_quoted, Session.begun_with, Session.tables_full}
-use Rattle.inf_session.specs.{Taking.quoted_behind, Taking.quoted_bytes, Taking.quoted_of_kind, Uses.is_compared_later}
+use Rattle.inf_session.specs.{Taking.quoted_behind, Taking.quoted_bytes, Taking.quoted_of_kind}
 use Rattle.inf_session.specs.{declared.session.Session.Session, declared.setup.Setup.Setup}
-use Rattle.inf_session.specs.Standing.{AreWithin, HasObjects, IsBounded, ended, held, told_count, told_counts, used_by}
+use Rattle.inf_session.specs.Standing.{HasObjects, IsBounded, ended}
 use Rattle.inf_ending.specs.Ending.{first_place}
 
 -- The longest quoted token
@@ -97,22 +97,3 @@ bounded_first p progress names begun = (
   omega arith,
   λ going. first_fits (chosen p) names (ap (λ (s : ReaderState). s.work.report.counts.is_over) (sym begun) ∙ going),
 )
-
--- Counts
-
--- a count that is at most its setting is told as it is
-told_whole : (settings : Settings) (s : Setting) (n : ℕ) → n ≤ number_of s settings → told_count settings s n ≡ n
-told_whole settings s n few =
-    of_both (λ k. k ≡ n) (is_compared_later s) (min n (number_of s settings)) n (λ _. min-eq_left few) (λ _. refl)
-
-all_told_whole : (settings : Settings) (bounding : List Setting) (counts : List ℕ) → AreWithin counts bounding settings
-    → told_counts settings bounding counts ≡ counts
-all_told_whole settings [] counts within = refl
-all_told_whole settings (s ∷ bounding) [] within = refl
-all_told_whole settings (s ∷ bounding) (n ∷ counts) within =
-    ap (λ k. k ∷ told_counts settings bounding counts) (told_whole settings s n within.0)
-    ∙ ap (λ rest. n ∷ rest) (all_told_whole settings bounding counts within.1)
-
--- where all counts are within their settings none is cut
-pub none_cut : {B : Type 0} (s : Session B) → AreWithin (used_by s) all_settings (chosen s.setup).settings → held s ≡ used_by s
-none_cut s within = all_told_whole (chosen s.setup).settings all_settings (used_by s) within

@@ -1,6 +1,6 @@
 -- The state for which the code's session stands, with a reader that keeps to its sources.
 use Rattle.std.specs.{String.string_capacity, declared.alloc.Global.Global}
-use Rattle.std.specs.Prelude.{◌≡◌, ℕ, ◌≤◌, List, Bool, false, ◌&&◌, ◌||◌, if◌then◌else◌, min, ◌∷◌, Option, is_none, length, String}
+use Rattle.std.specs.Prelude.{◌≡◌, ℕ, ◌≤◌, List, Bool, false, ◌&&◌, ◌||◌, if◌then◌else◌, ◌∷◌, Option, is_none, length, String}
 use Rattle.inf_conditionals.specs.Judging.{is_none_pending, may_part}
 use Rattle.inf_reader.specs.{Handing.is_between, Reading.has_ended_at, Standing.reading, Standing.standing}
 use Rattle.inf_devices.specs.Files.{Openings, Sources}
@@ -9,7 +9,7 @@ use Rattle.inf_sources.specs.Open.{Open, nesting}
 use Rattle.inf_settings.specs.{declared.setting.Setting.Setting, declared.settings.Settings.Settings}
 use Rattle.inf_settings.specs.Settings.{all_settings, number_of}
 use Rattle.inf_compilation.specs.Works.{work as work_of}
-use Rattle.inf_session.specs.{Choices.chosen, Choices.most_quoted, Session.State, Uses.all_used, Uses.is_compared_later, Veneer.next_text}
+use Rattle.inf_session.specs.{Choices.chosen, Choices.most_quoted, Session.State, Uses.AreKept, Uses.all_used, Veneer.next_text}
 use Rattle.inf_session.specs.{declared.session.Session.Session, declared.session.Step.Step}
 
 -- The state for a session, where the openings were `start` before the main source was opened, and are `now` now; the messages
@@ -85,15 +85,7 @@ came_to had_ended s = if is_fatal s then Step.Fatal else if had_ended then Step.
 abbrev pub used_by : {B : Type 0} → Session B → List ℕ
 used_by s = all_used s.quoted s.conditionals (work_of s.progress.work)
 
--- A count as it is told: one that is compared with its setting later is at most that.
-abbrev pub told_count : Settings → Setting → ℕ → ℕ
-told_count settings s n = if is_compared_later s then min n (number_of s settings) else n
-
-abbrev pub told_counts : Settings → List Setting → List ℕ → List ℕ
-told_counts settings (s ∷ bounding) (n ∷ counts) = told_count settings s n ∷ told_counts settings bounding counts
-told_counts settings bounding counts = counts
-
--- Counts so far of all that the settings bound, in the order of the settings. Those of tokens, labels and references are at most as many
--- as there may be.
-abbrev pub held : {B : Type 0} → Session B → List ℕ
-held s = told_counts (chosen s.setup).settings all_settings (used_by s)
+-- The counts that are compared with their settings only where an expression or a unit has ended are within these: tokens, labels and
+-- references.
+abbrev pub LaterWithin : {B : Type 0} → Settings → Session B → Type 0
+LaterWithin settings s = AreKept settings s.quoted s.conditionals (work_of s.progress.work)

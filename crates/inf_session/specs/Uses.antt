@@ -1,10 +1,11 @@
 -- Counts of all that the settings bound, by what was read so far.
-use Rattle.std.specs.Prelude.{ℕ, List, Bool, true, false, length, map, max}
+use Rattle.std.specs.Prelude.{ℕ, ◌≤◌, List, length, map, max}
 use Rattle.inf_arrays.specs.Arrays.{all_of, arrays_size}
 use Rattle.inf_code.specs.Code.{code_count, reference_count}
 use Rattle.inf_compilation.specs.Actions.{Compilation}
 use Rattle.inf_conditionals.specs.Open.{Conditions}
-use Rattle.inf_settings.specs.{Settings.all_settings, declared.setting.Setting.Setting}
+use Rattle.inf_settings.specs.{Settings.all_settings, Settings.number_of, declared.setting.Setting.Setting}
+use Rattle.inf_settings.specs.declared.settings.Settings.{Settings}
 use Rattle.inf_tables.specs.{LowStrings.low_size, Tables.references_with, World.bytes_now, World.object_count}
 use Rattle.inf_verbs.specs.Verbs.{verbs_size}
 
@@ -32,20 +33,9 @@ used quoted c w Setting.References = references_with (reference_count w.output.c
 abbrev pub all_used : ℕ → Conditions → Compilation → List ℕ
 all_used quoted c w = map (used quoted c w) all_settings
 
--- Tells whether a count is compared with its setting where an expression or a unit has ended, and not where something is added.
-abbrev pub is_compared_later : Setting → Bool
-is_compared_later Setting.ExpressionNodes = true
-is_compared_later Setting.Labels = true
-is_compared_later Setting.References = true
-is_compared_later Setting.QuotedText = false
-is_compared_later Setting.Symbols = false
-is_compared_later Setting.DictionaryEntries = false
-is_compared_later Setting.Objects = false
-is_compared_later Setting.Verbs = false
-is_compared_later Setting.Actions = false
-is_compared_later Setting.GrammarLines = false
-is_compared_later Setting.PropertyTables = false
-is_compared_later Setting.Arrays = false
-is_compared_later Setting.LowStrings = false
-is_compared_later Setting.Code = false
-is_compared_later Setting.Strings = false
+-- Counts of tokens, labels and references are within their settings.
+abbrev pub AreKept : Settings → ℕ → Conditions → Compilation → Type 0
+AreKept settings quoted c w =
+    (used quoted c w Setting.ExpressionNodes ≤ number_of Setting.ExpressionNodes settings) ×
+    (used quoted c w Setting.Labels ≤ number_of Setting.Labels settings) ×
+    (used quoted c w Setting.References ≤ number_of Setting.References settings)

@@ -8,8 +8,8 @@ ghost use Rattle.inf_session.specs.{Choices.chosen, Choices.most_quoted, Weights
 ghost use Rattle.inf_session.specs.Leading.{CutsShort, GivenUp, NotTried, OpensAll, OpensWithin, StopsFor, StopsAtInclusion, StopsInToken};
 ghost use Rattle.inf_session.specs.Leading.{Writes};
 ghost use Rattle.inf_session.specs.Session.{begun_with, followed, carried_out, included, left, part, rested, run, stepped, turn};
-ghost use Rattle.inf_session.specs.Standing.{AreWithin, HasRoom, IsBounded, IsSet, came_to, ended, held, is_fatal, parted, resting, state};
-ghost use Rattle.inf_session.specs.Standing.{used_by};
+ghost use Rattle.inf_session.specs.Standing.{AreWithin, HasRoom, IsBounded, IsSet, LaterWithin, came_to, ended, is_fatal, parted, resting};
+ghost use Rattle.inf_session.specs.Standing.{state, used_by};
 ghost use Rattle.inf_ending.specs.Faults.{Caused, HaltHidesNone, HaltTellsEachRead, HidesNoFailure, IfRead, TellsEachRead, fault_of};
 ghost use Rattle.inf_ending.specs.Delivered.{Appends, Delivers, EndsCleanOf, TakesFront, story_in};
 ghost use Rattle.inf_ending.specs.Ending.{finished};
@@ -31,7 +31,6 @@ use inf_reader::progress::Progress;
 use inf_reader::recovery::Recovery;
 use inf_report::messages::Message;
 use inf_settings::bounds::Bounds;
-use inf_settings::setting::Setting;
 use inf_sources::IncludeFault;
 use inf_sources::open_files::{Included, OpenFiles};
 use inf_unit::directives::Request;
@@ -291,34 +290,23 @@ impl<'a, B: Bounds> Session<'a, B> {
 
     /// Returns, for each setting in their order, the amount so far that it bounds: the bytes of the longest quoted token, the
     /// tokens of the longest expression, the names, the most labels of a routine, the words, objects, verbs and actions, the bytes
-    /// of grammar, properties, arrays, low strings, code and strings, and the references. Tokens, labels and references are at most
-    /// as many as there may be; no other amount is cut, and none where all are within their settings. No amount is above its
-    /// setting unless a fatal message came.
+    /// of grammar, properties, arrays, low strings, code and strings, and the references. None is cut. Unless a fatal message came,
+    /// no amount is above its setting where tokens, labels and references are not, which are compared where an expression or a unit
+    /// ends; `inf_limit_laws` shows that these are not, either.
     pub fn held(&self) -> [usize; 15]
-        ensures counts { result ≡ held self.now }
-        ensures uncut { AreWithin (used_by self.now) all_settings (chosen self.now.setup).settings → result ≡ used_by self.now }
+        ensures counts { result ≡ used_by self.now }
         ensures within { let settings = (chosen self.now.setup).settings in
-            AreSet B.most settings → IsBounded self.now → is_fatal self.now ≡ false → AreWithin result all_settings settings }
+            AreSet B.most settings → IsBounded self.now → is_fatal self.now ≡ false → LaterWithin settings self.now
+            → AreWithin result all_settings settings }
     {
-        self.told_counts()
-    }
-
-    /// Returns the counts that `held` tells.
-    fn told_counts(&self) -> [usize; 15]
-        ensures counts { result ≡ held self.now }
-        ensures within { let settings = (chosen self.now.setup).settings in
-            AreSet B.most settings → IsBounded self.now → is_fatal self.now ≡ false → AreWithin result all_settings settings }
-    {
-        let settings = self.setup.settings;
         let work = &self.progress.work;
         let output = &work.output;
         let tables = &output.tables;
-        let tokens = work.most_tokens.max(self.conditionals.most_tokens);
         let mut held = [0; 15];
         held[0] = self.quoted;
-        held[1] = tokens.min(settings.of(Setting::ExpressionNodes) as usize);
+        held[1] = work.most_tokens.max(self.conditionals.most_tokens);
         held[2] = output.names.len();
-        held[3] = work.most_labels.min(settings.of(Setting::Labels) as usize);
+        held[3] = work.most_labels;
         held[4] = tables.dictionary.len();
         held[5] = tables.world.object_count();
         held[6] = tables.verbs.len();
@@ -329,8 +317,7 @@ impl<'a, B: Bounds> Session<'a, B> {
         held[11] = tables.low_strings.len();
         held[12] = output.code.count();
         held[13] = output.strings.len();
-        let references = tables.references_with(output.code.references());
-        held[14] = references.min(settings.of(Setting::References) as usize);
+        held[14] = tables.references_with(output.code.references());
         held
     }
 

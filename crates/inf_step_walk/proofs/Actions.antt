@@ -37,12 +37,12 @@ use Rattle.inf_verb_lines.specs.Verbs.{words_given, words_used}
 use Rattle.inf_reader.specs.declared.headers.Heading.{Heading}
 use Rattle.inf_reader.specs.Acting.{act, acted, all_acted, cut_at, ended, held_ended, is_crowded, is_long, is_tall, is_wordy, kind_of}
 use Rattle.inf_reader.specs.Acting.{noted, noted_of, played}
-use Rattle.inf_reader.specs.Directives.{carried_out, code_begun_by, directive_end, directive_of_names, fit_ended}
+use Rattle.inf_reader.specs.Directives.{carried_out, code_begun_by, directive_end, directive_of_names, fit_ended, limits_told}
 use Rattle.inf_reader.specs.Headers.{class_named, directive_header, header_as, header_ended, heading_of}
 use Rattle.inf_word_laws.proofs.Numbering.{IsWithin}
 use Rattle.inf_step_walk.specs.Standing.{Before, TokensStand, ValueStands, VerbStands, VerbsStand}
-use Rattle.inf_step_walk.specs.Walking.{After, Asks, Begins, Behind, Ends, Follows, GivesUp, Grown, Joins, Leaves, Lies, Nests, Passes}
-use Rattle.inf_step_walk.specs.Walking.{Premises, Puts, Refers, Rests, Says, Sizes, Stays, Tables, Uses, Walks, free, with_report}
+use Rattle.inf_step_walk.specs.Walking.{After, Asks, Begins, Behind, Checks, Ends, Follows, GivesUp, Grown, Joins, Leaves, Lies, Nests}
+use Rattle.inf_step_walk.specs.Walking.{Passes, Premises, Puts, Refers, Rests, Says, Sizes, Stays, Tables, Uses, Walks, free, with_report}
 use Rattle.inf_step_walk.proofs.{Lists.referred_within, Lists.routine_among, Operands.action_grows, Operands.faked_grows}
 use Rattle.inf_step_walk.proofs.{Outputs.word_stands, Pieces.before, Premises.all_join}
 use Rattle.inf_step_walk.proofs.Bodies.{attribute_read_steps, class_read_steps, class_steps, embedded_read_steps, object_steps}
@@ -357,16 +357,18 @@ module _ {limits : Limits} {context : Context} {Q : Premises} where
   carried_steps Directive.SystemFile first names w q r =
       After {x = record w { is_system = true }} {s = r} (Rests (λ u h. h) refl) (fit_ends first (record w { is_system = true }) r)
 
-  begun_by_steps : (d : Directive) (w : Compilation) → Walks limits context Q (code_begun_by limits d) w
-  begun_by_steps Directive.Switches w r = stays w r
-  begun_by_steps d w r = Begins
+  -- the limits are told behind a directive, with which code begins or not
+  worked_steps : (d : Directive) (first : Place) (names : List Name) (w : Compilation) → Q Ending.Directive
+      → Walks limits context Q
+      (λ w. limits_told limits context first (carried_out limits d context first names (code_begun_by limits d w))) w
+  worked_steps Directive.Switches first names w q r =
+      Behind (limits_told limits context first) (carried_steps Directive.Switches first names w q r) (λ s. Checks first)
+  worked_steps d first names w q r = Begins first (carried_steps d first names (code_begun limits w) q r)
 
   names_steps : (first : Place) (names : List Name) (w : Compilation) → Q Ending.Directive
-      → Walks limits context Q (directive_of_names limits context first names) w
-  names_steps first [] w q r = passed_steps true w r
-  names_steps first (word ∷ names) w q r =
-      let d = directive_of (directive_word w.unit.tokens) in
-      Behind (carried_out limits d context first names) (begun_by_steps d w r) (carried_steps d first names (code_begun_by limits d w) q)
+      → Walks limits context Q (λ w. limits_told limits context first (directive_of_names limits context first names w)) w
+  names_steps first [] w q r = Behind (limits_told limits context first) (passed_steps true w r) (λ s. Checks first)
+  names_steps first (word ∷ names) w q r = worked_steps (directive_of (directive_word w.unit.tokens)) first names w q r
 
   directive_steps : (place : Place) (w : Compilation) → Q Ending.Directive → Walks limits context Q (directive_end limits context place) w
   directive_steps place w q = names_steps (first_place w.unit.tokens place) (names_in w.unit.tokens) w q
@@ -394,8 +396,8 @@ module _ {limits : Limits} {context : Context} {Q : Premises} where
 
   header_ended_steps : (place : Place) (w : Compilation) → Walks limits context Q (header_ended limits context place) w
   header_ended_steps place w r =
-      After {x = code_begun limits w} {s = r} Begins
-      (heading_steps (first_place w.unit.tokens place) (names_in w.unit.tokens) (code_begun limits w) r)
+      let first = first_place w.unit.tokens place in
+      Begins first (heading_steps first (names_in w.unit.tokens) (code_begun limits w) r)
 
   -- Notes
 

@@ -24,6 +24,7 @@ use Rattle.inf_compilation.specs.Actions.{Compilation, begun_at, body_ended, cas
 use Rattle.inf_compilation.specs.Actions.{unit_ended}
 use Rattle.inf_compilation.specs.Nesting.{closed_ahead, construct_ended, construct_joined, constructs_laid}
 use Rattle.inf_declarations.specs.Abbreviations.{low_added}
+use Rattle.inf_reader.specs.Directives.{limits_told}
 use Rattle.inf_code_walk.specs.Made.{Laid, TreeMeets, TreesMeet}
 use Rattle.inf_word_laws.specs.Standing.{AllOf}
 use Rattle.inf_step_walk.specs.Standing.{Before, MeaningStands, NamesStand, StepsStand, TablesStand, TargetStands, WorldStands}
@@ -120,8 +121,8 @@ pub data Inner (limits : Limits) (Q : Premises) : (w : Compilation) (r : Reporte
 
 -- A walk leads from a compilation to another one: output, report and counts stay; one behind another, where the report between them is
 -- known, or `g` behind it, whatever that is; something is told or asked; an expression is sized; a unit or a routine ends behind what
--- happened within it; code begins; a body is over, or a routine given up; a statement begins, is joined, or ends. The first compilation
--- with the report `r` becomes `t`.
+-- happened within it; the limits are told, in any case behind what follows the beginning of code; a body is over, or a routine given up; a
+-- statement begins, is joined, or ends. The first compilation with the report `r` becomes `t`.
 pub data Walk (limits : Limits) (context : Context) (Q : Premises) : (w : Compilation) (r : Reported) (v t : Compilation) → Type 1 where
   Rests : {w v : Compilation} {r : Reported} → StepsStay w v → outside v ≡ outside w → Walk limits context Q w r v (with_report r v)
   After : {w x v t : Compilation} {r s : Reported} → Walk limits context Q w r x (with_report s x) → Walk limits context Q x s v t
@@ -143,7 +144,10 @@ pub data Walk (limits : Limits) (context : Context) (Q : Premises) : (w : Compil
       → Walk limits context Q w r (unit_ended limits context first has_last found v) (unit_ended limits context first has_last found t)
   Finishes : {w : Compilation} {r : Reported} (how : RoutineKind) (place : Place) (v : Compilation) {t : Compilation}
       → Inner limits Q w r v t → Walk limits context Q w r (close_as limits how context place v) (close_as limits how context place t)
-  Begins : {w : Compilation} {r : Reported} → Walk limits context Q w r (code_begun limits w) (code_begun limits (with_report r w))
+  Checks : {w : Compilation} {r : Reported} (first : Place)
+      → Walk limits context Q w r (limits_told limits context first w) (limits_told limits context first (with_report r w))
+  Begins : {w v t : Compilation} {r : Reported} (first : Place) → Walk limits context Q (code_begun limits w) r v t
+      → Walk limits context Q w r (limits_told limits context first v) (limits_told limits context first t)
   Leaves : {w : Compilation} {r : Reported} → Walk limits context Q w r (body_ended w) (body_ended (with_report r w))
   GivesUp : {w : Compilation} {r : Reported} → Walk limits context Q w r (given_up w) (given_up (with_report r w))
   Starts : {w : Compilation} {r : Reported} (k : Opening)

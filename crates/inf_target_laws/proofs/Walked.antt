@@ -33,9 +33,9 @@ use Rattle.inf_code_walk.specs.Made.{TreesMeet}
 use Rattle.inf_code_walk.proofs.Statements.{alone_made, between_laid, case_closed_made, entered_laid, looped_laid, looped_on_made}
 use Rattle.inf_code_walk.proofs.Statements.{opened_laid}
 use Rattle.inf_step_walk.specs.Standing.{Before, Holds, ItemsStand, StepsStand, is_short}
-use Rattle.inf_step_walk.specs.Walking.{Acts, After, Asks, Begins, Behind, Cases, Ends, Enters, Finishes, GivesUp, Inner, Joins, Leaves}
-use Rattle.inf_step_walk.specs.Walking.{Loops, Nests, Next, Nowhere, Over, Parts, Premises, Puts, Rests, RootsMeet, Runs, Says, Settles}
-use Rattle.inf_step_walk.specs.Walking.{Shuts, Sizes, Starts, Stood, Tallies, Tells, Then, Walk, Warns, free}
+use Rattle.inf_step_walk.specs.Walking.{Acts, After, Asks, Begins, Behind, Cases, Checks, Ends, Enters, Finishes, GivesUp, Inner, Joins}
+use Rattle.inf_step_walk.specs.Walking.{Leaves, Loops, Nests, Next, Nowhere, Over, Parts, Premises, Puts, Rests, RootsMeet, Runs, Says}
+use Rattle.inf_step_walk.specs.Walking.{Settles, Shuts, Sizes, Starts, Stood, Tallies, Tells, Then, Walk, Warns, free}
 use Rattle.inf_step_walk.proofs.{Actions.act_steps as act_walks, Actions.cut_at_steps as cut_at_walks, Actions.took_steps as took_walks}
 use Rattle.inf_step_walk.proofs.{Lists.end_holds, Premises.There, Premises.roots_more}
 use Rattle.inf_step_walk.proofs.Outputs.{Goes, GoesIf, Sound, begin_keeps, close_keeps, goes_nowhere, items_keep, none_open_keeps}
@@ -324,7 +324,9 @@ walk_steps (Asks request q) u = record { on = λ e. e; kept = λ e h. h }
 walk_steps (Sizes {w}) u = sized_steps w
 walk_steps (Ends first has_last found v f) u = steps_then (inner_steps f u) (unit_ends first has_last found v)
 walk_steps (Finishes how place v f) u = steps_then (inner_steps f u) (close_as_steps how place v)
-walk_steps {limits} (Begins {w}) u = output_steps w _ (begin_keeps limits u w.output)
+walk_steps (Checks {w} first) u = report_steps w _
+walk_steps {limits} (Begins {w} {v} first f) u =
+    steps_then (output_steps w _ (begin_keeps limits u w.output)) (steps_then (walk_steps f u) (report_steps v _))
 walk_steps (Leaves {w}) u = output_steps w (world_ended w.output) (ended_keeps u w.output)
 walk_steps (GivesUp {w}) u = output_steps w _ (none_open_keeps u w.output)
 walk_steps {limits} (Starts {w} k) u =
