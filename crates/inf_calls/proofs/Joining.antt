@@ -16,7 +16,7 @@ use Rattle.inf_ending.specs.{Delivered.Appends, Delivered.IsFront, Faults.Caused
 use Rattle.inf_ending.specs.{Faults.IfRead, Faults.UnlessMessages, declared.faults.Fault.Fault}
 use Rattle.inf_ending.proofs.{Delivering.appends_then, Delivering.takes_none, Quiet.unless_more}
 use Rattle.inf_session.proofs.Standings.{caused_more, read_more}
-use Rattle.inf_calls.specs.Answers.{Adds, Answers, Ends, EndsCut, Fails, HasCause, IfFailure, IfLost, ReadFails, Reads, Stays, is_lost}
+use Rattle.inf_calls.specs.Answers.{Adds, Answers, Ends, EndsCut, EndsText, Fails, HasCause, IfFailure, IfLost, ReadFails, Reads, Stays, is_lost}
 use Rattle.inf_output.specs.declared.operands.Simple.{Simple}
 use Rattle.inf_calls.specs.Calls.{Answered, and_then, done}
 use Rattle.inf_calls.specs.declared.faults.UnitFault.{UnitFault}
@@ -295,7 +295,7 @@ done_if (Err fault) P p = p
 
 module _ {R M B : Type 0} (f : Files R) (m : Sink M) (limits : Limits) (was is : R) (old new : M) (before after : Session B)
     (answer : Result (Option Simple) UnitFault) (result : Result ⊤ UnitFault) (is_done : result ≡ done answer) where
-  pub done_answers : (call : Sources → Choices → ℕ → State → Answered (Option Simple))
+  done_answers : (call : Sources → Choices → ℕ → State → Answered (Option Simple))
       → Answers f m call was is old new before after answer
       → Answers f m (λ sources o turns s. ((call sources o turns s).0, done (call sources o turns s).1)) was is old new before after
       result
@@ -311,7 +311,7 @@ module _ {R M B : Type 0} (f : Files R) (m : Sink M) (limits : Limits) (was is :
         },
       )
 
-  pub done_fails : (begin : State → State) (call : Sources → Choices → ℕ → State → Answered (Option Simple))
+  done_fails : (begin : State → State) (call : Sources → Choices → ℕ → State → Answered (Option Simple))
       → Fails f m limits begin call was is old new before after answer
       → Fails f m limits begin (λ sources o turns s. ((call sources o turns s).0, done (call sources o turns s).1)) was is old new before
       after result
@@ -342,12 +342,24 @@ module _ {R M B : Type 0} (f : Files R) (m : Sink M) (limits : Limits) (was is :
         fits = λ here. s.fits (sym same ∙ here);
       }
 
-  pub done_fault : HasCause f m was is old new before after answer → HasCause f m was is old new before after result
+  done_fault : HasCause f m was is old new before after answer → HasCause f m was is old new before after result
   done_fault c =
       subst (λ (a : Result ⊤ UnitFault). HasCause f m was is old new before after a) (sym is_done) (done_if answer _ c)
 
-  pub done_adds : Adds m old new answer → Adds m old new result
+  done_adds : Adds m old new answer → Adds m old new result
   done_adds a =
       let same : is_lost result ≡ is_lost answer = ap is_lost is_done ∙ done_lost answer in
       let P : Fault → Type 0 = λ fault. UnlessMessages fault (m.failures new ≡ m.failures old) in
       (a.0, ((λ here. a.1.0 (sym same ∙ here)), subst (λ (a : Result ⊤ UnitFault). IfLost a P) (sym is_done) (done_if answer P a.1.1)))
+
+  pub done_called : (begin : State → State) (call : Sources → Choices → ℕ → State → Answered (Option Simple))
+      → EndsText f m limits begin call was is old new before after answer
+      → EndsText f m limits begin (λ sources o turns s. ((call sources o turns s).0, done (call sources o turns s).1)) was is old new before
+      after result
+  done_called begin call c = record {
+    answers = done_answers call c.answers;
+    lost = done_fails begin call c.lost;
+    fault = done_fault c.fault;
+    adds = done_adds c.adds;
+    again = λ fault r. let x = c.again fault r in (is_done ∙ ap done x.0, x.1);
+  }

@@ -1,3 +1,4 @@
+pub mod Called
 pub mod Calling
 pub mod Counting
 pub mod Endings

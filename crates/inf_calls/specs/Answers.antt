@@ -142,3 +142,35 @@ abbrev pub Adds : {M T : Type 0} → Sink M → M → M → Result T UnitFault �
 Adds m old new answer =
     Appends m old new × (IfAnswered answer (λ a. m.failures new ≡ m.failures old)
     × IfLost answer (λ fault. UnlessMessages fault (m.failures new ≡ m.failures old)))
+
+-- A call with its reader and its sink before and behind it. With an honest reader it leads to its answer as `leads` says, and where the session
+-- has failed, `fails` holds. With any reader a fault has its cause, and what was written stays. Where no text can be read, nothing happens.
+pub record Called {R M B T : Type 0} (leads fails : Type 0) (f : Files R) (m : Sink M) (was is : R) (old new : M) (before after : Session B)
+    (answer : Result T UnitFault) : Type 0 where
+  pub answers : leads
+  pub lost : fails
+  pub fault : HasCause f m was is old new before after answer
+  pub adds : Adds m old new answer
+  pub again : (fault : UnitFault) → refusal before ≡ Err fault
+      → (answer ≡ Err fault) × ((after ≡ before) × ((is ≡ was) × (new ≡ old)))
+
+-- A call that reads a part: `read` tells its answer by the turns of the part, before which `begin` puts a rule on the machine.
+abbrev pub ReadsPart : {R M B T : Type 0} → Files R → Sink M → Limits → (State → State) → (Sources → Choices → ℕ → State → Answered T) → R →
+    R → M → M → Session B → Session B → Result T UnitFault → Type 0
+ReadsPart f m limits begin read was is old new before after answer =
+    Called (Reads f m limits begin (λ sources o turns s. read sources o turns (begin s)) was is old new before after answer)
+    (ReadFails f m limits begin was is old new before after answer) f m was is old new before after answer
+
+-- A call whose text ends by itself: the session can only fail in the reading of it.
+abbrev pub ReadsText : {R M B T : Type 0} → Files R → Sink M → Limits → (State → State) → (Sources → Choices → ℕ → State → Answered T) → R →
+    R → M → M → Session B → Session B → Result T UnitFault → Type 0
+ReadsText f m limits begin call was is old new before after answer =
+    Called (Answers f m call was is old new before after answer) (ReadFails f m limits begin was is old new before after answer)
+    f m was is old new before after answer
+
+-- A call whose text is ended by the call: the session can fail in the reading of it, and at its end.
+abbrev pub EndsText : {R M B T : Type 0} → Files R → Sink M → Limits → (State → State) → (Sources → Choices → ℕ → State → Answered T) → R →
+    R → M → M → Session B → Session B → Result T UnitFault → Type 0
+EndsText f m limits begin call was is old new before after answer =
+    Called (Answers f m call was is old new before after answer) (Fails f m limits begin call was is old new before after answer)
+    f m was is old new before after answer

@@ -1,5 +1,5 @@
 //! The calls that read a text by itself.
-ghost use Rattle.inf_calls.specs.Answers.{Adds, Answers, Fails, HasCause, ReadFails, Stays, refusal};
+ghost use Rattle.inf_calls.specs.Answers.{EndsText, ReadsText, Stays};
 ghost use Rattle.inf_calls.specs.Calls.{alone_close, alone_constant, alone_expression, alone_line, assembly_line, begun_with_header};
 ghost use Rattle.inf_calls.specs.Calls.{begun_with_rule, close, condition, constant, done, expression, header, routine_body, use_of};
 ghost use Rattle.inf_calls.specs.Calls.{used_so};
@@ -8,7 +8,7 @@ ghost use Rattle.inf_code.specs.Code.{place_behind};
 ghost use Rattle.inf_output.specs.Output.{behind, marked, next_label};
 ghost use Rattle.inf_calls.specs.Standing.{with_output};
 ghost use Rattle.inf_session.specs.{Choices.chosen, Standing.IsSet};
-ghost use Rattle.std.specs.Prelude.{◌≡◌, ◌<◌, ◌+◌, ◌-◌, Err, OnErr, OnOk, false, length};
+ghost use Rattle.std.specs.Prelude.{◌≡◌, ◌<◌, ◌+◌, ◌-◌, OnErr, OnOk, false, length};
 
 use crate::cx::{Branch, Closed, Cx, Want};
 use crate::faults::UnitFault;
@@ -85,19 +85,10 @@ impl<'a, B: Bounds> Cx<'a, B> {
         requires set { IsSet self.old.session }
         requires known { (chosen self.old.session.setup).settings ≡ self.old.settings.now }
 
-        // With an honest reader.
-        ensures answers { Answers F.Files M.Sink (used_so wanted B.most) files.old files.new messages.old messages.new
-            self.old.session self.new.session result }
-        ensures fails { Fails F.Files M.Sink B.most (begun_with_rule alone_expression) (used_so wanted B.most) files.old files.new
-            messages.old messages.new self.old.session self.new.session result }
-
-        // With any reader.
+        ensures called { EndsText F.Files M.Sink B.most (begun_with_rule alone_expression) (used_so wanted B.most)
+            files.old files.new messages.old messages.new self.old.session self.new.session result }
         ensures stays { Stays F.Files files.old files.new self.old.session self.new.session result }
         ensures settings { self.new.settings ≡ self.old.settings }
-        ensures fault { HasCause F.Files M.Sink files.old files.new messages.old messages.new self.old.session self.new.session result }
-        ensures adds { Adds M.Sink messages.old messages.new result }
-        ensures again { (fault : UnitFault) → refusal self.old.session ≡ Err fault → (result ≡ Err fault)
-            × ((self.new ≡ self.old) × ((files.new ≡ files.old) × (messages.new ≡ messages.old))) }
     {
         self.read_whole(ALONE_EXPRESSION, files, messages)?;
         self.end(wanted, messages)
@@ -116,19 +107,10 @@ impl<'a, B: Bounds> Cx<'a, B> {
         requires set { IsSet self.old.session }
         requires known { (chosen self.old.session.setup).settings ≡ self.old.settings.now }
 
-        // With an honest reader.
-        ensures answers { Answers F.Files M.Sink (expression want B.most) files.old files.new messages.old messages.new
-            self.old.session self.new.session result }
-        ensures fails { Fails F.Files M.Sink B.most (begun_with_rule alone_expression) (expression want B.most) files.old files.new
-            messages.old messages.new self.old.session self.new.session result }
-
-        // With any reader.
+        ensures called { EndsText F.Files M.Sink B.most (begun_with_rule alone_expression) (expression want B.most)
+            files.old files.new messages.old messages.new self.old.session self.new.session result }
         ensures stays { Stays F.Files files.old files.new self.old.session self.new.session result }
         ensures settings { self.new.settings ≡ self.old.settings }
-        ensures fault { HasCause F.Files M.Sink files.old files.new messages.old messages.new self.old.session self.new.session result }
-        ensures adds { Adds M.Sink messages.old messages.new result }
-        ensures again { (fault : UnitFault) → refusal self.old.session ≡ Err fault → (result ≡ Err fault)
-            × ((self.new ≡ self.old) × ((files.new ≡ files.old) × (messages.new ≡ messages.old))) }
     {
         self.use_text(use_of(want), files, messages)
     }
@@ -145,19 +127,10 @@ impl<'a, B: Bounds> Cx<'a, B> {
         requires set { IsSet self.old.session }
         requires known { (chosen self.old.session.setup).settings ≡ self.old.settings.now }
 
-        // With an honest reader.
-        ensures answers { Answers F.Files M.Sink (condition branch B.most) files.old files.new messages.old messages.new
-            self.old.session self.new.session result }
-        ensures fails { Fails F.Files M.Sink B.most (begun_with_rule alone_expression) (condition branch B.most) files.old files.new
-            messages.old messages.new self.old.session self.new.session result }
-
-        // With any reader.
+        ensures called { EndsText F.Files M.Sink B.most (begun_with_rule alone_expression) (condition branch B.most)
+            files.old files.new messages.old messages.new self.old.session self.new.session result }
         ensures stays { Stays F.Files files.old files.new self.old.session self.new.session result }
         ensures settings { self.new.settings ≡ self.old.settings }
-        ensures fault { HasCause F.Files M.Sink files.old files.new messages.old messages.new self.old.session self.new.session result }
-        ensures adds { Adds M.Sink messages.old messages.new result }
-        ensures again { (fault : UnitFault) → refusal self.old.session ≡ Err fault → (result ≡ Err fault)
-            × ((self.new ≡ self.old) × ((files.new ≡ files.old) × (messages.new ≡ messages.old))) }
     {
         let wanted = Use::Branch(branch.sense, branch.label);
         done(self.use_text(wanted, files, messages))
@@ -174,19 +147,10 @@ impl<'a, B: Bounds> Cx<'a, B> {
         requires set { IsSet self.old.session }
         requires known { (chosen self.old.session.setup).settings ≡ self.old.settings.now }
 
-        // With an honest reader.
-        ensures answers { Answers F.Files M.Sink (constant B.most) files.old files.new messages.old messages.new
-            self.old.session self.new.session result }
-        ensures fails { Fails F.Files M.Sink B.most (begun_with_rule alone_constant) (constant B.most) files.old files.new
-            messages.old messages.new self.old.session self.new.session result }
-
-        // With any reader.
+        ensures called { EndsText F.Files M.Sink B.most (begun_with_rule alone_constant) (constant B.most)
+            files.old files.new messages.old messages.new self.old.session self.new.session result }
         ensures stays { Stays F.Files files.old files.new self.old.session self.new.session result }
         ensures settings { self.new.settings ≡ self.old.settings }
-        ensures fault { HasCause F.Files M.Sink files.old files.new messages.old messages.new self.old.session self.new.session result }
-        ensures adds { Adds M.Sink messages.old messages.new result }
-        ensures again { (fault : UnitFault) → refusal self.old.session ≡ Err fault → (result ≡ Err fault)
-            × ((self.new ≡ self.old) × ((files.new ≡ files.old) × (messages.new ≡ messages.old))) }
     {
         self.read_whole(ALONE_CONSTANT, files, messages)?;
         self.end_constant(messages)
@@ -202,24 +166,12 @@ impl<'a, B: Bounds> Cx<'a, B> {
         requires goes { self.old.session.open_files.lexer.has_failed ≡ false }
         requires set { IsSet self.old.session }
 
-        // With an honest reader.
-        ensures answers { Answers F.Files M.Sink (assembly_line B.most) files.old files.new messages.old messages.new
-            self.old.session self.new.session result }
-        ensures fails { ReadFails F.Files M.Sink B.most (begun_with_rule alone_line) files.old files.new messages.old messages.new
-            self.old.session self.new.session result }
-
-        // With any reader.
+        ensures called { ReadsText F.Files M.Sink B.most (begun_with_rule alone_line) (assembly_line B.most)
+            files.old files.new messages.old messages.new self.old.session self.new.session result }
         ensures stays { Stays F.Files files.old files.new self.old.session self.new.session result }
         ensures settings { self.new.settings ≡ self.old.settings }
-        ensures fault { HasCause F.Files M.Sink files.old files.new messages.old messages.new self.old.session self.new.session result }
-        ensures adds { Adds M.Sink messages.old messages.new result }
-        ensures again { (fault : UnitFault) → refusal self.old.session ≡ Err fault → (result ≡ Err fault)
-            × ((self.new ≡ self.old) × ((files.new ≡ files.old) × (messages.new ≡ messages.old))) }
     {
-        if self.read_text(ALONE_LINE, files, messages)? {
-            return Err(UnitFault::Wrong);
-        }
-        Ok(())
+        self.read_faultless(ALONE_LINE, files, messages)
     }
 
     /// Reads the header of a routine with its semicolon, as `[ Main x y;`, and opens the routine.
@@ -232,26 +184,14 @@ impl<'a, B: Bounds> Cx<'a, B> {
         requires goes { self.old.session.open_files.lexer.has_failed ≡ false }
         requires set { IsSet self.old.session }
 
-        // With an honest reader.
-        ensures answers { Answers F.Files M.Sink (header B.most) files.old files.new messages.old messages.new
-            self.old.session self.new.session result }
-        ensures fails { ReadFails F.Files M.Sink B.most (begun_with_header) files.old files.new messages.old messages.new
-            self.old.session self.new.session result }
-
-        // With any reader.
+        ensures called { ReadsText F.Files M.Sink B.most begun_with_header (header B.most)
+            files.old files.new messages.old messages.new self.old.session self.new.session result }
         ensures stays { Stays F.Files files.old files.new self.old.session self.new.session result }
         ensures settings { self.new.settings ≡ self.old.settings }
-        ensures fault { HasCause F.Files M.Sink files.old files.new messages.old messages.new self.old.session self.new.session result }
-        ensures adds { Adds M.Sink messages.old messages.new result }
-        ensures again { (fault : UnitFault) → refusal self.old.session ≡ Err fault → (result ≡ Err fault)
-            × ((self.new ≡ self.old) × ((files.new ≡ files.old) × (messages.new ≡ messages.old))) }
     {
         self.check()?;
         self.session.progress.work.begin_piece();
-        if self.read_text(ALONE_HEADER, files, messages)? {
-            return Err(UnitFault::Wrong);
-        }
-        Ok(())
+        self.read_faultless(ALONE_HEADER, files, messages)
     }
 
     /// Reads the end of the open routine with its semicolon, `];`, and closes the routine.
@@ -264,24 +204,12 @@ impl<'a, B: Bounds> Cx<'a, B> {
         requires goes { self.old.session.open_files.lexer.has_failed ≡ false }
         requires set { IsSet self.old.session }
 
-        // With an honest reader.
-        ensures answers { Answers F.Files M.Sink (close B.most) files.old files.new messages.old messages.new
-            self.old.session self.new.session result }
-        ensures fails { ReadFails F.Files M.Sink B.most (begun_with_rule alone_close) files.old files.new messages.old messages.new
-            self.old.session self.new.session result }
-
-        // With any reader.
+        ensures called { ReadsText F.Files M.Sink B.most (begun_with_rule alone_close) (close B.most)
+            files.old files.new messages.old messages.new self.old.session self.new.session result }
         ensures stays { Stays F.Files files.old files.new self.old.session self.new.session result }
         ensures settings { self.new.settings ≡ self.old.settings }
-        ensures fault { HasCause F.Files M.Sink files.old files.new messages.old messages.new self.old.session self.new.session result }
-        ensures adds { Adds M.Sink messages.old messages.new result }
-        ensures again { (fault : UnitFault) → refusal self.old.session ≡ Err fault → (result ≡ Err fault)
-            × ((self.new ≡ self.old) × ((files.new ≡ files.old) × (messages.new ≡ messages.old))) }
     {
-        if self.read_text(ALONE_CLOSE, files, messages)? {
-            return Err(UnitFault::Wrong);
-        }
-        Ok(())
+        self.read_faultless(ALONE_CLOSE, files, messages)
     }
 
     /// Reads a routine, from its bracket to its semicolon, and returns where it stands in the code. Another directive is carried out, too.
@@ -294,19 +222,10 @@ impl<'a, B: Bounds> Cx<'a, B> {
         requires goes { self.old.session.open_files.lexer.has_failed ≡ false }
         requires set { IsSet self.old.session }
 
-        // With an honest reader.
-        ensures answers { Answers F.Files M.Sink (routine_body B.most) files.old files.new messages.old messages.new
-            self.old.session self.new.session result }
-        ensures fails { ReadFails F.Files M.Sink B.most (λ s. s) files.old files.new messages.old messages.new
-            self.old.session self.new.session result }
-
-        // With any reader.
+        ensures called { ReadsText F.Files M.Sink B.most (λ s. s) (routine_body B.most)
+            files.old files.new messages.old messages.new self.old.session self.new.session result }
         ensures stays { Stays F.Files files.old files.new self.old.session self.new.session result }
         ensures settings { self.new.settings ≡ self.old.settings }
-        ensures fault { HasCause F.Files M.Sink files.old files.new messages.old messages.new self.old.session self.new.session result }
-        ensures adds { Adds M.Sink messages.old messages.new result }
-        ensures again { (fault : UnitFault) → refusal self.old.session ≡ Err fault → (result ≡ Err fault)
-            × ((self.new ≡ self.old) × ((files.new ≡ files.old) × (messages.new ≡ messages.old))) }
     {
         self.check()?;
         let code = &self.session.progress.work.output.code;

@@ -1,8 +1,8 @@
 //! The reading of a text up to its last token.
-ghost use Rattle.inf_calls.specs.Answers.{Adds, HasCause, ReadFails, Reads, Stays, refusal};
-ghost use Rattle.inf_calls.specs.Calls.{begun_with_rule, part_read, whole_read};
+ghost use Rattle.inf_calls.specs.Answers.{Adds, HasCause, ReadFails, Reads, ReadsPart, Stays, refusal};
+ghost use Rattle.inf_calls.specs.Calls.{begun_with_rule, faultless_read, part_read, whole_read};
 ghost use Rattle.inf_session.specs.Standing.{IsSet};
-ghost use Rattle.std.specs.Prelude.{◌≡◌, ◌<◌, Err, false, length};
+ghost use Rattle.std.specs.Prelude.{◌≡◌, ◌<◌, false, length};
 
 use crate::cx::Cx;
 use crate::faults::UnitFault;
@@ -68,24 +68,36 @@ impl<'a, B: Bounds> Cx<'a, B> {
         requires goes { self.old.session.open_files.lexer.has_failed ≡ false }
         requires set { IsSet self.old.session }
 
-        // With an honest reader.
-        ensures reads { Reads F.Files M.Sink B.most (begun_with_rule rule)
-            (λ sources o turns s. part_read B.most sources o turns (begun_with_rule rule s)) files.old files.new messages.old messages.new
-            self.old.session self.new.session result }
-        ensures fails { ReadFails F.Files M.Sink B.most (begun_with_rule rule) files.old files.new messages.old messages.new
-            self.old.session self.new.session result }
-
-        // With any reader.
+        ensures called { ReadsPart F.Files M.Sink B.most (begun_with_rule rule) (part_read B.most)
+            files.old files.new messages.old messages.new self.old.session self.new.session result }
         ensures stays { Stays F.Files files.old files.new self.old.session self.new.session result }
         ensures settings { self.new.settings ≡ self.old.settings }
-        ensures fault { HasCause F.Files M.Sink files.old files.new messages.old messages.new self.old.session self.new.session result }
-        ensures adds { Adds M.Sink messages.old messages.new result }
-        ensures again { (fault : UnitFault) → refusal self.old.session ≡ Err fault → (result ≡ Err fault)
-            × ((self.new ≡ self.old) × ((files.new ≡ files.old) × (messages.new ≡ messages.old))) }
     {
         self.check()?;
         self.session.progress.reader.machine.start(rule)?;
         self.read(files, messages)
+    }
+
+    /// Reads a text of `rule`, whose units end by themselves. Fails where errors were told.
+    pub(crate) fn read_faultless<F: Files, M: Sink>(
+        &mut self,
+        rule: u8,
+        files: &mut F,
+        messages: &mut M,
+    ) -> Result<(), UnitFault>
+        requires is_open { length self.old.session.open_files.outer < F.depth files.old }
+        requires goes { self.old.session.open_files.lexer.has_failed ≡ false }
+        requires set { IsSet self.old.session }
+
+        ensures called { ReadsPart F.Files M.Sink B.most (begun_with_rule rule) (faultless_read B.most)
+            files.old files.new messages.old messages.new self.old.session self.new.session result }
+        ensures stays { Stays F.Files files.old files.new self.old.session self.new.session result }
+        ensures settings { self.new.settings ≡ self.old.settings }
+    {
+        if self.read_text(rule, files, messages)? {
+            return Err(UnitFault::Wrong);
+        }
+        Ok(())
     }
 
     /// Reads a text of `rule`, which waits for its end when it was read whole. Fails where it was not.
@@ -99,20 +111,10 @@ impl<'a, B: Bounds> Cx<'a, B> {
         requires goes { self.old.session.open_files.lexer.has_failed ≡ false }
         requires set { IsSet self.old.session }
 
-        // With an honest reader.
-        ensures reads { Reads F.Files M.Sink B.most (begun_with_rule rule)
-            (λ sources o turns s. whole_read B.most sources o turns (begun_with_rule rule s)) files.old files.new messages.old messages.new
-            self.old.session self.new.session result }
-        ensures fails { ReadFails F.Files M.Sink B.most (begun_with_rule rule) files.old files.new messages.old messages.new
-            self.old.session self.new.session result }
-
-        // With any reader.
+        ensures called { ReadsPart F.Files M.Sink B.most (begun_with_rule rule) (whole_read B.most)
+            files.old files.new messages.old messages.new self.old.session self.new.session result }
         ensures stays { Stays F.Files files.old files.new self.old.session self.new.session result }
         ensures settings { self.new.settings ≡ self.old.settings }
-        ensures fault { HasCause F.Files M.Sink files.old files.new messages.old messages.new self.old.session self.new.session result }
-        ensures adds { Adds M.Sink messages.old messages.new result }
-        ensures again { (fault : UnitFault) → refusal self.old.session ≡ Err fault → (result ≡ Err fault)
-            × ((self.new ≡ self.old) × ((files.new ≡ files.old) × (messages.new ≡ messages.old))) }
     {
         self.read_text(rule, files, messages)?;
         if self.session.progress.work.unit.held.is_none() {

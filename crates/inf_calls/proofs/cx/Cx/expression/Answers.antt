@@ -1,17 +1,11 @@
 use Rattle.std.proofs.Common.{◌≡◌, subst}
 use Rattle.inf_alone.specs.declared.ending.Use.{Use}
-use Rattle.inf_calls.specs.Answers.{Answers, Fails}
+use Rattle.inf_calls.specs.Answers.{EndsText}
 use Rattle.inf_calls.specs.Calls.{alone_expression, begun_with_rule, used_so}
 use Rattle.inf_calls.proofs.cx.Cx.expression.Goals as goal
 
-pub returns-clause-answers : goal.returns-clause-answers
-returns-clause-answers g c =
-    subst (λ (u : Use). Answers g.F.Files g.M.Sink (used_so u g.B.Bounds.most) c.args.files.now c.use_text.new.files c.args.messages.now
-    c.use_text.new.messages c.args.self.now.session c.use_text.new.self.session c.use_text.result) c.use_of.ensures
-    c.use_text.ensures.answers
-
-pub returns-clause-fails : goal.returns-clause-fails
-returns-clause-fails g c =
-    subst (λ (u : Use). Fails g.F.Files g.M.Sink g.B.Bounds.most (begun_with_rule alone_expression) (used_so u g.B.Bounds.most)
+pub returns-clause-called : goal.returns-clause-called
+returns-clause-called g c =
+    subst (λ (u : Use). EndsText g.F.Files g.M.Sink g.B.Bounds.most (begun_with_rule alone_expression) (used_so u g.B.Bounds.most)
     c.args.files.now c.use_text.new.files c.args.messages.now c.use_text.new.messages c.args.self.now.session c.use_text.new.self.session
-    c.use_text.result) c.use_of.ensures c.use_text.ensures.fails
+    c.use_text.result) c.use_of.ensures c.use_text.ensures.called
