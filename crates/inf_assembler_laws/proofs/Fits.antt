@@ -19,7 +19,7 @@ below_cond : (short : Bool) (offset : ℕ) → (short ≡ true → offset < 64) 
 below_cond true offset small fits = small refl
 below_cond false offset small fits = fits
 
--- a jump
+-- the offset of a jump that was found is below 65,536
 jump_within : (place : Option ℕ) (end offset : ℕ) → offset_to 32768 end place ≡ Some offset → offset < 65536
 jump_within None end offset e = cc
 jump_within (Some place) end offset e = jump_below end place offset (near_of 32768 end place offset e)

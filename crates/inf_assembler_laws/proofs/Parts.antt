@@ -134,7 +134,7 @@ jump_by (Some place) end offset e = jump_place end place offset (near_of 32768 e
 two_bytes : (number : ℕ) → 256 * (number / 256) + number % 256 ≡ number
 two_bytes number = omega arith
 
--- an operand
+-- the bytes of an operand are read back as the operand
 operand_read : (long places : Places) (old new total : ℕ) (jumps : Bool) (operand : Operand) (bytes rest : List ℕ) → Suits jumps operand →
     closed_bytes long places old new (operand_cells operand) ≡ Some bytes
     → total ≡ new + length bytes + length rest → operand_at total jumps (type_code operand) (bytes ++ rest) ≡ Some
@@ -188,7 +188,7 @@ operands_read long places old new total jumps (operand ∷ others) bytes rest su
     (operands_read long places (old + long_size (operand_cells operand)) (new + length s.front) total jumps others s.back rest suit.1
     s.is_back (omega (arith, t, length_all)))
 
--- a store variable
+-- the bytes of a store variable, or of none
 abbrev pub store_bytes : Option ℕ → List ℕ
 store_bytes None = []
 store_bytes (Some number) = number ∷ []
@@ -202,7 +202,7 @@ pub store_read : (store : Option ℕ) (rest : List ℕ) → store_at (is_some st
 store_read None rest = refl
 store_read (Some number) rest = refl
 
--- a branch
+-- the bytes of a branch are read back as the branch
 branch_bytes_read : (short sense : Bool) (offset end total : ℕ) (rest : List ℕ) → (short ≡ true → offset < 64) → offset < 16384 →
     total - length rest ≡ end
     → branch_at total true (branch_bytes short sense offset ++ rest) ≡ Some (Some (record { sense = sense; aim = aim_at end offset }), rest)

@@ -39,7 +39,7 @@ pub both_parts : (a b : Bool) → (a && b) ≡ true → (a ≡ true) × (b ≡ t
 both_parts true b h = (refl, h)
 both_parts false b h = cc
 
--- a text
+-- the words of a text are read back as the text
 words_at-text : (text rest : List ℕ) → is_text text ≡ true → words_at (text ++ rest) ≡ Some (text, rest)
 words_at-text [] rest marked = cc
 words_at-text (high ∷ []) rest marked = cc

@@ -23,7 +23,7 @@ use Rattle.inf_call_laws.specs.BadTexts.{BadTokensOfTexts, BeginsText, BehindABa
 use Rattle.inf_call_laws.specs.Texts.{alone_rules, text_begun}
 use Rattle.inf_call_laws.proofs.Stacks.{alone_is_quiet, are_quiet, outside, still_quiet}
 
--- A text so far
+-- Lemmas about a text so far
 
 record At (rule : ℕ) (tokens : List SourceToken) (r : Reading) : Type 0 where
   pub reads : r.mode ≡ Recovery.Reads
@@ -75,7 +75,7 @@ no_token rule r is fresh =
       is_quiet = ap are_quiet stack ∙ alone_is_quiet rule is;
     }
 
--- The state of the reading
+-- Lemmas about the state of the reading
 
 data Now (rule : ℕ) (given : List Given) (r : Reading) : Type 0 where
   Inside : (tokens : List SourceToken) → given ≡ map Kept tokens → At rule tokens r → (r.stack ≡ [] → ⊥) → Now rule given r
@@ -90,7 +90,7 @@ stands rule given r (Inside tokens e at some) = InAText tokens e (begins rule to
 stands rule given r (Whole tokens e is at) = BehindAText tokens e is at
 stands rule given r (Skips tokens wrong behind e begun bad_one at) = BehindABadToken tokens wrong behind e begun bad_one at
 
--- One token more
+-- Lemmas about one token more
 
 taken_now : (rule : ℕ) (given : List Given) (tokens : List SourceToken) (r : Reading) → given ≡ map Kept tokens → At rule tokens r
     → Now rule given r
@@ -163,7 +163,7 @@ text_reads rule is given r fresh on =
     λ empty. let never : Symbol.Rule rule ∷ [] ≡ [] = sym (ap (λ (x : Reading). x.stack) fresh) ∙ empty in cc in
     onward rule given [] r (Inside [] refl (no_token rule r is fresh) some) on
 
--- Turns
+-- Lemmas about turns
 
 all_reading : (limits : Limits) (sources : Sources) (o : Choices) (n : ℕ) (s : State) → StayInFile limits sources o n s
     → (stepped limits o (turned limits sources o n s)).reading ≡ all_given_to (given_in limits sources o (suc n) s) s.reading

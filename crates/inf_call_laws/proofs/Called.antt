@@ -25,7 +25,7 @@ use Rattle.inf_call_laws.specs.Texts.{all_merged, alone_rules, alone_stepped, al
 use Rattle.inf_call_laws.proofs.{Ends.constants_so, Ends.ends_so, OneRead.texts_are_one, Parts.parts_leave_work}
 use Rattle.inf_call_laws.proofs.Texts.{turns_act}
 
--- The tokens of turns
+-- Lemmas about the tokens of turns
 
 all_seen : (seen : List Seen) → AreSeen (atoms_of seen) (tokens_of seen)
     → AreSeen (atoms_of (all_merged seen)) (tokens_of (all_merged seen))
@@ -55,7 +55,7 @@ reads_one limits sources o kind is alone n s h =
       reads = ap next_comes (sym left) ∙ ap (λ (w : Compilation). record w { report = now.report }) (acts ∙ one.does);
     }
 
--- The unit behind them
+-- Lemmas about the unit behind the turns of a text
 
 has_one : (limits : Limits) (sources : Sources) (o : Choices) (rule level n : ℕ) (s : State)
     → (one : ReadsOne limits sources o rule level n s) → HasOne one.value (unheld (alone_work limits sources o rule n s)).unit
@@ -77,7 +77,7 @@ waits : (limits : Limits) (sources : Sources) (o : Choices) (rule level n : ℕ)
 waits limits sources o rule level n s one =
     (length (with_value (tokens_of one.tokens) one.value (begun s.work.unit)).tokens, ap (λ (w : Compilation). w.unit.held) one.reads)
 
--- The answers
+-- Lemmas about the answers
 
 -- Unless a fatal message came, a call goes on with a unit that waits.
 goes_on : {T : Type 0} (next : State → Answered T) (s : State) (is_over more : Bool) → Waits s.work

@@ -30,7 +30,7 @@ grown wanted first operands value w joins one =
     ∙ ap (map tree_in)
     (symbols_come_to_their_tree wanted false first operands one.level one.from one.leaf one.atoms value one.written joins).0
 
--- An expression
+-- Lemmas about an expression
 
 laid_so : (limits : Limits) (context : Context) (first : Place) (u : Use) (value : Source) (f : Option Finding) (w : Compilation)
     → HasOne value w.unit → expression_ended limits context first u f w ≡ laid_by limits context first u value f w
@@ -52,7 +52,7 @@ ends_so limits context place u value w one =
     (found Wanted.Value (order w.unit.begun) value w refl one)
     ∙ laid_so limits context first u value (finding_of Wanted.Value (order w.unit.begun) (operands_of w) value) (leaves_noted w) one)
 
--- A constant
+-- Lemmas about a constant
 
 told_so : (limits : Limits) (context : Context) (first : Place) (value : Source) (f : Option Finding) (w : Compilation)
     → HasOne value w.unit → constant_ended limits context first f w ≡ constant_by limits context first value f w

@@ -27,7 +27,7 @@ use Rattle.inf_trees.proofs.UnitsRead.{expression_form, form_of, note_first, one
 use Rattle.inf_calls.specs.Calls.{alone_constant, alone_expression}
 use Rattle.inf_call_laws.specs.Laid.{IsOne, Kind, kinds, text_read}
 
--- The symbols of such a text
+-- Lemmas about the symbols of a text that a call reads
 
 abbrev behind_value : List (Symbol Action)
 behind_value = !hold ∷ 'semicolon' ∷ []
@@ -86,7 +86,7 @@ inner value atoms events (action (action leads)) =
       is_semicolon = end.is_semicolon;
     }
 
--- The happenings
+-- Lemmas about the happenings
 
 of_before : (early : List (Event Action)) (atom : ℕ) (tokens : List Seen) (last : Seen) → TakeAll early tokens
     → happenings_of (early ++ late_events atom) (tokens ++ last ∷ [])
@@ -109,7 +109,7 @@ last_taken limits context atom tokens last value w plain none =
     ∙ ap (λ (x : Compilation). record (passed last.behind x) { unit = behind })
     (nothing_told context last.token behind.depth told plain)
 
--- Numbers of tokens
+-- Lemmas about numbers of tokens
 
 few_tokens : {A : Type 0} (xs : List A) → length (take 1 xs) ≤ 1
 few_tokens [] = let none : 0 ≤ 1 = omega arith in none
@@ -123,7 +123,7 @@ few_enough : (all own front tokens seen : ℕ) → all ≡ own + front → own �
     → all < 4294967295
 few_enough all own front tokens seen joined few same more most = omega (arith, joined, few, same, more, most)
 
--- A text
+-- Lemmas about a text
 
 abbrev Steps : Symbol Action → Type 0
 Steps value = (atoms : List ℕ) (events : List (Event Action)) → IsText grammar (value ∷ []) atoms events → AllSteps events
@@ -181,7 +181,7 @@ one_read limits context value level form steps seen events text are few w =
           ∙ last_taken limits context i.atom tokens last e.0 v (ap opens semicolon) refl))));
     }
 
--- The rules
+-- Lemmas about the rules
 
 expression_steps : Steps expression
 expression_steps atoms events text = (expression_form atoms events text).steps

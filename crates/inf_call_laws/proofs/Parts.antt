@@ -18,7 +18,7 @@ use Rattle.inf_program.proofs.Turns.{one_turn, written_is_silent}
 use Rattle.inf_calls.specs.Calls.{begun_with_rule}
 use Rattle.inf_call_laws.specs.Texts.{AllGoOn, GoesOn, IsPlain, alone_stepped, alone_work}
 
--- One turn
+-- Lemmas about one turn
 
 answered_nothing : (sources : Sources) (o : Choices) (s : State) → IsPlain s → answered s.work.asked sources o (asked_nothing s) ≡ s
 answered_nothing sources o s plain =
@@ -47,7 +47,7 @@ turned_work limits sources o r s plain =
     ap (λ (x : State). reporting r (rested x)) (carried_plainly sources o (stepped limits o s) plain)
     ∙ rested_work r (stepped limits o s)
 
--- A turn behind which the text goes on
+-- Lemmas about a turn behind which the text goes on
 
 not_between : (reads is_empty rests : Bool) → is_empty ≡ false → ((reads && is_empty) && rests) ≡ false
 not_between true is_empty rests none = ap (λ b. b && rests) none

@@ -59,7 +59,7 @@ led_append (Symbol.Token class ∷ xs) ys h k = quiet_append xs ys h k
 led_append (Symbol.Act a ∷ xs) ys h k = led_append xs ys h k
 led_append (Symbol.Rule rule ∷ xs) ys h k = cc
 
--- One token
+-- Lemmas about one token
 
 fewer : (atom rule n : ℕ) (symbols : List (Symbol Action)) → work known atom (Symbol.Rule rule ∷ symbols) ≤ suc n
     → fits grammar known atom (Symbol.Rule rule ∷ symbols) ≡ true → work known atom (chosen grammar known atom rule ++ symbols) ≤ n
@@ -94,7 +94,7 @@ pub still_quiet : (atom : ℕ) (symbols : List (Symbol Action)) → are_quiet sy
     → are_quiet (taken grammar known atom symbols).left ≡ true
 still_quiet atom symbols h f = quiet_on atom (work known atom symbols) symbols h (omega arith) f
 
--- Quiet symbols
+-- Lemmas about quiet symbols
 
 no_routine : (a : Action) → stays a ≡ true → ends_routine a ≡ false
 no_routine Action.EndRoutine is = cc
@@ -115,7 +115,7 @@ none_over (Symbol.Rule rule ∷ symbols) h = refl
 none_over (Symbol.Act Action.Close ∷ symbols) h = cc
 none_over (Symbol.Act a ∷ symbols) h = refl
 
--- The rules
+-- Lemmas about the rules
 
 abbrev all_quiet : List ℕ → Bool
 all_quiet [] = true

@@ -53,7 +53,7 @@ none_ahead : (seen : List Seen) → NoneClosesAhead (all_merged seen)
 none_ahead [] = tt
 none_ahead (s ∷ seen) = (refl, none_ahead seen)
 
--- Texts
+-- Lemmas about texts
 
 texts_act : (limits : Limits) (rule : ℕ) → IsOneOf rule alone_rules → (seen : List Seen) (events : List (Event Action))
     → IsText grammar (Symbol.Rule rule ∷ []) (atoms_of seen) events → (context : Context) (w : Compilation)
@@ -85,7 +85,7 @@ steps_act limits context rule is steps events r fresh kept text =
     ∙ ap (λ (w : Compilation). run limits context (happenings_of events (text_seen steps)) (next_comes w))
     (directed_behind limits g.directive g.behind 0 r.work refl)))
 
--- Turns
+-- Lemmas about turns
 
 all_quiet : (limits : Limits) (sources : Sources) (o : Choices) (n : ℕ) (s : State) → AllGoOn limits sources o n s
     → AreQuiet limits sources o n s

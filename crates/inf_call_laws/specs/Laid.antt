@@ -34,7 +34,7 @@ use Rattle.inf_calls.specs.{Calls.constant_answer, Calls.expression_answer, Call
 use Rattle.inf_calls.specs.declared.faults.UnitFault.{UnitFault}
 use Rattle.inf_call_laws.specs.Texts.{AllGoOn, IsPlain, alone_steps, alone_stepped, alone_work, text_front, text_seen}
 
--- The tokens
+-- Definitions of the tokens
 
 -- a rule of a text that is one expression, and the level at which its operators bind at least
 pub record Kind : Type 0 where
@@ -67,7 +67,7 @@ pub record IsOne (limits : Limits) (context : Context) (level : ℕ) (events : L
   pub written : Written level (length (begun w.unit).tokens) 0 (atoms_of tokens) value
   pub does : run limits context (happenings_of events seen) (next_comes w) ≡ text_read context tokens value semicolon (next_comes w)
 
--- The end
+-- Definitions of the end
 
 -- the least finding about an expression, by its operands
 abbrev pub finding_of : Wanted → ℕ → List Operand → Source → Option Finding
@@ -111,7 +111,7 @@ pub record HasOne (value : Source) (u : UnitAtHand) : Type 0 where
   pub written : Written level from leaf atoms value
   pub symbols : u.gathering.symbols ≡ symbols_of false value
 
--- The calls
+-- Definitions of the calls
 
 -- A text of a rule is read whole by `n` turns and one more, from between two pieces on: no fatal message came before it, nothing else
 -- happens behind its tokens, all of them are kept, and there are few enough for their orders to differ.

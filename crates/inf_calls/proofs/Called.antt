@@ -9,7 +9,7 @@ use Rattle.inf_ending.proofs.Delivering.{appends_none}
 use Rattle.inf_calls.specs.Answers.{Adds, Called, HasCause, IfFailure, IfLost, is_failure, is_lost, refusal}
 use Rattle.inf_calls.specs.declared.faults.UnitFault.{UnitFault}
 
-error_of : {T : Type 0} → Result T UnitFault → UnitFault
+abbrev error_of : {T : Type 0} → Result T UnitFault → UnitFault
 error_of (Ok v) = UnitFault.Wrong
 error_of (Err fault) = fault
 
@@ -89,5 +89,7 @@ module _ {R M B S T : Type 0} {A C A' C' : Type 0} (f : Files R) (m : Sink M) (w
     again = λ other o. let never = (c.again other o).0 in cc;
   }
 
-  pub went_on : (v : S) (fault : UnitFault) → Called {T = S} A C f m was is old new before after (Ok v) → refusal before ≡ Err fault → ⊥
-  went_on v fault c r = let never = (c.again fault r).0 in cc
+-- Behind an answer of a call nothing was refused.
+pub went_on : {R M B S : Type 0} {A C : Type 0} (f : Files R) (m : Sink M) (was is : R) (old new : M) (before after : Session B) (v : S)
+    (fault : UnitFault) → Called {T = S} A C f m was is old new before after (Ok v) → refusal before ≡ Err fault → ⊥
+went_on f m was is old new before after v fault c r = let never = (c.again fault r).0 in cc

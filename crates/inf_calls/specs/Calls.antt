@@ -27,7 +27,7 @@ then_by next s (Err f) = (s, Err f)
 abbrev pub and_then : {S T : Type 0} → Answered S → (S → State → Answered T) → Answered T
 and_then a next = then_by next a.0 a.1
 
--- Reading
+-- Definitions of reading
 
 -- the rules of the grammar for texts that are read by themselves, by their numbers
 abbrev pub alone_expression : ℕ
@@ -74,7 +74,7 @@ whole told s = (s, waiting s.work.unit.held)
 abbrev pub whole_read : Limits → Sources → Choices → ℕ → State → Answered ⊤
 whole_read limits sources o turns s = and_then (part_read limits sources o turns s) whole
 
--- Ends
+-- Definitions of ends
 
 abbrev pub unheld : Compilation → Compilation
 unheld w = record w { unit = record w.unit { held = None } }
@@ -112,7 +112,7 @@ abbrev pub constant_ended : Limits → Choices → State → Answered Value
 constant_ended limits o s =
     let t = constant_carried limits o s in and_then (tell t.0) (answering (constant_answer t.1))
 
--- The calls
+-- Definitions of the calls
 
 abbrev pub use_of : Want → Use
 use_of Want.Nothing = Use.Nothing

@@ -15,7 +15,7 @@ pub struct Cx<'a, B: Bounds> {
 /// The use that is made of the value of an expression.
 #[derive(Clone, Copy, Debug, PartialEq, Eq)]
 pub enum Want {
-    /// None.
+    /// The answer is used for nothing.
     Nothing,
     /// An operand: its own where the expression is simple, and else the stack.
     Stack,

@@ -1,4 +1,4 @@
-//! Why a text that is read by itself has no effect.
+//! The reason why a text that is read by itself has no effect.
 ghost use Rattle.std.specs.Prelude.{◌≡◌};
 
 use inf_ending::faults::Fault;
@@ -6,7 +6,7 @@ use inf_expressions::Finding;
 use inf_report::report::ReportFault;
 use std::alloc::AllocError;
 
-/// Why a text has no effect. What a message says of it was written.
+/// The reason why a text has no effect. What a message says of it was written.
 #[derive(Debug, Drop)]
 pub enum UnitFault {
     /// A token was bad, or the source has ended.

@@ -36,13 +36,13 @@ impl<'a, B: Bounds> Cx<'a, B> {
         requires goes { self.old.session.open_files.lexer.has_failed ≡ false }
         requires set { IsSet self.old.session }
 
-        // With an honest reader.
+        // The clauses below hold with an honest reader.
         ensures reads { Reads F.Files M.Sink B.most (λ s. s) (part_read B.most) files.old files.new messages.old messages.new
             self.old.session self.new.session result }
         ensures fails { ReadFails F.Files M.Sink B.most (λ s. s) files.old files.new messages.old messages.new
             self.old.session self.new.session result }
 
-        // With any reader.
+        // The clauses below hold with any reader.
         ensures stays { Stays F.Files files.old files.new self.old.session self.new.session result }
         ensures settings { self.new.settings ≡ self.old.settings }
         ensures fault { HasCause F.Files M.Sink files.old files.new messages.old messages.new self.old.session self.new.session result }

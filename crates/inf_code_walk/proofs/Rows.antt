@@ -119,7 +119,7 @@ module _ (limits : Limits) (L : Target → Type 0) where
   abbrev pub Built : Code → List ℕ → List ℕ → Type 0
   Built = Made limits L
 
-  -- Parts, meanings and goals of assignments
+  -- Lemmas about parts, meanings and goals of assignments
   pub record PartMade (p : Part) : Type 0 where
     pub operand : MaybeMeets L p.operand
     pub value : (d : ℕ) → Built (p.value d) [] []
@@ -202,7 +202,7 @@ module _ (limits : Limits) (L : Target → Type 0) where
   pub ask_made : (v : Veneer) (ps : List Part) → PartsMade ps → (store : Option ℕ) → Built (call_routine limits v ps store) [] []
   ask_made v ps h store = before (evaluates ps h) (Asks v (operands ps) store (meet ps h))
 
-  -- Values and conditions
+  -- Lemmas about values and conditions
 
   valued : (value : ℕ → Code) (alone : Code) → ((d : ℕ) → Built (value d) [] []) → Built alone [] [] →
       MeaningMade (code.valued limits value alone)
@@ -246,7 +246,7 @@ module _ (limits : Limits) (L : Target → Type 0) where
       valued (λ d. worked limits op ps (Some d) None) (worked limits op ps (Some TEMP) None) (λ d. worked_made op ps h (Some d) None)
       (worked_made op ps h (Some TEMP) None)
 
-  -- Leaves
+  -- Lemmas about leaves
 
   jumped_if : (b : Bool) (label : Label) → Built (code.jump_if limits b label) (label.number ∷ []) []
   jumped_if true label = Jumps label
@@ -273,7 +273,7 @@ module _ (limits : Limits) (L : Target → Type 0) where
     branch = leaf_branch x h;
   }
 
-  -- Assignments and steps
+  -- Lemmas about assignments and steps
 
   stored : (m : Memory) (all : List Simple) → AllMeet L all → Built (code.stored limits m all) [] []
   stored Memory.Byte all h = Instructs Opcode.Storeb all None None h
@@ -339,7 +339,7 @@ module _ (limits : Limits) (L : Target → Type 0) where
       valued (code.stepped_value limits is_before how a.target a) (code.stepped_alone limits is_before how a.target a)
       (stepped_value is_before how a.target h.target a h) (stepped_alone is_before how a.target h.target a h)
 
-  -- Calls, and objects that an instruction finds
+  -- Lemmas about calls, and objects that an instruction finds
 
   called_by : (t : Goal) → GoalMade t → (f : Meaning) → MeaningMade f → (ps : List Part) → PartsMade ps → (store : Option ℕ)
       → Built (code.called_by limits t f ps store) [] []
@@ -354,7 +354,7 @@ module _ (limits : Limits) (L : Target → Type 0) where
   unfolding code.related
   related op p h d = Handed λ next. behind (worked_made op (p ∷ []) (h, tt) (Some d) (to true next)) (Marks next)
 
-  -- Conditions
+  -- Lemmas about conditions
 
   both : (a b : Meaning) → MeaningMade a → MeaningMade b → (sense : Bool) (label : Label)
       → Built (code.both limits a b sense label) (label.number ∷ []) []
@@ -377,7 +377,7 @@ module _ (limits : Limits) (L : Target → Type 0) where
   ors a b h k true label = either a b h k true label
   ors a b h k false label = both a b h k false label
 
-  -- Tests
+  -- Lemmas about tests
 
   asking : (v : Veneer) (all : List Simple) → AllMeet L all → (sense : Bool) (label : Label)
       → Built (code.asking limits v all sense label) (label.number ∷ []) []
@@ -462,7 +462,7 @@ module _ (limits : Limits) (L : Target → Type 0) where
       (tested_by a.operand h.operand t a h (parts b) (k.first, k.others) sense label there))
       (Marks over)
 
-  -- All rows
+  -- Lemmas about all rows
 
   operation_target : (o : Operation) (ps : List Part) → PartsMade ps → GoalMade (code.operation_target o ps)
   operation_target Operation.Byte ps h = h

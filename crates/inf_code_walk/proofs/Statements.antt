@@ -41,7 +41,7 @@ use Rattle.inf_code_walk.specs.Made.{Names, Nothing, Packs, Prints, Takes, Then,
 use Rattle.inf_code_walk.proofs.Rows.{Any, MeaningMade, PartMade, ask_made, at_first, at_second, before, behind, call_made, either_made}
 use Rattle.inf_code_walk.proofs.Rows.{is_made, meaning_made, operand_meets, part_made, worked_made}
 
--- Statements
+-- Lemmas about statements
 
 -- the label that a statement goes to, if it does
 abbrev pub label_in : Option Label → List ℕ
@@ -88,7 +88,7 @@ module _ (limits : Limits) (L : Target → Type 0) where
   one_made op [] h = Nothing
   one_made op (e ∷ trees) h = worked_made limits L op (part (meaning limits e) ∷ []) (tree_part e h.0, tt) None None
 
-  -- Printing
+  -- Lemmas about printing
 
   ended_made : (ends : Bool) → Alone (ended limits ends)
   ended_made true = before (plain_made Opcode.NewLine) (plain_made Opcode.Rtrue)
@@ -140,7 +140,7 @@ module _ (limits : Limits) (L : Target → Type 0) where
       before (item_made set tokens returns items i trees h)
       (items_made set tokens returns (ends_behind i returns) items (trees_behind i trees) (behind_meet i trees h))
 
-  -- Single statements
+  -- Lemmas about single statements
 
   number_made : (n : ℕ) → Alone (returned_number limits n)
   number_made n =
@@ -266,7 +266,7 @@ module _ (limits : Limits) (L : Target → Type 0) where
   code_made fixed s trees h Statement.Style = styled_made (style_of (name_behind s))
   code_made fixed s trees h other = Nothing
 
-  -- Assembly lines, but for the labels that they name
+  -- Lemmas about assembly lines, but for the labels that they name
 
   first_made : (op : Opcode) (trees : List Tree) → TreesMeet L trees → (store : Option ℕ) (branch : Option Branch)
       → Made limits L (named_first limits op trees store branch) (branch_labels branch) []
@@ -291,7 +291,7 @@ module _ (limits : Limits) (L : Target → Type 0) where
 pub any_fixed : FixedMeet Any
 any_fixed = record { place = λ area offset. tt; system = λ constant. tt }
 
--- Statements that hold others
+-- Lemmas about statements that hold others
 
 abbrev pub case_labels : Case → List ℕ
 case_labels Case.Nothing = []
@@ -390,7 +390,7 @@ module _ (limits : Limits) (L : Target → Type 0) where
   case_closed_made (Case.Values next) end = behind (Jumps end) (Marks next)
   case_closed_made Case.Default end = Jumps end
 
-  -- Loops over objects
+  -- Lemmas about loops over objects
 
   pub children_made : (e : Tree) → TreeMeets L e → (v : ℕ) (c : Construct)
       → Made limits L (over_children limits e v c) (c.end.number ∷ []) (c.top.number ∷ [])
@@ -417,7 +417,7 @@ module _ (limits : Limits) (L : Target → Type 0) where
       Names Opcode.IncChk v (Simple.Later (Target.System SystemConstant.HighestObjectNumber) ∷ []) None (to false top)
       (fixed.system SystemConstant.HighestObjectNumber, tt)
 
--- Layings
+-- Lemmas about layings
 
 abbrev front_labels : Kind → Construct → List ℕ
 front_labels Kind.While c = c.next.number ∷ []
@@ -444,7 +444,7 @@ module _ (limits : Limits) (L : Target → Type 0) where
   placed_laid name labels =
       Takes (λ o. (label_of name (next_label o) labels, given name (next_label o) labels)) (λ o. number_behind o.next)
 
-  -- Assembly lines
+  -- Lemmas about assembly lines
 
   branched_to_laid : (name : List ℕ) (sense : Bool) (labels : List NamedLabel) → Laid limits L _ (branched_to name sense labels)
   branched_to_laid name sense labels =
@@ -501,7 +501,7 @@ module _ (limits : Limits) (L : Target → Type 0) where
   line_is_laid set locals tokens None e trees h labels = Lays labels (Nothing {needs = []})
   line_is_laid set locals tokens (Some op) e trees h labels = as_laid (fits limits op trees e) set locals tokens op e trees h labels
 
-  -- Any statement
+  -- Lemmas about any statement
 
   pub statement_is_laid : FixedMeet L → (s : Site) (st : Statement) (trees : List Tree) → TreesMeet L trees → (labels : List NamedLabel)
       → Laid limits L _ (statement_laid limits s st trees labels)
@@ -516,7 +516,7 @@ module _ (limits : Limits) (L : Target → Type 0) where
       line_is_laid s.set s.locals s.tokens (opcode_of (name_behind s)) (ends_of s.items) trees h labels
   statement_is_laid fixed s other trees h labels = Lays labels (code_made limits L fixed s trees h other)
 
-  -- Changes of an open statement
+  -- Lemmas about changes of an open statement
 
   front_made : (k : Kind) (c : Construct) → Made limits L (front limits k c) [] (front_labels k c)
   front_made Kind.While c = Marks c.next

@@ -10,7 +10,7 @@ use Rattle.inf_conditional_sides.specs.Sides.{Ends, Kept, Lone, Side, Sides, Tex
 use Rattle.inf_conditional_sides.specs.Sides.{unfit, with_side}
 use Rattle.inf_conditional_sides.specs.Judged.{Agree, AreFronts, ComeToTheSame, conditions_of, given_of, open_sides, pendings}
 
--- Conditionals and sides where all stay
+-- Lemmas about conditionals and sides where all stay
 
 abbrev pub state : Conditions → List Conditional → List Conditional → List Pending → List Condition → Conditions
 state c inner among pending conditions = record c {
@@ -32,7 +32,7 @@ pub agree : (c : Conditions) (inner among : List Conditional) (texts : List Text
     → Agree (reading c inner among texts) (staying inner among texts)
 agree c inner among texts fronts = record { pending = refl; conditions = refl; sign = refl; sides = refl; fronts = fronts }
 
--- The things that are given of a token
+-- Lemmas about the things that are given of a token
 
 pub none_heard : (is_quiet : Bool) → [] ≡ heard is_quiet []
 none_heard true = refl
@@ -64,7 +64,7 @@ lone_heard : (is_quiet : Bool) (t : SourceToken) (place : Place)
 lone_heard true t place = refl
 lone_heard false t place = refl
 
--- A token that does not fit
+-- Lemmas about a token that does not fit
 
 pub unfit_same : (is_quiet : Bool) (t : SourceToken) (c : Conditions) (inner among : List Conditional) (pending : List Pending)
     (conditions : List Condition) (texts : List Text)
@@ -72,7 +72,7 @@ pub unfit_same : (is_quiet : Bool) (t : SourceToken) (c : Conditions) (inner amo
 unfit_same is_quiet t c inner among pending conditions texts =
     record { now = agree c inner among [] tt; given = unfit_heard is_quiet t }
 
--- The effects of a whole directive
+-- Lemmas about the effects of a whole directive
 
 inner_first : (place : Place) (is_second stays : Bool) (sides : List Side)
     → let x : Side = record { place = place; is_inner = true; is_second = is_second; stays = stays } in with_side x sides ≡ x ∷ sides

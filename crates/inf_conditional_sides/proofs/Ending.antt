@@ -10,7 +10,7 @@ use Rattle.inf_conditional_sides.specs.Judged.{Agree, AllAre, IsLeftOut, LeftIns
 use Rattle.inf_conditional_sides.specs.Ends.{EndsAreToldBySides, inner_only, piece_told_by, with_lone_sides}
 use Rattle.inf_conditional_sides.proofs.Left.{left_at_end, open_stay, outer_stay}
 
--- The sides between the directives, at the end of a file
+-- Lemmas about the sides between the directives, at the end of a file
 
 at_end_open : (inner among : List Conditional) → at_end (open_sides inner among) ≡ open_sides inner among
 at_end_open [] [] = refl
@@ -39,7 +39,7 @@ between_of [] [] = refl
 between_of [] (x ∷ among) = refl
 between_of (x ∷ inner) among = between_of inner among
 
--- The sides inside of the directive at hand, at its end
+-- Lemmas about the sides inside of the directive at hand, at its end
 
 abbrev inner_sides : List Conditional → List Side
 inner_sides inner = map (side_of true true) inner
@@ -99,7 +99,7 @@ told_by (Some side) [] (x ∷ among) sides stand =
     ∙ ap at_end (outer_passed l.inside (side_of false false x ∷ outer_sides among) l.are ∙ inner_none among)
 told_by (Some side) (x ∷ inner) among sides stand = inside_told side.is_inner side x inner among sides stand
 
--- Messages
+-- Lemmas about messages
 
 reversed : (f : Conditional → Side) (cs : List Conditional) → reverse (map f cs) ≡ map f (reverse cs)
 reversed f [] = refl

@@ -33,7 +33,7 @@ sides_keep_tokens = record {
       has_none;
 }
 
--- Words in a side that is left out
+-- Lemmas about words in a side that is left out
 
 -- a token of a side that is left out is passed over
 passes : (is_between : Bool) (declared : ℕ) (o : Out) (t : SourceToken) (s : Sides) → all_stay s.sides ≡ false → is_end t.kind ≡ false

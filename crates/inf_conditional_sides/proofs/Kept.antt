@@ -24,7 +24,7 @@ use Rattle.inf_conditional_sides.specs.Judged.{given_of, pending_of, pendings, w
 use Rattle.inf_conditional_sides.proofs.Acts.{agree, both_heard, closed_same, conditional, end_heard, kept_heard, none_heard, opened_same}
 use Rattle.inf_conditional_sides.proofs.Acts.{reading, state, staying, turned_same, turning_pending, unfit_same}
 
--- Directives with a condition
+-- Lemmas about directives with a condition
 
 abbrev pub asking : Bool → ConditionalWord
 asking true = ConditionalWord.Iftrue
@@ -126,7 +126,7 @@ begun_same is_quiet ConditionalWord.Endif t place is_inner c inner among texts f
   given = none_heard is_quiet;
 }
 
--- A token more of a directive
+-- Lemmas about a token more of a directive
 
 -- the name of an `Ifdef` or `Ifndef` has the same result
 named_same : (is_quiet : Bool) (o : Out) (k : TokenKind) (bytes : List ℕ) (at : Place) (is_class : Bool) (place : Place) (is_inner : Bool)
@@ -328,7 +328,7 @@ condition_asked (Some k) wanted site o t place is_inner first others c inner amo
     condition_offered (fits grammar known (atom_of t) k.stack) wanted site o t place is_inner first (others ++ asked c.declared o t ∷ [])
     (condition_took t k) c inner among texts fronts (condition_more first others (asked c.declared o t) k is)
 
--- Any token that is offered
+-- Lemmas about any token that is offered
 
 front_same : (is_quiet : Bool) (w : Option ConditionalWord) (t : SourceToken) (place : Place) (c : Conditions)
     (inner among : List Conditional)

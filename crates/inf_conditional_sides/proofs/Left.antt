@@ -13,7 +13,7 @@ use Rattle.inf_conditional_sides.specs.Sides.{sides_behind, turned_over, with_in
 use Rattle.inf_conditional_sides.specs.Judged.{Agree, AllAre, AreFronts, IsLeftOut, StandFor, conditions_of, open_sides, pendings}
 use Rattle.inf_conditional_sides.proofs.Acts.{reading}
 
--- Sides that stay, and sides of which one does not
+-- Lemmas about sides that stay, and sides of which one does not
 
 pub outer_stay : (among : List Conditional) → all_stay (outer_sides among) ≡ true
 outer_stay [] = refl
@@ -42,7 +42,7 @@ left_at_end (y ∷ inside) around is_inner x stay =
     else at_end (inside ++ side_of is_inner false x ∷ around)) (one_left inside around is_inner x)
     ∙ left_at_end inside around is_inner x stay
 
--- Words in a side that is left out, in which others are open
+-- Lemmas about words in a side that is left out, in which others are open
 
 same_inner : (is_second : Bool) (x : Side)
     → (if is_second then x else record x { is_second = true; stays = not x.stays }).is_inner ≡ x.is_inner

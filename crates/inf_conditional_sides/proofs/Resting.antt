@@ -16,7 +16,7 @@ use Rattle.inf_conditionals.specs.Judging.{named, none_handed, offered, offered_
 use Rattle.inf_conditional_sides.specs.Rests.{AreSeated, HandsNone, IsInside, IsOutermost, IsSeated, Rests}
 use Rattle.inf_conditional_sides.proofs.Acts.{state}
 
--- A token that is passed, kept or does not fit
+-- Lemmas about a token that is passed, kept or does not fit
 
 none_handed_on : HandsNone none_handed
 none_handed_on = (refl, λ t. refl)
@@ -42,7 +42,7 @@ awaiting_rests b c inner among pending conditions p seat seated = record {
   declared = refl;
 }
 
--- its condition takes the token
+-- where a condition takes the token, conditionals rest
 taken_rests : (b : Bool) (c : Conditions) (inner among : List Conditional) (pending : List Pending) (conditions : List Condition)
     (p : Pending) → IsSeated b p.awaits p.is_inner pending → AreSeated b pending
     → Rests b c.declared (taken (state c inner among (p ∷ pending) conditions))
@@ -54,7 +54,7 @@ taken_rests b c inner among pending conditions p seat seated = record {
   declared = refl;
 }
 
--- The end of a directive
+-- Lemmas about the end of a directive
 
 opened_rests : (b : Bool) (c : Conditions) (is_quiet is_kept is_inner : Bool) (place : Place) (a : Awaits)
     (inner among : List Conditional) (pending : List Pending) (conditions : List Condition) → IsInside b pending is_inner
@@ -130,7 +130,7 @@ effected_rests Effect.Closes b c is_quiet p inner among pending conditions seat 
 effected_rests Effect.Nothing b c is_quiet p inner among pending conditions seat seated =
     record { seated = seated; quiet = inr (refl, λ t. refl); settled = inl refl; levels = tt; declared = refl }
 
--- The word of a directive
+-- Lemmas about the word of a directive
 
 asked_first_rests : (wanted : Bool) (b : Bool) (c : Conditions) (t : SourceToken) (is_inner : Bool) (inner among : List Conditional)
     (pending : List Pending) (conditions : List Condition) → IsInside b pending is_inner → AreSeated b pending
@@ -174,7 +174,7 @@ behind_front_rests None b c t p inner among pending conditions seat seated =
 behind_front_rests (Some w) b c t p inner among pending conditions seat seated =
     begun_rests w b c t p.place p.is_inner inner among pending conditions (inside_of b p.is_inner pending seat) seated
 
--- A token of a directive
+-- Lemmas about a token of a directive
 
 named_rests : (k : TokenKind) (bytes : List ℕ) (if_declared : Bool) (o : Out) (b : Bool) (c : Conditions) (p : Pending)
     (inner among : List Conditional) (pending : List Pending) (conditions : List Condition) → IsInside b pending p.is_inner
@@ -240,7 +240,7 @@ awaited_rests (Awaits.Condition wanted) site o t c p inner among pending conditi
 awaited_rests (Awaits.End e) site o t c p inner among pending conditions seat seated =
     ends_rest e site t c p inner among pending conditions seat seated
 
--- Any token, where all sides stay
+-- Lemmas about any token, where all sides stay
 
 at_front_rests : (w : Option ConditionalWord) (b : Bool) (c : Conditions) (t : SourceToken) (inner among : List Conditional)
     (conditions : List Condition) → b ≡ true → Rests b c.declared (at_front w t (state c inner among [] conditions))

@@ -10,7 +10,7 @@ use Rattle.inf_conditional_sides.specs.Runs.{AreRead, Event, NextIsAt, StandsSti
 use Rattle.inf_conditional_sides.specs.Runs.{ended_by, judged_at, sides_ended}
 use Rattle.inf_conditional_sides.proofs.{Same.sides_are_judged, Seating.tokens_rest}
 
--- The state before a token, by conditionals and by sides
+-- Lemmas about the state before a token, by conditionals and by sides
 
 abbrev SeatedFor : List Event → Conditions → Type 0
 SeatedFor [] c = Unit {0}
@@ -80,7 +80,7 @@ goes_behind (Some names) e events c declared now is agree still r =
       same = refl;
     }
 
--- All tokens
+-- Lemmas about all tokens
 
 goes_on : (events : List Event) (c : Conditions) (declared : ℕ) (s : Sides) → Goes events c declared s → AreRead events c
     → all_judged events c ≡ all_given events declared s

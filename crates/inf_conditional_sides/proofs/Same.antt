@@ -16,7 +16,7 @@ use Rattle.inf_conditional_sides.proofs.{Acts.none_heard, Acts.reading, Kept.off
 use Rattle.inf_conditional_sides.proofs.Left.{inner_words, leaving, left_at_end, one_left, open_stay, outer_stay, outer_words, side_at}
 use Rattle.inf_conditional_sides.proofs.Left.{sided}
 
--- Where all sides stay
+-- Lemmas for the case that all sides stay
 
 abbrev signed : Conditions → List Conditional → List Conditional → List Text → Option Place → Conditions
 signed c inner among texts sign = record (reading c inner among texts) { sign = sign }
@@ -43,7 +43,7 @@ all_kept site o t c inner among texts sign sides fronts are =
     (if b then kept_step sign site.is_between c.declared o t all else left_step c.declared o t all)) (sym (open_stay inner among))
     (kept_same sign site o t c inner among texts fronts))
 
--- Where one is left out
+-- Lemmas for the case that a side is left out
 
 -- A token that is no word leaves the sides as they are; a word acts on both alike.
 abbrev PassesAgree : SourceToken → Conditions → List Conditional → List Conditional → List Text → Option Place → LeftOut → List Side
@@ -133,7 +133,7 @@ inner_left site o t c x inner among texts sign levels sides fronts few l =
     (one_left l.inside around true x) (left_at_end l.inside around true x (open_stay inner among))
     (inner_passes (word_of (keyword t)) t c x inner among texts sign levels l.inside fronts l.are l.count few))
 
--- Any token
+-- Lemmas about any token
 
 abbrev pub stated : Conditions → Option LeftOut → List Conditional → List Conditional → List Text → Option Place → Conditions
 stated c left inner among texts sign = record c {
@@ -180,7 +180,7 @@ tokens_same site o t c s a settled few =
     subst (λ x. ComeToTheSame site.is_quiet t (judged site o t x) (step site.is_between c.declared o t s)) same
     (by_state c.left_out c.inner c.among site o t c s.texts s.sign s.sides a.fronts a.sides settled few)
 
--- The end of a piece
+-- Lemmas about the end of a piece
 
 outer_only : (among : List Conditional) → only_between (outer_sides among) ≡ outer_sides among
 outer_only [] = refl

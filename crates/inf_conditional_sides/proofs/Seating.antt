@@ -20,7 +20,7 @@ use Rattle.inf_conditional_sides.specs.Judged.{FewIn, is_settled, is_settled_by}
 use Rattle.inf_conditional_sides.specs.Rests.{AreSeated, HandsNone, IsOutermost, IsSeated, Rests, TokensRest}
 use Rattle.inf_conditional_sides.proofs.{Acts.state, Resting.begun_rests, Resting.offered_rests}
 
--- A token behind a `#`
+-- Lemmas about a token behind a `#`
 
 abbrev signed : Behind → Place → Option Forwarded → Behind
 signed b place h = record b { judged = record b.judged { sign = sign_handed place h } }
@@ -106,7 +106,7 @@ behind_sign_rests None site o t c place inner among [] conditions sign seated =
 behind_sign_rests None site o t c place inner among (p ∷ pending) conditions sign seated =
     sign_awaited_rests p.awaits site o t c place p inner among pending conditions seated.0 seated.1
 
--- A side that is left out
+-- Lemmas about a side that is left out
 
 abbrev leaving : Conditions → LeftOut → Option Place → List Conditional → List Conditional → List Pending → List Condition → Conditions
 leaving c side sign inner among pending conditions =
@@ -183,7 +183,7 @@ in_side_rests site o t c side sign inner among pending conditions seated settled
     (λ _. offered_rests false site o t c inner among pending conditions (never_front site.is_between pending) seated)
     (λ _. passes_rest (word_of (keyword t)) site.is_between c t side sign inner among pending conditions seated settled few)
 
--- Any token
+-- Lemmas about any token
 
 front_of : (between : Bool) (pending : List Pending) → (between && is_none_pending pending) ≡ true → IsOutermost between pending
 front_of true [] e = (refl, refl)

@@ -22,7 +22,7 @@ use Rattle.inf_conditional_sides.specs.Judged.{given_of, lone_given, pending_of,
 use Rattle.inf_conditional_sides.proofs.Acts.{kept_heard, none_heard, reading, state, staying, unfit_heard}
 use Rattle.inf_conditional_sides.proofs.Kept.{asking, asking_pending, begun_same, condition_more, goes_past, offered_same}
 
--- The things that are given of a `#` and then of a token
+-- Lemmas about the things that are given of a `#` and then of a token
 
 heard-append : (is_quiet : Bool) (xs ys : List Given) → heard is_quiet (xs ++ ys) ≡ heard is_quiet xs ++ heard is_quiet ys
 heard-append false xs ys = refl
@@ -246,7 +246,7 @@ sign_of_text site o t place (Directive begins is_inner ConditionalWord.Iffalse f
     sign_of_condition (condition_of first others) false site o t place begins is_inner first others c inner among texts fronts.1 refl
     fronts.0
 
--- Any token behind a `#` that waited
+-- Lemmas about any token behind a `#` that waited
 
 sign_same : (site : Site) (o : Out) (t : SourceToken) (place : Place) (c : Conditions) (inner among : List Conditional) (texts : List Text)
     → AreFronts texts

@@ -44,7 +44,7 @@ twice : (is_quiet : Bool) (before after : Told) (f : Told → Told) (x : Told) �
 twice true before after f x e = e
 twice false before after f x e = ap f e
 
--- Tokens that tell nothing
+-- Lemmas about tokens that tell nothing
 
 named_tells : (k : TokenKind) (bytes : List ℕ) (if_declared : Bool) (o : Out) (p : Pending) (c : Conditions)
     → telling (named k bytes if_declared o p c).now ≡ telling c
@@ -106,7 +106,7 @@ held_tells : (is_front : Bool) (place : Place) (c : Conditions) → telling (hel
 held_tells true place c = refl
 held_tells false place c = refl
 
--- Tokens of a condition
+-- Lemmas about tokens of a condition
 
 on_told : (is_quiet : Bool) (longest : ℕ) (t : SourceToken) (k : Condition) (c : Conditions) → IsSilent is_quiet c
     → telling (saying is_quiet (too_much longest t k) (tokens_counted is_quiet k c))
@@ -152,7 +152,7 @@ condition_told (Some k) wanted site o t p first others c inner among texts none 
     (sym (condition_more first others (asked c.declared o t) k is))
     (fit_told (fits grammar known (atom_of t) k.stack) wanted site o t more p rest none)
 
--- A token more of a directive
+-- Lemmas about a token more of a directive
 
 directive_told : (site : Site) (o : Out) (t : SourceToken) (place : Place) (is_inner : Bool) (w : ConditionalWord) (first : SourceToken)
     (others : List Asked) (c : Conditions) (inner among : List Conditional) (texts : List Text) → IsSilent site.is_quiet c
@@ -207,7 +207,7 @@ text_told site o t (Ended place) c inner among texts none fronts =
 text_told site o t (Directive place is_inner w first others) c inner among texts none fronts =
     directive_told site o t place is_inner w first others c inner among texts none fronts
 
--- Any token that is offered
+-- Lemmas about any token that is offered
 
 first_told : (is_front : Bool) (site : Site) (o : Out) (t : SourceToken) (c : Conditions) (inner among : List Conditional)
     (texts : List Text)
@@ -235,7 +235,7 @@ offered_told : (is_front : Bool) (site : Site) (o : Out) (t : SourceToken) (c : 
 offered_told is_front site o t c inner among texts none fronts =
     offered_by (is_mark Mark.Hash t.kind) is_front site o t c inner among texts none fronts
 
--- A token behind a `#` that waited
+-- Lemmas about a token behind a `#` that waited
 
 -- the `#` of a condition
 abbrev Signed : Site → Out → SourceToken → Place → Conditions → Step → Behind → Told → Type 0
@@ -400,7 +400,7 @@ kept_by None site o t c inner among texts none fronts =
 kept_by (Some place) site o t c inner among texts none fronts =
     behind_sign_by (word_of (keyword t)) site o t place c inner among texts none fronts
 
--- A side that is left out
+-- Lemmas about a side that is left out
 
 ended_by_tells : (w : ConditionalWord) (c : Conditions) → telling (ended_by w c) ≡ telling c
 ended_by_tells ConditionalWord.Endif c = closed_tells c.inner c
@@ -429,7 +429,7 @@ left_by true site o t c inner among texts sign side none fronts = offered_told f
 left_by false site o t c inner among texts sign side none fronts =
     passed_tells (word_of (keyword t)) t side (leaving c inner among texts sign side) ∙ either site.is_quiet (telling c)
 
--- Any token
+-- Lemmas about any token
 
 -- whether all sides stay
 abbrev Stays : Option LeftOut → List Side → Type 0

@@ -14,7 +14,7 @@ use Rattle.inf_conditional_sides.specs.Sides.{Asked, Directive, Ended, Ends, Fro
 use Rattle.inf_conditional_sides.specs.Sides.{condition_in, condition_of, end_form, hash, heard, name_form, no_sides, outer_sides, piece_ended}
 use Rattle.inf_conditional_sides.specs.Sides.{side_of, step}
 
--- The directives that are being read
+-- Definitions of the directives that are being read
 
 -- the thing that a directive waits for, by its word and its tokens behind that
 abbrev pub awaits_behind : ConditionalWord → List Asked → Awaits
@@ -61,7 +61,7 @@ AreFronts (Sign place ∷ texts) = AreFronts texts
 AreFronts (Ended place ∷ texts) = AreFronts texts
 AreFronts (Directive place is_inner w first others ∷ texts) = IsFront w first others × AreFronts texts
 
--- The sides that are open
+-- Definitions of the sides that are open
 
 -- the sides where all stay: those of conditionals inside of the directive at hand, and behind them those of the others
 abbrev pub open_sides : List Conditional → List Conditional → List Side
@@ -118,7 +118,7 @@ abbrev pub FewIn : Option LeftOut → Type 0
 FewIn None = Unit {0}
 FewIn (Some side) = side.levels ≤ most_levels
 
--- The things that are given of a token
+-- Definitions of the things that are given of a token
 
 abbrev pub as_handed : Forwarded → SourceToken → List Given
 as_handed Forwarded.Kept t = Kept t ∷ []

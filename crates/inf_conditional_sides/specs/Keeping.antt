@@ -7,7 +7,7 @@ use Rattle.inf_conditionals.specs.{Condition.Condition, Condition.verdict_of, Wo
 use Rattle.inf_conditional_sides.specs.Sides.{Asked, condition_of, first_stays, sides_behind}
 use Rattle.inf_conditional_sides.specs.Sides.{Ends, Kept, Lone, Side, Sides, all_stay, closes, giving, has_any, has_first, step, turned_over, turns}
 
--- these sides are open, and no conditional directive is being read
+-- the state in which the sides of a list are open, and no conditional directive is being read
 abbrev pub with_sides : List Side → Sides
 with_sides sides = record { sides = sides; texts = []; sign = None }
 

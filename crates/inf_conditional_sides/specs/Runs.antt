@@ -15,7 +15,7 @@ pub record Event : Type 0 where
   pub token : SourceToken
   pub ended : Option ℕ
 
--- By conditionals
+-- Definitions by conditionals
 
 abbrev pub ended_by : Option ℕ → Conditions → Conditions
 ended_by None c = c
@@ -30,7 +30,7 @@ all_judged [] c = []
 all_judged (e ∷ events) c =
     given_of e.token (judged_at e c).judged ∷ all_judged events (ended_by e.ended (judged_at e c).now)
 
--- By sides
+-- Definitions by sides
 
 abbrev pub sides_ended : Option ℕ → Sides → Sides
 sides_ended None s = s
@@ -46,7 +46,7 @@ all_given (e ∷ events) declared s =
     let n = step e.site.is_between declared e.out e.token s in
     heard e.site.is_quiet n.given ∷ all_given events (declared_behind e.ended declared) (sides_ended e.ended n.now)
 
--- Reading
+-- Definitions of reading
 
 -- The next token comes between directives, or not, as this one does.
 abbrev pub NextIsAt : Bool → List Event → Type 0

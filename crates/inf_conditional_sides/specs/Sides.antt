@@ -64,7 +64,7 @@ giving s given = record { now = s; given = given }
 abbrev pub hash : Place → SourceToken
 hash place = record { kind = TokenKind.Mark Mark.Hash; bytes = codes "#"; place = place; is_class = false }
 
--- The forms that tokens have as a conditional directive
+-- Definitions of the forms that tokens have as a conditional directive
 
 -- The form of tokens: they begin no directive, they begin one, or they are one.
 pub data Form : Type 0 where
@@ -118,7 +118,7 @@ form_of ConditionalWord.Iffalse first others = condition_form (condition_of firs
 form_of ConditionalWord.Ifnot first others = end_form others
 form_of ConditionalWord.Endif first others = end_form others
 
--- The effects of a whole directive on the sides
+-- Definitions of the effects of a whole directive on the sides
 
 -- Tells whether the first side stays of the conditional that a directive opens: where its name was declared, or was not; where its
 -- condition is true, or is not. As many names as `declared` says were declared by the directives before.
@@ -182,7 +182,7 @@ acts ConditionalWord.Ifnot declared o place is_inner first others s = turns plac
 acts ConditionalWord.Endif declared o place is_inner first others s = closes place s
 acts w declared o place is_inner first others s = opens place is_inner (first_stays w declared o first others) s
 
--- A token of a side that stays
+-- Definitions of a token of a side that stays
 
 -- A token that does not fit gives up all directives that are being read.
 abbrev pub unfit : SourceToken → Sides → Step
@@ -314,7 +314,7 @@ left_step declared o t s =
     if is_end t.kind then offered false declared o t (record s { sides = at_end s.sides; sign = None })
     else giving (passed_over (word_of (keyword t)) t s) []
 
--- Any token, between the pieces of a source or not
+-- Definitions of any token, between the pieces of a source or not
 
 abbrev pub step : Bool → ℕ → Out → SourceToken → Sides → Step
 step is_between declared o t s =
@@ -328,7 +328,7 @@ only_between (x ∷ sides) = if x.is_inner then only_between sides else x ∷ si
 abbrev pub piece_ended : Sides → Sides
 piece_ended s = record s { sides = only_between s.sides }
 
--- Files
+-- Definitions of files
 
 -- the side of a conditional
 abbrev pub side_of : Bool → Bool → Conditional → Side
@@ -338,7 +338,7 @@ side_of is_inner stays x = record { place = x.place; is_inner = is_inner; is_sec
 abbrev pub outer_sides : List Conditional → List Side
 outer_sides among = map (side_of false true) among
 
--- Among tokens that are passed over
+-- Definitions of tokens that are passed over
 
 -- the things that are given; among tokens that are passed over behind a bad one those about directives are not
 abbrev pub heard : Bool → List Given → List Given

@@ -28,7 +28,7 @@ use Rattle.inf_control_laws.specs.{Parts.EndsCase, Parts.TestsCase, Parts.case_i
 use Rattle.inf_control_laws.proofs.Laying.{lays_code, lays_then, none_alike, none_then, then_none}
 use Rattle.inf_control_laws.proofs.Walking.{ends_case}
 
--- Constants, read one behind the other
+-- Lemmas about constants, read one behind the other
 
 abbrev reads : World → List Operand → Store → Option (List ℕ)
 reads w [] s = Some []
@@ -57,7 +57,7 @@ read_behind w (x ∷ xs) y s ns m e f =
     ∙ ap (λ k. k then λ (l : List ℕ). Some (o.0 ∷ l)) (read_behind w xs y s q.0 m q.1 f)
     ∙ ap (λ (l : List ℕ). Some (l ++ m ∷ [])) (same_some q.2)
 
--- Truths
+-- Lemmas about truths
 
 same_true : (b : Bool) → same b true ≡ b
 same_true true = refl
@@ -124,7 +124,7 @@ group_leads w limits (x ∷ xs) body =
     moved (ap (λ b. if b then at body else rest) (same_true (is_any (now.store.variables SWITCHED) ns))) (j now ns e))
     (group_jumps w limits x xs true body)
 
--- Ranges
+-- Lemmas about ranges
 abbrev Compares : World → (ℕ → ℕ → Bool) → Operand → Bool → Label → Claim
 Compares w f x sense label at from rest =
     (now : State) (m : ℕ) → read w x now.store ≡ Some m →

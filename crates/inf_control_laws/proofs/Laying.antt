@@ -34,7 +34,7 @@ lays_so w P Q a b h x = record {
   runs = λ at rest k s. h at (x.items ++ rest) rest (x.runs at rest k s);
 }
 
--- Moments at which nothing is laid
+-- Lemmas about moments at which nothing is laid
 
 pub none_then : (w : World) (P : Claim) (a b c : Out) → LaysNone a b → Lays w P b c → Lays w P a c
 none_then w P a b c x y = record {

@@ -73,18 +73,15 @@ put_is v n s e = no_stack (v == 0) (v == 255) (record s { stack = with_top n s.s
 -- A tree is a part of an instruction: only a leaf is one without code.
 before_leaf : (w : World) (how : Direction) (aim : Aim) → (values.stepped_before w how aim).leaf ≡ None
 before_leaf w how Nowhere = refl
-before_leaf w how (Named v) = refl
-before_leaf w how (Element width parts) = refl
+before_leaf w how other = refl
 
 behind_leaf : (w : World) (how : Direction) (aim : Aim) → (values.stepped_behind w how aim).leaf ≡ None
 behind_leaf w how Nowhere = refl
-behind_leaf w how (Named v) = refl
-behind_leaf w how (Element width parts) = refl
+behind_leaf w how other = refl
 
 assigned_leaf : (w : World) (aim : Aim) (a : Sense) → (values.assigned w aim a).leaf ≡ None
 assigned_leaf w Nowhere a = refl
-assigned_leaf w (Named v) a = refl
-assigned_leaf w (Element width parts) a = refl
+assigned_leaf w other a = refl
 
 called_leaf : (w : World) (aim : Aim) (a : Sense) (arguments : List Arg) → (values.called_as w aim a arguments).leaf ≡ None
 called_leaf w Nowhere a arguments = refl
@@ -94,30 +91,18 @@ called_leaf w (Element Words parts) a arguments = refl
 called_leaf w (Element Properties parts) a arguments = refl
 
 one_leaf : (w : World) (op : Unary) (a : Sense) → (values.one w op a).leaf ≡ None
-one_leaf w Unary.Negate a = refl
-one_leaf w Unary.Not a = refl
+one_leaf w (Unary.Before how) a = before_leaf w how a.aim
+one_leaf w (Unary.Behind how) a = behind_leaf w how a.aim
+one_leaf w Unary.Call a = called_leaf w a.aim a []
 one_leaf w (Unary.Single Single.Complement) a = refl
 one_leaf w (Unary.Single Single.Parent) a = refl
 one_leaf w (Unary.Single Single.Random) a = refl
-one_leaf w (Unary.Relative how) a = refl
-one_leaf w (Unary.Before how) a = before_leaf w how a.aim
-one_leaf w (Unary.Behind how) a = behind_leaf w how a.aim
-one_leaf w Unary.Children a = refl
-one_leaf w Unary.Call a = called_leaf w a.aim a []
-one_leaf w Unary.Indirect a = refl
+one_leaf w other a = refl
 
 two_leaf : (w : World) (op : Binary) (a b : Sense) → (values.two w op a b).leaf ≡ None
-two_leaf w (Binary.Operation o) a b = refl
-two_leaf w (Binary.Property p) a b = refl
-two_leaf w (Binary.Test t) a b = refl
-two_leaf w (Binary.Fails t) a b = refl
 two_leaf w Binary.Assign a b = assigned_leaf w a.aim b
-two_leaf w Binary.Comma a b = refl
-two_leaf w Binary.And a b = refl
-two_leaf w Binary.Or a b = refl
 two_leaf w Binary.Call a b = called_leaf w a.aim a (values.args b)
-two_leaf w Binary.Then a b = refl
-two_leaf w Binary.To a b = refl
+two_leaf w other a b = refl
 
 leaf_is : (w : World) (limits : Limits) (t : Tree) → (meaning limits t).operand ≡ leaf_simple (sense w t).leaf
 leaf_is w limits (Leaf x) = refl
@@ -178,7 +163,7 @@ always_holds w at place label stack temp s b t e = (
       (same_some e) (here w at place (state stack temp s)),
 )
 
--- The children of an object
+-- Lemmas about the children of an object
 first_child : (w : World) (limits : Limits) (e t : Tree) → Covered false e → (v : ℕ) (c : Construct) →
     Always w (over_children limits e v c) (BeginsLoop w (truth_of w (first_by (Some e) v)) (holds_by w (Some e) t) c.top c.next c.end)
 first_child w limits e t h v c =
@@ -186,7 +171,7 @@ first_child w limits e t h v c =
     (then_ (found_branches w limits Opcode.GetChild w.child (meaning limits e) (sense w e) refl (part_is w limits e h) v false c.end)
     (marked_ limits c.top))
 
--- All objects, from number 5 on
+-- Lemmas about all objects, from number 5 on
 first_number : (w : World) (limits : Limits) (v : ℕ) (end : Label) →
     Always w (naming limits Opcode.Store v (Simple.Known 5 ∷ []) None None) (Branches false w (truth_of w (first_by None v)) false end)
 first_number w limits v end =

@@ -12,7 +12,7 @@ use Rattle.inf_interpreter.proofs.Running.{none_some, same_some}
 use Rattle.inf_control_laws.specs.{Parts.IsOver, Parts.case_in, Parts.open_case, Runs.Lays, Runs.LaysNone, Runs.exits}
 use Rattle.inf_control_laws.proofs.{Laying.lays_code, Laying.none_alike, Laying.none_then, Turning.inside}
 
--- `if`
+-- Lemmas about `if`
 pub if_opened : (limits : Limits) (o : Out) → LaysNone o (opened limits Kind.If o).1
 unfolding opened
 if_opened limits o = none_alike o (opened limits Kind.If o).1 refl refl refl refl
@@ -27,7 +27,7 @@ unfolding opened closed
 if_closed w limits o u =
     let c = (opened limits Kind.If o).0 in lays_code w (marked limits c.next) (Marks c.next) (marked_ limits c.next) u
 
--- `else`
+-- Lemmas about `else`
 pub if_joined : (w : World) (limits : Limits) (o u : Out) →
     let c = (opened limits Kind.If o).0 in Lays w (Then (Lies (jump_to c.end)) (Marks c.next)) u (between limits c u).1
 unfolding opened between
@@ -47,7 +47,7 @@ unfolding opened between closed
 else_closed w limits o u z =
     let c = (opened limits Kind.If o).0 in lays_code w (marked limits c.end) (Marks c.end) (marked_ limits c.end) z
 
--- `while`
+-- Lemmas about `while`
 pub while_opened : (w : World) (limits : Limits) (o : Out) → let c = opened limits Kind.While o in Lays w (Marks c.0.next) o c.1
 unfolding opened
 while_opened w limits o =
@@ -68,7 +68,7 @@ while_closed w limits o u =
     lays_code w (jumped limits c.next ▸ marked limits c.end) (Then (Lies (jump_to c.next)) (Marks c.end))
     (then_ (jumped_ limits c.next) (marked_ limits c.end)) u
 
--- `do`
+-- Lemmas about `do`
 pub do_opened : (w : World) (limits : Limits) (o : Out) → let c = opened limits Kind.Do o in Lays w (Marks c.0.top) o c.1
 unfolding opened
 do_opened w limits o =
@@ -145,7 +145,7 @@ unfolding opened closed
 objects_closed limits o z [] how v = refl
 objects_closed limits o z (d ∷ constructs) how v = refl
 
--- `switch`
+-- Lemmas about `switch`
 pub switch_opened : (limits : Limits) (o : Out) → LaysNone o (opened limits (Kind.Switch Case.Nothing false) o).1
 unfolding opened
 switch_opened limits o = none_alike o (opened limits (Kind.Switch Case.Nothing false) o).1 refl refl refl refl
@@ -167,12 +167,7 @@ ending_is limits c (Kind.Switch old had_default) new z e =
     ap (λ n. (case_closed limits n c.end ▸ marked limits c.end) z) (sym (same_some e))
 ending_is limits c (Kind.Cases old had_default) new z e =
     ap (λ n. (case_closed limits n c.end ▸ marked limits c.end) z) (sym (same_some e))
-ending_is limits c Kind.If new z e = none_some e
-ending_is limits c Kind.Else new z e = none_some e
-ending_is limits c Kind.While new z e = none_some e
-ending_is limits c Kind.Do new z e = none_some e
-ending_is limits c Kind.For new z e = none_some e
-ending_is limits c (Kind.Objects how v) new z e = none_some e
+ending_is limits c other new z e = none_some e
 
 pub switch_closed : (limits : Limits) (c : Construct) (constructs : List Construct) (new : Case) (z : Out) →
     open_case constructs ≡ Some new →

@@ -42,7 +42,7 @@ alone_runs w limits x (tree ∷ trees) h =
     ends_as w x at from to (state stack temp s) stack c.0 Done r o.0 t o.2 c.1)
     (effects_are_done false w limits tree h)
 
--- `break` and `continue`
+-- Lemmas about `break` and `continue`
 break_runs : (w : World) (limits : Limits) (x : Exits) (l : Option Label) → x.breaks ≡ l →
     Always w (jumped_to limits l) (Runs w x (left_run l Broke))
 break_runs w limits x None same = so (λ at from to place stack temp s r t e. none_some e) nothing_
@@ -125,27 +125,11 @@ leaf_returned w limits x Operand.Unknown m =
 -- any other tree has no operand of its own, and is returned from the stack
 pub one_operand : (limits : Limits) (op : Unary) (m : Meaning) → (code.one limits op m).operand ≡ None
 one_operand limits Unary.Negate m = refl
-one_operand limits Unary.Not m = refl
-one_operand limits (Unary.Single how) m = refl
-one_operand limits (Unary.Before how) m = refl
-one_operand limits (Unary.Behind how) m = refl
-one_operand limits (Unary.Relative how) m = refl
-one_operand limits Unary.Children m = refl
-one_operand limits Unary.Call m = refl
-one_operand limits Unary.Indirect m = refl
+one_operand limits other m = refl
 
 pub two_operand : (limits : Limits) (op : Binary) (m n : Meaning) → (code.two limits op m n).operand ≡ None
 two_operand limits (Binary.Operation o) m n = refl
-two_operand limits (Binary.Property p) m n = refl
-two_operand limits (Binary.Test t) m n = refl
-two_operand limits (Binary.Fails t) m n = refl
-two_operand limits Binary.Assign m n = refl
-two_operand limits Binary.Comma m n = refl
-two_operand limits Binary.And m n = refl
-two_operand limits Binary.Or m n = refl
-two_operand limits Binary.Call m n = refl
-two_operand limits Binary.Then m n = refl
-two_operand limits Binary.To m n = refl
+two_operand limits other m n = refl
 
 pushed_returned : (w : World) (limits : Limits) (x : Exits) (t : Tree) → Covered false t → (o : Option Simple) → o ≡ None →
     Always w (returned_by limits o (meaning limits t)) (Runs w x (λ s. value_of w t s then λ p. Some (Returned p.0, p.1)))

@@ -47,7 +47,7 @@ pub ends_as : (w : World) (x : Exits) (at : Label → Place) (from to : Place) (
 ends_as w x at from to start stack left r q u t e c =
     (left, subst (λ y. Reaches w x at from start to y.0 (state stack left y.1)) (same_some e) c)
 
--- One statement behind another
+-- Lemmas about one statement behind another
 followed : (w : World) (x : Exits) (at : Label → Place) (from m to : Place) (start : State) (stack : List ℕ) (left : ℕ) (second : Effect)
     (r : Outcome) (u : Store) (q : Outcome) (t : Store) → Reaches w x at from start m r (state stack left u) → Runs w x second at m to →
     followed_by second r u ≡ Some (q, t) → (left' : ℕ) × Reaches w x at from start to q (state stack left' t)

@@ -29,7 +29,7 @@ passed e = absurd (cc e)
 none_self : (o : Out) → LaysNone o o
 none_self o = none_alike o o refl refl refl refl
 
--- a name
+-- lemmas about a leaf that is a name
 by_referred : (limits : Limits) (f : Option ReferFault) (name : List ℕ) (place : Place) (o : Out) →
     LaysNone o (referred_by limits f name place o)
 by_referred limits None name place o =
@@ -57,7 +57,7 @@ alone_none limits locals tokens at o =
     (o, Operand.Variable 0) (settled_name limits locals (name_at tokens at) o) (λ _. none_self o)
     (λ _. name_none limits locals (name_at tokens at) o)
 
--- a text
+-- lemmas about a leaf that is a text
 by_fitting : (limits : Limits) (b : Bool) (text : List ℕ) (o : Out) → LaysNone o (with_text_by limits b text o)
 by_fitting limits true text o = none_alike o (with_text_by limits true text o) refl refl refl refl
 by_fitting limits false text o =
@@ -86,7 +86,7 @@ word_none : (limits : Limits) (text : Text) (how : WordUse) (is_plural : Bool) (
 word_none limits text how is_plural o =
     by_word limits (add_fault limits (word_of text o.tables.dictionary.list) how o.tables.dictionary) text how is_plural o
 
--- an action
+-- lemmas about a leaf that is an action
 by_seen : (f : Option (DeclareFault Place)) (key : List ℕ) (place : Place) (o : Out) → LaysNone o (seen_by f key place o)
 by_seen None key place o = none_alike o (seen_by None key place o) refl refl refl refl
 by_seen (Some fault) key place o = none_self o
@@ -115,7 +115,7 @@ action_none : (limits : Limits) (name : Option Name) (o : Out) → LaysNone o (s
 action_none limits None o = none_self o
 action_none limits (Some n) o = by_fake limits (fake_number (key_of n.bytes) o) n.bytes n.place o
 
--- each leaf, and all leaves of a unit
+-- lemmas about each leaf, and about all leaves of a unit
 leaf_none : (limits : Limits) (set : CharSet) (locals : List Local) (tokens : List SourceToken) (l : Leaf) (o : Out) →
     LaysNone o (settled_leaf limits set locals tokens l o).0
 leaf_none limits set locals tokens (Leaf.Name at) o = name_none limits locals (name_at tokens at) o

@@ -27,7 +27,7 @@ use Rattle.inf_control_laws.proofs.Opening.{switch_exits, switch_opened, while_o
 use Rattle.inf_control_laws.proofs.Walking.{Walks, both_walks, case_walks, own_walks}
 use Rattle.inf_control_laws.proofs.Pieces.{both_laid, do_laid, else_laid, for_laid, if_laid, objects_laid, switch_laid, while_laid}
 
--- Statements where they stand
+-- Lemmas about statements where they stand
 
 exits_alike : (w : World) (x y : Exits) (e : Effect) (a b : Out) → x ≡ y → Lays w (Runs w x e) a b → Lays w (Runs w y e) a b
 exits_alike w x y e a b same h = subst (λ z. Lays w (Runs w z e) a b) same h

@@ -110,7 +110,7 @@ step_carried : (limits : Limits) (context : Context) (first : Place) (v : Compil
 unfolding part_effect
 step_carried limits context first v = refl
 
--- The ends of units
+-- Lemmas about the ends of units
 condition_ends : (w : World) (limits : Limits) (context : Context) (place : Place) (v : Compilation) →
     IsSound limits context Part.Condition v → (c : Construct) (around : List Construct) → v.constructs ≡ c ∷ around → (t : Tree)
     (trees : List Tree) → trees_of limits context Part.Condition v ≡ t ∷ trees → Covered false t →

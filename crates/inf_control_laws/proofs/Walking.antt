@@ -56,7 +56,7 @@ walked_behind w x at a b to new s u now m Broke c g = goes_behind w at a b s u n
 walked_behind w x at a b to new s u now m Continued c g = goes_behind w at a b s u now x.continues c g
 walked_behind w x at a b to new s u now m (Returned n) c g = leaves_behind w at a b s u n now.store c g
 
--- Statements of a case
+-- Lemmas about statements of a case
 
 seeks_on : (old : Case) (at : Label → Place) (from to q : Place) → StandsAt Seeks old at from q → StandsAt Seeks old at to q
 seeks_on Case.Nothing at from to q h = absurd h
@@ -100,7 +100,7 @@ own_walks w x old e at from to g Within q h stack temp s z r t f =
     walked_as w x at q to old (state stack temp s) stack c.0 Within z o.0.0 r o.0.1 t o.2
     (own_walked w x at from to q old Within (state stack temp s) o.0.0 (state stack c.0 o.0.1) k.0 k.1 c.1)
 
--- One piece behind another
+-- Lemmas about one piece behind another
 walked_then : (w : World) (x : Exits) (mid new : Case) (second : Walk) (at : Label → Place) (from m to : Place) (start : State)
     (stack : List ℕ) (left : ℕ) (mode : Mode) (r : Outcome) (u : Store) (z : Mode) (q : Outcome) (t : Store) →
     Walked w x at from start m mid mode r (state stack left u) → Walks w x mid new second at m to →

@@ -88,7 +88,7 @@ module _ (limits : Limits) (context : Context) where
   item_is (Text t v) false w lost says fits = value_is false _ w v lost refl says.1 refl fits
   item_is (Later t) false w lost says fits = value_is false _ w (Value.Later t) lost refl says.1 refl fits
 
-  -- Behind an entry: what is listed, and the arrays
+  -- Lemmas about what is listed behind an entry, and the arrays
 
   record Goes (has : Bool) (values : List Value) (arrays : AllArrays) (u : Compilation) : Type 0 where
     lost : u.listing.is_lost ≡ false

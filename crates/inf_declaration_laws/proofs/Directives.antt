@@ -1,46 +1,45 @@
 -- Behind each directive the names and the counts are those of the description, where they were before it.
-use Rattle.std.proofs.Common.{◌≡◌, ◌<◌, ℕ, ◌+◌, ◌-◌, ◌%◌, List, [], ◌∷◌, ◌++◌, Option, Some, None, Bool, true, false, cond, refl, sym, ap, subst}
-use Rattle.std.proofs.Common.{◌∙◌, arith, codes, filter, is_some, length, map, nat_le, nat_lt}
+use Rattle.std.proofs.Common.{◌≡◌, ◌<◌, ℕ, ◌+◌, ◌%◌, List, [], ◌∷◌, ◌++◌, Option, Some, None, Bool, true, false, cond, refl, sym, ap, subst}
+use Rattle.std.proofs.Common.{◌∙◌, arith, codes, is_some, length, map, nat_le, nat_lt}
 use Rattle.std.proofs.lemmas.{Bool.Decides.nat_tests, List.length_push}
 use Rattle.std.specs.Str.{str_eq_ignore_ascii_case}
 use Rattle.inf_settings.specs.Bounds.{Limits}
-use Rattle.inf_area.specs.declared.targets.Value.{Value}
 use Rattle.inf_assembler.specs.declared.routines.RoutineKind.{RoutineKind}
 use Rattle.inf_scanner.specs.declared.tokens.Place.{Place}
 use Rattle.inf_expressions.specs.{Findings.is_before, Findings.least_of_both, declared.findings.Finding.Finding}
 use Rattle.inf_expressions.specs.declared.units.Wanted.{Wanted}
-use Rattle.inf_names.specs.{Spellings.Name, declared.meanings.Meaning.Meaning, declared.symbols.DeclareFault.DeclareFault}
-use Rattle.inf_names.specs.{declared.symbols.Found.Found, Symbols.declare_fault, Symbols.found_in}
+use Rattle.inf_names.specs.{Spellings.Name, declared.meanings.Meaning.Meaning}
+use Rattle.inf_names.specs.{declared.symbols.Found.Found, Symbols.found_in}
 use Rattle.inf_code.specs.Code.{place_behind}
 use Rattle.inf_output.specs.{Actions.faked_by, Actions.key_of, Actions.next_fake, Actions.one_fake, Output.Out}
 use Rattle.inf_report.specs.declared.messages.FixedLimit.{FixedLimit}
-use Rattle.inf_unit.specs.{Tokens.SourceToken, Units.name_order}
+use Rattle.inf_unit.specs.{Units.name_order}
 use Rattle.inf_tables.specs.{World.with_attribute, World.with_property, declared.faults.Limit.Limit as WorldLimit}
 use Rattle.inf_tables.specs.declared.faults.WorldFault.{WorldFault}
 use Rattle.inf_constructs.specs.Roots.{tree_in}
 use Rattle.inf_compilation.specs.{Context.Context, Findings.Again, Findings.again_finding, Findings.many_finding, Findings.nothing_found}
-use Rattle.inf_compilation.specs.Actions.{Compilation, constant, constant_added, constant_of, constant_with, finding_at, is_declared}
+use Rattle.inf_compilation.specs.Actions.{Compilation, constant, constant_added, constant_with, finding_at, is_declared}
 use Rattle.inf_compilation.specs.Actions.{new_stub, operands_of, routine_declared, settled_of, stub, stub_code, stub_locals, trees_at, unit_ended}
-use Rattle.inf_named_values.specs.Declarations.{alias_finding, alias_meaning, alias_told, aliased, attribute_found, attribute_meaning}
-use Rattle.inf_named_values.specs.Declarations.{declared_finding, is_additive, is_alias, last_meaning, late_finding, name_declared, name_known}
+use Rattle.inf_named_values.specs.Declarations.{alias_finding, alias_told, aliased, attribute_found, attribute_meaning}
+use Rattle.inf_named_values.specs.Declarations.{declared_finding, is_additive, last_meaning, late_finding, name_declared, name_known}
 use Rattle.inf_named_values.specs.Declarations.{property_found, property_meaning, valued, with_world}
 use Rattle.inf_named_values.specs.Values.{value_of}
-use Rattle.inf_declarations.specs.Attributes.{attribute, attribute_added, attribute_number, attribute_with, has_most_attributes, new_attribute}
+use Rattle.inf_declarations.specs.Attributes.{attribute, attribute_added, attribute_number, attribute_with, has_most_attributes}
 use Rattle.inf_declarations.specs.Attributes.{new_attribute_by}
 use Rattle.inf_declarations.specs.{Defaults.default, Globals.global_added, Globals.global_variable, Globals.has_most_globals}
-use Rattle.inf_declarations.specs.Globals.{new_global, with_variable}
-use Rattle.inf_declarations.specs.Properties.{has_most_properties, new_property, new_property_by, property, property_added, property_named}
+use Rattle.inf_declarations.specs.Globals.{with_variable}
+use Rattle.inf_declarations.specs.Properties.{has_most_properties, new_property_by, property_added, property_named}
 use Rattle.inf_declarations.specs.Properties.{property_names, property_number, property_order, property_with}
 use Rattle.inf_verb_lines.specs.Verbs.{fake_action}
 use Rattle.inf_declaration_laws.specs.Declarations.{Attribute, AttributeAlias, Constant, Default, Directive, FakeAction, Global, Names, Other}
 use Rattle.inf_declaration_laws.specs.Declarations.{Property, PropertyAlias, Stub, Text, attribute_of, count, fake_of, is_attribute, is_fake}
 use Rattle.inf_declaration_laws.specs.Declarations.{is_global, is_property, like, named, names_behind, property_of, unless_known, variable_of}
 use Rattle.inf_declaration_laws.specs.Declarations.{with_name}
-use Rattle.inf_declaration_laws.specs.Laws.{Comes, Counts, CountsAgree, Declares, Follow, IsAlias, IsAttribute, IsConstant, IsFake, IsFree}
+use Rattle.inf_declaration_laws.specs.Laws.{Comes, CountsAgree, Declares, Follow, IsAlias, IsAttribute, IsConstant, IsFake, IsFree}
 use Rattle.inf_declaration_laws.specs.Laws.{IsGlobal, IsProperty, IsStub, Keeps, NamesAgree, Read, SaysBy, WhereNew, WithFirst, behind}
 use Rattle.inf_declaration_laws.specs.Laws.{counted, counts_of, directives, ended_as, last_bytes, meaning_told, names_of}
 use Rattle.inf_declaration_laws.proofs.Names.{is_declared as declared_told}
-use Rattle.inf_declaration_laws.proofs.Keeping.{leaves_keep, routine_laid, same, settled_keeps, then_keeps}
+use Rattle.inf_declaration_laws.proofs.Keeping.{leaves_keep, routine_laid, same, settled_keeps}
 
 pub record Agrees (names : Names) (before : List Directive) (o : Out) : Type 0 where
   pub names_are : (t : Text) → names_of o t ≡ names t
@@ -72,7 +71,7 @@ keeps_then {name = name} {m = m} {o = o} {p = p} k d = record {
   counts = d.counts ∙ k.counts;
 }
 
--- Findings
+-- Lemmas about findings
 
 least_none : (a b : Option Finding) → least_of_both a b ≡ None → (a ≡ None) × (b ≡ None)
 least_none None None e = (refl, refl)
@@ -110,7 +109,7 @@ few_properties : (n : ℕ) → nat_le 60 n ≡ false → n % 252 ≡ n
 few_properties n few = omega (arith, below 60 n few)
 
 module _ (limits : Limits) (context : Context) (first : Place) where
-  -- Attributes
+  -- Lemmas about attributes
 
   attribute_step : (n : Name) (others : List Name) (w : Compilation) (name : Text) (names : Names) (before : List Directive)
       → Agrees names before w.output → IsAttribute limits n others w name
@@ -143,7 +142,7 @@ module _ (limits : Limits) (context : Context) (first : Place) where
             }) one;
       })
 
-  -- Properties and variables, whose values are expressions
+  -- Lemmas about properties and variables, whose values are expressions
 
   settled_keeps_all : (w : Compilation) → Keeps w.output (settled_of limits context w).out
   settled_keeps_all w =
@@ -232,7 +231,7 @@ module _ (limits : Limits) (context : Context) (first : Place) where
             }) one;
       })
 
-  -- Fake actions
+  -- Lemmas about fake actions
 
   fake_step : (n : Name) (others : List Name) (w : Compilation) (name : Text) (names : Names) (before : List Directive)
       → Agrees names before w.output → IsFake limits n w name
@@ -269,47 +268,19 @@ module _ (limits : Limits) (context : Context) (first : Place) where
             }) one;
       })
 
-  -- Other names
+  -- Lemmas about other names
 
   attribute_same : (m x : Meaning) → attribute_meaning m ≡ Some x → m ≡ x
   attribute_same (Meaning.Attribute number) x e = cc e
-  attribute_same (Meaning.Number number) x e = absurd (cc e)
-  attribute_same (Meaning.Text place) x e = absurd (cc e)
-  attribute_same (Meaning.Word text) x e = absurd (cc e)
-  attribute_same (Meaning.LowString place) x e = absurd (cc e)
-  attribute_same (Meaning.Variable number) x e = absurd (cc e)
-  attribute_same (Meaning.Property number is_additive) x e = absurd (cc e)
-  attribute_same (Meaning.IndividualProperty number) x e = absurd (cc e)
-  attribute_same (Meaning.Object number) x e = absurd (cc e)
-  attribute_same (Meaning.Class number) x e = absurd (cc e)
-  attribute_same (Meaning.Array place) x e = absurd (cc e)
-  attribute_same (Meaning.Routine place) x e = absurd (cc e)
-  attribute_same (Meaning.PackedAddress place) x e = absurd (cc e)
-  attribute_same (Meaning.FakeAction number) x e = absurd (cc e)
-  attribute_same (Meaning.Function function) x e = absurd (cc e)
+  attribute_same other x e = absurd (cc e)
 
   property_same : (m x : Meaning) → property_meaning m ≡ Some x → m ≡ x
   property_same (Meaning.Property number is_additive) x e = cc e
-  property_same (Meaning.Attribute number) x e = absurd (cc e)
-  property_same (Meaning.Number number) x e = absurd (cc e)
-  property_same (Meaning.Text place) x e = absurd (cc e)
-  property_same (Meaning.Word text) x e = absurd (cc e)
-  property_same (Meaning.LowString place) x e = absurd (cc e)
-  property_same (Meaning.Variable number) x e = absurd (cc e)
-  property_same (Meaning.IndividualProperty number) x e = absurd (cc e)
-  property_same (Meaning.Object number) x e = absurd (cc e)
-  property_same (Meaning.Class number) x e = absurd (cc e)
-  property_same (Meaning.Array place) x e = absurd (cc e)
-  property_same (Meaning.Routine place) x e = absurd (cc e)
-  property_same (Meaning.PackedAddress place) x e = absurd (cc e)
-  property_same (Meaning.FakeAction number) x e = absurd (cc e)
-  property_same (Meaning.Function function) x e = absurd (cc e)
+  property_same other x e = absurd (cc e)
 
   attribute_told : (f : Found Place) (x : Meaning) → attribute_found f ≡ Some x → meaning_told f ≡ Some x
-  attribute_told (Found.System m) x e = absurd (cc e)
   attribute_told (Found.Declared m place) x e = ap Some (attribute_same m x e)
-  attribute_told Found.Used x e = absurd (cc e)
-  attribute_told Found.Unknown x e = absurd (cc e)
+  attribute_told other x e = absurd (cc e)
 
   property_told : (f : Found Place) (x : Meaning) → property_found f ≡ Some x → meaning_told f ≡ Some x
   property_told (Found.System m) x e = ap Some (property_same m x e)
@@ -374,7 +345,7 @@ module _ (limits : Limits) (context : Context) (first : Place) where
       (alias_step_by FixedLimit.Properties at n others w name old names before (last_meaning FixedLimit.Properties w) a i refl
       (property_told (found_in (last_bytes w) w.output.names))))
 
-  -- Constants
+  -- Lemmas about constants
 
   added_keeps_by : (f : Option Finding) (w : Compilation) → Keeps w.output (constant_added limits context f w).output
   added_keeps_by None w = leaves_keep limits context.set w.locals w.unit.tokens w.unit.gathering.leaves w.output
@@ -401,13 +372,11 @@ module _ (limits : Limits) (context : Context) (first : Place) where
   constant_step n others w name m names before a i =
       recount before (Constant name m) refl (declares name n.bytes m m a (constant_is n others w name m i) i.spelled refl)
 
-  -- `Default` and `Stub`
+  -- Lemmas about `Default` and `Stub`
 
   known_by : (f : Found Place) → is_some (meaning_told f) ≡ is_declared f
   known_by (Found.System m) = refl
-  known_by (Found.Declared m place) = refl
-  known_by Found.Used = refl
-  known_by Found.Unknown = refl
+  known_by other = refl
 
   -- whether the name has a meaning, by the description
   known_is : (n : Name) (w : Compilation) (name : Text) (names : Names) (before : List Directive) → Agrees names before w.output
@@ -469,7 +438,7 @@ module _ (limits : Limits) (context : Context) (first : Place) where
       (unless_step n w name m names before u.output (new_stub limits context first (n ∷ others) w).output b a i.0 refl refl
       (λ h. stub_is n others w m (i.1 h))))
 
-  -- All
+  -- Lemmas about all kinds of directives
 
   -- the first name is there
   with_first : (P : List Name → Type 0) (says : Name → List Name → Type 0) (names : List Name) → WithFirst says names

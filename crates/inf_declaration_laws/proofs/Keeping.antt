@@ -1,8 +1,8 @@
 -- Expressions and routines declare no name, and add nothing of the kinds that count.
-use Rattle.std.proofs.Common.{◌≡◌, List, [], ◌∷◌, ℕ, Option, Some, None, Bool, true, false, cond, refl, ◌∙◌}
+use Rattle.std.proofs.Common.{List, [], ◌∷◌, ℕ, Option, Some, None, Bool, true, false, cond, refl, ◌∙◌}
 use Rattle.inf_settings.specs.Bounds.{Limits}
 use Rattle.inf_expressions.specs.declared.operators.Operand.{Operand}
-use Rattle.inf_scanner.specs.{declared.tokens.DictionaryWord.DictionaryWord, declared.tokens.Place.Place}
+use Rattle.inf_scanner.specs.{declared.tokens.Place.Place}
 use Rattle.inf_characters.specs.{declared.characters.CharSet.CharSet, declared.texts.TextItem.TextItem}
 use Rattle.inf_gathering.specs.declared.gathering.Leaf.{Leaf}
 use Rattle.inf_dictionary.specs.{Texts.Text, Words.add_fault, Words.word_of}
@@ -17,10 +17,10 @@ use Rattle.inf_code.specs.Code.{fault_closed, full_opened}
 use Rattle.inf_unit.specs.{Tokens.SourceToken, Units.bytes_at, Units.name_at}
 use Rattle.inf_output.specs.Output.{Out, closed, closed_by, code_closed, opened, opened_by, past_of, with_labels_left, with_text, with_text_by}
 use Rattle.inf_output.specs.Output.{referred, referred_as, with_word, with_word_by}
-use Rattle.inf_output.specs.Actions.{action_by, action_of, appeared, fake_number, key_of, numbered, numbered_as, numbered_by, routine_name}
+use Rattle.inf_output.specs.Actions.{action_by, appeared, fake_number, key_of, numbered_as, numbered_by, routine_name}
 use Rattle.inf_output.specs.Actions.{routine_of, routine_used, seen_by}
-use Rattle.inf_operands.specs.Operands.{Settled, is_stack, leaf_added, one_added, settled, settled_action, settled_alone, settled_by}
-use Rattle.inf_operands.specs.Operands.{settled_leaf, settled_name, settled_text, settled_word, with_settled}
+use Rattle.inf_operands.specs.Operands.{Settled, is_stack, leaf_added, one_added, settled, settled_action, settled_by}
+use Rattle.inf_operands.specs.Operands.{settled_leaf, settled_name, settled_text, with_settled}
 use Rattle.inf_output.specs.{Strings.fits, Texts.used_in}
 use Rattle.inf_text.specs.Packing.{packed}
 use Rattle.inf_operands.specs.Texts.{text_at, text_packed}
@@ -33,7 +33,7 @@ then_keeps a b = record { names = λ t. b.names t ∙ a.names t; counts = b.coun
 pub same : (o : Out) → Keeps o o
 same o = record { names = λ t. refl; counts = refl }
 
--- Leaves of expressions
+-- Lemmas about leaves of expressions
 
 module _ (limits : Limits) where
   text_keeps : (b : Bool) (bytes : List ℕ) (o : Out) → Keeps o (with_text_by limits b bytes o)
@@ -105,12 +105,10 @@ module _ (limits : Limits) where
     leaf_keeps : (l : Leaf) (o : Out) → Keeps o (settled_leaf limits set locals tokens l o).0
     leaf_keeps (Leaf.Name at) o = name_keeps locals (name_at tokens at) o
     leaf_keeps (Leaf.Alone at) o = alone_keeps (is_stack (bytes_at tokens at) (local_number (bytes_at tokens at) locals)) at o
-    leaf_keeps (Leaf.Number number) o = same o
-    leaf_keeps (Leaf.Char zscii) o = same o
     leaf_keeps (Leaf.Word word) o = word_keeps word.text WordUse.Other word.is_plural o
     leaf_keeps (Leaf.Text at) o = settled_text_keeps (text_at set tokens at) o
     leaf_keeps (Leaf.Action at) o = action_keeps (name_at tokens at) o
-    leaf_keeps (Leaf.System at) o = same o
+    leaf_keeps other o = same o
 
     pub settled_keeps : (leaves : List Leaf) (s : Settled) → Keeps s.out (settled limits set locals tokens leaves s).out
     settled_keeps [] s = same s.out
@@ -119,20 +117,16 @@ module _ (limits : Limits) where
         (settled_keeps leaves (with_settled (settled_leaf limits set locals tokens l s.out) s.operands))
 
     added_keeps : (l : Leaf) (o : Out) → Keeps o (one_added limits set tokens l o)
-    added_keeps (Leaf.Name at) o = same o
-    added_keeps (Leaf.Alone at) o = same o
-    added_keeps (Leaf.Number number) o = same o
-    added_keeps (Leaf.Char zscii) o = same o
     added_keeps (Leaf.Word word) o = word_keeps word.text WordUse.Other word.is_plural o
     added_keeps (Leaf.Text at) o = settled_text_keeps (text_at set tokens at) o
     added_keeps (Leaf.Action at) o = action_keeps (name_at tokens at) o
-    added_keeps (Leaf.System at) o = same o
+    added_keeps other o = same o
 
     pub leaves_keep : (leaves : List Leaf) (o : Out) → Keeps o (leaf_added limits set tokens leaves o)
     leaves_keep [] o = same o
     leaves_keep (l ∷ leaves) o = then_keeps (added_keeps l o) (leaves_keep leaves (one_added limits set tokens l o))
 
-  -- The routine of a stub
+  -- Lemmas about the routine of a stub
 
   opened_keeps : (f : Option CodeLimit) (locals : ℕ) (is_lost : Bool) (o : Out) → Keeps o (opened_by limits f locals is_lost o)
   opened_keeps None locals is_lost o = record { names = λ t. refl; counts = refl }

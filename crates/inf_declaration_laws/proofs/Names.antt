@@ -47,7 +47,7 @@ standing_put key new s (n ∷ names) = put_by (bytes_eq new n.name) refl (standi
         ∙ turned (bytes_eq key n.name) (bytes_eq key new) (Some n.standing) (Some s) (standing_of key names)
         (differ key new n.name e)
 
--- Declarations
+-- Lemmas about declarations
 
 told_declared : (system : Option Meaning) (s : Option (Standing Place)) (number : ℕ) (m : Meaning) (place : Place) (b : Bool)
     → meaning_told (found_as system (cond b (Some (IsDeclared number m place)) s)) ≡ cond b (Some m) (meaning_told (found_as system s))
@@ -89,7 +89,7 @@ declared_tables limits n m o = by (declare_fault limits n.bytes o.names)
     by (Some (DeclareFault.Present place)) = refl
     by (Some DeclareFault.Memory) = refl
 
--- Uses
+-- Lemmas about uses
 
 system_same : (debugging : Bool) (a b : List ℕ) → folded a ≡ folded b → system_meaning debugging a ≡ system_meaning debugging b
 system_same debugging a b e = ap (λ k. meaning_if debugging (find (λ known. bytes_eq k (folded (name_of known))) system_names)) e
@@ -110,13 +110,11 @@ module _ (name : List ℕ) (place : Place) (o : Out) where
 
   used_by : (f : Found Place) → found_in name o.names ≡ f → (t : List ℕ)
       → names_of (record o { names = with_used_by f name place o.names }) t ≡ names_of o t
-  used_by (Found.System m) e t = refl
-  used_by (Found.Declared m first) e t = refl
-  used_by Found.Used e t = refl
   used_by Found.Unknown e t =
       ap (λ s. meaning_told (found_as (system_meaning o.names.is_debugging t) s))
       (standing_put (folded t) (folded name) (IsUsed name place) o.names.names)
       ∙ used_told t e (bytes_eq (folded t) (folded name)) refl
+  used_by other e t = refl
 
   referred_keeps_by : (limits : Limits) (r : Option ReferFault) → Keeps o (referred_by limits r name place o)
   referred_keeps_by limits None = record { names = used_by (found_in name o.names) refl; counts = refl }

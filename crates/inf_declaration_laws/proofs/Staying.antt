@@ -93,12 +93,10 @@ module _ (limits : Limits) where
   leaf_stays set locals tokens (Leaf.Name at) o = name_stays locals (name_at tokens at) o
   leaf_stays set locals tokens (Leaf.Alone at) o =
       alone_stays locals tokens (is_stack (bytes_at tokens at) (local_number (bytes_at tokens at) locals)) at o
-  leaf_stays set locals tokens (Leaf.Number number) o = refl
-  leaf_stays set locals tokens (Leaf.Char zscii) o = refl
   leaf_stays set locals tokens (Leaf.Word word) o = word_stays word.text WordUse.Other word.is_plural o
   leaf_stays set locals tokens (Leaf.Text at) o = text_stays (text_at set tokens at) o
   leaf_stays set locals tokens (Leaf.Action at) o = action_stays (name_at tokens at) o
-  leaf_stays set locals tokens (Leaf.System at) o = refl
+  leaf_stays set locals tokens other o = refl
 
   pub settled_stays : (set : CharSet) (locals : List Local) (tokens : List SourceToken) (leaves : List Leaf) (s : Settled)
       → (settled limits set locals tokens leaves s).out.tables.arrays ≡ s.out.tables.arrays

@@ -22,7 +22,7 @@ use Rattle.inf_declaration_laws.specs.Declarations.{Attribute, AttributeAlias, C
 use Rattle.inf_declaration_laws.specs.Declarations.{Other, Property, PropertyAlias, Stub, Text, count, is_attribute, is_fake, is_global}
 use Rattle.inf_declaration_laws.specs.Declarations.{is_property, names_behind, with_name}
 
--- The names and counts of an output
+-- Definitions of the names and counts of an output
 
 abbrev pub meaning_told : Found Place → Option Meaning
 meaning_told (Found.System m) = Some m
@@ -56,7 +56,7 @@ counted before = record {
   fakes = count is_fake before % 65536;
 }
 
--- Directives as they are read
+-- Definitions of directives as they are read
 
 -- a directive whose tokens are read: its names behind its word, the place where it begins, and all that was compiled before its end
 pub record Read : Type 0 where

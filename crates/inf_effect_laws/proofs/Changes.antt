@@ -23,7 +23,7 @@ use Rattle.inf_control_laws.proofs.{Reaching.ends_as, Reaching.reaches_behind}
 use Rattle.inf_effect_laws.specs.Described.{args_of, goes_on, returns_1, routine_run, with_values}
 use Rattle.inf_effect_laws.specs.Written.{AllCovered}
 
--- One behind the other
+-- Lemmas about changes one behind the other
 
 pub changed_then : (w : World) (x : Exits) (c : Change) (e : Effect) (at : Label → Place) (from to : Place) →
     Then (GivesNothing w c) (Runs w x e) at from to → Runs w x (λ s. c s then e) at from to
@@ -81,7 +81,7 @@ written_ w limits op f act trees h =
 pub line_ended : (w : World) (limits : Limits) → Always w (plain limits Opcode.NewLine) (GivesNothing w (λ s. Some (tells LineEnd s)))
 line_ended w limits = writes_ false w limits Opcode.NewLine (write_of_none (tells LineEnd)) [] [] refl tt
 
--- Calls
+-- Lemmas about calls
 
 pub routine_runs : (w : World) (limits : Limits) (v : Veneer) (trees : List Tree) → AllCovered trees →
     length (parts_in limits trees) ≤ 7 →

@@ -30,7 +30,7 @@ use Rattle.inf_effect_laws.specs.Written.{AllCovered, CoversItem, CoversItems, H
 use Rattle.inf_effect_laws.proofs.Texts.{KeepsTexts, made_keeps}
 use Rattle.inf_effect_laws.proofs.Changes.{call_runs, changed_then, line_ended, routine_runs, written_}
 
--- Texts
+-- Lemmas about texts
 
 pub texts_stay : (w : World) (a b : Out) → used_in b.texts ≡ used_in a.texts → HasTexts w a → HasTexts w b
 texts_stay w a b e h = record { spelled = h.spelled ∙ ap strings (sym e); are = subst (λ l. AreAbbreviations l) (sym e) h.are }
@@ -102,7 +102,7 @@ item_has w limits set tokens returns others is (Item.Ruled r) trees o h =
     ((item_keeps limits set tokens (Item.Ruled r) trees).keeps o) h
 item_has w limits set tokens returns others is _ trees o h = h
 
--- An item that is known
+-- Lemmas about an item that is known
 abbrev Prints : World → Printed × List Tree → Out → Out → Type 0
 Prints w q a b = Lays w (GivesNothing w (printed w q.0)) a b
 
@@ -234,7 +234,7 @@ parted set tokens i items trees all e =
     let b = opened (items_in set tokens items a.0.1) (λ others. Some (a.0.0 ∷ others)) all a.2 in
     record { q = a.0; others = b.0; first = a.1; behind = b.1; same = same_some b.2 }
 
--- `print`
+-- Lemmas about `print`
 pub items_lay : (w : World) (limits : Limits) (x : Exits) (set : CharSet) (tokens : List SourceToken) (items : List Item)
     (trees : List Tree) (all : List Printed) → items_in set tokens items trees ≡ Some all → CoversItems all → (o : Out) → HasTexts w o →
     Lays w (Runs w x (printed_then w all (λ s. Some (Done, s)))) o (items_printed limits set tokens false false items trees o)
@@ -255,7 +255,7 @@ items_lay w limits x set tokens (i ∷ items) trees all e h o has =
     (subst (λ l. Lays w E m (items_printed limits set tokens false false items l m)) (sym (item_rest set tokens i trees p.q p.first))
     later))
 
--- `print_ret`
+-- Lemmas about `print_ret`
 return_lays : (w : World) (limits : Limits) (x : Exits) → Always w (ended limits true) (Runs w x line_returns)
 return_lays w limits x =
     so (changed_then w x (λ s. Some (tells LineEnd s)) (λ s. Some (Returned 1, s)))

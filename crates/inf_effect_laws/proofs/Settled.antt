@@ -23,7 +23,7 @@ use Rattle.inf_operands.specs.Texts.{text_at, text_packed}
 abbrev pub Stay : Out → Out → Type 0
 Stay a b = used_in b.texts ≡ used_in a.texts
 
--- a name
+-- lemmas about a leaf that is a name
 by_referred : (limits : Limits) (f : Option ReferFault) (name : List ℕ) (place : Place) (o : Out) →
     Stay o (referred_by limits f name place o)
 by_referred limits None name place o = refl
@@ -47,7 +47,7 @@ alone_stays limits locals tokens at o =
     (o, Operand.Variable 0) (settled_name limits locals (name_at tokens at) o) (λ _. refl)
     (λ _. name_stays limits locals (name_at tokens at) o)
 
--- a text
+-- lemmas about a leaf that is a text
 by_fitting : (limits : Limits) (b : Bool) (text : List ℕ) (o : Out) → Stay o (with_text_by limits b text o)
 by_fitting limits true text o = refl
 by_fitting limits false text o = refl
@@ -70,7 +70,7 @@ word_stays : (limits : Limits) (text : Text) (how : WordUse) (is_plural : Bool) 
 word_stays limits text how is_plural o =
     by_word limits (add_fault limits (word_of text o.tables.dictionary.list) how o.tables.dictionary) text how is_plural o
 
--- an action
+-- lemmas about a leaf that is an action
 by_seen : (f : Option (DeclareFault Place)) (key : List ℕ) (place : Place) (o : Out) → Stay o (seen_by f key place o)
 by_seen None key place o = refl
 by_seen (Some fault) key place o = refl
@@ -101,12 +101,10 @@ leaf_stays : (limits : Limits) (set : CharSet) (locals : List Local) (tokens : L
     Stay o (settled_leaf limits set locals tokens l o).0
 leaf_stays limits set locals tokens (Leaf.Name at) o = name_stays limits locals (name_at tokens at) o
 leaf_stays limits set locals tokens (Leaf.Alone at) o = alone_stays limits locals tokens at o
-leaf_stays limits set locals tokens (Leaf.Number number) o = refl
-leaf_stays limits set locals tokens (Leaf.Char zscii) o = refl
 leaf_stays limits set locals tokens (Leaf.Word word) o = word_stays limits word.text WordUse.Other word.is_plural o
 leaf_stays limits set locals tokens (Leaf.Text at) o = text_stays limits (text_at set tokens at) o
 leaf_stays limits set locals tokens (Leaf.Action at) o = action_stays limits (name_at tokens at) o
-leaf_stays limits set locals tokens (Leaf.System at) o = refl
+leaf_stays limits set locals tokens other o = refl
 
 pub settled_stays : (limits : Limits) (set : CharSet) (locals : List Local) (tokens : List SourceToken) (leaves : List Leaf) (s : Settled) →
     Stay s.out (settled limits set locals tokens leaves s).out

@@ -39,7 +39,7 @@ use Rattle.inf_effect_laws.proofs.{Giving.given_lays, Printing.items_lay, Printi
 changes : (w : World) (x : Exits) (c : Code) (change : Change) → Always w c (GivesNothing w change) → Always w c (Runs w x (goes_on change))
 changes w x c change h = so (change_ends w x change) h
 
--- A statement that is known
+-- Lemmas about a statement that is known
 abbrev Has : World → Exits → Deed → Out → Out → Type 0
 Has w x d a b = Lays w (Runs w x (effect w d)) a b
 
@@ -66,7 +66,7 @@ style_set w limits x (Some n) =
     (writes_ false w limits Opcode.SetTextStyle (write_of_one (λ m. tells (Style m))) (is (simple (Operand.Known n)) ∷ []) (number n ∷ [])
     refl (simple_part w (Operand.Known n) (λ s. Some (n, s)), tt))
 
--- An action, with its nouns
+-- Lemmas about an action, with its nouns
 acts : (w : World) (limits : Limits) (trees all : List Tree) → action_in trees ≡ Some all → AllCovered all →
     Always w (action_laid limits trees) (GivesNothing w (routine_run w Veneer.Process all))
 acts w limits [] all e h = none_some e

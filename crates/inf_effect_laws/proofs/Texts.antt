@@ -14,7 +14,7 @@ use Rattle.inf_output.specs.Output.{next_label, used, used_by, with_low_text, wi
 use Rattle.inf_templates.specs.Parts.{calling, calling_routine}
 use Rattle.inf_code_walk.specs.Made.{As, Asks, Handed, Instructs, Jumps, Lows, Made, Marks, Names, Nothing, Packs, Prints, Then, Wide}
 
--- an item
+-- an item that is laid leaves the texts
 fitted_texts : (limits : Limits) (f : Option Limit) (item : Item) (o : Out) → (fitted limits f item o).texts ≡ o.texts
 fitted_texts limits None item o = refl
 fitted_texts limits (Some limit) item o = refl

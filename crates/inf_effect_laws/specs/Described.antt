@@ -49,7 +49,7 @@ args_of w trees = map (λ t. arg (sense w t)) trees
 abbrev pub with_values : World → List Arg → (List ℕ → Store → Option Store) → Change
 with_values w args change s = values w args s then λ p. change p.0 p.1
 
--- Printing
+-- Definitions of printing
 
 abbrev pub told_as : World → (ℕ → Told) → Tree → Change
 told_as w how e = with_values w (args_of w (e ∷ [])) (write_of_one (λ n. tells (how n)))

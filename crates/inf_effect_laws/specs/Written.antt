@@ -1,4 +1,5 @@
--- How such statements are written: the items and the expressions of a unit, and the statements of which the laws speak.
+-- The way in which statements that print and change objects are written: the items and expressions of a unit, and the statements of the
+-- laws.
 use Rattle.std.specs.Prelude.{◌≡◌, Bool, true, false, List, [], ◌∷◌, Option, Some, None}
 use Rattle.inf_area.specs.declared.targets.Target.{Target}
 use Rattle.inf_characters.specs.{Items.IsText, declared.characters.CharSet.CharSet}

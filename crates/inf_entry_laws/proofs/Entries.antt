@@ -5,17 +5,16 @@ use Rattle.std.proofs.lemmas.Slice.Eq.{bytes_eq-Decides}
 use Rattle.inf_settings.specs.Bounds.{Limits}
 use Rattle.inf_area.specs.declared.{targets.Target.Target, targets.Value.Value}
 use Rattle.inf_characters.specs.{declared.characters.CharSet.CharSet, declared.texts.TextItem.TextItem}
-use Rattle.inf_scanner.specs.{declared.tokens.DictionaryWord.DictionaryWord, declared.tokens.Place.Place}
+use Rattle.inf_scanner.specs.{declared.tokens.Place.Place}
 use Rattle.inf_gathering.specs.declared.gathering.Leaf.{Leaf}
 use Rattle.inf_dictionary.specs.{Texts.Text, Words.add_fault, Words.word_of}
 use Rattle.inf_dictionary.specs.{declared.dictionary.AddFault.AddFault as WordFault, declared.uses.WordUse.WordUse}
 use Rattle.inf_assembler.specs.declared.routines.Limit.{Limit as CodeLimit}
 use Rattle.inf_verbs.specs.{Routines.action_fault, declared.routines.ActionFault.ActionFault}
-use Rattle.inf_expressions.specs.{Findings.least_of_both, declared.findings.Finding.Finding, declared.operators.Operand.Operand}
+use Rattle.inf_expressions.specs.{declared.findings.Finding.Finding, declared.operators.Operand.Operand}
 use Rattle.inf_expressions.specs.declared.units.Wanted.{Wanted}
 use Rattle.inf_names.specs.{Locals.Headed, Locals.Local, Locals.local_number, Spellings.Name, SystemNames.system_meaning}
 use Rattle.inf_names.specs.Symbols.{IsDeclared, Named, Standing, declare_fault, folded, found_as, found_in, put, refer_fault, standing_of}
-use Rattle.inf_names.specs.Symbols.{with_declared}
 use Rattle.inf_names.specs.declared.{meanings.Meaning.Meaning, symbols.DeclareFault.DeclareFault, symbols.Found.Found}
 use Rattle.inf_names.specs.declared.symbols.ReferFault.{ReferFault}
 use Rattle.inf_settings.specs.Bounds.{unbounded}
@@ -23,33 +22,31 @@ use Rattle.inf_text.specs.Packing.{dictionary_bytes, packed}
 use Rattle.inf_code.specs.Code.{full_opened}
 use Rattle.inf_unit.specs.{Tokens.SourceToken, Units.bytes_at, Units.name_at, Units.name_order}
 use Rattle.inf_output.specs.{Strings.fits, Texts.used_in}
-use Rattle.inf_output.specs.Output.{Out, declared, declared_by, opened, opened_by, referred, referred_as, referred_by, with_text, with_text_by}
+use Rattle.inf_output.specs.Output.{Out, declared, declared_by, opened_by, referred, referred_as, referred_by, with_text_by}
 use Rattle.inf_output.specs.Output.{with_word, with_word_by}
-use Rattle.inf_output.specs.Actions.{action_by, appeared, fake_number, key_of, numbered_as, numbered_by, routine_name, routine_of, routine_used}
+use Rattle.inf_output.specs.Actions.{action_by, appeared, fake_number, key_of, numbered_as, numbered_by, routine_name, routine_of}
 use Rattle.inf_output.specs.Actions.{seen_by}
 use Rattle.inf_operands.specs.Operands.{Settled, is_stack, settled, settled_action, settled_by, settled_leaf, settled_name, settled_text}
 use Rattle.inf_operands.specs.Operands.{with_settled}
 use Rattle.inf_operands.specs.Texts.{text_at, text_packed}
-use Rattle.inf_compilation.specs.{Context.Context, Findings.Findings}
-use Rattle.inf_compilation.specs.Actions.{Compilation, finding_at, settled_of, world_ended_by}
-use Rattle.inf_tables.specs.{Tables.AllTables, declared.faults.WorldFault.WorldFault, declared.kinds.Parent.Parent}
-use Rattle.inf_tables.specs.World.{WorldOf, class_header_fault, class_of_fault, given_property_fault, individual_fault, object_header_fault}
+use Rattle.inf_compilation.specs.{Context.Context}
+use Rattle.inf_compilation.specs.Actions.{Compilation, finding_at, world_ended_by}
+use Rattle.inf_tables.specs.World.{class_header_fault, given_property_fault, individual_fault, object_header_fault}
 use Rattle.inf_tables.specs.World.{with_class_header, with_given_property, with_individual, with_object_header}
 use Rattle.inf_named_values.specs.{Declarations.name_declared, Declarations.plainly_known, Declarations.with_world, Values.looked_value}
-use Rattle.inf_named_values.specs.{Values.value_of, Values.variables_from, declared.declarations.Declared.Declared}
-use Rattle.inf_bodies.specs.declared.headers.Header.{Header}
-use Rattle.inf_bodies.specs.ShortNames.{bracketed, name_packed, packed_name, short_text}
+use Rattle.inf_named_values.specs.{declared.declarations.Declared.Declared}
+use Rattle.inf_bodies.specs.ShortNames.{bracketed, name_packed, short_text}
 use Rattle.inf_bodies.specs.Objects.{class_begun_by, class_opened, class_of_word, found_at, joined_by, joined_some, object_begun_by}
 use Rattle.inf_bodies.specs.Objects.{object_declared, object_ended, object_known, object_opened}
 use Rattle.inf_bodies.specs.Bodies.{attribute_set_by, attribute_set_some, further_added_by, further_placed, given, given_finding, given_with, individual_declared}
-use Rattle.inf_bodies.specs.Bodies.{individual_given_by, is_given, is_words, last_at, place_finding, placed, property_given_by, property_gives_by}
+use Rattle.inf_bodies.specs.Bodies.{individual_given_by, is_given, is_words, last_at, placed, property_given_by, property_gives_by}
 use Rattle.inf_bodies.specs.Bodies.{property_of}
-use Rattle.inf_bodies.specs.Values.{any_placed, embedded, found_embedded, name_place, next_routine, routine_placed, takes_words, text_placed_by}
-use Rattle.inf_bodies.specs.Values.{text_finding_by, value_by, word_text, word_used}
-use Rattle.inf_entry_laws.specs.Laws.{EntriesChangeWorlds, FirstClassFits, HeadersChangeWorlds, IsNamed, ValuesChangeWorlds, class_short}
+use Rattle.inf_bodies.specs.Values.{any_placed, embedded, found_embedded, name_place, next_routine, routine_placed, text_placed_by}
+use Rattle.inf_bodies.specs.Values.{text_finding_by, value_by, word_used}
+use Rattle.inf_entry_laws.specs.Laws.{EntriesChangeWorlds, FirstClassFits, HeadersChangeWorlds, ValuesChangeWorlds, class_short}
 use Rattle.inf_entry_laws.specs.Laws.{header_of, name_of, number_next, object_short, parent_of, with_first_class, world_of}
 
--- Names
+-- Lemmas about names
 
 put_found : (key : List ℕ) (s : Standing Place) (names : List (Named Place)) → standing_of key (put key s names) ≡ Some s
 put_found key s [] =
@@ -85,10 +82,10 @@ packed_names : (text : Option (List TextItem)) (o : Out) → (name_packed text o
 packed_names None o = refl
 packed_names (Some items) o = refl
 
--- Headers
+-- Lemmas about headers
 
 module _ (limits : Limits) (context : Context) (place : Place) (w : Compilation) where
-  -- a class
+  -- lemmas about the header of a class
   class_is : (n : Name) → (plainly_known n (name_order w.unit.tokens) w).finding ≡ None
       → class_header_fault limits (class_short context n w) (world_of w) ≡ None
       → (class_opened limits context (plainly_known n (name_order w.unit.tokens) w).finding n w).output
@@ -125,7 +122,7 @@ module _ (limits : Limits) (context : Context) (place : Place) (w : Compilation)
       (ap (declare_fault limits n.bytes) (packed_names text w.output) ∙ free)
       ∙ ap (λ t. Found.Declared (Meaning.Class ((5 + length t.world.objects) % 65536)) n.place) (packed_tables text w.output)
 
-  -- an object
+  -- lemmas about the header of an object
   ended_output : (name : Option Name) (d : Declared) (u : Compilation) → (object_ended limits context place name d u).output ≡ u.output
   ended_output None d u = refl
   ended_output (Some n) d u = refl
@@ -290,12 +287,10 @@ module _ (limits : Limits) where
   leaf_stays set locals tokens (Leaf.Name at) o = name_stays locals (name_at tokens at) o
   leaf_stays set locals tokens (Leaf.Alone at) o =
       alone_stays locals tokens (is_stack (bytes_at tokens at) (local_number (bytes_at tokens at) locals)) at o
-  leaf_stays set locals tokens (Leaf.Number number) o = refl
-  leaf_stays set locals tokens (Leaf.Char zscii) o = refl
   leaf_stays set locals tokens (Leaf.Word word) o = word_stays word.text WordUse.Other word.is_plural o
   leaf_stays set locals tokens (Leaf.Text at) o = text_stays (text_at set tokens at) o
   leaf_stays set locals tokens (Leaf.Action at) o = action_stays (name_at tokens at) o
-  leaf_stays set locals tokens (Leaf.System at) o = refl
+  leaf_stays set locals tokens other o = refl
 
   settled_stays : (set : CharSet) (locals : List Local) (tokens : List SourceToken) (leaves : List Leaf) (s : Settled)
       → (settled limits set locals tokens leaves s).out.tables.world ≡ s.out.tables.world
@@ -304,7 +299,7 @@ module _ (limits : Limits) where
       settled_stays set locals tokens leaves (with_settled (settled_leaf limits set locals tokens l s.out) s.operands)
       ∙ leaf_stays set locals tokens l s.out
 
-  -- Values
+  -- Lemmas about values
 
   used_stays : (f : Option Finding) (items : List TextItem) (w : Compilation) → world_of (word_used limits f items w) ≡ world_of w
   used_stays None items w = word_stays (dictionary_bytes items) WordUse.Other false w.output

@@ -32,7 +32,7 @@ use Rattle.inf_entry_laws.specs.Chains.{IsDeclaration, IsFirst, IsFurther, IsHea
 use Rattle.inf_entry_laws.specs.Chains.{IsRight, number_of, piece_of, run}
 use Rattle.inf_entry_laws.proofs.Entries.{entries_change, headers_change, values_change}
 
--- Faults that a world has not
+-- Lemmas about faults that a world has not
 
 open_fits : (b : Bool) (g : Option WorldFault) (f : WorldFault) → cond b g (Some f) ≡ None → g ≡ None
 open_fits true g f e = e
@@ -82,7 +82,7 @@ property_fits limits (Some n) v w h = given_fits limits n v w h
 property_fits limits None v w h = given_fits limits (64 + w.individuals) v (with_individual w) h.1
 
 module _ (limits : Limits) (context : Context) where
-  -- Values
+  -- Lemmas about values
 
   taken_world : (u : ValueUnit) → world_of (taken limits context u).work ≡ world_of (piece_of u).work
   taken_world (Plain u) = by (text_in context u.work)
@@ -149,7 +149,7 @@ module _ (limits : Limits) (context : Context) where
       values_run more (value_behind limits context u) are.1
       ∙ ap (with_values (map (value_in limits context) more)) (further_is u before are.0)
 
-  -- Properties
+  -- Lemmas about properties
 
   abbrev whole_world : Option ℕ → List Value → WorldOf → WorldOf
   whole_world (Some n) values w = given_values n values w
@@ -177,7 +177,7 @@ module _ (limits : Limits) (context : Context) where
   property_fit (Declared n) v r h = property_fits limits (Some n) v r.world h
   property_fit (Individual name) v r h = property_fits limits (number_in name r.numbers) v r.world h
 
-  -- Parts
+  -- Lemmas about parts
 
   part_is : (u : PartUnits) (before : Compilation) (numbers : List (ℕ × ℕ)) → IsPart limits context u before numbers
       → world_of (part_behind limits context u) ≡ (part_done (part_of limits context u) (run before numbers)).world
@@ -231,7 +231,7 @@ module _ (limits : Limits) (context : Context) where
             (parts_fit body (part_behind limits context u) r.numbers are.1),
       )
 
-  -- Headers
+  -- Lemmas about headers
 
   headed_by : (p : Parent) (short : List ℕ) (w : WorldOf) → headed false (place_by p) short w ≡ with_object_header p short w
   headed_by (Parent.Arrows n) short w = refl
@@ -300,7 +300,7 @@ module _ (limits : Limits) (context : Context) where
         }
     header_heads (ObjectHeader u) i = object_heads u i
 
-  -- Declarations
+  -- Lemmas about declarations
 
   module _ (d : DeclarationUnits) (before : Compilation) (numbers : List (ℕ × ℕ)) (i : IsDeclaration limits context d before numbers)
     where

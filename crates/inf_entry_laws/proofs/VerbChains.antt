@@ -28,7 +28,7 @@ use Rattle.inf_entry_laws.specs.VerbChains.{UnitsMakeVerbs, VerbUnits, lines_beh
 use Rattle.inf_entry_laws.specs.VerbChains.{verbs_behind}
 use Rattle.inf_entry_laws.proofs.{Lines.action_stays, Lines.tokens_stay, Verbs.verbs_change}
 
--- The verb of a word
+-- Lemmas about the verb of a word
 
 abbrev verb_in_tables : Text → AllTables → Option ℕ
 verb_in_tables t tables = verb_of t tables.dictionary.list
@@ -90,7 +90,7 @@ module _ (how : WordUse) (n : ℕ) (is : verb_in how ≡ Some n) where
   word_again (Some word) t words e = again word.text t word.is_plural words e
 
 module _ (limits : Limits) (t : Text) where
-  -- Words in a use that names no verb, or their own
+  -- Lemmas about words in a use that names no verb, or their own
 
   word_leaves_by : (f : Option WordFault) (u : Text) (how : WordUse) (p : Bool) (o : Out)
       → verb_of t (with_use u how p o.tables.dictionary).list ≡ verb_in_tables t o.tables
@@ -114,7 +114,7 @@ module _ (limits : Limits) (t : Text) where
       word_leaves_by (word_fault limits (word_of word.text o.tables.dictionary.list) how o.tables.dictionary) word.text how word.is_plural o
       (again how n refl word.text t word.is_plural o.tables.dictionary e)
 
-  -- A line
+  -- Lemmas about a line
 
   laid_leaves_by : (f : Option LineFault) (n : ℕ) (how : LinePlace) (l : LineOf) (o : Out)
       → verb_in_tables t (one_line_by limits f n how l o).tables ≡ verb_in_tables t o.tables
@@ -146,7 +146,7 @@ module _ (limits : Limits) (t : Text) where
       ∙ action_stays limits P preposition_leaves (λ r x. refl) (λ a x. refl) name (taken limits w).0
       ∙ tokens_stay limits P preposition_leaves (λ r x. refl) (λ a x. refl) arrow w.unit.tokens w.output
 
-  -- `Extend`
+  -- Lemmas about `Extend`
 
   extended_leaves : (n : ℕ) (how : LinePlace) (b : Bool) (o : Out)
       → verb_in_tables t (cond b (with_verbs (with_extended n how o.tables.verbs) o) o).tables ≡ verb_in_tables t o.tables

@@ -84,7 +84,7 @@ module _ (limits : Limits) where
   action_leaves =
       action_stays limits (λ t. t.verbs) (λ text p o. word_stays text WordUse.Preposition p o) (λ routines t. refl) (λ all t. refl)
 
-  -- Headers
+  -- Lemmas about headers
 
   module _ (w : Compilation) where
     abbrev tokens : List SourceToken

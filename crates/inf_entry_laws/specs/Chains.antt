@@ -44,7 +44,7 @@ abbrev pub Given : Limits → Option ℕ → Option Value → WorldOf → Type 0
 Given limits (Some n) v w = given_property_fault limits n v w ≡ None
 Given limits None v w = (individual_fault w ≡ None) × (given_property_fault limits (64 + w.individuals) v (with_individual w) ≡ None)
 
--- Values
+-- Definitions of values
 
 abbrev pub IsPlain : Limits → Context → Option (List TextItem) → Compilation → Type 0
 IsPlain limits context (Some items) w = variables_from items false ≡ false
@@ -78,7 +78,7 @@ AreFurther limits context [] before = Unit {0}
 AreFurther limits context (u ∷ more) before =
     IsFurther limits context u before × AreFurther limits context more (value_behind limits context u)
 
--- Parts
+-- Definitions of parts
 
 pub record IsClass (limits : Limits) (c : ℕ) (u : Piece) (before : Compilation) : Type 0 where
   pub continues : Continues u before
@@ -111,7 +111,7 @@ AreParts limits context (u ∷ body) before numbers =
     IsPart limits context u before numbers
     × AreParts limits context body (part_behind limits context u) (part_done (part_of limits context u) (run before numbers)).numbers
 
--- Headers
+-- Definitions of headers
 
 pub record IsClassHeader (limits : Limits) (context : Context) (n : Name) (u : Piece) (before : Compilation) : Type 0 where
   pub continues : Continues u before
@@ -134,7 +134,7 @@ abbrev pub IsHeader : Limits → Context → HeaderUnit → Compilation → Type
 IsHeader limits context (ClassHeader n u) before = IsClassHeader limits context n u before
 IsHeader limits context (ObjectHeader u) before = IsObjectHeader limits context u before
 
--- Whole declarations
+-- Definitions of whole declarations
 
 pub record IsDeclaration (limits : Limits) (context : Context) (d : DeclarationUnits) (before : Compilation) (numbers : List (ℕ × ℕ))
     : Type 0 where

@@ -28,7 +28,7 @@ use Rattle.inf_bodies.specs.Values.{word_text}
 abbrev pub world_of : Compilation → WorldOf
 world_of w = w.output.tables.world
 
--- Headers
+-- Definitions of headers
 
 -- the short names of a class and of an object, as bytes
 abbrev pub class_short : Context → Name → Compilation → List ℕ

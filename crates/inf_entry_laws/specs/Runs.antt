@@ -46,7 +46,7 @@ pub record DeclarationUnits : Type 0 where
   pub body : List PartUnits
   pub last : Compilation
 
--- The compilation behind each of them
+-- Definitions of the compilation behind each unit
 
 abbrev pub value_behind : Limits → Context → ValueUnit → Compilation
 value_behind limits context (Plain u) = value_read limits context u.place u.work
@@ -111,7 +111,7 @@ taken limits context (Routine u) = record {
 abbrev pub value_in : Limits → Context → ValueUnit → Value
 value_in limits context u = (taken limits context u).value
 
--- The body that the units of a declaration are
+-- Definitions of the body that the units of a declaration are
 
 abbrev pub part_of : Limits → Context → PartUnits → Part
 part_of limits context (ClassNamed c u) = InClass c

@@ -25,7 +25,7 @@ pub data VerbUnits : Type 0 where
   More : Piece → ℕ → VerbUnits
   Extended : Piece → List LineUnit → VerbUnits
 
--- The compilation behind each of them
+-- Definitions of the compilation behind each unit
 
 abbrev pub lines_behind : Limits → Context → List LineUnit → Compilation → Compilation
 lines_behind limits context [] before = before
@@ -40,7 +40,7 @@ abbrev pub verbs_behind : Limits → Context → List VerbUnits → Compilation 
 verbs_behind limits context [] before = before
 verbs_behind limits context (u ∷ units) before = verbs_behind limits context units (verb_behind limits context u)
 
--- The things that they say
+-- Definitions of the things that units of verbs say
 
 abbrev pub text_of : Option DictionaryWord → Text
 text_of None = []

@@ -216,7 +216,7 @@ alone_builds order place left right atoms a events b s o p more =
           s.place + leaf_count a;
     })
 
--- Lists
+-- Lemmas about lists
 pub one_lists : (order place n : ℕ) (a : Source) (events : List (Event Action) → List (Event Action)) → Builds events order place n a →
     Lists (λ more. events (Did Action.Part ∷ more)) order place n (a ∷ [])
 one_lists order place n a events b s o p counts e more =

@@ -22,7 +22,7 @@ use Rattle.inf_expression_laws.proofs.Typed.{Change, form_passes, Passes, below,
 use Rattle.inf_expression_laws.proofs.Typed.{step_changes, suffix_changes, test_changes, two_changes}
 use Rattle.inf_expression_laws.proofs.Typed as typed
 
--- The state of the reading
+-- Lemmas about the state of the reading
 record Read (f : Frame) (items : List Item) (seen : List ℕ) (u : Unit) (tokens : List SourceToken) : Type 0 where
   stands : Stands f items seen u.gathering
   at : At f u (length seen) tokens
@@ -121,7 +121,7 @@ stepped_stands rest GatherStep.Bracketed c first u tokens r = record { stands = 
 stepped_stands rest GatherStep.Bracketed c (later first) u tokens r = record { stands = closing_stands r.stands; at = at_gathered _ r.at }
 stepped_stands rest GatherStep.Bracketed c (later (later m)) u tokens r = elim m [ ]
 
--- an action
+-- an action changes what is open from `c.old` to `c.now`, where `c` is one of the changes of its step
 acts : {f : Frame} {seen : List ℕ} (rest : List Item) (a : Action) (c : Change) → IsOneOf c (step_changes (step_of a)) →
     (u : Unit) (tokens : List SourceToken) →
     Read f (c.old ++ rest) seen u tokens → Read f (c.now ++ rest) seen (acted a u) tokens
@@ -132,7 +132,7 @@ acts {f} {seen} rest a c m u tokens r = by_step (step_of a) refl m
     by_step (Some s) e n =
         subst (λ v. Read f (c.now ++ rest) seen v tokens) (sym (acted_step a s u e)) (stepped_stands rest s c n u tokens r)
 
--- A token
+-- Lemmas about a token
 last_of : {A : Type 0} (xs ys : List A) (y : A) → slice_get (xs ++ y ∷ ys) (length xs) ≡ Some y
 last_of [] ys y = refl
 last_of (x ∷ xs) ys y = last_of xs ys y
@@ -172,11 +172,7 @@ with_token {f} {items} {seen} {u} t tokens atom is r =
 at_end : {f : Frame} {symbols : List (Symbol Action)} {items target : List Item} → symbols ≡ [] → Passes items symbols target →
     {seen : List ℕ} {g : Gathering} → Stands f items seen g → Stands f target seen g
 at_end e (typed.done w) s = weakened s w
-at_end e (typed.token p) s = cc
-at_end e (typed.close w h p) s = cc
-at_end e (typed.sure p) s = cc
-at_end e (typed.act c rest one w p) s = cc
-at_end e (typed.rule c rest is w p) s = cc
+at_end e other s = cc
 
 reads : {symbols left : List (Symbol Action)} {atoms : List ℕ} {events : List (Event Action)} → Leads grammar symbols atoms events left →
     left ≡ [] →
@@ -205,7 +201,7 @@ reads (action {a = does} l) e {f = f} {seen = seen} (typed.act c rest one w p) u
 reads (row {rule = number} {r = way} one not l) e {f = f} {seen = seen} (typed.rule c rest is w p) u tokens a r =
     reads l e (joined (below rest (row_passes number c way is one)) p) u tokens a (record { stands = weakened r.stands w; at = r.at })
 
--- A whole expression
+-- Lemmas about a whole expression
 
 only_whole : {f : Frame} {level : ℕ} {all : List ℕ} {g : Gathering} → Stands f (Whole level ∷ []) all g →
     (a : Source) × Written level f.order (length f.base.leaves) all a × (g ≡ gained f a f.base)

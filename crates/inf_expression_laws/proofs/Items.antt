@@ -33,7 +33,7 @@ pub data Within : List Item → List Item → Type 0 where
   bottom : Within [] []
   item : {x y : Item} {xs ys : List Item} → Fits x y → Within xs ys → Within (x ∷ xs) (y ∷ ys)
 
--- Cases of items as a test
+-- Lemmas about cases of items as a test
 
 abbrev same_list : ℕ → ℕ → ℕ → ℕ → Bool
 same_list level signs other_level other_signs = (level == other_level) && (signs == other_signs)
@@ -135,7 +135,7 @@ abbrev pub all_popped : List Item → List Item → Option (List Item)
 all_popped [] items = Some items
 all_popped (y ∷ ys) items = and_then (all_popped ys) (popped y items)
 
--- Orders
+-- Lemmas about orders
 
 pub fits_same : (x : Item) → Fits x x
 fits_same (Sign set) = sign (λ atom h. h)

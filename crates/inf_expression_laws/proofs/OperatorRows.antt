@@ -16,9 +16,8 @@ use Rattle.inf_expressions.specs.{declared.operators.Single.Single, declared.ope
 use Rattle.inf_unit.specs.Steps.{step_of}
 use Rattle.inf_grammar.specs.Language.{grammar}
 use Rattle.inf_expression_laws.specs.Precedence as written
-use Rattle.inf_expression_laws.specs.Precedence.{Written, Listed, closing_sign, comma_sign, commas, leaf_count, list_of, opening_sign}
-use Rattle.inf_expression_laws.specs.Precedence.{operands, or_sign, sign_behind, sign_between, sign_in_front, sign_of_test, sums}
-use Rattle.inf_expression_laws.specs.Precedence.{assignments}
+use Rattle.inf_expression_laws.specs.Precedence.{commas, opening_sign}
+use Rattle.inf_expression_laws.specs.Precedence.{sign_behind, sign_between, sign_in_front, sign_of_test, sums}
 use Rattle.inf_expression_laws.proofs.Built.{State, behind, over_one, over_two, stepped, tested as tested_by, in_front_of}
 
 -- Symbols that an expression of a level begins, and those that may go on with it at its level
@@ -67,7 +66,7 @@ pub free : (atoms : List ℕ) → IsNext_not 0 atoms
 free [] = tt
 free (atom ∷ atoms) = has_zero atom
 
--- Tails of a row that are empty
+-- Lemmas about tails of a row that are empty
 pub no_expression_tail : {K : List (Symbol Action)} {atoms : List ℕ} {events : List (Event Action)} → IsText grammar K atoms events →
     IsText grammar (expression_tail ∷ K) atoms events
 unfolding grammar
@@ -133,7 +132,7 @@ pub no_post_tail : {K : List (Symbol Action)} {atoms : List ℕ} {events : List 
 unfolding grammar
 no_post_tail n l = row (later (later first)) n l
 
--- Signs that are no opening bracket
+-- Lemmas about signs that are no opening bracket
 pub apart : (signs : ℕ) → bit_and signs opening_sign ≡ 0 → (atom : ℕ) → has signs atom ≡ true → has opening_sign atom ≡ false
 apart signs e atom h =
     by_both (has signs atom) (has opening_sign atom) h (sym (has_and signs opening_sign atom) ∙ ap (λ set. has set atom) e ∙ has_zero atom)
@@ -323,14 +322,9 @@ between_entry (Binary.Operation Operation.Word) level signs e = between_at e wor
 between_entry (Binary.Property PropertyPart.Address) level signs e = between_at e address_entry
 between_entry (Binary.Property PropertyPart.Length) level signs e = between_at e length_entry
 between_entry (Binary.Property PropertyPart.Value) level signs e = between_at e value_entry
-between_entry (Binary.Test t) level signs e = cc
-between_entry (Binary.Fails t) level signs e = cc
-between_entry Binary.Assign level signs e = cc
-between_entry Binary.Call level signs e = cc
-between_entry Binary.Then level signs e = cc
-between_entry Binary.To level signs e = cc
+between_entry other level signs e = cc
 
--- operators in front of one expression
+-- Lemmas about operators in front of one expression
 
 pub record InFront (op : Unary) (level signs : ℕ) : Type 0 where
   pub act : Action
@@ -401,7 +395,7 @@ in_front_entry Unary.Children level signs e = cc
 in_front_entry Unary.Call level signs e = cc
 in_front_entry Unary.Indirect level signs e = cc
 
--- operators behind one expression
+-- Lemmas about operators behind one expression
 
 pub record Behind (op : Unary) (level signs : ℕ) : Type 0 where
   pub act : Action
@@ -434,16 +428,9 @@ behind_at {op} {one} {other} e b = subst (λ (p : ℕ × ℕ). Behind op p.0 p.1
 pub behind_entry : (op : Unary) (level signs : ℕ) → sign_behind op ≡ Some (level, signs) → Behind op level signs
 behind_entry (Unary.Behind Direction.Up) level signs e = behind_at e up_behind_entry
 behind_entry (Unary.Behind Direction.Down) level signs e = behind_at e down_behind_entry
-behind_entry Unary.Not level signs e = cc
-behind_entry Unary.Negate level signs e = cc
-behind_entry (Unary.Single s) level signs e = cc
-behind_entry (Unary.Before s) level signs e = cc
-behind_entry (Unary.Relative r) level signs e = cc
-behind_entry Unary.Children level signs e = cc
-behind_entry Unary.Call level signs e = cc
-behind_entry Unary.Indirect level signs e = cc
+behind_entry other level signs e = cc
 
--- Tests
+-- Lemmas about tests
 
 pub record Tested (op : Binary) (signs : ℕ) : Type 0 where
   pub act : Action
@@ -596,18 +583,4 @@ test_entry (Binary.Test Test.In) signs e = tested_at e in_entry
 test_entry (Binary.Fails Test.In) signs e = tested_at e notin_entry
 test_entry (Binary.Test Test.OfClass) signs e = tested_at e ofclass_entry
 test_entry (Binary.Test Test.Provides) signs e = tested_at e provides_entry
-test_entry (Binary.Fails Test.Less) signs e = cc
-test_entry (Binary.Fails Test.Greater) signs e = cc
-test_entry (Binary.Fails Test.AtMost) signs e = cc
-test_entry (Binary.Fails Test.AtLeast) signs e = cc
-test_entry (Binary.Fails Test.OfClass) signs e = cc
-test_entry (Binary.Fails Test.Provides) signs e = cc
-test_entry (Binary.Operation o) signs e = cc
-test_entry (Binary.Property p) signs e = cc
-test_entry Binary.Assign signs e = cc
-test_entry Binary.Comma signs e = cc
-test_entry Binary.And signs e = cc
-test_entry Binary.Or signs e = cc
-test_entry Binary.Call signs e = cc
-test_entry Binary.Then signs e = cc
-test_entry Binary.To signs e = cc
+test_entry other signs e = cc

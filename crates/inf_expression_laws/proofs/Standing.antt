@@ -103,18 +103,8 @@ begins (called left right atoms given b sources w l v r) = begins w
 begins (alone left right atoms w l r) = begins w
 
 pub is_no_list : {level order place : ℕ} {atoms : List ℕ} {a : Source} → Written level order place atoms a → joints a ≡ 0
-is_no_list (operand h) = refl
-is_no_list (action h k) = refl
-is_no_list (system h k) = refl
-is_no_list (brackets right atoms l w r) = refl
 is_no_list (tighter w) = is_no_list w
-is_no_list (in_front signs e h w) = refl
-is_no_list (behind signs sign atoms e w h) = refl
-is_no_list (between signs sign left right e w h v) = refl
-is_no_list (assigned sign left right w h v) = refl
-is_no_list (tested signs sign left right b sources e w h v) = refl
-is_no_list (called left right atoms given b sources w l v r) = refl
-is_no_list (alone left right atoms w l r) = refl
+is_no_list other = refl
 
 pub leaves_count : (outer : Option ℕ) (begun : ℕ) (tokens : List SourceToken) (a : Source) →
     length (leaves_of outer begun tokens a) ≡ leaf_count a
@@ -165,18 +155,14 @@ listed_moved {level} {signs} {order} {other_order} {place} {other_place} {atoms}
 
 -- No list has more parts than tokens.
 some_tokens : {level order place : ℕ} {atoms : List ℕ} {a : Source} → Written level order place atoms a → 0 < length atoms
-some_tokens (operand h) = omega arith
-some_tokens (action h k) = omega arith
-some_tokens (system h k) = omega arith
-some_tokens (brackets right atoms l w r) = omega arith
 some_tokens (tighter w) = some_tokens w
-some_tokens (in_front signs e h w) = omega arith
 some_tokens (behind signs sign atoms e w h) = omega (arith, length-append atoms (sign ∷ []))
 some_tokens (between signs sign left right e w h v) = omega (arith, length-append left (sign ∷ right))
 some_tokens (assigned sign left right w h v) = omega (arith, length-append left (sign ∷ right))
 some_tokens (tested signs sign left right b sources e w h v) = omega (arith, length-append left (sign ∷ right))
 some_tokens (called left right atoms given b sources w l v r) = omega (arith, length-append ((atoms ++ left ∷ []) ++ given) (right ∷ []))
 some_tokens (alone left right atoms w l r) = omega (arith, length-append (atoms ++ left ∷ []) (right ∷ []))
+some_tokens other = omega arith
 
 pub parts_have_tokens : {level signs order place : ℕ} {atoms : List ℕ} {sources : List Source} →
     Listed level signs order place atoms sources → length sources ≤ length atoms
@@ -184,7 +170,7 @@ parts_have_tokens (one w) = omega (arith, some_tokens w)
 parts_have_tokens (more sign left right sources a l h w) =
     omega (arith, parts_have_tokens l, length-append left (sign ∷ right), length-append sources (a ∷ []))
 
--- Several expressions one behind the other
+-- Lemmas about several expressions one behind the other
 pub all_gained_append : (f : Frame) (sources : List Source) (b : Source) (g : Gathering) →
     all_gained f (sources ++ b ∷ []) g ≡ gained f b (all_gained f sources g)
 all_gained_append f [] b g = refl

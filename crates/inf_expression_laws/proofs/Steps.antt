@@ -20,7 +20,7 @@ use Rattle.inf_expression_laws.proofs.Standing.{parts, some, nothing, begins, ga
 use Rattle.inf_expression_laws.proofs.Standing.{all_gained_rest, all_gained_firsts, all_gained_list, list_joints, listed_moved, moved}
 use Rattle.inf_expression_laws.proofs.Standing.{parts_have_tokens}
 
--- Lists one behind the other
+-- Lemmas about lists one behind the other
 three : (xs ys : List ℕ) (z : ℕ) (zs : List ℕ) → xs ++ (ys ++ z ∷ zs) ≡ ((xs ++ ys) ++ z ∷ []) ++ zs
 three xs ys z zs = sym (append_assoc (xs ++ ys) (z ∷ []) zs ∙ append_assoc xs ys (z ∷ zs))
 
@@ -41,7 +41,7 @@ length_one o xs z = omega (arith, length-append xs (z ∷ []))
 to_left : {A : Type 0} (xs ys zs : List A) → xs ++ (ys ++ zs) ≡ (xs ++ ys) ++ zs
 to_left xs ys zs = sym (append_assoc xs ys zs)
 
--- An operator in front
+-- Lemmas about an operator in front
 pub front_stands : {f : Frame} {level signs : ℕ} {rest : List Item} {seen : List ℕ} {g : Gathering} (op : Unary) →
     sign_in_front op ≡ Some (level, signs) →
     Stands f (Whole level ∷ Sign signs ∷ rest) seen g → Stands f (Whole level ∷ rest) seen (with_prefix op g)
@@ -58,7 +58,7 @@ front_stands {f} {level} {signs} op e (whole _ atoms a g (read seen sign s h k) 
     })
     (whole seen (sign ∷ atoms) (Prefix (f.order + length seen) op a) g s (in_front signs e h (moved o refl w)))
 
--- An operator behind
+-- Lemmas about an operator behind
 pub suffix_stands : {f : Frame} {level signs : ℕ} {rest : List Item} {seen : List ℕ} {g : Gathering} (op : Unary) →
     sign_behind op ≡ Some (level, signs) →
     Stands f (Sign signs ∷ Whole level ∷ rest) seen g → Stands f (Whole level ∷ rest) seen (with_suffix op g)
@@ -93,7 +93,7 @@ both_gained f a b op last g e i = record {
   brackets = g.brackets;
 }
 
--- The places of the second expression
+-- Lemmas about the places of the second expression
 second : (f : Frame) {level : ℕ} (a : Source) {b : Source} (g : Gathering) {right : List ℕ} (seen left : List ℕ) (sign : ℕ) →
     Written level (f.order + length ((seen ++ left) ++ sign ∷ [])) (length (gained f a g).leaves) right b →
     Written level (suc ((f.order + length seen) + length left)) (length g.leaves + leaf_count a) right b
@@ -104,15 +104,10 @@ between_symbols : (in_brackets : Bool) (op : Binary) (b : Source) (level signs :
     symbols_behind in_brackets op b ≡ Symbol.Two op ∷ []
 between_symbols in_brackets (Binary.Operation o) b level signs e n = refl
 between_symbols in_brackets (Binary.Property p) b level signs e n = refl
-between_symbols in_brackets (Binary.Test t) b level signs e n = cc
-between_symbols in_brackets (Binary.Fails t) b level signs e n = cc
-between_symbols in_brackets Binary.Assign b level signs e n = cc
 between_symbols in_brackets Binary.Comma b level signs e n = absurd (both_ways false refl (n refl))
 between_symbols in_brackets Binary.And b level signs e n = refl
 between_symbols in_brackets Binary.Or b level signs e n = refl
-between_symbols in_brackets Binary.Call b level signs e n = cc
-between_symbols in_brackets Binary.Then b level signs e n = cc
-between_symbols in_brackets Binary.To b level signs e n = cc
+between_symbols in_brackets other b level signs e n = cc
 
 pub two_stands : {f : Frame} {level signs : ℕ} {rest : List Item} {seen : List ℕ} {g : Gathering} (op : Binary) →
     sign_between op ≡ Some (level, signs) →
@@ -179,15 +174,7 @@ pub test_symbols : (in_brackets : Bool) (op : Binary) (list : Source) (signs : �
     symbols_behind in_brackets op list ≡ Symbol.List (joints list) ∷ Symbol.Two op ∷ []
 test_symbols in_brackets (Binary.Test t) list signs e = refl
 test_symbols in_brackets (Binary.Fails t) list signs e = refl
-test_symbols in_brackets (Binary.Operation o) list signs e = cc
-test_symbols in_brackets (Binary.Property p) list signs e = cc
-test_symbols in_brackets Binary.Assign list signs e = cc
-test_symbols in_brackets Binary.Comma list signs e = cc
-test_symbols in_brackets Binary.And list signs e = cc
-test_symbols in_brackets Binary.Or list signs e = cc
-test_symbols in_brackets Binary.Call list signs e = cc
-test_symbols in_brackets Binary.Then list signs e = cc
-test_symbols in_brackets Binary.To list signs e = cc
+test_symbols in_brackets other list signs e = cc
 
 test_gained : (f : Frame) (a b : Source) (sources : List Source) (op : Binary) (signs : ℕ) (g : Gathering) → sign_of_test op ≡ Some signs →
     joints (list_of b sources) ≡ length sources → gained f (Two op a (list_of b sources)) g ≡ with_test op
@@ -217,7 +204,7 @@ given_seen : (seen atoms given : List ℕ) (left right : ℕ) →
 given_seen seen atoms given left right =
     to_left seen ((atoms ++ left ∷ []) ++ given) (right ∷ []) ∙ ap (λ l. l ++ right ∷ []) (four seen atoms (left ∷ []) given)
 
--- Lists
+-- Lemmas about lists
 pub list_stands : {f : Frame} {rest : List Item} {seen : List ℕ} {g : Gathering} → Stands f rest seen g →
     Stands f (NoneYet ∷ rest) seen (with_list g)
 list_stands {g = g} s = none_yet g s
@@ -249,7 +236,7 @@ more_stands {f} {level} {signs} few (whole _ right b _ (read _ sign (parts seen 
     cond_false_count : (n : ℕ) → n < 4294967295 → counted n ≡ n + 1
     cond_false_count n l = cond-false (n == 4294967295) n (n + 1) (ne_eqb n 4294967295 (omega (arith, l)))
 
--- A call
+-- Lemmas about a call
 pub call_stands : {f : Frame} {rest : List Item} {seen : List ℕ} {g : Gathering} →
     Stands f (Sign closing_sign ∷ Any assignments comma_sign ∷ Sign opening_sign ∷ Whole members ∷ rest) seen g → Stands f
     (Whole members ∷ rest) seen (with_call g)
@@ -261,7 +248,7 @@ call_stands {f} (read _ right (some (parts _ given b sources _ (read _ left (who
     (whole seen (((atoms ++ left ∷ []) ++ given) ++ right ∷ []) (Call a (list_of b sources)) g s
     (called left right atoms given b sources w h (listed_moved (length_next f.order seen atoms left) (gained_leaves f a g) l) r))
 
--- A test
+-- Lemmas about a test
 pub test_stands : {f : Frame} {signs : ℕ} {rest : List Item} {seen : List ℕ} {g : Gathering} (op : Binary) → sign_of_test op ≡ Some signs →
     Stands f (Parts sums or_sign ∷ Sign signs ∷ Whole sums ∷ rest) seen g → Stands f (Whole tests ∷ rest) seen (with_test op g)
 test_stands {f} {signs} op e (parts _ right b sources _ (read _ sign (whole seen left a g s w) h k) l) =
@@ -269,7 +256,7 @@ test_stands {f} {signs} op e (parts _ right b sources _ (read _ sign (whole seen
     (whole seen (left ++ sign ∷ right) (Two op a (list_of b sources)) g s
     (tested signs sign left right b sources e w h (listed_moved (length_next f.order seen left sign) (gained_leaves f a g) l)))
 
--- Brackets
+-- Lemmas about brackets
 pub closing_stands : {f : Frame} {rest : List Item} {seen : List ℕ} {g : Gathering} →
     Stands f (Whole commas ∷ Opened ∷ rest) seen g → Stands f (Closing ∷ rest) seen (with_closed_bracket g)
 closing_stands {f} (whole _ atoms a _ (opened seen left g s h) w) =

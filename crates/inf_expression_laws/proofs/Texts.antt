@@ -15,7 +15,7 @@ use Rattle.inf_expressions.specs.{Sources.Source, declared.operators.Binary.Bina
 use Rattle.inf_unit.specs.{Steps.step_of, declared.steps.GatherStep.GatherStep}
 use Rattle.inf_grammar.specs.Language.{grammar}
 use Rattle.inf_expression_laws.specs.Precedence as written
-use Rattle.inf_expression_laws.specs.Precedence.{Written, Listed, closing_sign, comma_sign, commas, leaf_count, leaf_count_of_all, list_of}
+use Rattle.inf_expression_laws.specs.Precedence.{Written, Listed, closing_sign, comma_sign}
 use Rattle.inf_expression_laws.specs.Precedence.{opening_sign, operands, or_sign, sums, assignments}
 use Rattle.inf_expression_laws.specs.Laws.{ExpressionsAreTexts, TextsAreOneExpression}
 use Rattle.inf_expression_laws.proofs.{Built.Builds, Built.State, Built.built, OneText.same_events, Standing.begins, Standing.loosened}
@@ -106,7 +106,7 @@ as_assign (row first clear (row (later first) plain l)) = from_sum l
 as_assign (row first clear (row (later (later m)) plain l)) = elim m [ ]
 as_assign (row (later m) clear l) = elim m [ ]
 
--- From a level to the next one
+-- Lemmas that lead from a level of operators to the next one
 
 record Climb (level : ℕ) (K : List (Symbol Action)) (rest : List ℕ) (events : List (Event Action)) : Type 0 where
   under : List (Symbol Action)
@@ -148,20 +148,13 @@ climb (suc (suc (suc (suc (suc (suc (suc (suc (suc (suc (suc (suc (suc (suc n)))
 
 -- no level is past the last
 level_bound : {level order place : ℕ} {atoms : List ℕ} {a : Source} → Written level order place atoms a → level ≤ 14
-level_bound (written.operand h) = omega arith
-level_bound (written.action h k) = omega arith
-level_bound (written.system h k) = omega arith
-level_bound (written.brackets right atoms l w r) = omega arith
 level_bound (written.tighter w) = omega (arith, level_bound w)
 level_bound (written.in_front signs e h w) = level_bound w
 level_bound (written.behind signs sign atoms e w h) = level_bound w
 level_bound (written.between signs sign left right e w h v) = level_bound w
-level_bound (written.assigned sign left right w h v) = omega arith
-level_bound (written.tested signs sign left right b sources e w h v) = omega arith
-level_bound (written.called left right atoms given b sources w l v r) = omega arith
-level_bound (written.alone left right atoms w l r) = omega arith
+level_bound other = omega arith
 
--- Leaves and brackets
+-- Lemmas about leaves and brackets
 
 record LeafText (K : List (Symbol Action)) (rest : List ℕ) (events : List (Event Action)) (atom : ℕ) : Type 0 where
   act : Action
@@ -280,7 +273,7 @@ alone_atoms : (atoms : List ℕ) (left right : ℕ) (rest : List ℕ) →
 alone_atoms atoms left right rest =
     sym (append_assoc atoms (left ∷ []) (right ∷ rest)) ∙ sym (append_assoc (atoms ++ left ∷ []) (right ∷ []) rest)
 
--- The texts of all expressions
+-- Lemmas about the texts of all expressions
 
 record Text (symbols : List (Symbol Action)) (atoms rest : List ℕ) (last : List (Event Action)) (order place : ℕ) (a : Source) : Type 0
   where
@@ -453,7 +446,7 @@ mutual
         lists = more_lists order place sign left right sources a t.events u.events t.lists u.builds;
       }
 
--- The laws
+-- Proofs of the laws
 
 pub expressions_are_texts : ExpressionsAreTexts
 expressions_are_texts order place atoms a w =

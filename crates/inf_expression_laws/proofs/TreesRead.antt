@@ -3,9 +3,9 @@ use Rattle.std.proofs.Common.{◌≡◌, ℕ, suc, ◌-◌, ◌≤◌, List, [],
 use Rattle.std.proofs.Common.{◌∙◌, ap, append_assoc, append-nil, arith}
 use Rattle.std.proofs.lemmas.Bool.Decides.{nat_tests}
 use Rattle.inf_expressions.specs.declared.{operators.Binary.Binary, operators.Operand.Operand, symbols.Symbol.Symbol, units.Wanted.Wanted}
-use Rattle.inf_expressions.specs.Sources.{Source, Leaf, Brackets, Prefix, Suffix, Two, Then, Call, Alone, found_in, meant, opened}
+use Rattle.inf_expressions.specs.Sources.{Source, Prefix, Suffix, Two, Then, Call, found_in, meant, opened}
 use Rattle.inf_expressions.specs.Units.{Gathered, acted, call_joined, gathered, listed, nothing_gathered, roots_finding, with_two_of}
-use Rattle.inf_expression_laws.specs.Precedence.{Written, operand, action, system, brackets, tighter, in_front, behind, between, assigned}
+use Rattle.inf_expression_laws.specs.Precedence.{Written, brackets, tighter, in_front, behind, between, assigned}
 use Rattle.inf_expression_laws.specs.Precedence.{tested, called, alone, Listed, one, more, list_of, sign_between}
 use Rattle.inf_expression_laws.specs.Gathered.{joints, symbols_behind, symbols_of}
 use Rattle.inf_expression_laws.specs.Laws.{SymbolsComeToTheirTree, joins_commas}
@@ -55,16 +55,10 @@ list_joined unit operands a (b ∷ sources) g =
     ap (with_two_of unit Binary.Then) (list_joined unit operands b sources (gained unit operands a g))
 
 joints_are : (a : Source) → (opened a).1 ≡ joints a
-joints_are (Leaf first token place) = refl
-joints_are (Brackets order a) = refl
-joints_are (Prefix order op a) = refl
-joints_are (Suffix op a) = refl
-joints_are (Two op a b) = refl
 joints_are (Then a b) = ap suc (joints_are b)
-joints_are (Call f list) = refl
-joints_are (Alone f) = refl
+joints_are other = refl
 
--- An operator behind two expressions
+-- Lemmas about an operator behind two expressions
 between_read : (w : Wanted) (in_brackets : Bool) (unit : ℕ) (operands : List Operand) (op : Binary) (b : Source) (g : Gathered)
     (level signs : ℕ) →
     sign_between op ≡ Some (level, signs) → (in_brackets || joins_commas w) ≡ true → gathered w unit operands
@@ -133,9 +127,6 @@ call_is unit operands f b sources n g e j w =
 mutual
   written_read : (w : Wanted) (in_brackets : Bool) (unit : ℕ) (operands : List Operand) → (in_brackets || joins_commas w) ≡ true →
       {level order place : ℕ} {atoms : List ℕ} {a : Source} → Written level order place atoms a → IsRead w in_brackets unit operands a
-  written_read w in_brackets unit operands j (operand h) rest g = refl
-  written_read w in_brackets unit operands j (action h k) rest g = refl
-  written_read w in_brackets unit operands j (system h k) rest g = refl
   written_read w in_brackets unit operands j (brackets {order = order} right atoms {a = a} l v r) rest g =
       behind_one w true unit operands a (written_read w true unit operands refl v) (Symbol.Bracketed order ∷ []) rest g
   written_read w in_brackets unit operands j (tighter v) rest g = written_read w in_brackets unit operands j v rest g
@@ -170,6 +161,7 @@ mutual
       (list_joints b sources l) w)
   written_read w in_brackets unit operands j (alone left right atoms {f = f} v h r) rest g =
       behind_one w in_brackets unit operands f (written_read w in_brackets unit operands j v) (Symbol.Call 0 ∷ []) rest g
+  written_read w in_brackets unit operands j other rest g = refl
 
   listed_read : (w : Wanted) (in_brackets : Bool) (unit : ℕ) (operands : List Operand) → (in_brackets || joins_commas w) ≡ true →
       {level signs order place : ℕ} {atoms : List ℕ} {sources : List Source} → Listed level signs order place atoms sources → AreRead w

@@ -241,7 +241,6 @@ by_sound (Some c) items next e = record { c = c; is = refl; took = changed_sound
 
 passed_token : (class : ℕ) (items target : List Item) (symbols : List (Symbol Action)) →
     Passes (with_token (grammar.atoms_of class) items) symbols target → Passes items (Symbol.Token class ∷ symbols) target
-passed_token class [] target symbols p = token p
 passed_token class (Closing ∷ rest) target symbols p = by_test (is_within (grammar.atoms_of class) closing_sign) refl p
   where
     by_test : (b : Bool) → is_within (grammar.atoms_of class) closing_sign ≡ b →
@@ -249,12 +248,7 @@ passed_token class (Closing ∷ rest) target symbols p = by_test (is_within (gra
         Passes (Closing ∷ rest) (Symbol.Token class ∷ symbols) target
     by_test true e q = close (within_same (Closing ∷ rest)) e q
     by_test false e q = token q
-passed_token class (Sign set ∷ rest) target symbols p = token p
-passed_token class (Whole level ∷ rest) target symbols p = token p
-passed_token class (Opened ∷ rest) target symbols p = token p
-passed_token class (NoneYet ∷ rest) target symbols p = token p
-passed_token class (Parts level signs ∷ rest) target symbols p = token p
-passed_token class (Any level signs ∷ rest) target symbols p = token p
+passed_token class other target symbols p = token p
 
 pub passed_sound : (symbols : List (Symbol Action)) (items target last : List Item) → passed symbols items ≡ Some last →
     Within last target → Passes items symbols target

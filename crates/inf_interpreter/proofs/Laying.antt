@@ -52,7 +52,7 @@ pub code_none : (k : Option (List Item)) (code : Routines) → code ≡ code_beh
 code_none None code = refl
 code_none (Some before) code = refl
 
--- one item
+-- an item that is laid leaves what is kept of an output
 fitted_kept : (limits : Limits) (f : Option Limit) (item : Item) (o : Out) → (fitted limits f item o).kept ≡ o.kept
 fitted_kept limits None item o = refl
 fitted_kept limits (Some limit) item o = refl
@@ -115,7 +115,7 @@ pub item_names : (limits : Limits) (item : Item) (o : Out) → NamesStay o (laid
 unfolding laid
 item_names limits item o = names_equal o (laid limits item o) (by_names limits o.kept item o)
 
--- Marks of joined items
+-- Lemmas about marks of joined items
 
 pub stands_front : (a b : List Item) (at : Label → Place) (rest : Place) → Stands at (a ++ b) rest → Stands at a (b ++ rest)
 stands_front [] b at rest s = tt
@@ -127,7 +127,7 @@ stands_back [] b at rest s = s
 stands_back ((Item.Instruction i) ∷ a) b at rest s = stands_back a b at rest s
 stands_back ((Item.Mark l) ∷ a) b at rest s = stands_back a b at rest s.1
 
--- Claims, which hold whatever was laid before
+-- Lemmas about claims, which hold whatever was laid before
 
 abbrev pub Always : World → Code → Claim → Type 0
 Always w c P = (o : Out) → Does w c P o

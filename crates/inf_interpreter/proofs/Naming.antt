@@ -90,25 +90,7 @@ kept_index key other u x (n ∷ names) none some =
 no_system : (debugging : Bool) (v : Veneer) → system_meaning debugging (name_of v) ≡ None
 unfolding system_names
 no_system debugging Veneer.ReadProperty = refl
-no_system debugging Veneer.WriteProperty = refl
-no_system debugging Veneer.PropertyAddress = refl
-no_system debugging Veneer.PropertyLength = refl
-no_system debugging Veneer.CallProperty = refl
-no_system debugging Veneer.StepProperty = refl
-no_system debugging Veneer.WriteByte = refl
-no_system debugging Veneer.WriteWord = refl
-no_system debugging Veneer.StepByte = refl
-no_system debugging Veneer.StepWord = refl
-no_system debugging Veneer.Children = refl
-no_system debugging Veneer.OfClass = refl
-no_system debugging Veneer.Provides = refl
-no_system debugging Veneer.ShortName = refl
-no_system debugging Veneer.DefiniteArticle = refl
-no_system debugging Veneer.CapitalArticle = refl
-no_system debugging Veneer.IndefiniteArticle = refl
-no_system debugging Veneer.EnglishNumber = refl
-no_system debugging Veneer.Spaces = refl
-no_system debugging Veneer.Process = refl
+no_system debugging other = refl
 
 -- the answer of a name's look-up, by its standing
 abbrev seen : Option (Standing Place) → Found Place
@@ -232,7 +214,7 @@ used_stays limits u o = by (standing_of (folded (name_of u)) o.names.names) refl
         so_used (Found.Declared meaning place) (seen_is u o (Some (IsDeclared number meaning place)) e)
         (names_equal o (used_as limits u (Found.Declared meaning place) None o) refl)
 
--- Another name is used.
+-- where another name is used, names that stand stay
 put_stays : (key : List ℕ) (u : Standing Place) (names : List (Named Place)) → standing_of key names ≡ None → (other : List ℕ) (x : Simple)
     (st : Option (Standing Place)) → standing_of other names ≡ st → named_operand st (index_of other names) ≡ Some x →
     named_operand (standing_of other (put key u names)) (index_of other (put key u names)) ≡ Some x

@@ -5,7 +5,7 @@ use Rattle.inf_output.specs.declared.items.Item.{Item}
 use Rattle.inf_interpreter.specs.Machine.{World, State, Place, Machine, ◌then◌, run, stepped}
 use Rattle.inf_interpreter.specs.Claims.{Comes, Kept}
 
--- Results that may be missing
+-- Lemmas about results that may be missing
 
 pub got : {A : Type 0} → A → Option A → A
 got a None = a
@@ -23,7 +23,7 @@ pub opened : {A B : Type 0} (m : Option A) (f : A → Option B) (b : B) → (m t
 opened None f b e = none_some e
 opened (Some a) f b e = (a, refl, e)
 
--- Steps
+-- Lemmas about steps
 
 pub here : (w : World) (at : Label → Place) (from : Place) (s : State) → Comes w at from s from s
 here w at from s = record { steps = λ k. (k, refl) }

@@ -15,49 +15,13 @@ use Rattle.inf_interpreter.proofs.Running.{none_some, same_some}
 -- A routine's name stands for the routine's number.
 is_named : (v : Veneer) (other : ℕ) → number_named routines (folded (name_of v)) other ≡ number_of v
 is_named Veneer.ReadProperty other = refl
-is_named Veneer.WriteProperty other = refl
-is_named Veneer.PropertyAddress other = refl
-is_named Veneer.PropertyLength other = refl
-is_named Veneer.CallProperty other = refl
-is_named Veneer.StepProperty other = refl
-is_named Veneer.WriteByte other = refl
-is_named Veneer.WriteWord other = refl
-is_named Veneer.StepByte other = refl
-is_named Veneer.StepWord other = refl
-is_named Veneer.Children other = refl
-is_named Veneer.OfClass other = refl
-is_named Veneer.Provides other = refl
-is_named Veneer.ShortName other = refl
-is_named Veneer.DefiniteArticle other = refl
-is_named Veneer.CapitalArticle other = refl
-is_named Veneer.IndefiniteArticle other = refl
-is_named Veneer.EnglishNumber other = refl
-is_named Veneer.Spaces other = refl
-is_named Veneer.Process other = refl
+is_named others other = refl
 
 -- A call of this number comes to the routine's contract.
 is_called : (w : World) (names : List (Named Place)) (v : Veneer) (arguments : List ℕ) (s : Store) →
     called_in w routines s (number_of v) arguments ≡ with_left (supplied (supplying w names) v arguments s)
 is_called w names Veneer.ReadProperty arguments s = refl
-is_called w names Veneer.WriteProperty arguments s = refl
-is_called w names Veneer.PropertyAddress arguments s = refl
-is_called w names Veneer.PropertyLength arguments s = refl
-is_called w names Veneer.CallProperty arguments s = refl
-is_called w names Veneer.StepProperty arguments s = refl
-is_called w names Veneer.WriteByte arguments s = refl
-is_called w names Veneer.WriteWord arguments s = refl
-is_called w names Veneer.StepByte arguments s = refl
-is_called w names Veneer.StepWord arguments s = refl
-is_called w names Veneer.Children arguments s = refl
-is_called w names Veneer.OfClass arguments s = refl
-is_called w names Veneer.Provides arguments s = refl
-is_called w names Veneer.ShortName arguments s = refl
-is_called w names Veneer.DefiniteArticle arguments s = refl
-is_called w names Veneer.CapitalArticle arguments s = refl
-is_called w names Veneer.IndefiniteArticle arguments s = refl
-is_called w names Veneer.EnglishNumber arguments s = refl
-is_called w names Veneer.Spaces arguments s = refl
-is_called w names Veneer.Process arguments s = refl
+is_called w names other arguments s = refl
 
 -- The name at the place of a name that is known is this name.
 one_more : (n : ℕ) → n + 1 ≡ suc n

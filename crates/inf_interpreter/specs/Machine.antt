@@ -296,7 +296,7 @@ abbrev pub pushed : List ℕ → Place → State → Option Machine
 pushed (n ∷ []) rest s = Some (rest, given 0 n s)
 pushed _ rest s = None
 
--- the first operand is the number of a variable, which is not read
+-- the step `act` by the first operand, which is the number of a variable and is not read; none without such an operand
 abbrev pub naming : List Operand → (ℕ → List Operand → Option Machine) → Option Machine
 naming ((Operand.Small v) ∷ operands) act = act v operands
 naming _ act = None

@@ -23,7 +23,7 @@ use Rattle.inf_code_walk.specs.Made.{Wide, branch_labels, times}
 use Rattle.inf_code_walk.proofs.Rows.{Any, any_tree, one_needed, times_first, times_joined, times_other, tree_made}
 use Rattle.inf_label_laws.specs.Labels.{LabelsAreOwn, MarksItsOwn, NeedsAlone, items_laid, marks, operand_labels, uses}
 
--- Labels in lists
+-- Lemmas about labels in lists
 
 pub marks_joined : (a b : List Item) → marks (a ++ b) ≡ marks a ++ marks b
 marks_joined [] b = refl
@@ -202,7 +202,7 @@ settles_label needs given low high items f = record {
         omega (arith, e, p)
     known n h (inr other) = let e = times_other n low needs other in let p = f.known n h in omega (arith, e, p)
 
--- Code
+-- Lemmas about code
 
 pub record Owns (c : Code) (needs given : List ℕ) (o : Out) : Type 0 where
   pub items : List Item

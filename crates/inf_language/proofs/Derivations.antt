@@ -8,7 +8,7 @@ use Rattle.inf_expression_laws.specs.Gathered.{AreSeen}
 use Rattle.inf_statement_laws.specs.{Happenings.Acts, Happenings.Takes, Readings.Seen, Readings.plainly_at}
 use Rattle.inf_language.specs.{Texts.atoms_of, Texts.happenings_before, Texts.happenings_of, Texts.tokens_of, Units.TakeAll}
 
--- The tokens of a text
+-- Lemmas about the tokens of a text
 
 same_rest : {x y : ℕ} {xs ys : List ℕ} → x ∷ xs ≡ y ∷ ys → xs ≡ ys
 same_rest same = cc

@@ -68,7 +68,7 @@ nothing_told context t brackets w plain =
 pub none_waits : (w : Compilation) → w.opening ≡ None → next_comes w ≡ w
 none_waits w none = ap (λ o. record w { opening = o }) (sym none)
 
--- The tokens of an expression behind others of its unit
+-- Lemmas about the tokens of an expression behind others of its unit
 
 got_behind : {A : Type 0} (before now : List A) (n : ℕ) → slice_get (before ++ now) (length before + n) ≡ slice_get now n
 got_behind [] now n = let same : 0 + n ≡ n = omega arith in ap (slice_get now) same

@@ -13,7 +13,7 @@ use Rattle.inf_language.specs.{HeaderNames.HeadersNoteTheirNames, HeaderNames.lo
 use Rattle.inf_language.specs.Headers.{HeadersHaveTheirLocals, as_name, locals_read}
 use Rattle.inf_language.proofs.UnitsAlone.{units_are_read_alone}
 
--- The last member of a list
+-- Lemmas about the last member of a list
 
 got_behind : {A : Type 0} (xs : List A) (x : A) → slice_get (xs ++ x ∷ []) (length xs) ≡ Some x
 got_behind [] x = refl
@@ -52,7 +52,7 @@ headers_have_their_locals (t ∷ names) u are goes_on =
     ap (locals_read names) (local_read t u goes_on are.0)
     ∙ headers_have_their_locals names (record u { headed = with_local (as_name t) u.headed }) are.1 goes_on
 
--- In a compilation
+-- Lemmas about compilations
 
 one_by_one : (names : List Seen) (u : Unit) → read_by (local_events names) (tokens_of names) u ≡ locals_read (tokens_of names) u
 one_by_one [] u = refl

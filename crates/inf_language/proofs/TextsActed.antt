@@ -16,7 +16,7 @@ use Rattle.inf_statement_laws.proofs.{Laying.run_then, Reading.tokens_happen}
 use Rattle.inf_language.specs.Texts.{NoneClosesAhead, TextsDoTheirActions, atoms_of, happenings_of}
 use Rattle.inf_grammar.proofs.Spaced.{rule_is_spaced}
 
--- The happenings of the events of a text, token by token
+-- Lemmas about the happenings of the events of a text, token by token
 
 nothing_left : (events : List (Event Action)) → happenings_of events [] ≡ []
 nothing_left [] = refl
@@ -61,7 +61,7 @@ texts_fit (s ∷ seen) symbols left events leads spaced =
     (texts_fit seen now.left left first.rest first.leads
     (spaced_left grammar known language_is_decided s.atom (work known s.atom symbols) symbols first.fits_here spaced))
 
--- the effect of these happenings, one after the other
+-- Lemmas about the effect of these happenings, one after the other
 
 nothing_directed : (limits : Limits) (directive : Option Between) (count : ℕ) (w : Compilation) → directive ≡ None
     → directed limits directive count w ≡ w

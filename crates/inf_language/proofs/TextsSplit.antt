@@ -14,7 +14,7 @@ use Rattle.inf_syntax.specs.declared.actions.Action.{Action}
 use Rattle.inf_grammar.specs.{Evaluated.rows_past, Language.grammar}
 use Rattle.inf_language.specs.Units.{AllSteps, is_step}
 
--- Two parts of a text
+-- Lemmas about two parts of a text
 
 pub record Split (xs ys : List (Symbol Action)) (atoms : List ℕ) (events : List (Event Action)) : Type 0 where
   pub front : List ℕ
@@ -88,7 +88,7 @@ split {atoms = atoms} (row {rule} {r} {symbols} is_row free leads) none (x ∷ x
       of_rest = on.of_rest;
     }
 
--- Expressions
+-- Lemmas about expressions
 
 -- The rules by which an expression is read as a value. Their rows have tokens, these rules, and actions that gather a step.
 abbrev expression_rules : List (Symbol Action)

@@ -64,7 +64,7 @@ act_unit : (limits : Limits) (context : Context) (place : Place) (a : Action) (w
     → (act limits context place a w).unit ≡ acted a w.unit
 act_unit limits context place a w gather = played_unit limits context place (role_of a) w gather
 
--- The happenings one after the other.
+-- Lemmas about the happenings one after the other
 
 pub units_are_read_alone : (limits : Limits) → UnitsAreReadAlone limits
 units_are_read_alone limits context next [] seen w gather = refl

@@ -90,7 +90,7 @@ act_known : (limits : Limits) (context : Context) (place : Place) (a : Action) (
     → known (act limits context place a w) ≡ (action_read limits context.settings w.output a (read_of w), w.output)
 act_known limits context place a w sifts = played_known limits context place (role_of a) w sifts
 
--- The happenings one after the other.
+-- Lemmas about the happenings one after the other
 
 abbrev all_read : Limits → Settings → List (Event Action) → List Seen → Read × Out → Read
 all_read limits settings events seen k = sifted_by limits settings k.1 events seen k.0
@@ -115,7 +115,7 @@ run_known limits context next (Took atom ∷ events) (s ∷ seen) w sifts =
     run_known limits context next events seen (happens limits context (Takes s.token s.behind) w) sifts
     ∙ ap (λ (k : Read × Out). all_read limits context.settings events seen (behind_known s k)) (took_known context s.token w)
 
--- Where nothing is dropped.
+-- Lemmas for the case that nothing is dropped
 
 value_whole : (b : Bool) (p : Read) (q : Read) → not b ≡ true → (if b then p else q) ≡ q
 value_whole true p q kept = cc

@@ -48,7 +48,7 @@ abbrev pub brackets_behind : List SourceToken → ℕ → ℕ
 brackets_behind [] brackets = brackets
 brackets_behind (t ∷ tokens) brackets = brackets_behind tokens (depth_behind t.kind brackets)
 
--- Pieces
+-- Definitions of pieces
 
 -- The compilation between two pieces: there is no unit, and no word waits for its report.
 abbrev pub piece_done : Compilation → Compilation

@@ -83,7 +83,7 @@ tables_added w g a v r p b few =
     ∙ added (w + g + a) (v + (r + p) + b) (omega (arith, few))
     ∙ omega arith
 
--- Limits
+-- Lemmas about limits
 
 none_used : (limit : ℕ) (s : Setting) (others : Option Setting) → full_of (rest limit 0) s others ≡ others
 none_used limit s others = ap (λ b. full_of (cond b None (Some (limit - 0))) s others) (le-ltb limit 0 (omega arith))

@@ -31,7 +31,7 @@ local_fault files r = option_map (again_told files) (again_local r)
 abbrev name_fault : FileNames → Name → Option (DeclareFault Place) → Option Diagnostic
 name_fault files name f = option_map (again_told files) (again_by name f)
 
--- Least findings
+-- Lemmas about least findings
 
 not_before_itself : (f : Finding) → IsBefore f f → ⊥
 not_before_itself f (inl less) = omega (arith, less)
@@ -118,7 +118,7 @@ choice : (t : Bool) (b : Diagnostic) (y : Option Diagnostic) → first_fault (co
 choice true b y = refl
 choice false b y = refl
 
--- Headers
+-- Lemmas about headers
 
 abbrev new_local : Name → Local
 new_local n = record { name = n.bytes; place = n.place; is_named = false }
@@ -303,7 +303,7 @@ ends (n ∷ names) before h of fits few = go (first_named n.bytes before) refl (
         (onward before names n (Some first) h again (with_locals names again) is len (λ x. first-earlier h.repeated x r)
         (later again (are_of-repeated before n first h.locals of is) fits few))
 
--- The name of a routine
+-- Lemmas about the name of a routine
 
 routine_told_by : (files : FileNames) (f : FoundName Place) (full : Bool) (name : Name) →
     IsTold (name_fault files name (declare_fault_by f full)) (taken_as files f name)

@@ -7,7 +7,7 @@ use Rattle.inf_scanner.specs.declared.tokens.Place.{Place}
 use Rattle.inf_unit.specs.Tokens.{SourceToken, atom_of, is_end}
 use Rattle.inf_unit.proofs.Cases.{of_both}
 use Rattle.inf_machine.specs.{Grammar.IsText, Grammar.here, declared.symbols.Symbol.Symbol}
-use Rattle.inf_machine.specs.Machine.{Read, fits, read, taken}
+use Rattle.inf_machine.specs.Machine.{Read, fits, read}
 use Rattle.inf_machine.proofs.ReadOn.{OneMore, reads_none, reads_one}
 use Rattle.inf_machine.proofs.TokenLaws.{bad_tokens_begin_nothing, texts_are_taken}
 use Rattle.inf_syntax.specs.declared.actions.Action.{Action}
@@ -51,17 +51,13 @@ reads_at limits context t (symbol ∷ symbols) r w = judged_reads limits context
 step_reads : (limits : Limits) (m : Recovery) (context : Context) (t : SourceToken) (r : Reading) (w : Compilation) →
     (step_in limits m context t r w).reading ≡ kept_by m t r
 step_reads limits Recovery.Reads context t r w = reads_at limits context t r.stack r w
-step_reads limits Recovery.SkipsRoutine context t r w = refl
-step_reads limits Recovery.SkipsDirective context t r w = refl
-step_reads limits Recovery.Ended context t r w = refl
+step_reads limits other context t r w = refl
 
 -- a token that is passed over needs no grammar
 unfit_step : (limits : Limits) (m : Recovery) (context : Context) (t : SourceToken) (s : ReaderState) → s.reading.mode ≡ m →
     (unfit_in limits m context t s).reading ≡ unfit_by m t s.reading
 unfit_step limits Recovery.Reads context t s e = refl
-unfit_step limits Recovery.SkipsRoutine context t s e = ap (λ m. (step_in limits m context t s.reading s.work).reading) e
-unfit_step limits Recovery.SkipsDirective context t s e = ap (λ m. (step_in limits m context t s.reading s.work).reading) e
-unfit_step limits Recovery.Ended context t s e = ap (λ m. (step_in limits m context t s.reading s.work).reading) e
+unfit_step limits other context t s e = ap (λ m. (step_in limits m context t s.reading s.work).reading) e
 
 handed_reads : (limits : Limits) (h : Forwarded) (context : Context) (t : SourceToken) (s : ReaderState) →
     (handed_as limits h context t s).reading ≡ all_given_to (given_as h t) s.reading
@@ -102,7 +98,7 @@ tokens_are_handed_on limits context t j s =
     ∙ ap (λ (r : Reading). all_given_to (given_token j.token t) r) (sign_reads limits j.sign context s)
     ∙ sym (given_both (given_sign j.sign) (given_token j.token t) s.reading)
 
--- A piece so far
+-- Lemmas about a piece so far
 
 abbrev piece : List (Symbol Action)
 piece = Symbol.Rule piece_rule ∷ []
@@ -160,7 +156,7 @@ skips_as tokens r at =
     ∙ bracketed (map atom_of tokens) (begins tokens r at) in
     ap (λ b. cond b Recovery.SkipsRoutine Recovery.SkipsDirective) left
 
--- The state of the reading
+-- Lemmas about the state of the reading
 
 pub data Now (given : List Given) (r : Reading) : Type 0 where
   Inside : (tokens : List SourceToken) → given ≡ map Kept tokens → At tokens r → (r.stack ≡ [] → ⊥) → Now given r
@@ -208,7 +204,7 @@ judged_now given tokens r t e at =
     (λ out. wrong_now (given ++ Kept t ∷ []) tokens r (bad_by t.kind r) (Kept t) (ap (λ gs. gs ++ Kept t ∷ []) e) at
     (stops tokens r t at out) refl)
 
--- The first token
+-- Lemmas about the first token
 
 pub first : (g : Given) (r : Reading) → r ≡ between Recovery.Reads → Now (g ∷ []) (given_to g r)
 first (Kept t) r fresh =
@@ -221,7 +217,7 @@ first (Unfit t) r fresh =
     Skips [] (Unfit t) [] refl (begins [] (piece_begun (between Recovery.Reads)) no_token) tt
     (ap (λ (x : Reading). given_to (Unfit t) x) fresh)
 
--- A further token
+-- Lemmas about a further token
 
 pub skipped_more : (m : Recovery) (behind : List Given) (g : Given) →
     skipped m (behind ++ g ∷ []) ≡ passed (skipped m behind) (token_in g).kind

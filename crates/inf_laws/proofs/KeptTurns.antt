@@ -55,7 +55,7 @@ pub turn_reading : (limits : Limits) (sources : Sources) (o : Choices) (s : Stat
 turn_reading limits sources o s going =
     rested_reading (carried_out sources o (stepped limits o s)) ∙ carried_out_reading sources o (stepped limits o s) going
 
--- The reading by the tokens that are handed on
+-- Lemmas about the reading by the tokens that are handed on
 
 pub stepped_reading : (limits : Limits) (o : Choices) (s : State) → (stepped limits o s).reading ≡ all_given_to (given_by o s) s.reading
 stepped_reading limits o s =

@@ -8,7 +8,7 @@ use Rattle.inf_machine.specs.Grammar.{IsOneOf, first, later}
 use Rattle.inf_expressions.specs.{Findings.error_number, Findings.is_before, Findings.least_of_both, declared.findings.Finding.Finding}
 use Rattle.inf_laws.specs.UnitFaults.{IsLeastOf}
 
--- The order of findings
+-- Lemmas about the order of findings
 
 abbrev Before : Finding → Finding → Type 0
 Before a b = (a.order < b.order) ⊎ ((a.order ≡ b.order) × (error_number a.error < error_number b.error))
@@ -86,7 +86,7 @@ never_itself a = false_from_ne_true (is_before a a) (λ t. go (before_by a a t))
     go (inl less) = omega (arith, less)
     go (inr same) = omega (arith, same.1)
 
--- The least of two lists
+-- Lemmas about the least of two lists
 
 one_left : {f : Finding} {xs : List Finding} (ys : List Finding) → IsOneOf f xs → IsOneOf f (xs ++ ys)
 one_left ys first = first

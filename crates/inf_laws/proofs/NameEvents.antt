@@ -6,7 +6,7 @@ use Rattle.std.proofs.lemmas.List.Elements.{filter-append}
 use Rattle.std.specs.List.{list_any}
 use Rattle.inf_settings.specs.{Bounds.Limits, declared.setting.Setting.Setting}
 use Rattle.inf_scanner.specs.declared.tokens.Place.{Place}
-use Rattle.inf_names.specs.{Spellings.Name, declared.meanings.Meaning.Meaning, declared.symbols.DeclareFault.DeclareFault}
+use Rattle.inf_names.specs.{declared.meanings.Meaning.Meaning, declared.symbols.DeclareFault.DeclareFault}
 use Rattle.inf_names.specs.{declared.symbols.Found.Found, declared.symbols.ReferFault.ReferFault}
 use Rattle.inf_names.specs.SystemNames.{meaning_if, name_of, system_meaning, system_names}
 use Rattle.inf_names.specs.Symbols.{IsDeclared, IsUsed, Named, Standing, Table, declare_fault, declare_fault_by, folded, found_as, found_in}
@@ -43,7 +43,7 @@ operands_use limits n o = go (refer_fault limits n.bytes o.names)
     go None = refl
     go (Some fault) = refl
 
--- Room for names
+-- Lemmas about room for names
 
 no_fault : (limits : Limits) (e : Event) (t : Table Place) → is_full limits t ≡ false → is_too_many limits e t ≡ false
 no_fault limits (Declares name m place) t room =
@@ -51,16 +51,12 @@ no_fault limits (Declares name m place) t room =
   where
     go : (f : Found Place) → is_full_fault (declare_fault_by f false) ≡ false
     go (Found.System x) = refl
-    go (Found.Declared x first) = refl
-    go Found.Used = refl
-    go Found.Unknown = refl
+    go other = refl
 no_fault limits (Uses name place) t room = ap (λ full. is_some (refer_fault_by (found_in name t) full)) room ∙ go (found_in name t)
   where
     go : (f : Found Place) → is_some (refer_fault_by f false) ≡ false
     go (Found.System x) = refl
-    go (Found.Declared x first) = refl
-    go Found.Used = refl
-    go Found.Unknown = refl
+    go other = refl
 
 -- there is at most one name more than before
 abbrev OneMore : Table Place → Table Place → Type 0
@@ -102,7 +98,7 @@ few_fit limits (e ∷ events) t few =
 pub few_have_room : (limits : Limits) → FewHaveRoom limits
 few_have_room limits debugging events few = few_fit limits events (no_names debugging) (omega (arith, few))
 
--- The finding of a name after an event
+-- Lemmas about the finding of a name after an event
 
 standing_of-put : (key new : List ℕ) (s : Standing Place) (names : List (Named Place)) →
     standing_of key (put new s names) ≡ cond (bytes_eq key new) (Some s) (standing_of key names)
@@ -150,15 +146,11 @@ behind_event name (Uses other place) f = behind_used (bytes_eq (folded name) (fo
 
 other_declared : (m : Meaning) (place : Place) (f : Found Place) → behind_declared false m place f ≡ f
 other_declared m place (Found.System x) = refl
-other_declared m place (Found.Declared x first) = refl
-other_declared m place Found.Used = refl
-other_declared m place Found.Unknown = refl
+other_declared m place other = refl
 
 other_used : (f : Found Place) → behind_used false f ≡ f
 other_used (Found.System x) = refl
-other_used (Found.Declared x first) = refl
-other_used Found.Used = refl
-other_used Found.Unknown = refl
+other_used other = refl
 
 -- the state of one name leaves the finding of another as it is
 found-other : (name other : List ℕ) (s : Standing Place) (t : Table Place) → bytes_eq (folded name) (folded other) ≡ false →
@@ -221,11 +213,9 @@ used_behind limits name other place t room = go (bytes_eq (folded name) (folded 
     same : (f : Found Place) (full : Bool) → found_in name t ≡ f → bytes_eq (folded name) (folded other) ≡ true →
         is_some (refer_fault_by f full) ≡ false →
         found_in name (cond (is_some (refer_fault_by f full)) t (with_used_by f other place t)) ≡ behind_used true f
-    same (Found.System x) full is e room = is
-    same (Found.Declared x first) full is e room = is
-    same Found.Used full is e room = is
     same Found.Unknown true is e room = cc
     same Found.Unknown false is e room = found-put name other new t e
+    same other full is e room = is
 
     go : (b : Bool) → bytes_eq (folded name) (folded other) ≡ b →
         found_in name (with_event limits (Uses other place) t) ≡ behind_used b (found_in name t)
@@ -239,7 +229,7 @@ found_behind : (limits : Limits) (name : List ℕ) (e : Event) (t : Table Place)
 found_behind limits name (Declares other m place) t room = declared_behind limits name other m place t room
 found_behind limits name (Uses other place) t room = used_behind limits name other place t room
 
--- The finding of a name after some events
+-- Lemmas about the finding of a name after some events
 
 -- The names are those of these events.
 abbrev AreOf : Bool → List Event → Table Place → Type 0
@@ -320,7 +310,7 @@ pub first_declarations_count : (limits : Limits) → FirstDeclarationsCount limi
 first_declarations_count limits debugging events name room =
     are_of-events limits debugging events [] (no_names debugging) room (nothing_known debugging) name
 
--- Undeclared names
+-- Lemmas about undeclared names
 
 -- the uses that the states of names are
 abbrev use_in : Standing Place → List Use

@@ -64,7 +64,7 @@ kept_fine c e all = record { proper = none_proper c.pending e; clear = inr (e, a
 unfit_fine : (c : Conditions) → AllKept c → Fine (unfit c)
 unfit_fine c all = record { proper = tt; clear = inr (refl, all) }
 
--- Ends of directives
+-- Lemmas about ends of directives
 
 turned_pending : (inner : List Conditional) (c : Conditions) → (turned_by inner c).pending ≡ c.pending
 turned_pending [] c = refl
@@ -76,11 +76,7 @@ closed_pending (x ∷ inner) c = refl
 
 ended_pending : (w : ConditionalWord) (c : Conditions) → (ended_by w c).pending ≡ c.pending
 ended_pending ConditionalWord.Endif c = closed_pending c.inner c
-ended_pending ConditionalWord.Ifnot c = turned_pending c.inner c
-ended_pending ConditionalWord.Ifdef c = turned_pending c.inner c
-ended_pending ConditionalWord.Ifndef c = turned_pending c.inner c
-ended_pending ConditionalWord.Iftrue c = turned_pending c.inner c
-ended_pending ConditionalWord.Iffalse c = turned_pending c.inner c
+ended_pending other c = turned_pending c.inner c
 
 abbrev ended_at : Option Place → Behind → Behind
 ended_at place b = record b { judged = record b.judged { ended = place } }
@@ -102,14 +98,10 @@ effect_fine Effect.Closes is_quiet p place c proper =
 effected_fine : (e : Effect) (is_quiet : Bool) (p : Pending) (c : Conditions) → AreProper c.pending → Fine (effected e is_quiet p c)
 effected_fine e is_quiet p c proper = effect_fine e is_quiet p (cond is_quiet None (Some p.place)) c proper
 
--- Words
+-- Lemmas about words
 
 begun_fine : (w : ConditionalWord) (t : SourceToken) (place : Place) (is_inner : Bool) (c : Conditions) → AreProper c.pending → AllKept c →
     Fine (begun w t place is_inner c)
-begun_fine ConditionalWord.Ifdef t place is_inner c proper all = record { proper = (tt, proper); clear = inl refl }
-begun_fine ConditionalWord.Ifndef t place is_inner c proper all = record { proper = (tt, proper); clear = inl refl }
-begun_fine ConditionalWord.Ifnot t place is_inner c proper all = record { proper = (tt, proper); clear = inl refl }
-begun_fine ConditionalWord.Endif t place is_inner c proper all = record { proper = (tt, proper); clear = inl refl }
 begun_fine ConditionalWord.Iftrue t place is_inner c proper all =
     of_both Fine (fits grammar known (atom_of (record t { place = place })) condition_begun.stack)
     (passed (asking place is_inner true (condition_took (record t { place = place }) condition_begun) c)) (unfit c)
@@ -118,24 +110,19 @@ begun_fine ConditionalWord.Iffalse t place is_inner c proper all =
     of_both Fine (fits grammar known (atom_of (record t { place = place })) condition_begun.stack)
     (passed (asking place is_inner false (condition_took (record t { place = place }) condition_begun) c)) (unfit c)
     (λ _. record { proper = (tt, proper); clear = inl refl }) (λ _. unfit_fine c all)
+begun_fine other t place is_inner c proper all = record { proper = (tt, proper); clear = inl refl }
 
 front_fine : (w : Option ConditionalWord) (t : SourceToken) (p : Pending) (c : Conditions) → c.pending ≡ [] → AllKept c →
     Fine (behind_front w t p c)
 front_fine None t p c e all = record { proper = none_proper c.pending e; clear = inr (e, all) }
 front_fine (Some w) t p c e all = begun_fine w t p.place p.is_inner c (none_proper c.pending e) all
 
--- Directives that wait for a token
+-- Lemmas about directives that wait for a token
 
 named_fine : (k : TokenKind) (bytes : List ℕ) (if_declared : Bool) (o : Out) (p : Pending) (c : Conditions) → AreProper c.pending →
     AllKept c → Fine (named k bytes if_declared o p c)
 named_fine TokenKind.Name bytes if_declared o p c proper all = record { proper = (tt, proper); clear = inl refl }
-named_fine (TokenKind.Number n) bytes if_declared o p c proper all = unfit_fine c all
-named_fine TokenKind.Text bytes if_declared o p c proper all = unfit_fine c all
-named_fine (TokenKind.Char z) bytes if_declared o p c proper all = unfit_fine c all
-named_fine (TokenKind.Word w) bytes if_declared o p c proper all = unfit_fine c all
-named_fine (TokenKind.Mark m) bytes if_declared o p c proper all = unfit_fine c all
-named_fine (TokenKind.Bad b) bytes if_declared o p c proper all = unfit_fine c all
-named_fine TokenKind.End bytes if_declared o p c proper all = unfit_fine c all
+named_fine other bytes if_declared o p c proper all = unfit_fine c all
 
 went_fine : (wanted : Bool) (site : Site) (o : Out) (t : SourceToken) (k : Condition) (p : Pending) (c : Conditions) → AreProper c.pending →
     Fine (went_on wanted site o t k p c)
@@ -165,7 +152,7 @@ awaited_fine (Awaits.End e) site o t p c last proper all =
     of_both Fine (is_mark Mark.Semicolon t.kind) (effected e site.is_quiet p c) (unfit c) (λ _. effected_fine e site.is_quiet p c proper)
     (λ _. unfit_fine c all)
 
--- A token of a kept side
+-- Lemmas about a token of a kept side
 
 held_proper : (is_front : Bool) (place : Place) (c : Conditions) → (is_front ≡ true → c.pending ≡ []) → AreProper c.pending →
     AreProper (held is_front place c).pending
@@ -246,11 +233,9 @@ asked_sign_fine (k ∷ ks) wanted place site o t p c proper all =
 
 awaited_sign_fine : (a : Awaits) (place : Place) (site : Site) (o : Out) (t : SourceToken) (p : Pending) (c : Conditions) →
     AreProper c.pending → AllKept c → SignFine place site o t (sign_awaited a place site p c)
-awaited_sign_fine Awaits.Word place site o t p c proper all = unfit_sign_fine place site o t c all
-awaited_sign_fine (Awaits.Name if_declared) place site o t p c proper all = unfit_sign_fine place site o t c all
 awaited_sign_fine (Awaits.Condition wanted) place site o t p c proper all =
     asked_sign_fine c.conditions wanted place site o t p c proper all
-awaited_sign_fine (Awaits.End e) place site o t p c proper all = unfit_sign_fine place site o t c all
+awaited_sign_fine other place site o t p c proper all = unfit_sign_fine place site o t c all
 
 offered_sign_fine : (pending : List Pending) (place : Place) (site : Site) (o : Out) (t : SourceToken) (c : Conditions) →
     AreProper pending → AllKept c → SignFine place site o t (sign_offered pending place site c)
@@ -263,7 +248,7 @@ sign_fine : (w : Option ConditionalWord) (place : Place) (site : Site) (o : Out)
 sign_fine (Some w) place site o t c proper all = begun_fine w t place true (record c { sign = None }) proper all
 sign_fine None place site o t c proper all = offered_sign_fine c.pending place site o t (record c { sign = None }) proper all
 
--- A token of a side that is left out
+-- Lemmas about a token of a side that is left out
 
 passed_proper : (w : Option ConditionalWord) (t : SourceToken) (side : LeftOut) (c : Conditions) → AreProper c.pending →
     AreProper (passed_by w t side c).pending
@@ -281,7 +266,7 @@ side_fine site o t side c proper =
     (λ _. offered_fine false site o t here (λ e. let never : false ≡ true = e in cc) proper refl)
     (λ _. passed_fine (passed_by (word_of (keyword t)) t side c) (passed_proper (word_of (keyword t)) t side c proper))
 
--- Any token
+-- Lemmas about any token
 
 none_waits : (between : Bool) (pending : List Pending) → (between && is_none_pending pending) ≡ true → pending ≡ []
 none_waits true [] e = refl

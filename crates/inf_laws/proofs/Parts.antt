@@ -14,10 +14,10 @@ use Rattle.inf_laws.specs.KeptTokens.{rests, skipped, token_in}
 use Rattle.inf_syntax.specs.{Atoms.mark_atom, declared.actions.Action.Action}
 use Rattle.inf_sources.specs.Inclusions.{Inclusion, Opens, OpensNone, Waiting, inclusion}
 use Rattle.inf_sources.specs.declared.open_files.Included.{Included}
-use Rattle.inf_unit.specs.Directives.{Request, Characters, End, Include, Nothing}
+use Rattle.inf_unit.specs.Directives.{Request, Include}
 use Rattle.inf_unit.specs.Tokens.{SourceToken, atom_of, is_end}
 use Rattle.inf_unit.proofs.Cases.{of_both}
-use Rattle.inf_conditionals.specs.{Ends.side_kept, Judging.Behind, Judging.judged, Judging.may_part, declared.filtered.Filtered.Filtered}
+use Rattle.inf_conditionals.specs.{Ends.side_kept, Judging.judged, Judging.may_part, declared.filtered.Filtered.Filtered}
 use Rattle.inf_conditionals.specs.{declared.filtered.Forwarded.Forwarded, declared.filtered.Sign.Sign}
 use Rattle.inf_reader.specs.Handing.{hash, is_between, is_empty, reads, site_of}
 use Rattle.inf_reader.specs.Reading.{Reading, between, is_mode_ended, passed, piece_rule}
@@ -67,9 +67,7 @@ goes_inside r is some =
 
 passed_hash : (m : Recovery) → rests (between (passed m (TokenKind.Mark Mark.Hash))) ≡ false
 passed_hash Recovery.Reads = refl
-passed_hash Recovery.SkipsRoutine = refl
-passed_hash Recovery.SkipsDirective = refl
-passed_hash Recovery.Ended = refl
+passed_hash other = refl
 
 no_end : true ≡ false → ⊥
 no_end e = cc
@@ -97,7 +95,7 @@ hash_goes before h place r is (Ended t e ends at) =
     let same : token_in h ≡ t = ap token_in (last_one before h (Kept t) e) in
     absurd (no_end (sym ends ∙ ap (λ (x : SourceToken). is_end x.kind) (sym same ∙ is)))
 
--- The state of a part behind some of its tokens
+-- Lemmas about the state of a part behind some of its tokens
 
 data Goes (given : List Given) (r : Reading) : Type 0 where
   None_yet : given ≡ [] → r ≡ between Recovery.Reads → Goes given r
@@ -165,7 +163,7 @@ step_comes limits o before s goes =
     (sym (given_both signed (given_token b.judged.token t) s.reading) ∙ sym (stepped_reading limits o s))
     (token_comes b.judged.token t before signed (all_given_to signed s.reading) (sign_goes b.judged.sign before s.reading goes))
 
--- The conditionals behind a turn
+-- Lemmas about the conditionals behind a turn
 
 carried_out_same : (sources : Sources) (o : Choices) (s : State) → ((carried_out sources o s).conditions.pending ≡ s.conditions.pending) ×
     ((carried_out sources o s).conditions.left_out ≡ s.conditions.left_out)
@@ -184,8 +182,7 @@ carried_out_same sources o s =
 
     none_same : (unit : Place) (text : List ℕ) (why : Included) → Same (none_included unit text why (asked_nothing s))
     none_same unit text Included.Entered = (refl, refl)
-    none_same unit text Included.NotThere = (refl, refl)
-    none_same unit text Included.TooDeep = (refl, refl)
+    none_same unit text other = (refl, refl)
 
     included_same : (unit : Place) (text : List ℕ) (i : Inclusion) → Same (included_by sources o unit text i (asked_nothing s))
     included_same unit text (Opens name) = (refl, refl)
@@ -193,9 +190,7 @@ carried_out_same sources o s =
 
     asked_same : (a : Request) → Same (answered a sources o (asked_nothing s))
     asked_same (Include text unit) = included_same unit text (inclusion sources o.directories text s.nesting)
-    asked_same End = (refl, refl)
-    asked_same (Characters set) = (refl, refl)
-    asked_same Nothing = (refl, refl)
+    asked_same other = (refl, refl)
 
 rested_pending : (s : State) → (rested s).conditions.pending ≡ s.conditions.pending
 rested_pending s =
@@ -344,7 +339,7 @@ rests_parts limits sources o s given now rest_now clear =
       ]
     ]
 
--- Turns of one part
+-- Lemmas about turns of one part
 
 rests_goes : (given : List Given) (r : Reading) → Goes given r → is_mode_ended r.mode ≡ false
 rests_goes given r (None_yet e fresh) = ap (λ (x : Reading). is_mode_ended x.mode) fresh

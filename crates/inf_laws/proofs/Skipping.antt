@@ -11,7 +11,7 @@ use Rattle.inf_reader.specs.Reading.{ReaderState, passed, passed_mark, step_in}
 use Rattle.inf_laws.specs.KeptTokens.{Given, Kept, Unfit, skipped, token_in}
 use Rattle.inf_laws.specs.Skipping.{at, Lack, PassesTo, PassedTokensDoNothing, DirectivesAreSkipped, RoutinesAreSkipped, SourcesEnd}
 
--- One token
+-- Lemmas about one token
 
 steps_over : (limits : Limits) (m : Recovery) (context : Context) (t : SourceToken) (s : ReaderState) → s.reading.mode ≡ m → skips m ≡ true
     → step_in limits m context t s.reading s.work ≡ at (passed m t.kind) s
@@ -35,7 +35,7 @@ passed_tokens_do_nothing limits context (Unfit t) s is =
 pub sources_end : SourcesEnd
 sources_end m token e = ap (λ b. cond b Recovery.Ended (passed_mark m token)) e
 
--- The tokens of a piece
+-- Lemmas about the tokens of a piece
 
 mark_is_no_end : (m : Mark) (k : TokenKind) → is_mark m k ≡ true → is_end k ≡ false
 mark_is_no_end m TokenKind.End e = cc

@@ -15,7 +15,7 @@ use Rattle.inf_laws.specs.{Skipping.given_at, Told.IsAt, Told.TokensAreTakenOrTo
 use Rattle.inf_laws.specs.KeptTokens.{Given, GoesBehind, Kept, Unfit, all_given_to, given_to, rests}
 use Rattle.inf_laws.proofs.KeptTokens.{At, Ended, Inside, Now, Skips, Whole, begins, first, goes, next, no_token, stops}
 
--- The tokens that were kept
+-- Lemmas about the tokens that were kept
 
 abbrev kept_of : List Given → List SourceToken
 kept_of [] = []
@@ -35,7 +35,7 @@ onward (g ∷ given) before r now on =
     subst (λ gs. Now gs (all_given_to given (given_to g r))) (append_assoc before (g ∷ []) given)
     (onward given (before ++ g ∷ []) (given_to g r) (next g before r now on.0) on.1)
 
--- A piece that goes on
+-- Lemmas about a piece that goes on
 
 open_at : (tokens : List SourceToken) (r : Reading) → Now (map Kept tokens) r → r.mode ≡ Recovery.Reads → rests r ≡ false → At tokens r
 open_at tokens r (Inside others e at some) reads on = subst (λ ts. At ts r) (sym (same_tokens tokens others e)) at
@@ -61,7 +61,7 @@ open_stack stack r reads e on empty =
     let never : true ≡ false = sym (ap rests same) ∙ on in
     cc
 
--- The token
+-- Lemmas about the token
 
 module _ (limits : Limits) (context : Context) (tokens : List SourceToken) (t : SourceToken) (r : Reading) (w : Compilation)
     (at : At tokens r) where
@@ -89,7 +89,7 @@ comes limits context t [] r w (inl going) =
 comes limits context t [] r w (inr some) = absurd (some refl)
 comes limits context t (symbol ∷ symbols) r w going = refl
 
--- The piece at hand
+-- Lemmas about the piece at hand
 
 is_at_hand : (stack : List (Symbol Action)) (r : Reading) → (stack ≡ [] → ⊥) → at_hand_by stack r ≡ r
 is_at_hand [] r some = absurd (some refl)

@@ -23,7 +23,7 @@ least_listed : (o : Option Finding) → IsLeastOf o (listed o)
 least_listed None = refl
 least_listed (Some f) = least_of_one f
 
--- Units of routines
+-- Lemmas about units of routines
 
 own_least : (limits : Limits) (context : Context) (p : Part) (w : Compilation)
     → IsLeastOf (own_finding limits context p w) (own_faults limits context p w)
@@ -37,23 +37,14 @@ own_least limits context (Part.Statement s) w = of_statement s
         (map tree_in (trees_at (order w.unit.begun) Wanted.Operand (operands_of w) w)) in
         least_of_lists w.unit.passed own (listed w.unit.passed) (listed own) (least_listed w.unit.passed) (least_listed own)
     of_statement s = least_listed (own_finding limits context (Part.Statement s) w)
-own_least limits context Part.Condition w = refl
-own_least limits context Part.Start w = refl
-own_least limits context Part.Step w = refl
-own_least limits context Part.Loop w = refl
-own_least limits context Part.Switched w = refl
 own_least limits context Part.Case w = least_listed (own_finding limits context Part.Case w)
+own_least limits context other w = refl
 
 effect_report : (limits : Limits) (context : Context) (p : Part) (trees : List Rooted) (w : Compilation)
     → (part_effect limits context p trees w).report ≡ w.report
 unfolding part_effect
 effect_report limits context (Part.Statement s) trees w = refl
-effect_report limits context Part.Condition trees w = refl
-effect_report limits context Part.Start trees w = refl
-effect_report limits context Part.Step trees w = refl
-effect_report limits context Part.Loop trees w = refl
-effect_report limits context Part.Switched trees w = refl
-effect_report limits context Part.Case trees w = refl
+effect_report limits context other trees w = refl
 
 carried_told : (limits : Limits) (context : Context) (first : Place) (p : Part) (f : Option Finding) (w : Compilation)
     → (part_carried limits context first p f w).report
@@ -106,7 +97,7 @@ parts_tell_the_least limits context place p w kept =
           ∙ (finished_told limits context first p v ∙ ap (told_behind limits context first told v.report) (sym same));
     }
 
--- Constants
+-- Lemmas about constants
 
 value_least : (m : Option Meaning) (f : Option Finding) (all : List Finding) → IsLeastOf f all
     → IsLeastOf (constant_finding m f) (value_faults m all)

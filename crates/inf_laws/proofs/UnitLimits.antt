@@ -14,7 +14,7 @@ use Rattle.inf_tables.specs.Tables.{AllTables, more, references}
 use Rattle.inf_unit.specs.{Messages.FileNames, Messages.Reported, Messages.with_fault, Messages.with_full}
 use Rattle.inf_laws.specs.UnitLimits.{IsWithin, KeepsWithin, StopsForALimit, UnitsKeepWithin}
 
--- Messages
+-- Lemmas about messages
 
 fatal_is_over : (c : Counts) → (fatal_counted c).is_over ≡ true
 fatal_is_over c = go c.is_over refl
@@ -29,7 +29,7 @@ none_told : (files : FileNames) (first : Place) (f : Option Setting) (r : Report
 none_told files first None r goes = refl
 none_told files first (Some s) r goes = let never : true ≡ false = sym (fatal_is_over r.counts) ∙ goes in cc
 
--- Limits
+-- Lemmas about limits
 
 rest_fits : (limit used : ℕ) (s : Setting) (others : Option Setting) → full_of (rest limit used) s others ≡ None
     → (used ≤ limit) × (others ≡ None)
@@ -115,7 +115,7 @@ within_by limits o None is stops free =
 full_within : (limits : Limits) (o : Out) → StopsForALimit o → full limits o ≡ None → IsWithin limits o
 full_within limits o stops free = within_by limits o o.past refl stops free
 
--- Units
+-- Lemmas about units
 
 unit_keeps : (limits : Limits) (context : Context) (first : Place) (has_last : Bool) (found : Findings) (w : Compilation)
     → StopsForALimit w.output → KeepsWithin limits w (unit_ended limits context first has_last found w)

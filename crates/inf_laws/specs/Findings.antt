@@ -37,7 +37,7 @@ abbrev pub IsTold : Option Diagnostic → List Finding → Type 0
 IsTold None all = all ≡ []
 IsTold (Some b) all = (f : Finding) × (f.blame ≡ b) × IsLeast f all
 
--- A header
+-- Definitions of a header
 
 -- the finding of a local that is an earlier name of the header, too
 abbrev pub repeated_local : FileNames → Name → ℕ → Name → Finding

@@ -13,7 +13,7 @@ use Rattle.inf_reader.specs.Handing.{hash, is_empty, judged_taken, reads}
 use Rattle.inf_reader.specs.Reading.{Reading, ReaderState, between, is_mode_ended, passed, piece_begun, skip_of}
 use Rattle.inf_laws.specs.BadTokens.{skip_behind}
 
--- Tokens that are handed on
+-- Definitions of tokens that are handed on
 
 -- A token that is handed on: one that is kept, or one that does not fit the conditional directive in which it is. The tokens of
 -- conditional directives, and of sides that are left out, are not handed on.
@@ -42,7 +42,7 @@ given_token (Some h) t = given_as h t
 abbrev pub given_of : Filtered → SourceToken → List Given
 given_of j t = given_sign j.sign ++ given_token j.token t
 
--- Reading alone
+-- Definitions of reading without a compilation
 
 -- the reading after a token that fits, which is taken; any other token is bad
 abbrev pub took_by : ℕ → Reading → Reading
@@ -86,7 +86,7 @@ abbrev pub TokensAreHandedOn : Limits → Type 0
 TokensAreHandedOn limits = (context : Context) (t : SourceToken) (j : Filtered) (s : ReaderState)
     → (judged_taken limits context t j s).reading ≡ all_given_to (given_of j t) s.reading
 
--- Pieces
+-- Definitions of pieces
 
 -- whether the reading is between two pieces, or at the end
 abbrev pub rests : Reading → Bool

@@ -9,14 +9,14 @@ use Rattle.inf_conditionals.specs.declared.filtered.Forwarded.{Forwarded}
 use Rattle.inf_reader.specs.{Handing.handed_as, Handing.skips, Reading.ReaderState, Reading.passed, declared.recovery.Recovery.Recovery}
 use Rattle.inf_laws.specs.KeptTokens.{Given, Kept, Unfit, skipped, token_in}
 
--- One token
+-- Definitions of one token
 
 -- the reading, and the compiled work, behind a token that is handed on
 abbrev pub given_at : Limits → Context → Given → ReaderState → ReaderState
 given_at limits context (Kept t) s = handed_as limits Forwarded.Kept context t s
 given_at limits context (Unfit t) s = handed_as limits Forwarded.Unfit context t s
 
--- the same work, where the next token is read in another way
+-- a state of reading, with the mode in which the next token is read replaced
 abbrev pub at : Recovery → ReaderState → ReaderState
 at m s = record s { reading = record s.reading { mode = m } }
 
@@ -29,7 +29,7 @@ PassedTokensDoNothing limits = (context : Context) (g : Given) (s : ReaderState)
 abbrev pub SourcesEnd : Type 0
 SourcesEnd = (m : Recovery) (token : TokenKind) → is_end token ≡ true → passed m token ≡ Recovery.Ended
 
--- The tokens of a piece
+-- Definitions of the tokens of a piece
 
 -- none of these tokens is this mark or the end of the source
 abbrev pub Lack : Mark → List Given → Type 0

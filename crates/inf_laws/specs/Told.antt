@@ -24,7 +24,7 @@ pub record IsTakenOrTold (limits : Limits) (context : Context) (tokens : List So
     pub told : (BeginsPiece (map atom_of (tokens ++ t ∷ [])) → ⊥) →
         given_at limits context (Kept t) s ≡ bad limits context t (at_hand s.reading) (work_by s.reading.stack s.work)
 
--- This holds for any token but the end of a source between two pieces, which belongs to no piece.
+-- For any token but the end of a source between two pieces, which belongs to no piece: it is taken, or told.
 abbrev pub TokensAreTakenOrTold : Limits → Type 0
 TokensAreTakenOrTold limits =
     (context : Context) (tokens : List SourceToken) (t : SourceToken) (s : ReaderState) → IsAt tokens s

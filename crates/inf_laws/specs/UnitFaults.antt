@@ -30,7 +30,7 @@ abbrev pub listed : Option Finding → List Finding
 listed None = []
 listed (Some f) = f ∷ []
 
--- Units of routines
+-- Definitions of units of routines
 
 -- All that is wrong with a unit beside its expressions. For an instruction these are two: one of operands that it does not keep, and one of
 -- all else.
@@ -56,7 +56,7 @@ PartsTellTheLeast limits = (context : Context) (place : Place) (p : Part) (w : C
     → TellsTheLeast limits context (place_of p place (ready limits p w)) (part_faults limits context p (ready limits p w)) (ready limits p w)
     (part_ended limits context place p w)
 
--- Constants
+-- Definitions of constants
 
 -- all that is wrong with an expression that has to be the value of a constant: without a meaning it is no constant
 abbrev pub value_faults : Option Meaning → List Finding → List Finding

@@ -28,7 +28,7 @@ use Rattle.inf_limit_laws.specs.Within.{Before, Counted, Sound}
 use Rattle.inf_limit_laws.proofs.Outputs.{instruction_keeps, item_keeps, items_keep, jump_keeps, low_text_keeps, mark_keeps, naming_keeps}
 use Rattle.inf_limit_laws.proofs.Outputs.{with_routine_keeps}
 
--- Pieces of code put together
+-- Lemmas about pieces of code put together
 
 pub sound_nothing : {limits : Limits} {was : Before} → Sound limits was nothing
 sound_nothing {limits} {was} = record { keeps = λ o h. h }
@@ -78,7 +78,7 @@ made_sound {limits} (Lows text body f) = record {
 pub alone_sound : {was : Before} (limits : Limits) (trees : List Tree) → Sound limits was (alone limits trees)
 alone_sound {was} limits trees = made_sound (alone_made limits Any trees (any_trees trees))
 
--- Layings
+-- Lemmas about layings
 
 -- Code with a result keeps an output counted.
 pub record Gives {A : Type 0} (limits : Limits) (was : Before) (laying : Laying A) : Type 0 where
@@ -93,9 +93,9 @@ laid_gives (Either false f g a b) = record { keeps = (laid_gives b).keeps }
 laid_gives (Binds f g a b) = record { keeps = λ o h. (laid_gives (b (f o).0)).keeps (f o).1 ((laid_gives a).keeps o h) }
 laid_gives (By x g b) = record { keeps = λ o h. (laid_gives (b (x o))).keeps o h }
 
--- Statements that hold others, and layings
+-- Lemmas about statements that hold others, and layings
 
--- Statements that hold others
+-- Lemmas about statements that hold others
 
 pub between_gives : {was : Before} (limits : Limits) (c : Construct) → Gives limits was (between limits c)
 between_gives {was} limits c = laid_gives (between_laid limits Any c)
@@ -126,7 +126,7 @@ closed_sound {was} limits c = ending_sound limits c c.kind
 pub entered_gives : {was : Before} (limits : Limits) (is_default : Bool) (c : Construct) → Gives limits was (entered limits is_default c)
 entered_gives {was} limits is_default c = laid_gives (entered_laid limits Any is_default c)
 
--- Open statements
+-- Lemmas about open statements
 
 pub begun_gives : {was : Before} (limits : Limits) (k : Kind) (constructs : List Construct) → Gives limits was (begun limits k constructs)
 begun_gives {was} limits k constructs = record { keeps = λ o h. (laid_gives (opened_laid limits Any k)).keeps o h }
@@ -160,7 +160,7 @@ looped_over_gives {was} limits (r ∷ trees) constructs =
           constructs).keeps o h;
     }
 
--- References
+-- Lemmas about references
 
 -- The references of finished routines and of tables are few.
 abbrev pub Few : Limits → Out → Type 0
@@ -222,7 +222,7 @@ naming_leaves : {limits : Limits} (opcode : Opcode) (variable : ℕ) (operands :
 unfolding naming
 naming_leaves {limits} opcode variable operands store branch = record { leaves = λ o h. item_few limits _ o h }
 
--- Beginnings
+-- Lemmas about how code or a condition begins
 
 front_leaves : (limits : Limits) (k : Kind) (c : Construct) → Leaves limits (front limits k c)
 front_leaves limits Kind.While c = mark_leaves c.next
@@ -237,7 +237,7 @@ pub begun_few : (limits : Limits) (k : Kind) (constructs : List Construct) (o : 
     Few limits (begun limits k constructs o).1
 begun_few limits k constructs o h = opened_few limits k o h
 
--- Joints
+-- Lemmas about the joints of statements, the code between their parts
 
 joint_leaves : (limits : Limits) (c : Construct) (k : Kind) → Leaves limits (joint limits c k)
 joint_leaves limits c Kind.If = leaves_then (jump_leaves c.end) (mark_leaves c.next)
@@ -255,7 +255,7 @@ pub joined_few : (limits : Limits) (constructs : List Construct) (o : Out) → F
 joined_few limits [] o h = h
 joined_few limits (c ∷ constructs) o h = between_few limits c o h
 
--- Ends
+-- Lemmas about ends
 
 on_leaves : (limits : Limits) (how : Over) (v : ℕ) (top : Label) → Leaves limits (looped_on limits how v top)
 on_leaves limits Over.Nothing v top = nothing_leaves

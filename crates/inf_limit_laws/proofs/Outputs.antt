@@ -35,7 +35,7 @@ full_room : {limits : Limits} {code : Routines} {p : Past} (q : Past) → Some q
 full_room {limits} {code} {p} q is never free =
     let same : q ≡ p = cc in absurd (never (subst (λ (x : Past). full_past x ≡ None) (sym same) free))
 
--- Items
+-- Lemmas about items
 
 some_item : (parts : Parts) (o : Option Opened) → is_some (code_with_item parts o) ≡ is_some o
 some_item parts None = refl
@@ -133,7 +133,7 @@ pub jump_keeps : {was : Before} (limits : Limits) (label : Label) → Keeps limi
 unfolding jumped
 jump_keeps {was} limits label = item_keeps limits _
 
--- Routines
+-- Lemmas about routines
 
 -- what has begun has five references of its own
 five : {b : Bool} → b ≡ true → ◌≡◌ {A = ℕ} (cond b 5 4) 5
@@ -281,7 +281,7 @@ close_keeps {was} limits kind o h =
     labels_counted limits (past_of limits o).labels (code_closed limits kind o)
     (by_closed limits kind o h (fault_closed limits kind o.code))
 
--- Beginnings
+-- Lemmas about how code or a condition begins
 
 begun_code : {was : Before} (limits : Limits) (o : Out) → Counted limits was o → (full : Option CodeLimit)
     → IsCounted limits was (begun_unless full o.code) o.past o.tables.low_strings.abbreviations
@@ -322,7 +322,7 @@ scale_keeps {was} limits scale o h = record {
       record { begun = r.begun; few_labels = r.few_labels; few_references = r.few_references };
 }
 
--- Limits of tables, strings and names
+-- Lemmas about limits of tables, strings and names
 
 pub table_keeps : {was : Before} (limits : Limits) (limit : Setting) → Keeps limits was (passed_table limits limit)
 table_keeps {was} limits limit o h = record {
@@ -362,20 +362,16 @@ word_keeps {was} limits text how is_plural o h =
     go (add_fault limits (word_of text o.tables.dictionary.list) how o.tables.dictionary)
   where
     go : (fault : Option WordFault) → Counted limits was (with_word_by limits fault text how is_plural o)
-    go None = h
     go (Some WordFault.Full) = table_keeps limits Setting.DictionaryEntries o h
-    go (Some WordFault.OtherVerb) = h
-    go (Some WordFault.Memory) = h
+    go other = h
 
 pub declare_keeps : {was : Before} (limits : Limits) (name : List ℕ) (place : Place) (m : Meaning) →
     Keeps limits was (declared limits name place m)
 declare_keeps {was} limits name place m o h = go (declare_fault limits name o.names)
   where
     go : (fault : Option (DeclareFault Place)) → Counted limits was (declared_by limits fault name place m o)
-    go None = h
     go (Some DeclareFault.Full) = symbols_keeps limits o h
-    go (Some (DeclareFault.Present first)) = h
-    go (Some DeclareFault.Memory) = h
+    go other = h
 
 pub refer_keeps : {was : Before} (limits : Limits) (name : List ℕ) (place : Place) → Keeps limits was (referred limits name place)
 refer_keeps {was} limits name place o h = go (refer_fault limits name o.names)

@@ -13,7 +13,7 @@ use Rattle.inf_output.specs.Output.{Out, counted, first_table, full, full_of, fu
 use Rattle.inf_output.specs.Output.{table_passed, taken, whole, without, without_bytes, without_item, without_labels, without_lost}
 use Rattle.inf_limit_laws.specs.Within.{Before, Counted, LeavesRoom}
 
--- Rests of a limit
+-- Lemmas about rests of a limit
 
 pub less_some : (x : Option ℕ) (n left : ℕ) → less x n ≡ Some left → (m : ℕ) × ((x ≡ Some m) × (m ≡ left + n))
 less_some None n left is = cc
@@ -134,7 +134,7 @@ tight_room {limits} {code} {old} {new} room t = record {
   few_references = λ left is. let m = t.refs left is in omega (arith, room.few_references m.0 m.1.0, m.1.1);
 }
 
--- Limits that were passed
+-- Lemmas about limits that were passed
 
 pub symbols_full : (past : Past) → full_past (record past { symbols = true }) ≡ None → ⊥
 symbols_full past free = cc
@@ -185,7 +185,7 @@ limit_full CodeLimit.Refs past =
     behind_full past.symbols Setting.Symbols past.labels past.tables (full_of past.code Setting.Code strings)
     (of_table past.tables (full_of past.code Setting.Code strings) (of_code past.code strings (of_strings past.strings)))
 
--- All rooms beside code
+-- Lemmas about all rooms beside code
 
 whole_labels : (limits : Limits) (code : Routines) → full_past (whole limits code) ≡ None → labels code ≤ limits Setting.Labels
 whole_labels limits code =
@@ -218,7 +218,7 @@ past_room limits o h begun = go o.past refl
     go None e free = whole_room limits o.code begun free
     go (Some p) e free = h.room p e free
 
--- Ends of units
+-- Lemmas about ends of units
 
 pub counted_free : (n : ℕ) (past : Past) → full_past (counted n past) ≡ None → full_past past ≡ None
 counted_free n past =

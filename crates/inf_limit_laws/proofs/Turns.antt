@@ -39,7 +39,7 @@ use Rattle.inf_limit_laws.proofs.Conditions.{AreTame, NoneRight, Same, is_loud, 
 use Rattle.inf_limit_laws.proofs.Conditions.{tokens_are_few}
 use Rattle.inf_limit_laws.proofs.Ways.{begun_ends, lay_of, lays_end, step_of, steps_then}
 
--- Messages about tokens and conditionals
+-- Lemmas about messages about tokens and conditionals
 
 complaint_stays : (k : Kind) (at : Location) (m : Message) → Remains (with_complaint_of k at m)
 complaint_stays Kind.Fatal at m = remains (fatal_adds at m)
@@ -64,47 +64,41 @@ file_stays : (files : FileNames) (c : Conditions) → Remains (file_told files c
 file_stays files c r free = piece_stays files c r (all_lone_stay files (reverse c.among) (piece_told files c r) free)
 
 pub said_stays : (files : FileNames) (said : Option Said) → Remains (with_said files said)
-said_stays files None r free = free
-said_stays files (Some (Right tokens leaves)) r free = free
 said_stays files (Some (Wrong directive b)) r free =
     remains (error_adds (location files b.place) (location files directive) b.message) r free
 said_stays files (Some (Long place)) r free = remains (fatal_adds (location files place) (Exceeded Setting.ExpressionNodes)) r free
 said_stays files (Some (Deep place)) r free = remains (fatal_adds (location files place) DeepNesting) r free
+said_stays files other r free = free
 
 module _ {limits : Limits} {context : Context} where
-  -- Tokens that the grammar gets
+  -- Lemmas about tokens that the grammar gets
 
-  bad_walks : (t : SourceToken) (r : Reading) (w : Compilation)
-      → Runs limits context w (bad limits context t r w).work
+  bad_walks : (t : SourceToken) (r : Reading) (w : Compilation) → Runs limits context w (bad limits context t r w).work
   bad_walks t r w =
       let c = cut_at limits context t.place w in
       Then (Acts (cut_at_steps t.place w w.report))
       (Tells (with_complaint (location context.names t.place) (complaint_of t))
       (with_complaint_stays (location context.names t.place) (complaint_of t)))
 
-  took_token_walks : (t : SourceToken) (r : Reading) (w : Compilation)
-      → Runs limits context w (took limits context t r w).work
+  took_token_walks : (t : SourceToken) (r : Reading) (w : Compilation) → Runs limits context w (took limits context t r w).work
   took_token_walks t r w =
       let n = taken grammar known (atom_of t) r.stack in
       let v = all_acted limits context t.place n.actions w in
       Then (Acts (all_acted_steps (λ e. tt) t.place n.actions w w.report)) (Acts (took_steps t v v.report))
 
   -- one of two states
-  either_walks : (b : Bool) (w : Compilation) (x y : ReaderState)
-      → Runs limits context w x.work → Runs limits context w y.work
+  either_walks : (b : Bool) (w : Compilation) (x y : ReaderState) → Runs limits context w x.work → Runs limits context w y.work
       → Runs limits context w (if b then x else y).work
   either_walks true w x y f g = f
   either_walks false w x y f g = g
 
-  judged_walks : (t : SourceToken) (r : Reading) (w : Compilation)
-      → Runs limits context w (token_judged limits context t r w).work
+  judged_walks : (t : SourceToken) (r : Reading) (w : Compilation) → Runs limits context w (token_judged limits context t r w).work
   judged_walks t r w =
       either_walks (fits grammar known (atom_of t) r.stack) w (took limits context t r w) (bad limits context t r w)
       (took_token_walks t r w) (bad_walks t r w)
 
   -- a piece begins
-  piece_walks : (w : Compilation)
-      → Runs limits context w (work_begun w)
+  piece_walks : (w : Compilation) → Runs limits context w (work_begun w)
   piece_walks w = Acts (Rests (λ u h. tt) refl)
 
   at_walks : (t : SourceToken) (stack : List (Symbol Action)) (r : Reading)
@@ -115,28 +109,23 @@ module _ {limits : Limits} {context : Context} where
       (Then (piece_walks w) (judged_walks t (piece_begun r) (work_begun w)))
   at_walks t (symbol ∷ symbols) r w = judged_walks t r w
 
-  in_walks : (m : Recovery) (t : SourceToken) (r : Reading) (w : Compilation)
-      → Runs limits context w (step_in limits m context t r w).work
+  in_walks : (m : Recovery) (t : SourceToken) (r : Reading) (w : Compilation) → Runs limits context w (step_in limits m context t r w).work
   in_walks Recovery.Reads t r w = at_walks t r.stack r w
   in_walks mode t r w = Nowhere
 
-  token_walks : (t : SourceToken) (r : Reading) (w : Compilation)
-      → Runs limits context w (step limits context t r w).work
+  token_walks : (t : SourceToken) (r : Reading) (w : Compilation) → Runs limits context w (step limits context t r w).work
   token_walks t r w = in_walks r.mode t r w
 
-  unfit_walks : (m : Recovery) (t : SourceToken) (s : ReaderState)
-      → Runs limits context s.work (unfit_in limits m context t s).work
+  unfit_walks : (m : Recovery) (t : SourceToken) (s : ReaderState) → Runs limits context s.work (unfit_in limits m context t s).work
   unfit_walks Recovery.Reads t s = bad_walks t s.reading s.work
   unfit_walks mode t s = token_walks t s.reading s.work
 
-  handed_walks : (h : Forwarded) (t : SourceToken) (s : ReaderState)
-      → Runs limits context s.work (handed_as limits h context t s).work
+  handed_walks : (h : Forwarded) (t : SourceToken) (s : ReaderState) → Runs limits context s.work (handed_as limits h context t s).work
   handed_walks Forwarded.Kept t s = token_walks t s.reading s.work
   handed_walks Forwarded.Unfit t s = unfit_walks s.reading.mode t s
   handed_walks Forwarded.Condition t s = Nowhere
 
-  sign_walks : (sign : Option Sign) (s : ReaderState)
-      → Runs limits context s.work (sign_taken limits sign context s).work
+  sign_walks : (sign : Option Sign) (s : ReaderState) → Runs limits context s.work (sign_taken limits sign context s).work
   sign_walks None s = Nowhere
   sign_walks (Some sign) s = handed_walks sign.handed (hash sign.place) s
 
@@ -145,103 +134,99 @@ module _ {limits : Limits} {context : Context} where
   given_walks None t s = Nowhere
   given_walks (Some h) t s = handed_walks h t s
 
-  lone_walks : (place : Option Place) (s : ReaderState)
-      → Runs limits context s.work (lone_told place context s).work
+  lone_walks : (place : Option Place) (s : ReaderState) → Runs limits context s.work (lone_told place context s).work
   lone_walks None s = Nowhere
   lone_walks (Some place) s =
       Tells (with_lone context.names place) (lone_stays context.names place)
 
-  pub ended_walks : (place : Option Place) (s : ReaderState)
-      → Runs limits context s.work (unit_ended limits place context s).work
+  pub ended_walks : (place : Option Place) (s : ReaderState) → Runs limits context s.work (unit_ended limits place context s).work
   ended_walks None s = Nowhere
   ended_walks (Some place) s = Settles (closings s.reading.stack) context.names place
 
   -- the tokens of a turn, up to the end of a conditional directive
-  pub between_walks : (t : SourceToken) (j : Filtered) (s : ReaderState)
-      → Runs limits context s.work
+  pub between_walks : (t : SourceToken) (j : Filtered) (s : ReaderState) → Runs limits context s.work
       (lone_told j.unmatched context (token_taken limits j.token context t (sign_taken limits j.sign context s))).work
   between_walks t j s =
       let first = sign_taken limits j.sign context s in
       let second = token_taken limits j.token context t first in
       Then (sign_walks j.sign s) (Then (given_walks j.token t first) (lone_walks j.unmatched second))
 
+-- Turns lead from a state to another one, where the conditionals tell the same, count the same tokens, and read the same conditions.
+pub record Goes (limits : Limits) (context : Context) (s t : State) : Type 1 where
+  pub runs : Runs limits context s.work t.work
+  pub same : Same s.conditions t.conditions
+
+module _ {limits : Limits} {context : Context} where
+  nowhere : {s : State} → Goes limits context s s
+  nowhere = record { runs = Nowhere; same = (refl, refl, refl) }
+
+  then_goes : {s t u : State} → Goes limits context s t → Goes limits context t u → Goes limits context s u
+  then_goes f g = record {
+    runs = Then f.runs g.runs;
+    same = (g.same.0 ∙ f.same.0, g.same.1 ∙ f.same.1, g.same.2 ∙ f.same.2);
+  }
+
   -- one of two states
-  either_state : (b : Bool) (w : Compilation) (x y : State)
-      → Runs limits context w x.work → Runs limits context w y.work
-      → Runs limits context w (if b then x else y).work
-  either_state true w x y f g = f
-  either_state false w x y f g = g
+  either_goes : (b : Bool) {s : State} (x y : State) → Goes limits context s x → Goes limits context s y
+      → Goes limits context s (if b then x else y)
+  either_goes true x y f g = f
+  either_goes false x y f g = g
 
-  left_walks : (waiting : List Waiting) (s : State)
-      → Runs limits context s.work (left_by waiting s).work
-  left_walks [] s = Nowhere
-  left_walks (w ∷ waiting) s = Acts (Rests (λ u h. h) refl)
+  left_goes : (waiting : List Waiting) (s : State) → Goes limits context s (left_by waiting s)
+  left_goes [] s = record { runs = Nowhere; same = (refl, refl, refl) }
+  left_goes (w ∷ waiting) s = record { runs = Acts (Rests (λ u h. h) refl); same = (refl, refl, refl) }
 
-  closed_walks : (s : State)
-      → Runs limits context s.work (file_closed s).work
-  closed_walks s = Tells (file_told s.nesting.names s.conditions) (file_stays s.nesting.names s.conditions)
+  none_goes : (unit : Place) (text : List ℕ) (why : Included) (s : State) → Goes limits context s (none_included unit text why s)
+  none_goes unit text Included.Entered s = nowhere
+  none_goes unit text Included.NotThere s =
+      let at = location s.nesting.names unit in
+      record { runs = Tells (with_fatal at (NoInclude text)) (remains (fatal_adds at (NoInclude text))); same = (refl, refl, refl) }
+  none_goes unit text Included.TooDeep s =
+      let at = location s.nesting.names unit in
+      record { runs = Tells (with_fatal at TooManyFiles) (remains (fatal_adds at TooManyFiles)); same = (refl, refl, refl) }
 
-  none_walks : (unit : Place) (text : List ℕ) (why : Included) (s : State)
-      → Runs limits context s.work (none_included unit text why s).work
-  none_walks unit text Included.Entered s = Nowhere
-  none_walks unit text Included.NotThere s =
-      Tells (with_fatal (location s.nesting.names unit) (NoInclude text))
-      (remains (fatal_adds (location s.nesting.names unit) (NoInclude text)))
-  none_walks unit text Included.TooDeep s =
-      Tells (with_fatal (location s.nesting.names unit) TooManyFiles)
-      (remains (fatal_adds (location s.nesting.names unit) TooManyFiles))
+  included_goes : (sources : Sources) (o : Choices) (unit : Place) (text : List ℕ) (i : Inclusion) (s : State)
+      → Goes limits context s (included_by sources o unit text i s)
+  included_goes sources o unit text (Opens name) s = record { runs = Acts (Rests (λ u h. h) refl); same = (refl, refl, refl) }
+  included_goes sources o unit text (OpensNone why) s = none_goes unit text why s
 
-  included_walks : (sources : Sources) (o : Choices) (unit : Place)
-      (text : List ℕ)
-      (i : Inclusion) (s : State) → Runs limits context s.work (included_by sources o unit text i s).work
-  included_walks sources o unit text (Opens name) s = Acts (Rests (λ u h. h) refl)
-  included_walks sources o unit text (OpensNone why) s = none_walks unit text why s
+  answered_goes : (r : Request) (sources : Sources) (o : Choices) (s : State) → Goes limits context s (answered r sources o s)
+  answered_goes (Include text unit) sources o s = included_goes sources o unit text (inclusion sources o.directories text s.nesting) s
+  answered_goes other sources o s = record { runs = Nowhere; same = (refl, refl, refl) }
 
-  answered_walks : (r : Request) (sources : Sources) (o : Choices) (s : State)
-      → Runs limits context s.work (answered r sources o s).work
-  answered_walks (Include text unit) sources o s = included_walks sources o unit text (inclusion sources o.directories text s.nesting) s
-  answered_walks other sources o s = Nowhere
+  carried_goes : (sources : Sources) (o : Choices) (s : State) → Goes limits context s (carried_out sources o s)
+  carried_goes sources o s =
+      let names = s.nesting.names in
+      let closed : Goes limits context s (file_closed s) = record {
+        runs = Tells (file_told names s.conditions) (file_stays names s.conditions);
+        same = (refl, refl, refl);
+      } in
+      let silent : Goes limits context s (asked_nothing s) = record { runs = Acts (Asks Nothing tt); same = (refl, refl, refl) } in
+      either_goes s.work.report.counts.is_over s _ nowhere
+      (either_goes (is_mode_ended s.reading.mode) (left s) (answered s.work.asked sources o (asked_nothing s))
+      (then_goes closed (left_goes s.nesting.waiting (file_closed s)))
+      (then_goes silent (answered_goes s.work.asked sources o (asked_nothing s))))
 
-  -- nothing is asked any more
-  silent_walks : (s : State)
-      → Runs limits context s.work (asked_nothing s).work
-  silent_walks s = Acts (Asks Nothing tt)
+  pub rested_goes : (s : State) → Goes limits context s (rested s)
+  rested_goes s =
+      let names = s.nesting.names in
+      either_goes (has_ended s) s _ nowhere (either_goes (is_resting s) (piece_closed s) s (record {
+        runs = Tells (piece_told names s.conditions) (piece_stays names s.conditions);
+        same = (refl, refl, refl);
+      }) nowhere)
 
-  carried_walks : (sources : Sources) (o : Choices) (s : State)
-      → Runs limits context s.work (carried_out sources o s).work
-  carried_walks sources o s =
-      either_state s.work.report.counts.is_over s.work s _ Nowhere
-      (either_state (is_mode_ended s.reading.mode) s.work (left s) (answered s.work.asked sources o (asked_nothing s))
-      (Then (closed_walks s) (left_walks s.nesting.waiting (file_closed s)))
-      (Then (silent_walks s) (answered_walks s.work.asked sources o (asked_nothing s))))
+  pub followed_goes : (sources : Sources) (o : Choices) (s : State) → Goes limits context s (followed sources o s)
+  followed_goes sources o s = then_goes (carried_goes sources o s) (rested_goes (carried_out sources o s))
 
-  pub rested_walks : (s : State)
-      → Runs limits context s.work (rested s).work
-  rested_walks s =
-      either_state (has_ended s) s.work s _ Nowhere
-      (either_state (is_resting s) s.work (piece_closed s) s
-      (Tells (piece_told s.nesting.names s.conditions) (piece_stays s.nesting.names s.conditions)) Nowhere)
+-- Lemmas about actions of a condition
 
-  pub followed_walks : (sources : Sources) (o : Choices) (s : State)
-      → Runs limits context s.work (followed sources o s).work
-  followed_walks sources o s = Then (carried_walks sources o s) (rested_walks (carried_out sources o s))
-
--- Actions of a condition
-
-one_action_grows : {limits : Limits} (tokens : List SourceToken) (l : Leaf) (o : Out)
-    → Grown limits free o (action_added limits tokens l o)
+one_action_grows : {limits : Limits} (tokens : List SourceToken) (l : Leaf) (o : Out) → Grown limits free o (action_added limits tokens l o)
 one_action_grows {limits} tokens (Leaf.Action at) o = go (name_at tokens at)
   where
     go : (n : Option Name) → Grown limits free o (appeared_by limits n o)
     go None = Stays
     go (Some n) = action_grows n.bytes n.place o
-one_action_grows tokens (Leaf.Name at) o = Stays
-one_action_grows tokens (Leaf.Alone at) o = Stays
-one_action_grows tokens (Leaf.Number number) o = Stays
-one_action_grows tokens (Leaf.Char zscii) o = Stays
-one_action_grows tokens (Leaf.Word word) o = Stays
-one_action_grows tokens (Leaf.Text at) o = Stays
-one_action_grows tokens (Leaf.System at) o = Stays
+one_action_grows tokens other o = Stays
 
 pub actions_grow : {limits : Limits} (tokens : List SourceToken) (leaves : List Leaf) (o : Out)
     → Grown limits free o (actions_added limits tokens leaves o)
@@ -249,7 +234,7 @@ actions_grow tokens [] o = Stays
 actions_grow {limits} tokens (l ∷ leaves) o =
     Follows (one_action_grows tokens l o) (actions_grow tokens leaves (action_added limits tokens l o))
 
--- Turns
+-- Lemmas about turns
 
 -- Where a conditional directive ends
 
@@ -301,7 +286,7 @@ turned_steps {limits} {context} {strict} t j said s ends = go (is_right said) re
     go false e = steps_then (told_steps said s e) (steps_then (ran (between_walks t j told)) (ran (ended_walks j.ended
         (lone_told j.unmatched context (token_taken limits j.token context t (sign_taken limits j.sign context told))))))
 
--- States
+-- Lemmas about states
 
 -- one turn of tokens
 pub stepped_steps : {strict : Bool} (limits : Limits) (o : Choices) (s : State) → NoneRight s.conditions
@@ -313,7 +298,7 @@ stepped_steps limits o s none =
 
 pub rested_steps : {limits : Limits} {context : Context} {strict : Bool} (s : State)
     → Steps limits context (unfollowed strict) s.work (rested s).work
-rested_steps s = ran (rested_walks s)
+rested_steps s = ran (rested_goes s).runs
 
 -- a whole turn
 pub turn_steps : {strict : Bool} (limits : Limits) (sources : Sources) (o : Choices) (s : State) → NoneRight s.conditions
@@ -321,49 +306,7 @@ pub turn_steps : {strict : Bool} (limits : Limits) (sources : Sources) (o : Choi
 turn_steps limits sources o s none =
     let t = stepped limits o s in
     steps_then (stepped_steps limits o s none)
-    (steps_then (ran (followed_walks sources o t)) (record { on = λ e. e; kept = λ e h. h; few = λ e h k. k }))
-
--- Behind the token of a turn the conditionals tell the same, count the same tokens, and read the same conditions.
-
-either_same : (c : Conditions) (b : Bool) (x y : State) → Same c x.conditions → Same c y.conditions → Same c (if b then x else y).conditions
-either_same c true x y h k = h
-either_same c false x y h k = k
-
-left_same : (waiting : List Waiting) (s : State) → Same s.conditions (left_by waiting s).conditions
-left_same [] s = (refl, refl, refl)
-left_same (w ∷ waiting) s = (refl, refl, refl)
-
-why_same : (unit : Place) (text : List ℕ) (why : Included) (s : State) → Same s.conditions (none_included unit text why s).conditions
-why_same unit text Included.Entered s = (refl, refl, refl)
-why_same unit text why s = (refl, refl, refl)
-
-included_same : (sources : Sources) (o : Choices) (unit : Place) (text : List ℕ) (i : Inclusion) (s : State)
-    → Same s.conditions (included_by sources o unit text i s).conditions
-included_same sources o unit text (Opens name) s = (refl, refl, refl)
-included_same sources o unit text (OpensNone why) s = why_same unit text why s
-
-answered_same : (r : Request) (sources : Sources) (o : Choices) (s : State) → Same s.conditions (answered r sources o s).conditions
-answered_same (Include text unit) sources o s =
-    included_same sources o unit text (inclusion sources o.directories text s.nesting) s
-answered_same other sources o s = (refl, refl, refl)
-
-carried_same : (sources : Sources) (o : Choices) (s : State) → Same s.conditions (carried_out sources o s).conditions
-carried_same sources o s =
-    let answer = answered s.work.asked sources o (asked_nothing s) in
-    either_same s.conditions s.work.report.counts.is_over s (if is_mode_ended s.reading.mode then left s else answer) (refl, refl, refl)
-    (either_same s.conditions (is_mode_ended s.reading.mode) (left s) answer (left_same s.nesting.waiting (file_closed s))
-    (answered_same s.work.asked sources o (asked_nothing s)))
-
-rested_same : (s : State) → Same s.conditions (rested s).conditions
-rested_same s =
-    either_same s.conditions (has_ended s) s (if is_resting s then piece_closed s else s) (refl, refl, refl)
-    (either_same s.conditions (is_resting s) (piece_closed s) s (refl, refl, refl) (refl, refl, refl))
-
-followed_same : (sources : Sources) (o : Choices) (s : State) → Same s.conditions (followed sources o s).conditions
-followed_same sources o s =
-    let first = carried_same sources o s in
-    let second = rested_same (carried_out sources o s) in
-    (second.0 ∙ first.0, second.1 ∙ first.1, second.2 ∙ first.2)
+    (steps_then (ran (followed_goes sources o t).runs) (record { on = λ e. e; kept = λ e h. h; few = λ e h k. k }))
 
 -- Conditionals between two tokens: nothing right is told, stacks are tame, and no condition had too many tokens, unless that is told.
 pub record Rest (o : Choices) (s : State) : Type 0 where
@@ -371,14 +314,14 @@ pub record Rest (o : Choices) (s : State) : Type 0 where
   pub tame : AreTame s.conditions.conditions
   pub few : is_over s.work ≡ false → s.conditions.most_tokens ≤ number_of Setting.ExpressionNodes o.settings
 
--- those of another state, before which no fatal message stands
-rest_as : {o : Choices} {s t : State} → Same s.conditions t.conditions → (is_over t.work ≡ false → is_over s.work ≡ false) → Rest o s
-    → Rest o t
-rest_as {o} same on rest = record {
-  none = ap is_right same.0 ∙ rest.none;
-  tame = subst AreTame (sym same.2) rest.tame;
-  few = λ e. subst (λ (n : ℕ). n ≤ number_of Setting.ExpressionNodes o.settings) (sym same.1) (rest.few (on e));
-}
+-- those of another state to which turns lead
+rest_goes : {o : Choices} {limits : Limits} {context : Context} {s t : State} → Goes limits context s t → Rest o s → Rest o t
+rest_goes {o} {limits} {context} {s} {t} g rest =
+    let f : Steps limits context (unfollowed false) s.work t.work = ran g.runs in record {
+      none = ap is_right g.same.0 ∙ rest.none;
+      tame = subst AreTame (sym g.same.2) rest.tame;
+      few = λ e. subst (λ (n : ℕ). n ≤ number_of Setting.ExpressionNodes o.settings) (sym g.same.1) (rest.few (f.on e));
+    }
 
 -- no fatal message stood before a token where none stands behind it
 before_token : (limits : Limits) (context : Context) (t : SourceToken) (j : Filtered) (s : ReaderState)
@@ -418,13 +361,11 @@ stepped_rest limits o s rest = record {
         tokens_are_few site s.work.output (token_of s) s.conditions rest.tame (rest.few (f.on e)) said
 
 pub rested_rest : {o : Choices} (s : State) → Rest o s → Rest o (rested s)
-rested_rest {o} s rest =
-    let f : Steps (λ n. 0) (context_of o s) (unfollowed false) s.work (rested s).work = rested_steps s in
-    rest_as (rested_same s) f.on rest
+rested_rest {o} s rest = rest_goes {limits = λ n. 0} {context = context_of o s} (rested_goes s) rest
 
 pub turn_rest : (limits : Limits) (sources : Sources) (o : Choices) (s : State) → Rest o s → Rest o (turn limits sources o s)
 turn_rest limits sources o s rest =
     let t = stepped limits o s in
-    let f : Steps limits (context_of o s) (unfollowed false) t.work (followed sources o t).work = ran (followed_walks sources o t) in
-    let r : Rest o (followed sources o t) = rest_as (followed_same sources o t) f.on (stepped_rest limits o s rest) in
+    let r : Rest o (followed sources o t) =
+    rest_goes {limits = limits} {context = context_of o s} (followed_goes sources o t) (stepped_rest limits o s rest) in
     record { none = r.none; tame = r.tame; few = r.few }

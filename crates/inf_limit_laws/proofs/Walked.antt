@@ -29,7 +29,7 @@ use Rattle.inf_limit_laws.proofs.Outputs.{text_keeps, word_keeps}
 use Rattle.inf_limit_laws.proofs.Ways.{begun_ends, begun_lays, body_steps, close_as_ends, given_up_steps, lay_of, lays_end, lays_step, lays_then}
 use Rattle.inf_limit_laws.proofs.Ways.{limits_end, nested_steps, report_steps, sized_steps, stays, step_of, steps_then, unit_ends}
 
--- Open statements
+-- Lemmas about open statements
 
 module _ {limits : Limits} {context : Context} {was : Before} where
   pub constructs_lay : (w : Compilation) (laying : Laying (List Construct)) → LayingGives limits was laying
@@ -62,7 +62,7 @@ module _ {limits : Limits} {context : Context} {was : Before} where
     kept = λ e h. (h.0, (h.1.0, all_ended_keep limits (count - w.closed) w.constructs w.output h.1.1));
   }
 
--- Changes of an output
+-- Lemmas about changes of an output
 
 low_added_keeps : {was : Before} (limits : Limits) (bytes : List ℕ) → was.abbreviations ≡ None → Keeps limits was (low_added limits bytes)
 low_added_keeps {was} limits bytes none o h = go (low_fits limits bytes o.tables.low_strings)
@@ -93,7 +93,7 @@ counted {limits} none (Refers {o} name place) h = refer_keeps limits name place 
 counted {limits} {was} none (Tables later same f) h =
     counted none later (subst (λ (r : Rest). IsCounted limits was r.0 r.2 r.3) (sym same) h)
 
--- Changes within a unit
+-- Lemmas about changes within a unit
 
 abbrev TalliesKept : Limits → Context → Before → Tallies → Type 0
 TalliesKept limits context was t = (was.is_exact ≡ true → t.0 ≤ longest context) × (t.1 ≤ limits Setting.Labels)
@@ -163,7 +163,7 @@ ran (Tells {w} tell remains) = report_steps w tell remains
 ran {limits} (Settles {w} count files place) =
     step_of (lays_end (ahead_lays count w) (begun_ends files place (closed_ahead limits count w)))
 
--- Actions of the grammar, tokens, and cuts
+-- Lemmas about actions of the grammar, tokens, and cuts
 
 module _ {limits : Limits} {context : Context} {was : Before} where
   pub act_steps : (place : Place) (a : Action) (w : Compilation) → (role_of a ≡ Role.End Ending.Abbreviation → was.abbreviations ≡ None)

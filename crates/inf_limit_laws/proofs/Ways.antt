@@ -72,7 +72,7 @@ module _ {limits : Limits} {context : Context} {was : Before} where
   pub stays : (w : Compilation) → Steps limits context was w w
   stays w = record { on = λ e. e; kept = λ e h. h; few = λ e h k. k }
 
--- Messages
+-- Lemmas about messages
 
 pub fatal_is_over : (c : Counts) → (fatal_counted c).is_over ≡ true
 fatal_is_over c = go c.is_over refl
@@ -97,7 +97,7 @@ pub report_steps : {limits : Limits} {context : Context} {was : Before} (w : Com
 report_steps {limits} {context} {was} w tell remains =
     record { on = remains w.report; kept = λ e h. h; few = λ e h k. k }
 
--- Units
+-- Lemmas about units
 
 fits_full : {was : Before} (limits : Limits) (files : FileNames) (first : Place) (o : Out) (r : Reported)
     → (with_full files first (full limits o) r).counts.is_over ≡ false → Counted limits was o → Fits limits o
@@ -133,7 +133,7 @@ module _ {limits : Limits} {context : Context} {was : Before} where
         (fits_full limits files first (begun limits w.output) w.report e (begin_keeps limits w.output h.1.1)).few_references;
   }
 
--- Tokens
+-- Lemmas about tokens
 
 none_behind : (tokens : List SourceToken) (at : ℕ) → slice_get tokens at ≡ None → length tokens ≤ at
 none_behind [] at e = omega arith

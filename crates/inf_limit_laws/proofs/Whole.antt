@@ -71,7 +71,7 @@ states_come_behind sources o = record {
   both = λ s t u first second. both_behind first second;
 }
 
--- From the start on
+-- Lemmas about what holds from the start on
 
 -- Expressions were within their setting before.
 abbrev exact : Before
@@ -128,7 +128,7 @@ behind_holds sources h Here = h
 behind_holds sources h (Turns behind) = turn_holds sources (behind_holds sources h behind)
 behind_holds {o} sources h (Supplies {t} number behind) = read_holds o number t (behind_holds sources h behind)
 
--- The start
+-- Lemmas about the start
 
 no_references : references no_tables ≡ 0
 unfolding more
@@ -220,7 +220,7 @@ steps_keep_counts limits = record {
   conditional = λ context was files first w. begun_ends files first w;
 }
 
--- Abbreviations that are followed from one compilation on
+-- Lemmas about abbreviations that are followed from one compilation on
 
 abbrev from : Compilation → Before
 from w = record { is_exact = false; abbreviations = Some (abbreviations_of w) }

@@ -95,10 +95,7 @@ assign_means {keeps} w limits (Operand.Variable v) m a h =
     (assigned_valued w v (is_own v) a)
     (valued_means w limits (values.assigned w (values.aim_at v (is_own v)) a).value (λ d. m.value v ▸ load limits v d) (m.value v)
     (assigned_value w limits v (is_own v) refl m a h) (assigned_alone w limits v (is_own v) refl m a h))
-assign_means {keeps} w limits (Operand.Known n) m a h = silent_assigned w limits m a h
-assign_means {keeps} w limits (Operand.Later n) m a h = silent_assigned w limits m a h
-assign_means {keeps} w limits (Operand.Function n) m a h = silent_assigned w limits m a h
-assign_means {keeps} w limits Operand.Unknown m a h = silent_assigned w limits m a h
+assign_means {keeps} w limits other m a h = silent_assigned w limits m a h
 
 -- Elements of arrays and properties of objects
 pub are_joined : (keeps : Bool) (w : World) (ps : List Part) (args : List Arg) (qs : List Part) (others : List Arg) →
@@ -115,13 +112,11 @@ joined_length (a ∷ args) others = let e = joined_length args others in omega (
 -- the routine that assigns a value and answers it, and the one that steps it
 setter_is : (width : Width) → code.setter (memory_of width) ≡ values.setter width
 setter_is Bytes = refl
-setter_is Words = refl
-setter_is Properties = refl
+setter_is other = refl
 
 stepper_is : (width : Width) → code.stepper (memory_of width) ≡ values.stepper width
 stepper_is Bytes = refl
-stepper_is Words = refl
-stepper_is Properties = refl
+stepper_is other = refl
 
 element_alone : (keeps : Bool) (w : World) (limits : Limits) (width : Width) (ps : List Part) (args : List Arg) →
     AreParts keeps w ps args → length ps ≤ 7 →
@@ -191,7 +186,7 @@ element_steps keeps w limits before how width args n b e two k =
     (values.element_stepped w (new_of before) how width args)) (sym (stepper_is width))
     (supplied_means keeps w limits (values.stepper width) ps all are few))
 
--- Steps
+-- Lemmas about steps
 pub before_valued : (w : World) (how : Direction) (v : ℕ) (own : Bool) →
     values.valued (values.stepped_before w how (values.aim_at v own)).value ≡ values.stepped_before w how (values.aim_at v own)
 before_valued w how v true = refl

@@ -57,25 +57,11 @@ IsCall limits m = (ps : List Part) (store : Option ℕ) → code.called_by limit
 
 one_called : (limits : Limits) (op : Unary) (m : Meaning) → IsCall limits (code.one limits op m)
 one_called limits Unary.Negate m ps store = refl
-one_called limits Unary.Not m ps store = refl
-one_called limits (Unary.Single s) m ps store = refl
-one_called limits (Unary.Before s) m ps store = refl
-one_called limits (Unary.Behind s) m ps store = refl
-one_called limits (Unary.Relative r) m ps store = refl
-one_called limits Unary.Children m ps store = refl
-one_called limits Unary.Call m ps store = refl
-one_called limits Unary.Indirect m ps store = refl
+one_called limits other m ps store = refl
 
 operation_called : (limits : Limits) (o : Operation) (m n : Meaning) → IsCall limits (code.two limits (Binary.Operation o) m n)
 operation_called limits Operation.Add m n ps store = refl
-operation_called limits Operation.Subtract m n ps store = refl
-operation_called limits Operation.Multiply m n ps store = refl
-operation_called limits Operation.Divide m n ps store = refl
-operation_called limits Operation.Remainder m n ps store = refl
-operation_called limits Operation.BitAnd m n ps store = refl
-operation_called limits Operation.BitOr m n ps store = refl
-operation_called limits Operation.Byte m n ps store = refl
-operation_called limits Operation.Word m n ps store = refl
+operation_called limits other m n ps store = refl
 
 is_call : (limits : Limits) (f : Tree) → IsCalled f → IsCall limits (meaning limits f)
 is_call limits (Leaf (Operand.Known n)) h ps store = refl
@@ -124,18 +110,15 @@ called_aim w (Element Properties parts) e arguments = refl
 
 assigned_aim : (w : World) (aim : Aim) (e : Sense) → (values.assigned w aim e).aim ≡ Nowhere
 assigned_aim w Nowhere e = refl
-assigned_aim w (Named v) e = refl
-assigned_aim w (Element width parts) e = refl
+assigned_aim w other e = refl
 
 before_aim : (w : World) (how : Direction) (aim : Aim) → (values.stepped_before w how aim).aim ≡ Nowhere
 before_aim w how Nowhere = refl
-before_aim w how (Named v) = refl
-before_aim w how (Element width parts) = refl
+before_aim w how other = refl
 
 behind_aim : (w : World) (how : Direction) (aim : Aim) → (values.stepped_behind w how aim).aim ≡ Nowhere
 behind_aim w how Nowhere = refl
-behind_aim w how (Named v) = refl
-behind_aim w how (Element width parts) = refl
+behind_aim w how other = refl
 
 one_aim : (w : World) (op : Unary) (e : Sense) → (values.one w op e).aim ≡ Nowhere
 one_aim w Unary.Negate e = refl
@@ -152,37 +135,18 @@ one_aim w Unary.Indirect e = refl
 
 operation_meant : (w : World) (o : Operation) (a b : Sense) → IsCallMeant w (values.two w (Binary.Operation o) a b)
 operation_meant w Operation.Add a b arguments = refl
-operation_meant w Operation.Subtract a b arguments = refl
-operation_meant w Operation.Multiply a b arguments = refl
-operation_meant w Operation.Divide a b arguments = refl
-operation_meant w Operation.Remainder a b arguments = refl
-operation_meant w Operation.BitAnd a b arguments = refl
-operation_meant w Operation.BitOr a b arguments = refl
-operation_meant w Operation.Byte a b arguments = refl
-operation_meant w Operation.Word a b arguments = refl
+operation_meant w other a b arguments = refl
 
 is_meant : (w : World) (f : Tree) → IsCalled f → IsCallMeant w (sense w f)
-is_meant w (Leaf (Operand.Known n)) h arguments = refl
 is_meant w (Leaf (Operand.Variable v)) h arguments = variable_meant w v (is_own v) (sense w (Leaf (Operand.Variable v))) arguments
-is_meant w (Leaf (Operand.Later n)) h arguments = refl
-is_meant w (Leaf (Operand.Function n)) h arguments = refl
-is_meant w (Leaf Operand.Unknown) h arguments = refl
 is_meant w (One op a) h arguments = aimless_meant w (sense w (One op a)) (one_aim w op (sense w a)) arguments
 is_meant w (Two (Binary.Operation o) a b) h arguments = operation_meant w o (sense w a) (sense w b) arguments
 is_meant w (Two (Binary.Property PropertyPart.Value) a b) h arguments = absurd h
-is_meant w (Two (Binary.Property PropertyPart.Address) a b) h arguments = refl
-is_meant w (Two (Binary.Property PropertyPart.Length) a b) h arguments = refl
-is_meant w (Two (Binary.Test t) a b) h arguments = refl
-is_meant w (Two (Binary.Fails t) a b) h arguments = refl
 is_meant w (Two Binary.Assign a b) h arguments =
     aimless_meant w (sense w (Two Binary.Assign a b)) (assigned_aim w (sense w a).aim (sense w b)) arguments
-is_meant w (Two Binary.Comma a b) h arguments = refl
-is_meant w (Two Binary.And a b) h arguments = refl
-is_meant w (Two Binary.Or a b) h arguments = refl
 is_meant w (Two Binary.Call a b) h arguments =
     aimless_meant w (sense w (Two Binary.Call a b)) (called_aim w (sense w a).aim (sense w a) (values.args (sense w b))) arguments
-is_meant w (Two Binary.Then a b) h arguments = refl
-is_meant w (Two Binary.To a b) h arguments = refl
+is_meant w other h arguments = refl
 
 pub call_of_means : (keeps : Bool) (w : World) (limits : Limits) (f : Tree) → IsCalled f →
     Means keeps w limits (meaning limits f) (sense w f) → (ps : List Part) (arguments : List Arg) → AreParts keeps w ps arguments →

@@ -27,10 +27,8 @@ BranchesBy keeps w truth sense label at from to =
 
 two_opposite : (h : ℕ → ℕ → Bool) (ns : List ℕ) (b : Bool) → test_of_two (λ x y. not (h x y)) ns ≡ Some b →
     (c : Bool) × (test_of_two h ns ≡ Some c) × (not c ≡ b)
-two_opposite h [] b e = none_some e
-two_opposite h (x ∷ []) b e = none_some e
 two_opposite h (x ∷ y ∷ []) b e = (h x y, refl, same_some e)
-two_opposite h (x ∷ y ∷ z ∷ ns) b e = none_some e
+two_opposite h other b e = none_some e
 
 -- a test that is negated branches on the other sense
 opposite_tests : (keeps : Bool) (w : World) (h : ℕ → ℕ → Bool) (args : ℕ → List Arg) (label : Label) (sense : Bool) (at : Label → Place)
@@ -77,10 +75,8 @@ not_zero_truth false = refl
 
 truth_told : (f : Store → ℕ → ℕ → Bool) (ns : List ℕ) (s : Store) (b : Bool) → test_of_two (f s) ns ≡ Some b →
     is_not_zero (told (λ u. of_two (λ x y. Some (truth (f u x y)))) ns s then λ r. answer nobody r.0 r.1) ≡ Some (b, s)
-truth_told f [] s b e = none_some e
-truth_told f (x ∷ []) s b e = none_some e
 truth_told f (x ∷ y ∷ []) s b e = ap (λ c. Some (c, s)) (not_zero_truth (f s x y) ∙ same_some e)
-truth_told f (x ∷ y ∷ z ∷ ns) s b e = none_some e
+truth_told f other s b e = none_some e
 
 asked_is : (w : World) (v : Veneer) (f : Store → ℕ → ℕ → Bool) →
     supplied w v ≡ told (λ u. of_two (λ x y. Some (truth (f u x y)))) → (args : List Arg) (s : Store) (b : Bool) (t : Store) →

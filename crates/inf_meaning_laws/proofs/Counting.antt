@@ -3,7 +3,7 @@ use Rattle.std.proofs.Common.{◌≡◌, ◌≤◌, ℕ, suc, Bool, true, refl, 
 use Rattle.std.proofs.lemmas.Bool.{ltb-true}
 use Rattle.inf_settings.specs.Bounds.{Limits}
 use Rattle.inf_expressions.specs.{declared.operators.Binary.Binary, declared.operators.Unary.Unary}
-use Rattle.inf_expressions.specs.Trees.{Tree, Leaf, One, Two}
+use Rattle.inf_expressions.specs.Trees.{Tree, One, Two}
 use Rattle.inf_templates.specs.Meaning.{Meaning, meaning, parts}
 use Rattle.inf_templates.specs.Meaning as code
 use Rattle.inf_interpreter.specs.Machine.{World}
@@ -12,29 +12,12 @@ use Rattle.inf_meaning_laws.proofs.{Groups.same_length, Meant.Means}
 
 one_others : (limits : Limits) (op : Unary) (m : Meaning) → suc (length (code.one limits op m).others) ≡ 1
 one_others limits Unary.Negate m = refl
-one_others limits Unary.Not m = refl
-one_others limits (Unary.Single s) m = refl
-one_others limits (Unary.Before s) m = refl
-one_others limits (Unary.Behind s) m = refl
-one_others limits (Unary.Relative r) m = refl
-one_others limits Unary.Children m = refl
-one_others limits Unary.Call m = refl
-one_others limits Unary.Indirect m = refl
+one_others limits other m = refl
 
 pub counted : (limits : Limits) (t : Tree) → suc (length (meaning limits t).others) ≡ count t
-counted limits (Leaf x) = refl
 counted limits (One op a) = one_others limits op (meaning limits a)
-counted limits (Two (Binary.Operation o) a b) = refl
-counted limits (Two (Binary.Property p) a b) = refl
-counted limits (Two (Binary.Test t) a b) = refl
-counted limits (Two (Binary.Fails t) a b) = refl
-counted limits (Two Binary.Assign a b) = refl
-counted limits (Two Binary.Comma a b) = refl
-counted limits (Two Binary.And a b) = refl
-counted limits (Two Binary.Or a b) = refl
-counted limits (Two Binary.Call a b) = refl
 counted limits (Two Binary.Then a b) = ap suc (counted limits b)
-counted limits (Two Binary.To a b) = refl
+counted limits other = refl
 
 pub few_of : (limits : Limits) (t : Tree) (n : ℕ) → count t ≤ n → suc (length (meaning limits t).others) ≤ n
 few_of limits t n h = subst (λ k. k ≤ n) (sym (counted limits t)) h

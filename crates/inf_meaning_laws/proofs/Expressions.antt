@@ -48,29 +48,10 @@ relative_means {keeps} w limits how m a h =
 -- An element of an array or a property is assigned and stepped by its parts.
 element_aim : (w : World) (v : Tree) → IsElement v →
     (width : Width) × (parts : List Arg) × ((sense w v).aim ≡ Element width parts) × (length parts ≡ 2)
-element_aim w (Leaf x) h = absurd h
-element_aim w (One op a) h = absurd h
-element_aim w (Two (Binary.Operation Operation.Add) a c) h = absurd h
-element_aim w (Two (Binary.Operation Operation.Subtract) a c) h = absurd h
-element_aim w (Two (Binary.Operation Operation.Multiply) a c) h = absurd h
-element_aim w (Two (Binary.Operation Operation.Divide) a c) h = absurd h
-element_aim w (Two (Binary.Operation Operation.Remainder) a c) h = absurd h
-element_aim w (Two (Binary.Operation Operation.BitAnd) a c) h = absurd h
-element_aim w (Two (Binary.Operation Operation.BitOr) a c) h = absurd h
 element_aim w (Two (Binary.Operation Operation.Byte) a c) h = (Bytes, arg (sense w a) ∷ arg (sense w c) ∷ [], refl, refl)
 element_aim w (Two (Binary.Operation Operation.Word) a c) h = (Words, arg (sense w a) ∷ arg (sense w c) ∷ [], refl, refl)
 element_aim w (Two (Binary.Property PropertyPart.Value) a c) h = (Properties, arg (sense w a) ∷ arg (sense w c) ∷ [], refl, refl)
-element_aim w (Two (Binary.Property PropertyPart.Address) a c) h = absurd h
-element_aim w (Two (Binary.Property PropertyPart.Length) a c) h = absurd h
-element_aim w (Two (Binary.Test t) a c) h = absurd h
-element_aim w (Two (Binary.Fails t) a c) h = absurd h
-element_aim w (Two Binary.Assign a c) h = absurd h
-element_aim w (Two Binary.Comma a c) h = absurd h
-element_aim w (Two Binary.And a c) h = absurd h
-element_aim w (Two Binary.Or a c) h = absurd h
-element_aim w (Two Binary.Call a c) h = absurd h
-element_aim w (Two Binary.Then a c) h = absurd h
-element_aim w (Two Binary.To a c) h = absurd h
+element_aim w other h = absurd h
 
 assigned_element : (keeps : Bool) (w : World) (limits : Limits) (v b : Tree) → keeps ≡ false → IsElement v →
     Means keeps w limits (meaning limits v) (sense w v) → Means keeps w limits (meaning limits b) (sense w b) →

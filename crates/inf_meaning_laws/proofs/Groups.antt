@@ -156,14 +156,7 @@ ones_ w limits t d x a g p (p1 ∷ others) (b ∷ []) h sense label over = absur
 
 three_is_equal : (t : Test) → code.takes_three t ≡ values.compares_three t
 three_is_equal Test.Equal = refl
-three_is_equal Test.Less = refl
-three_is_equal Test.Greater = refl
-three_is_equal Test.AtMost = refl
-three_is_equal Test.AtLeast = refl
-three_is_equal Test.Has = refl
-three_is_equal Test.In = refl
-three_is_equal Test.OfClass = refl
-three_is_equal Test.Provides = refl
+three_is_equal other = refl
 
 groups_ : {keeps : Bool} (w : World) (limits : Limits) (t : Test) → CoversTest keeps t → (x : Simple) (a : ℕ → Arg) →
     Stays keeps w limits x a →
@@ -202,14 +195,7 @@ group_is t = ap (λ b. if b then 3 else 1) (three_is_equal t)
 
 most_is : (t : Test) → code.most_compared t ≡ suc (together t)
 most_is Test.Equal = refl
-most_is Test.Less = refl
-most_is Test.Greater = refl
-most_is Test.AtMost = refl
-most_is Test.AtLeast = refl
-most_is Test.Has = refl
-most_is Test.In = refl
-most_is Test.OfClass = refl
-most_is Test.Provides = refl
+most_is other = refl
 
 few_together : (b : Bool) → (if b then 3 else 1) ≤ 3
 few_together true = omega arith

@@ -39,7 +39,7 @@ pub left_as : {w : World} {at : Label → Place} {from to : Place} {s t t' : Sta
     Comes w at from s to t'
 left_as {w} {at} {from} {to} {s} {t} {t'} e c = subst (λ u. Comes w at from s to u) e c
 
--- writing a variable, and a state that has taken the value
+-- Lemmas about writing a variable, and a state that has taken the value
 
 pub given_taken : (d n : ℕ) (stack : List ℕ) (temp : ℕ) (s : Store) → given d n (state stack temp s) ≡ taken d n stack temp (taker d n s)
 given_taken d n stack temp s = go (d == 0) (d == 255)
@@ -190,7 +190,7 @@ pub led : (w : World) (at : Label → Place) (from m to : Place) (next : Label) 
 led w at from m to next start s true h c = moved h.1 c
 led w at from m to next start s false h c = comes_then c (mark_comes w at next m to s h)
 
--- An instruction that computes a value of its operands
+-- Lemmas about an instruction that computes a value of its operands
 
 abbrev pub computed_of : World → (Store → List ℕ → Option ℕ) → List Arg → Taker → Store → Option (ℕ × Store)
 computed_of w f args take s = values w args s then λ p. f p.1 p.0 then λ n. answer take n p.1
@@ -213,7 +213,7 @@ computes_ {keeps} w limits op f parts args act h d =
     (comes_then l.5 (stepping w at (Item.Instruction item) p.0 rest l.2 (rest, given d q.0 (state stack l.0 o.0.1)) p.2 moves)) q.2)
     (then_ (looks {keeps = keeps} w parts args h) (instruction_ limits op (operands parts) (Some d) None))
 
--- Tests
+-- Lemmas about tests
 
 abbrev pub tested_of : World → (Store → List ℕ → Option Bool) → List Arg → Store → Option (Bool × Store)
 tested_of w g args s = values w args s then λ p. g p.1 p.0 then λ b. Some (b, p.1)
@@ -349,7 +349,7 @@ draws_ {keeps} w limits parts args h d =
     (comes_then l.5 (stepping w at (Item.Instruction item) p.0 rest l.2 (rest, given d q.0.0 (state stack l.0 q.0.1)) p.2 moves)) q.2)
     (then_ (looks {keeps = keeps} w parts args h) (instruction_ limits Opcode.Random (operands parts) (Some d) None))
 
--- An instruction that writes into memory
+-- Lemmas about an instruction that writes into memory
 
 pub writes_ : (keeps : Bool) (w : World) (limits : Limits) (op : Opcode) (f : List ℕ → Store → Option Store) (parts : List Part)
     (args : List Arg) →

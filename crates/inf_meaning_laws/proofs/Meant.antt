@@ -131,11 +131,8 @@ no_element_by v true e = absurd (cc e)
 no_element_by v false e = absurd (cc e)
 
 pub leaf_no_element : {B : Type 0} {width : Width} {args : List Arg} (x : Operand) → values.leaf_aim x ≡ Element width args → B
-leaf_no_element (Operand.Known n) e = no_element e
 leaf_no_element (Operand.Variable v) e = no_element_by v (is_own v) e
-leaf_no_element (Operand.Later t) e = no_element e
-leaf_no_element (Operand.Function f) e = no_element e
-leaf_no_element Operand.Unknown e = no_element e
+leaf_no_element other e = no_element e
 
 pub leaf_means : {keeps : Bool} (w : World) (limits : Limits) (x : Operand) →
     Means keeps w limits (meaning limits (Leaf x)) (sense w (Leaf x))
@@ -189,14 +186,7 @@ computed_means {keeps} w limits op f ps args act h =
 
 pub operation_acts : (w : World) (o : Operation) → action_of w (code.operation_opcode o) ≡ Computes (values.operation_of o)
 operation_acts w Operation.Add = refl
-operation_acts w Operation.Subtract = refl
-operation_acts w Operation.Multiply = refl
-operation_acts w Operation.Divide = refl
-operation_acts w Operation.Remainder = refl
-operation_acts w Operation.BitAnd = refl
-operation_acts w Operation.BitOr = refl
-operation_acts w Operation.Byte = refl
-operation_acts w Operation.Word = refl
+operation_acts w other = refl
 
 abbrev pub width_of : Aim → Width
 width_of Nowhere = Bytes
@@ -212,17 +202,11 @@ pub element_parts : {keeps : Bool} (w : World) (o : Operation) (ps : List Part) 
     (width : Width) (given_args : List Arg) →
     values.element_of o args ≡ Element width given_args →
     (qs : List Part) × (code.operation_target o ps ≡ InMemory (memory_of width) qs) × AreParts keeps w qs given_args
-element_parts {keeps} w Operation.Add ps args h width given_args e = no_element e
-element_parts {keeps} w Operation.Subtract ps args h width given_args e = no_element e
-element_parts {keeps} w Operation.Multiply ps args h width given_args e = no_element e
-element_parts {keeps} w Operation.Divide ps args h width given_args e = no_element e
-element_parts {keeps} w Operation.Remainder ps args h width given_args e = no_element e
-element_parts {keeps} w Operation.BitAnd ps args h width given_args e = no_element e
-element_parts {keeps} w Operation.BitOr ps args h width given_args e = no_element e
 element_parts {keeps} w Operation.Byte ps args h width given_args e =
     (ps, ap (λ a. InMemory (memory_of (width_of a)) ps) e, subst (λ l. AreParts keeps w ps l) (ap args_of e) h)
 element_parts {keeps} w Operation.Word ps args h width given_args e =
     (ps, ap (λ a. InMemory (memory_of (width_of a)) ps) e, subst (λ l. AreParts keeps w ps l) (ap args_of e) h)
+element_parts {keeps} w other ps args h width given_args e = no_element e
 
 pub operation_means : {keeps : Bool} (w : World) (limits : Limits) (o : Operation) (m n : Meaning) (a b : Sense) →
     Means keeps w limits m a → Means keeps w limits n b →

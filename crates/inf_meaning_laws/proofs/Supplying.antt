@@ -107,11 +107,8 @@ supplied_means keeps w limits v ps args h few =
 -- A routine that writes a value does that, and answers some number.
 wrote_as : (f : ℕ → ℕ → ℕ → Store → Store) (ns : List ℕ) (s t : Store) → write_of_three f ns s ≡ Some t →
     (n : ℕ) × (wrote f ns s ≡ Some (n, t))
-wrote_as f [] s t e = none_some e
-wrote_as f (a ∷ []) s t e = none_some e
-wrote_as f (a ∷ i ∷ []) s t e = none_some e
 wrote_as f (a ∷ i ∷ n ∷ []) s t e = (n, ap (λ u. Some (n, u)) (same_some e))
-wrote_as f (a ∷ i ∷ n ∷ m ∷ ns) s t e = none_some e
+wrote_as f other s t e = none_some e
 
 pub writes_property : (keeps : Bool) (w : World) (limits : Limits) (ps : List Part) (args : List Arg) → AreParts keeps w ps args →
     length ps ≤ 7 → Always w (call_routine limits Veneer.WriteProperty ps None) (GivesNothing w (meant.element_assigned w Properties args))
@@ -127,8 +124,7 @@ writes_property keeps w limits ps args h few =
 -- The routine for a question about a property is the one of its meaning.
 reader_is : (p : PropertyPart) → code.reader p ≡ meant.asked p
 reader_is PropertyPart.Value = refl
-reader_is PropertyPart.Address = refl
-reader_is PropertyPart.Length = refl
+reader_is other = refl
 
 property_parts : (w : World) (p : PropertyPart) (ps : List Part) (args : List Arg) → AreParts false w ps args → (width : Width)
     (given_args : List Arg) → meant.property_aim p args ≡ Element width given_args →

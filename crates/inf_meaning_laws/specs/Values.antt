@@ -321,7 +321,7 @@ called_as w (Element Bytes parts) a arguments = calls w (arg a ∷ arguments)
 called_as w (Element Words parts) a arguments = calls w (arg a ∷ arguments)
 called_as w (Element Properties parts) a arguments = supplied_by w Veneer.CallProperty (parts ++ arguments)
 
--- The meaning of each operator, by that of its parts
+-- Definitions of the meaning of each operator, by that of its parts
 
 abbrev pub one : World → Unary → Sense → Sense
 one w Unary.Negate a = computed w (operation_of Operation.Subtract) (number 0 ∷ arg a ∷ [])

@@ -18,7 +18,7 @@ use Rattle.inf_compilation.specs.Actions.{Compilation, with_all_unused, with_bra
 use Rattle.inf_step_walk.specs.Walking.{Remains}
 use Rattle.inf_message_laws.specs.Growing.{GoesOn, Grows, told_before, with_lines_before}
 
--- Reports that go on
+-- Lemmas about reports that go on
 
 pub same_report : (r s : Reported) → s ≡ r → GoesOn r s
 same_report r s e = record {
@@ -36,7 +36,7 @@ goes_behind r s t a b = record {
   errors = let p = a.errors in let q = b.errors in omega (arith, p, q);
 }
 
--- Changes of the report put together
+-- Lemmas about changes of the report put together
 
 -- A change of the report does not depend on its lines, leaves them unchanged before its own, and the report goes on.
 pub record Adds (tell : Reported → Reported) : Type 0 where
@@ -146,7 +146,7 @@ more_adds more counted h = record {
   goes_on = λ r. record { more = more r.counts; lines = refl; over = h.over r.counts; errors = h.errors r.counts };
 }
 
--- The messages one by one
+-- Lemmas about the messages one by one
 
 pub error_adds : (at unit : Location) (m : Message) → Adds (with_error at unit m)
 error_adds at unit m = more_adds (error_lines at unit m) error_counted error_counts
@@ -180,7 +180,7 @@ pub end_adds : (files : FileNames) (unit : Place) (blame : Option Diagnostic) (l
 end_adds files unit blame limit =
     then_adds (with_fault files unit blame) (with_full files unit limit) (fault_adds files unit blame) (full_adds files unit limit)
 
--- The messages at the end of a routine
+-- Lemmas about the messages at the end of a routine
 
 unused_by : (is_named : Bool) (at : Location) (m : Message) → Adds (λ r. if is_named then r else with_warning at m r)
 unused_by true at m = nothing_adds

@@ -14,8 +14,8 @@ use Rattle.inf_compilation.specs.Actions.{Compilation, close_as, stopped, took, 
 use Rattle.inf_reader.specs.{Acting.act, Acting.cut_at, Directives.limits_told}
 use Rattle.inf_statement_laws.specs.Laid.{next_comes, passed, run}
 use Rattle.inf_statement_laws.specs.Happenings.{Acts, Between, Happening, Takes}
-use Rattle.inf_step_walk.specs.Walking.{After, Asks, Begins, Behind, Checks, Ends, Finishes, GivesUp, Joins, Leaves, Nests, Premises, Rests}
-use Rattle.inf_step_walk.specs.Walking.{Says, Shuts, Sizes, Starts, Tallies, Walk, Walks, Warns, free, with_report}
+use Rattle.inf_step_walk.specs.Walking.{After, Asks, Begins, Behind, Checks, Ends, Finishes, Leaves, Nests, Premises, Rests}
+use Rattle.inf_step_walk.specs.Walking.{Says, Sizes, Tallies, Walk, Walks, Warns, free, with_report}
 use Rattle.inf_step_walk.proofs.{Actions.act_steps, Actions.cut_at_steps, Actions.took_steps, Units.inner_told}
 use Rattle.inf_message_laws.specs.Growing.{AllOnlyAdd, GoesOn, Grows, MessagesGrow, OnlyAdds, ReportsGoOn, told_before}
 use Rattle.inf_message_laws.proofs.Told.{Adds, all_unused_add, chosen_adds, end_adds, fatal_adds, full_adds, nothing_adds, nothing_grows}
@@ -108,10 +108,7 @@ module _ {Q : Premises} where
         asked = a.asked;
       }
   walk_told Leaves = silent refl refl refl
-  walk_told GivesUp = silent refl refl refl
-  walk_told (Starts k) = silent refl refl refl
-  walk_told Joins = silent refl refl refl
-  walk_told Shuts = silent refl refl refl
+  walk_told others = silent refl refl refl
 
 module _ (limits : Limits) (context : Context) {Q : Premises} where
   grows_of : (f : Compilation → Compilation) → ((w : Compilation) → Walks limits context Q f w) → Grows f

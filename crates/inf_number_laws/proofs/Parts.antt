@@ -64,7 +64,7 @@ args_both xs ys cs ds l m = (
   ap (λ x. x ++ ds) l.2 ∙ ap (λ x. rights l.0 ++ x) m.2 ∙ sym (rights_both l.0 m.0),
 )
 
--- One step behind another, where both have the same outcome
+-- Lemmas about one step behind another, where both have the same outcome
 
 under : {A B : Type 0} (o : Option A) (f g : A → Option B) → ((x : A) → f x ≡ g x) → (o then f) ≡ (o then g)
 under None f g h = refl
@@ -73,7 +73,7 @@ under (Some x) f g h = h x
 pub steps : {A B : Type 0} (o r : Option A) (f g : A → Option B) → o ≡ r → ((x : A) → f x ≡ g x) → (o then f) ≡ (r then g)
 steps o r f g e h = ap (λ o. o then f) e ∙ under r f g h
 
--- Parts that are worked out, and settled behind that
+-- Lemmas about parts that are worked out, and settled behind that
 
 module _ (w : World) where
   abbrev OneLike : Option (Worked × Store) → Option (Worked × Store) → Type 0
@@ -148,7 +148,7 @@ module _ (w : World) where
   pub values_like : (xs ys : List Arg) → ArgsLike xs ys → (s : Store) → values w xs s ≡ values w ys s
   values_like xs ys l s = ap (λ x. values w x s) l.1 ∙ pairs_like l.0 s ∙ ap (λ x. values w x s) (sym l.2)
 
-  -- Tests of one part against others
+  -- Lemmas about tests of one part against others
 
   pub tested_like : (t : Test) (ps : List Pair) (s : Store) → tested w t (lefts ps) s ≡ tested w t (rights ps) s
   tested_like t ps s = ap (λ o. o then λ p. test_of w t p.1 p.0 then λ b. Some (b, p.1)) (pairs_like ps s)

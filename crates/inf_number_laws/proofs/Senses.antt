@@ -60,7 +60,7 @@ one_part a b l = args_with (arg a) (arg b) [] [] (arg_like a b l) (args_same [])
 two_parts : (a b c d : Sense) → Like a b → Like c d → ArgsLike (arg a ∷ arg c ∷ []) (arg b ∷ arg d ∷ [])
 two_parts a b c d l m = args_with (arg a) (arg b) (arg c ∷ []) (arg d ∷ []) (arg_like a b l) (one_part c d m)
 
--- Meanings by a value, and by a truth
+-- Lemmas about meanings by a value, and by a truth
 
 made_like : (f g : Taker → Store → Option (ℕ × Store)) (h k : Store → Option (Bool × Store))
     → ((take : Taker) (s : Store) → f take s ≡ g take s) → ((s : Store) → h s ≡ k s) → Like (made f h) (made g k)
@@ -126,7 +126,7 @@ module _ (w : World) where
   calls_like xs ys l =
       valued_like _ _ (λ take s. ap (λ o. o then λ p. called w p.0 p.1 then λ r. answer take r.0 r.2) (values_like w xs ys l s))
 
-  -- Assignments, steps and calls, by the aim
+  -- Lemmas about assignments, steps and calls, by the aim
 
   element_like : (x : Width) (xs ys : List Arg) → ArgsLike xs ys → (s : Store) → element_assigned w x xs s ≡ element_assigned w x ys s
   element_like x xs ys l s = ap (λ o. o then λ p. with_element w x p.0 p.1) (values_like w xs ys l s)
@@ -208,14 +208,12 @@ module _ (w : World) where
   called_like (Element x xs) Nowhere a b cs ds m l n = elim m [ ]
   called_like (Element x xs) (Named u) a b cs ds m l n = elim m [ ]
 
-  -- Tests
+  -- Lemmas about tests
 
   few_threes : (a : Arg) (b : Arg) (ys : List Arg) (s : Store) → nat_lt 3 (length (b ∷ ys)) ≡ false
       → tested w Test.Equal (a ∷ b ∷ ys) s ≡ in_groups true w Test.Equal a (b ∷ ys) s
-  few_threes a b [] s h = refl
-  few_threes a b (c ∷ []) s h = refl
-  few_threes a b (c ∷ d ∷ []) s h = refl
   few_threes a b (c ∷ d ∷ e ∷ ys) s h = let n : ⊥ = grind arith in elim n [ ]
+  few_threes a b other s h = refl
 
   few_ones : (t : Test) (a : Arg) (b : Arg) (ys : List Arg) (s : Store) → nat_lt 1 (length (b ∷ ys)) ≡ false
       → tested w t (a ∷ b ∷ ys) s ≡ in_groups false w t a (b ∷ ys) s
@@ -284,18 +282,12 @@ module _ (w : World) where
       ∙ compared_by t a b p os.0 l a.leaf b.leaf l.leaves refl refl s
       ∙ ap (λ y. compared w t b.leaf b (d.first ∷ y) s) (sym os.2)
 
-  -- Operators
+  -- Lemmas about operators
 
   element_aim : (o : Operation) (xs ys : List Arg) → ArgsLike xs ys → AimsLike (element_of o xs) (element_of o ys)
-  element_aim Operation.Add xs ys l = tt
-  element_aim Operation.Subtract xs ys l = tt
-  element_aim Operation.Multiply xs ys l = tt
-  element_aim Operation.Divide xs ys l = tt
-  element_aim Operation.Remainder xs ys l = tt
-  element_aim Operation.BitAnd xs ys l = tt
-  element_aim Operation.BitOr xs ys l = tt
   element_aim Operation.Byte xs ys l = (refl, l)
   element_aim Operation.Word xs ys l = (refl, l)
+  element_aim other xs ys l = tt
 
   part_aim : (p : PropertyPart) (xs ys : List Arg) → ArgsLike xs ys → AimsLike (property_aim p xs) (property_aim p ys)
   part_aim PropertyPart.Value xs ys l = (refl, l)

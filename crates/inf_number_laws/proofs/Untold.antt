@@ -35,7 +35,7 @@ same found e = e
 less : (f : Finding) → Tells (λ found. least found f)
 less f found e = elim (least_tells found f e) [ ]
 
--- Findings about a tree, by its kind
+-- Lemmas about what is found wrong with a tree, by its kind
 
 abbrev IsValue : Tree → Type 0
 IsValue (Leaf (Operand.Function f)) = ⊥
@@ -60,12 +60,10 @@ facts (Leaf (Operand.Later t)) = record { value = λ x. same; is_value = λ x f 
 facts (Leaf (Operand.Function g)) =
     record { value = wrong; is_value = λ x f e. least_tells f (wrong_kind x) e; target = wrong; constant = λ x. same }
 facts (Leaf Operand.Unknown) = record { value = λ x. same; is_value = λ x f e. tt; target = wrong; constant = λ x. same }
-facts (One op a) = record { value = λ x. same; is_value = λ x f e. tt; target = wrong; constant = unfit }
 facts (Two (Binary.Operation Operation.Byte) a b) =
     record { value = λ x. same; is_value = λ x f e. tt; target = λ x. same; constant = unfit }
 facts (Two (Binary.Operation Operation.Word) a b) =
     record { value = λ x. same; is_value = λ x f e. tt; target = λ x. same; constant = unfit }
-facts (Two (Binary.Operation Operation.Add) a b) = record { value = λ x. same; is_value = λ x f e. tt; target = wrong; constant = unfit }
 facts (Two (Binary.Operation Operation.Subtract) a b) =
     record { value = λ x. same; is_value = λ x f e. tt; target = wrong; constant = unfit }
 facts (Two (Binary.Operation Operation.Multiply) a b) =
@@ -84,38 +82,24 @@ facts (Two (Binary.Property PropertyPart.Address) a b) =
     record { value = λ x. same; is_value = λ x f e. tt; target = wrong; constant = unfit }
 facts (Two (Binary.Property PropertyPart.Length) a b) =
     record { value = λ x. same; is_value = λ x f e. tt; target = wrong; constant = unfit }
-facts (Two (Binary.Test t) a b) = record { value = λ x. same; is_value = λ x f e. tt; target = wrong; constant = unfit }
-facts (Two (Binary.Fails t) a b) = record { value = λ x. same; is_value = λ x f e. tt; target = wrong; constant = unfit }
-facts (Two Binary.Assign a b) = record { value = λ x. same; is_value = λ x f e. tt; target = wrong; constant = unfit }
-facts (Two Binary.Comma a b) = record { value = λ x. same; is_value = λ x f e. tt; target = wrong; constant = unfit }
-facts (Two Binary.And a b) = record { value = λ x. same; is_value = λ x f e. tt; target = wrong; constant = unfit }
-facts (Two Binary.Or a b) = record { value = λ x. same; is_value = λ x f e. tt; target = wrong; constant = unfit }
-facts (Two Binary.Call a b) = record { value = λ x. same; is_value = λ x f e. tt; target = wrong; constant = unfit }
-facts (Two Binary.Then a b) = record { value = λ x. same; is_value = λ x f e. tt; target = wrong; constant = unfit }
-facts (Two Binary.To a b) = record { value = λ x. same; is_value = λ x f e. tt; target = wrong; constant = unfit }
+facts other = record { value = λ x. same; is_value = λ x f e. tt; target = wrong; constant = unfit }
 
 some_same : {A : Type 0} {x y : A} → Some x ≡ Some y → x ≡ y
 some_same e = cc
 
 known_kind : (t : Tree) (n : ℕ) → known t ≡ Some n → is_known (kind_of t) ≡ true
 known_kind (Leaf (Operand.Known m)) n e = refl
-known_kind (Leaf (Operand.Variable v)) n e = cc
-known_kind (Leaf (Operand.Later t)) n e = cc
 known_kind (Leaf (Operand.Function f)) n e = refl
 known_kind (Leaf Operand.Unknown) n e = refl
-known_kind (One op a) n e = cc
-known_kind (Two op a b) n e = cc
+known_kind other n e = cc
 
 zero_kind : (t : Tree) → known t ≡ Some 0 → is_zero (kind_of t) ≡ true
 zero_kind (Leaf (Operand.Known m)) e = ap (λ n. n == 0) (some_same e)
-zero_kind (Leaf (Operand.Variable v)) e = cc
-zero_kind (Leaf (Operand.Later t)) e = cc
 zero_kind (Leaf (Operand.Function f)) e = refl
 zero_kind (Leaf Operand.Unknown) e = refl
-zero_kind (One op a) e = cc
-zero_kind (Two op a b) e = cc
+zero_kind other e = cc
 
--- Operators of one part
+-- Lemmas about operators of one part
 
 record OneIsFine (t : Tree) (found : Option Finding) : Type 0 where
   nothing : found ≡ None
@@ -128,15 +112,9 @@ one_fine r found e =
 unary_fine : (op : Unary) (r : Rooted) (found : Option Finding) → unary_finding op (seen r) found ≡ None → OneIsFine r.tree found
 unary_fine (Unary.Before how) r found e = one_fine r found ((facts r.tree).target r.origin.first _ e)
 unary_fine (Unary.Behind how) r found e = one_fine r found ((facts r.tree).target r.origin.first _ e)
-unary_fine Unary.Negate r found e = one_fine r found e
-unary_fine Unary.Not r found e = one_fine r found e
-unary_fine (Unary.Single how) r found e = one_fine r found e
-unary_fine (Unary.Relative how) r found e = one_fine r found e
-unary_fine Unary.Children r found e = one_fine r found e
-unary_fine Unary.Call r found e = one_fine r found e
-unary_fine Unary.Indirect r found e = one_fine r found e
+unary_fine other r found e = one_fine r found e
 
--- Operators of two parts
+-- Lemmas about operators of two parts
 
 record TwoAreFine (op : Binary) (a b : Tree) (found : Option Finding) : Type 0 where
   nothing : found ≡ None
@@ -185,25 +163,11 @@ two_fine (Binary.Operation Operation.Remainder) unit r q found e =
     let tells = division_tells (is_known (kind_of r.tree)) (is_zero (kind_of q.tree)) (out_of_range unit) in
     with_divisor (Binary.Operation Operation.Remainder) r.tree q.tree found (values_fine r q found (tells _ e))
     (λ n g. divided_by Operation.Remainder unit r.tree q.tree _ n e (known r.tree) refl g)
-two_fine (Binary.Operation Operation.Add) unit r q found e = with_divisor _ _ _ found (values_fine r q found e) (λ n g. tt)
-two_fine (Binary.Operation Operation.Subtract) unit r q found e = with_divisor _ _ _ found (values_fine r q found e) (λ n g. tt)
-two_fine (Binary.Operation Operation.Multiply) unit r q found e = with_divisor _ _ _ found (values_fine r q found e) (λ n g. tt)
-two_fine (Binary.Operation Operation.BitAnd) unit r q found e = with_divisor _ _ _ found (values_fine r q found e) (λ n g. tt)
-two_fine (Binary.Operation Operation.BitOr) unit r q found e = with_divisor _ _ _ found (values_fine r q found e) (λ n g. tt)
-two_fine (Binary.Operation Operation.Byte) unit r q found e = with_divisor _ _ _ found (values_fine r q found e) (λ n g. tt)
-two_fine (Binary.Operation Operation.Word) unit r q found e = with_divisor _ _ _ found (values_fine r q found e) (λ n g. tt)
-two_fine (Binary.Property p) unit r q found e = with_divisor _ _ _ found (values_fine r q found e) (λ n g. tt)
-two_fine (Binary.Test t) unit r q found e = with_divisor _ _ _ found (values_fine r q found e) (λ n g. tt)
-two_fine (Binary.Fails t) unit r q found e = with_divisor _ _ _ found (values_fine r q found e) (λ n g. tt)
 two_fine Binary.Assign unit r q found e =
     with_divisor _ _ _ found (values_fine r q found ((facts r.tree).target r.origin.first _ e)) (λ n g. tt)
-two_fine Binary.Comma unit r q found e = with_divisor _ _ _ found (values_fine r q found e) (λ n g. tt)
-two_fine Binary.And unit r q found e = with_divisor _ _ _ found (values_fine r q found e) (λ n g. tt)
-two_fine Binary.Or unit r q found e = with_divisor _ _ _ found (values_fine r q found e) (λ n g. tt)
-two_fine Binary.Call unit r q found e = with_divisor _ _ _ found (values_fine r q found e) (λ n g. tt)
-two_fine Binary.Then unit r q found e = with_divisor _ _ _ found (values_fine r q found e) (λ n g. tt)
 two_fine Binary.To unit r q found e =
     with_divisor _ _ _ found (values_fine r q found ((facts r.tree).constant unit _ ((facts q.tree).constant unit _ e))) (λ n g. tt)
+two_fine other unit r q found e = with_divisor _ _ _ found (values_fine r q found e) (λ n g. tt)
 
 call_by : (b : Bool) (f : Finding) (r : Rooted) (found : Option Finding)
     → cond b (least (value_finding_of (kind_of r.tree) r.origin.token found) f) (value_finding_of (kind_of r.tree) r.origin.token found)
@@ -212,24 +176,19 @@ call_by : (b : Bool) (f : Finding) (r : Rooted) (found : Option Finding)
 call_by true f r found e = elim (least_tells (value_finding_of (kind_of r.tree) r.origin.token found) f e) [ ]
 call_by false f r found e = one_fine r found e
 
--- Expressions
+-- Lemmas about expressions
 
 abbrev IsFit : Tree → Type 0
 IsFit t = IsValue t → IsProper t
 
 fit_leaf : (x : Operand) (token : ℕ) → leaf_finding x token None ≡ None → IsFit (Leaf x)
-fit_leaf (Operand.Known n) token e v = tt
-fit_leaf (Operand.Variable n) token e v = tt
-fit_leaf (Operand.Later t) token e v = tt
 fit_leaf (Operand.Function f) token e v = v
 fit_leaf Operand.Unknown token e v = cc
+fit_leaf other token e v = tt
 
 leaf_tells : (x : Operand) (token : ℕ) → Tells (λ found. leaf_finding x token found)
-leaf_tells (Operand.Known n) token = same
-leaf_tells (Operand.Variable n) token = same
-leaf_tells (Operand.Later t) token = same
-leaf_tells (Operand.Function f) token = same
 leaf_tells Operand.Unknown token = wrong token
+leaf_tells other token = same
 
 proper_number : (k : Option ℕ) (t : Tree) → IsProper t → IsProper (number_or k t)
 proper_number None t p = p

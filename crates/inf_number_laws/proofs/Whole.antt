@@ -12,7 +12,7 @@ use Rattle.inf_number_laws.specs.{Known.IsNumber, Whole.IsSound, Whole.TreesKeep
 use Rattle.inf_number_laws.proofs.{Known.known_is, Known.known_one, Parts.ArgsLike, Parts.LeavesLike}
 use Rattle.inf_number_laws.proofs.Senses.{AimsLike, Like, like_same, one_like, two_like}
 
--- A meaning that is worked out, and is no list
+-- Lemmas about a meaning that is worked out, and is no list
 
 record IsMade (a : Sense) : Type 0 where
   no_leaf : a.leaf ≡ None
@@ -34,34 +34,21 @@ no_number o n h (Some x) None e = cc
 no_number o n h (Some x) (Some y) e = let g : computed o x y ≡ None = h x y in cc
 
 two_made : (w : World) (op : Binary) (f : Option Function) (a b : Tree) (n : ℕ) → folded op a b ≡ Some n → IsMade (sense w (built op f a b))
-two_made w (Binary.Operation Operation.Add) f a b n e = made_by _ refl refl refl (λ s. refl) refl
-two_made w (Binary.Operation Operation.Subtract) f a b n e = made_by _ refl refl refl (λ s. refl) refl
-two_made w (Binary.Operation Operation.Multiply) f a b n e = made_by _ refl refl refl (λ s. refl) refl
-two_made w (Binary.Operation Operation.Divide) f a b n e = made_by _ refl refl refl (λ s. refl) refl
-two_made w (Binary.Operation Operation.Remainder) f a b n e = made_by _ refl refl refl (λ s. refl) refl
-two_made w (Binary.Operation Operation.BitAnd) f a b n e = made_by _ refl refl refl (λ s. refl) refl
-two_made w (Binary.Operation Operation.BitOr) f a b n e = made_by _ refl refl refl (λ s. refl) refl
 two_made w (Binary.Operation Operation.Byte) f a b n e = elim (no_number Operation.Byte n (λ x y. refl) (known a) (known b) e) [ ]
 two_made w (Binary.Operation Operation.Word) f a b n e = elim (no_number Operation.Word n (λ x y. refl) (known a) (known b) e) [ ]
-two_made w (Binary.Test t) f a b n e = made_by _ refl refl refl (λ s. refl) refl
-two_made w (Binary.Fails t) f a b n e = made_by _ refl refl refl (λ s. refl) refl
-two_made w Binary.And f a b n e = made_by _ refl refl refl (λ s. refl) refl
-two_made w Binary.Or f a b n e = made_by _ refl refl refl (λ s. refl) refl
 two_made w (Binary.Property p) f a b n e = cc
 two_made w Binary.Assign f a b n e = cc
 two_made w Binary.Comma f a b n e = cc
 two_made w Binary.Call f a b n e = cc
 two_made w Binary.Then f a b n e = cc
 two_made w Binary.To f a b n e = cc
+two_made w other f a b n e = made_by _ refl refl refl (λ s. refl) refl
 
 no_single : (op : Unary) (n : ℕ) → ((x : ℕ) → computed_single op x ≡ None) → (k : Option ℕ) → folded_single op k ≡ Some n → ⊥
 no_single op n h None e = cc
 no_single op n h (Some x) e = let g : computed_single op x ≡ None = h x in cc
 
 one_made : (w : World) (op : Unary) (a : Tree) (n : ℕ) → folded_single op (known a) ≡ Some n → IsMade (sense w (One op a))
-one_made w Unary.Negate a n e = made_by _ refl refl refl (λ s. refl) refl
-one_made w Unary.Not a n e = made_by _ refl refl refl (λ s. refl) refl
-one_made w (Unary.Single Single.Complement) a n e = made_by _ refl refl refl (λ s. refl) refl
 one_made w (Unary.Single Single.Parent) a n e = elim (no_single (Unary.Single Single.Parent) n (λ x. refl) (known a) e) [ ]
 one_made w (Unary.Single Single.Random) a n e = elim (no_single (Unary.Single Single.Random) n (λ x. refl) (known a) e) [ ]
 one_made w (Unary.Before how) a n e = elim (no_single (Unary.Before how) n (λ x. refl) (known a) e) [ ]
@@ -70,6 +57,7 @@ one_made w (Unary.Relative how) a n e = elim (no_single (Unary.Relative how) n (
 one_made w Unary.Children a n e = elim (no_single Unary.Children n (λ x. refl) (known a) e) [ ]
 one_made w Unary.Call a n e = elim (no_single Unary.Call n (λ x. refl) (known a) e) [ ]
 one_made w Unary.Indirect a n e = elim (no_single Unary.Indirect n (λ x. refl) (known a) e) [ ]
+one_made w other a n e = made_by _ refl refl refl (λ s. refl) refl
 
 -- A number stands for a meaning that it is.
 
@@ -138,7 +126,7 @@ built_like w Binary.Call (Some f) a b c d l m = one_like w (operator_of f) (sens
 built_like w Binary.Then f a b c d l m = two_like w Binary.Then (sense w a) (sense w b) (sense w c) (sense w d) l m
 built_like w Binary.To f a b c d l m = two_like w Binary.To (sense w a) (sense w b) (sense w c) (sense w d) l m
 
--- Trees
+-- Lemmas about trees
 
 numbered : (w : World) (k : Option ℕ) (a : Sense) (t : Tree) → Like a (sense w t)
     → ((n : ℕ) → k ≡ Some n → IsMade (sense w t) × IsNumber n (sense w t)) → Like a (sense w (number_or k t))

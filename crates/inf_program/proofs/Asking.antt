@@ -36,7 +36,7 @@ pub record Settled (k : TokenKind) (x : ReaderState) : Type 0 where
 settled : (k : TokenKind) (x : ReaderState) → Calm x → Settled k x
 settled k x c = record { inside = λ _. c.asks; hash = λ _. c.asks; last = c.last; spaced = c.spaced }
 
--- Actions
+-- Lemmas about actions
 
 none_of_both : (a b : Bool) → (a || b) ≡ false → (a ≡ false) × (b ≡ false)
 none_of_both true b e = absurd (true≢false e)
@@ -60,7 +60,7 @@ took_asks limits context t r w none =
     (messages_grow limits).asks.token context t (all_acted limits context t.place actions w)
     ∙ acted_asks limits context t.place actions (record w { opening = None }) none
 
--- Tokens
+-- Lemmas about tokens
 
 hash_atom : (t : SourceToken) → t.kind ≡ TokenKind.Mark Mark.Hash → has (grammar.atoms_of 0) (atom_of t) ≡ false
 hash_atom t e = ap (λ (k : TokenKind). has (grammar.atoms_of 0) (atom_of_kind t.is_class k t.bytes)) e ∙ no_semicolon

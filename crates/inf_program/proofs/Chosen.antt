@@ -13,7 +13,7 @@ use Rattle.inf_syntax.specs.declared.actions.Action.{Action}
 use Rattle.inf_grammar.specs.{Evaluated.language_is_decided, Language.grammar, Language.known}
 use Rattle.inf_reader.specs.Reading.{piece_rule}
 
--- The row that is chosen
+-- Lemmas about the row that is chosen
 
 pub record Only (atom rule : ℕ) (r : Row Action) (symbols : List (Symbol Action)) : Type 0 where
   pub fits_here : fits grammar known atom (Symbol.Rule rule ∷ symbols) ≡ true
@@ -66,7 +66,7 @@ only atom rule r symbols m free spaced f = by_begun (fits grammar known atom r.p
         by_empty true l = refl
         by_empty false l = absurd (omega arith)
 
--- Symbols that end with a token
+-- Lemmas about symbols that end with a token
 
 -- symbols that end with a token, or none
 abbrev pub EndWithToken : List (Symbol Action) → Type 0

@@ -44,7 +44,7 @@ if_delivers sources o serial name before after was now Fault.Memory d = d
 if_delivers sources o serial name before after was now (Fault.Read file) d = d
 if_delivers sources o serial name before after was now Fault.Messages d = d
 
--- The clauses of a call
+-- Lemmas about the clauses of a call
 
 pub headline_written : (result : Result Status Fault) (sources : Sources) (o : Choices) (serial name : List ℕ)
     (before after was now : Option (List ℕ))

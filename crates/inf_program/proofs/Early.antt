@@ -18,7 +18,7 @@ use Rattle.inf_ending.specs.Ending.{Outcome, begun as outcome_begun, finished, f
 use Rattle.inf_ending.specs.declared.compiled.Status.{Status}
 use Rattle.inf_compile.specs.Outcome.{ending_of}
 
--- A report that is over
+-- Lemmas about a report that is over
 
 abbrev IsOver : Reported → Type 0
 IsOver r = r.counts.is_over ≡ true
@@ -54,7 +54,7 @@ all_undeclared_stay files [] r over = refl
 all_undeclared_stay files (n ∷ names) r over =
     ap (with_all_undeclared files names) (undeclared_stays files n.standing r over) ∙ all_undeclared_stay files names r over
 
--- Outcomes
+-- Lemmas about outcomes
 
 -- the outcome with lines alone
 abbrev with_messages : List ℕ → Outcome
@@ -83,7 +83,7 @@ finished_over limits serial files w over =
     ap (λ (r : Reported). outcome_begun (told_of serial x) files o r (main_of o.names)) same
     ∙ begun_over serial x files o w.report (main_of o.names) over
 
--- States
+-- Lemmas about states
 
 supplied_over : (limits : Limits) (o : Choices) (left n : ℕ) (s : State) → IsOver s.work.report → supplied_by limits o left n s ≡ s
 supplied_over limits o zero n s over = refl

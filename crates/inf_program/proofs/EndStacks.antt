@@ -13,7 +13,7 @@ use Rattle.inf_unit.specs.{Roles.role_of, declared.roles.Ending.Ending, declared
 use Rattle.inf_reader.specs.Handing.{is_empty}
 use Rattle.inf_program.proofs.Chosen.{only}
 
--- Ends of directives
+-- Lemmas about ends of directives
 
 abbrev pub is_directive_end : Role → Bool
 is_directive_end (Role.End Ending.Directive) = true
@@ -49,7 +49,7 @@ ends_last (Symbol.Token class ∷ symbols) = ends_last symbols
 ends_last (Symbol.Act a ∷ symbols) = if ends_directive a then is_semicolon symbols else ends_last symbols
 ends_last (Symbol.Rule rule ∷ symbols) = if outer rule then nat_le 1 rule && is_empty symbols else ends_last symbols
 
--- By evaluation over the table
+-- Lemmas by evaluation over the table
 
 abbrev inner_clear : ℕ → Bool
 inner_clear rule = outer rule || all_rows are_clear (grammar.rows_of rule)
@@ -69,7 +69,7 @@ pub no_semicolon : has (grammar.atoms_of 0) (mark_atom Mark.Hash) ≡ false
 unfolding grammar
 no_semicolon = refl
 
--- Rows
+-- Lemmas about rows
 
 row_of_all : (test : List (Symbol Action) → Bool) (rows : List (Row Action)) (r : Row Action) → IsOneOf r rows → all_rows test rows ≡ true
     → test r.parts ≡ true
@@ -135,7 +135,7 @@ row_last rule r [] m true piece last =
 row_last rule r (s ∷ symbols) m true piece last =
     absurd (true≢false (sym (and_parts (nat_le 1 rule) false last).1))
 
--- Tokens
+-- Lemmas about tokens
 
 -- Behind a token the end of a directive still comes last. Where it came before the token, this is a semicolon, and nothing is left.
 pub record Lasts (atom : ℕ) (now : Taken Action) : Type 0 where

@@ -18,7 +18,7 @@ use Rattle.inf_program.specs.definition.Fronts.{Course, Derives, Progress, actio
 use Rattle.inf_program.specs.definition.Fronts.{kept_atoms, later_ends, taken_by}
 use Rattle.inf_program.proofs.{Chosen.only, Grouping.closed_once, Grouping.step_fit, Stacks.IsRest, Stacks.fits_some, Stacks.rest_left}
 
--- Events token by token
+-- Lemmas about events token by token
 
 first_actions : (actions : List Action) (atom : ℕ) (events : List (Event Action))
     → actions_first (events_of actions atom ++ events) ≡ actions
@@ -44,7 +44,7 @@ none_ahead limits w = closed_once limits 0 w (none_less w.closed) (most_alone w.
 pub not_ahead : (limits : Limits) (count : ℕ) (w : Compilation) → count ≡ 0 → closed_ahead limits count w ≡ w
 not_ahead limits count w e = ap (λ n. closed_ahead limits n w) e ∙ none_ahead limits w
 
--- The first token of a course
+-- Lemmas about the first token of a course
 
 -- The machine takes the first token as `now`. What is to come is that of this token, and then of the others.
 pub record Ahead (atom : ℕ) (now : Taken Action) (atoms : List ℕ) (course : Course) (left : List (Symbol Action)) : Type 0 where

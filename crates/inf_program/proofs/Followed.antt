@@ -17,7 +17,7 @@ use Rattle.inf_message_laws.proofs.Told.{Adds, fatal_adds, nothing_adds, then_ad
 use Rattle.inf_program.proofs.Handed.{lone_adds}
 use Rattle.inf_program.proofs.States.{Moves, if_moves, nothing_moves, telling_moves, then_moves, with_moves}
 
--- Conditionals that lack their other end
+-- Lemmas about conditionals that lack their other end
 
 all_lone_add : (files : FileNames) (open_ones : List Conditional) → Adds (with_all_lone files open_ones)
 all_lone_add files [] = nothing_adds
@@ -31,7 +31,7 @@ file_adds : (files : FileNames) (c : Conditions) → Adds (file_told files c)
 file_adds files c =
     then_adds (piece_told files c) (with_all_lone files (reverse c.among)) (piece_adds files c) (all_lone_add files (reverse c.among))
 
--- The end of a file
+-- Lemmas about the end of a file
 
 -- the messages at the end of the file
 abbrev file_end_told : State → State
@@ -61,7 +61,7 @@ left_moves =
     with_moves (λ (s : State). s.nesting.waiting) (λ (waiting : List Waiting) (s : State). left_by waiting (file_closed s))
     (λ lines told s. refl) (λ waiting. then_moves file_closed (left_by waiting) closed_moves (left_by_moves waiting))
 
--- Inclusions
+-- Lemmas about inclusions
 
 refused_moves : (unit : Place) (m : Message) → Moves (refused_with unit m)
 refused_moves unit m =
@@ -83,7 +83,7 @@ included_moves sources o unit text =
     with_moves (λ (s : State). inclusion sources o.directories text s.nesting) (included_by sources o unit text)
     (λ lines told s. refl) (included_by_moves sources o unit text)
 
--- Requests of a directive
+-- Lemmas about requests of a directive
 
 answered_moves : (asked : Request) (sources : Sources) (o : Choices) → Moves (answered asked sources o)
 answered_moves (Include text unit) sources o = included_moves sources o unit text
@@ -118,7 +118,7 @@ carried_moves sources o =
     if_moves (λ (s : State). s.work.report.counts.is_over) (λ s. s) (gone_on sources o) (λ lines told s. refl) nothing_moves
     (gone_on_moves sources o)
 
--- The end of a piece
+-- Lemmas about the end of a piece
 
 -- the messages at the end of the piece
 abbrev piece_end_told : State → State

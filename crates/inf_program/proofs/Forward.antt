@@ -62,7 +62,7 @@ kept_of limits context (Ends m ∷ steps) s fit = kept_of limits context steps (
 kept_of limits context (Reads (Unfit t) ∷ steps) s fit = absurd fit
 kept_of limits context (Reads (Kept t) ∷ steps) s fit = kept_of limits context steps (step_by limits context (Reads (Kept t)) s) fit.1
 
--- Steps in two parts
+-- Lemmas about steps in two parts
 
 pub atoms_joined : (a b : List Step) (atoms : List ℕ) → kept_atoms (a ++ b) ++ atoms ≡ kept_atoms a ++ (kept_atoms b ++ atoms)
 atoms_joined [] b atoms = refl
@@ -71,7 +71,7 @@ atoms_joined (Reads (Unfit t) ∷ a) b atoms = atoms_joined a b atoms
 atoms_joined (Passes m ∷ a) b atoms = atoms_joined a b atoms
 atoms_joined (Ends m ∷ a) b atoms = atoms_joined a b atoms
 
--- Turns behind the first
+-- Lemmas about turns behind the first
 
 -- Behind a turn nothing else happens, a piece is at hand, and the tokens of the next turn fit.
 pub record FitTurn (limits : Limits) (sources : Sources) (o : Choices) (q : State) : Type 0 where
@@ -116,7 +116,7 @@ turns_lead limits sources o (suc n) q atoms events left all l =
           (plain_turn limits sources o q all.0) w.leads);
     }
 
--- A piece that is at hand
+-- Lemmas about a piece that is at hand
 
 no_atoms : {symbols left : List (Symbol Action)} {atoms : List ℕ} → Leads grammar symbols atoms [] left → atoms ≡ []
 no_atoms here = refl

@@ -29,7 +29,7 @@ use Rattle.inf_program.proofs.Forward.{FitTurns, Forward, Led, fit_leads, forwar
 use Rattle.inf_program.proofs.Forward.{some_at_hand, turns_lead}
 use Rattle.inf_program.proofs.Walking.{IsAt, begun_is_at, first_step, front_steps, whole_is}
 
--- The first turn
+-- Lemmas about the first turn
 
 -- the reading of a piece before its first token
 abbrev pub piece_start : State → ReaderState
@@ -57,7 +57,7 @@ first_steps limits sources o s fresh b =
     ≡ steps_by limits (context_of o s) steps (piece_start s)) (sym b.steps)
     (begun_steps limits (context_of o s) b.effect b.token b.rest s b.is_no_end)
 
--- A front
+-- Lemmas about a front
 
 pub record IsFront (limits : Limits) (sources : Sources) (o : Choices) (n : ℕ) (s : State) (further : List ℕ) (left : List (Symbol Action))
     : Type 0
@@ -114,7 +114,7 @@ front_of limits sources o n s further events left f all l =
       at_end = z.at_end;
     }
 
--- A whole piece, and one that is broken off
+-- Lemmas about a whole piece, and one that is broken off
 
 pub whole_next : (limits : Limits) (sources : Sources) (o : Choices) (n : ℕ) (s : State) → FirstFit limits o s
     → FitTurns limits sources o n s → (stepped limits o (side_turned limits sources o n s)).reading ≡ between Recovery.Reads
@@ -134,7 +134,7 @@ broken_next limits sources o n s first all over =
     let f : IsFront limits sources o n s [] z.reading.stack = front_of limits sources o n s [] [] z.reading.stack first all here in
     BrokenOff f.front (ap (λ (y : State). y.work.report.counts.is_over) f.at_end.same ∙ over) (sym f.at_end.same)
 
--- Bad tokens
+-- Lemmas about bad tokens
 
 bad_by : (given : Given) (tokens : List SourceToken) (r : Reading) → At tokens r → Misfits given r.stack → IsBad tokens given
 bad_by (Kept t) tokens r at out = stops tokens r t at out

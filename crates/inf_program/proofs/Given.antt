@@ -37,7 +37,7 @@ data Handed (all : List GivenBySides) : Type 0 where
   TwoHanded : (given next : Given) (rest : List GivenBySides) → all ≡ as_given given ∷ as_given next ∷ rest
       → (token_in given).kind ≡ TokenKind.Mark Mark.Hash → NoneIn rest → Handed all
 
--- A token that is offered
+-- Lemmas about a token that is offered
 
 acts_handed : (w : ConditionalWord) (declared : ℕ) (o : Out) (place : Place) (is_inner : Bool) (first : SourceToken) (others : List Asked)
     (s : Sides) → Handed (acts w declared o place is_inner first others s).given
@@ -127,7 +127,7 @@ sign_handed (Directive begins is_inner w first others ∷ texts) None place decl
     asked_handed (form_of w first more) declared o t place (Directive begins is_inner w first more)
     (record s { sign = None; texts = texts })
 
--- Any token
+-- Lemmas about any token
 
 kept_handed : (sign : Option Place) (is_between : Bool) (declared : ℕ) (o : Out) (t : SourceToken) (s : Sides)
     → Handed (kept_step sign is_between declared o t s).given
@@ -146,7 +146,7 @@ step_handed is_between declared o t s =
     of_both (λ (n : SideStep). Handed n.given) (all_stay s.sides) (kept_step s.sign is_between declared o t s) (left_step declared o t s)
     (λ _. kept_handed s.sign is_between declared o t s) (λ _. left_handed declared o t s)
 
--- Among tokens that are passed over
+-- Lemmas about tokens that are passed over
 
 none_heard : (is_quiet : Bool) (given : List GivenBySides) → NoneIn given → NoneIn (heard is_quiet given)
 none_heard false given none = none
@@ -162,7 +162,7 @@ one_heard false given rest = refl
 one_heard true (Kept t) rest = refl
 one_heard true (Unfit t) rest = refl
 
--- Steps
+-- Lemmas about steps
 
 pub none_free : (limits : Limits) (files : FileNames) (given : List GivenBySides) → NoneIn given → NoneGiven (steps_of_all limits files given)
 none_free limits files [] none = tt
@@ -216,7 +216,7 @@ steps_mild : (limits : Limits) (files : FileNames) (said : Option Said) (given :
     → AllMild (token_steps limits files said given)
 steps_mild limits files said given = ((λ a. refl), all_mild limits files given)
 
--- The next token at a position
+-- Lemmas about the next token at a position
 
 pub shape_at : (limits : Limits) (o : Choices) (p : Position) (s : State) → Shape (steps_at limits o p s)
 shape_at limits o p s =

@@ -46,7 +46,7 @@ directives_joined : (limits : Limits) (count : ℕ) (m b : Between) (d : Option 
 directives_joined limits count m b None w = refl
 directives_joined limits count m b (Some d) w = ap (passed d) (closed_twice limits count m b w)
 
--- A token within a piece
+-- Lemmas about a token within a piece
 
 judged_fit : (limits : Limits) (context : Context) (t : SourceToken) (r : Reading) (w : Compilation)
     → fits grammar known (atom_of t) r.stack ≡ true → judged limits context t r w ≡ took limits context t r w
@@ -77,7 +77,7 @@ step_bad limits context t s unfit =
     step_inside limits context t s.reading s.work unfit.reads unfit.is_inside
     ∙ judged_unfit limits context t s.reading s.work unfit.is_unfit
 
--- Tokens that are passed over
+-- Lemmas about tokens that are passed over
 
 kept_skipped : (limits : Limits) (m : Recovery) (context : Context) (t : SourceToken) (r : Reading) (w : Compilation) → skips m ≡ true
     → (step_in limits m context t r w).work ≡ w
@@ -100,7 +100,7 @@ step_skipped limits context (Unfit t) s skip =
     ap (λ (x : ReaderState). x.work) (unfit_skipped limits s.reading.mode context t s skip)
     ∙ kept_skipped limits s.reading.mode context t s.reading s.work skip
 
--- Steps one by one
+-- Lemmas about steps one by one
 
 pub steps_are_taken : (limits : Limits) (context : Context) (steps : List Step) (s : ReaderState) → AllFit limits context steps s
     → let g = grouped steps in
@@ -122,7 +122,7 @@ steps_are_taken limits context (Reads (Kept t) ∷ steps) s fit =
     (directed limits g.directive (closings x.reading.stack) (passed g.behind x.work)))
     (step_fit limits context t s.reading s.work fit.0)
 
--- Turns from where a piece begins
+-- Lemmas about turns from where a piece begins
 
 -- the first token of a piece comes to a piece that has begun
 step_first : (limits : Limits) (context : Context) (t : SourceToken) (m : Between) (w : Compilation) → is_end t.kind ≡ false

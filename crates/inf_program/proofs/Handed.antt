@@ -33,7 +33,7 @@ then_lead f g first second = record { leads = λ lines s. ap g (first.leads line
 work_lead : (g : Compilation → Compilation) → Grows g → Leads (λ s. record s { work = g s.work })
 work_lead g grow = record { leads = λ lines s. ap (λ (w : Compilation). record s { work = w }) (grow.grows lines s.work) }
 
--- Tokens that are handed on
+-- Lemmas about tokens that are handed on
 
 unfit_lead : (limits : Limits) (m : Recovery) (context : Context) (t : SourceToken) → Leads (unfit_in limits m context t)
 unfit_lead limits Recovery.Reads context t = record { leads = λ lines s. (bad_reads limits context t s.reading).reads lines s.work }
@@ -54,7 +54,7 @@ token_lead : (limits : Limits) (h : Option Forwarded) (context : Context) (t : S
 token_lead limits None context t = nothing_lead
 token_lead limits (Some h) context t = handed_lead limits h context t
 
--- Messages about conditionals
+-- Lemmas about messages about conditionals
 
 said_adds : (files : FileNames) (said : Option Said) → Adds (with_said files said)
 said_adds files None = nothing_adds
@@ -92,7 +92,7 @@ lone_lead (Some place) context =
     work_lead (λ (w : Compilation). record w { report = with_lone context.names place w.report })
     (told_grows (with_lone context.names place) (lone_adds context.names place))
 
--- Ends of conditional directives
+-- Lemmas about ends of conditional directives
 
 ahead_grows : (limits : Limits) (count : ℕ) → Grows (closed_ahead limits count)
 ahead_grows limits count = record { grows = λ lines w. refl }
@@ -133,7 +133,7 @@ ended_lead limits (Some place) context = record {
       ((ended_at_grows limits context.names place (closings s.reading.stack)).grows lines s.work);
 }
 
--- Tokens among conditionals
+-- Lemmas about tokens among conditionals
 
 pub judged_lead : (limits : Limits) (context : Context) (t : SourceToken) (j : Filtered) → Leads (judged_taken limits context t j)
 judged_lead limits context t j =

@@ -37,7 +37,7 @@ next_turn limits sources o s x t going is leads = record {
   is = inl (ap (followed sources o) is ∙ sym leads);
 }
 
--- A token that is not handed on
+-- Lemmas about a token that is not handed on
 
 given_none : (limits : Limits) (context : Context) (steps : List Step) (m : Recovery) (w : Compilation) → NoneGiven steps
     → steps_by limits context steps (stand (between m) w) ≡ stand (between m) (all_passed steps w)
@@ -57,7 +57,7 @@ conditional_is limits sources o s fresh free =
     (front_steps limits sources o s fresh ∙ given_none limits c (steps_at limits o at_front s) Recovery.Reads s.work free)
     ∙ ap (λ (q : State). behind_at o at_front w q) (afresh_same s fresh)
 
--- The end of a file
+-- Lemmas about the end of a file
 
 end_step : (limits : Limits) (context : Context) (t : SourceToken) (w : Compilation) → is_end t.kind ≡ true
     → step limits context t (between Recovery.Reads) w ≡ stand (between Recovery.Ended) w
@@ -79,7 +79,7 @@ file_end_is limits sources o s fresh e =
     ∙ subst (λ (steps : List Step). steps_by limits c steps x ≡ stand (between Recovery.Ended) (all_passed steps s.work))
     (sym e.steps) last)
 
--- Pieces
+-- Lemmas about pieces
 
 piece_done : (limits : Limits) (sources : Sources) (o : Choices) (s t : State) → s.reading ≡ between Recovery.Reads → has_ended s ≡ false
     → (f : Front limits o s) → f.further ≡ [] → f.left ≡ [] → t ≡ followed sources o (reached f).state → Done limits sources o s t
@@ -105,7 +105,7 @@ broken_done limits sources o s t fresh going f over leads =
       is = inr (is_over, sym w.is_at.same ∙ sym leads);
     }
 
--- Anything
+-- Lemmas about whatever comes next
 
 pub next_done : (limits : Limits) (sources : Sources) (o : Choices) (s t : State) → s.reading ≡ between Recovery.Reads → has_ended s ≡ false
     → Next limits sources o s t → Done limits sources o s t

@@ -17,7 +17,7 @@ use Rattle.inf_program.specs.definition.States.{State, has_ended as has_ended_by
 use Rattle.inf_program.proofs.{Programs.turns_do_programs, SideTurns.Ran, SideTurns.source_ran, Supplied.Speaks, Supplied.supplied_ending}
 use Rattle.inf_program.proofs.{Turns.lines_are_written_at_any_time}
 
--- The messages
+-- Lemmas about the messages
 
 pub unwritten_same : (s : TurnState) → s.told ≡ [] → unwritten s ≡ s
 unwritten_same s e = ap (λ (told : List ℕ). with_lines told [] s) e ∙ ap (λ (told : List ℕ). record s { told = told }) (sym e)
@@ -47,7 +47,7 @@ written_at_once s e =
     ap (λ (lines : List ℕ). written_as [] (s.told ++ lines) s) e
     ∙ (ap (λ (told : List ℕ). written_as [] told s) (append-nil s.told) ∙ ap (λ (lines : List ℕ). written_as lines s.told s) (sym e))
 
--- Outcomes
+-- Lemmas about outcomes
 
 -- Behind the messages the state of turns speaks as the one by the program does, but for the rest of a piece.
 end_speaks : (c : Conditions) (quoted : ℕ) (x final : State) → c.most_tokens ≡ x.most_tokens → afresh x ≡ afresh final

@@ -8,7 +8,7 @@ use Rattle.inf_program.specs.{definition.Program.IsOver, definition.States.State
 use Rattle.inf_program.specs.Programs.{EndsAs, ProgramsEndInOneWay, TurnsDoPrograms}
 use Rattle.inf_program.proofs.{Nexts.Done, Nexts.next_done, Stepping.over_ends}
 
--- Turns behind the end
+-- Lemmas about turns behind the end
 
 silent_ended : (limits : Limits) (sources : Sources) (o : Choices) (n : ℕ) (s : State) → has_ended s ≡ true
     → side_run limits sources o n s ≡ s
@@ -41,7 +41,7 @@ same_end limits sources o (suc m) zero s e f = silent_ended limits sources o (su
 same_end limits sources o (suc m) (suc n) s e f =
     same_by limits sources o m n s (has_ended s) refl (λ x y. same_end limits sources o m n (side_turn limits sources o s) x y) e f
 
--- Programs
+-- Lemmas about programs
 
 -- what comes next, and the rest of a program
 continued : (limits : Limits) (sources : Sources) (o : Choices) (final s t now : State) (turns : ℕ)

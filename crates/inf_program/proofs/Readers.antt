@@ -35,7 +35,7 @@ either_reads : (b : Bool) (f g : Compilation → ReaderState) → Reads f → Re
 either_reads true f g first second = first
 either_reads false f g first second = second
 
--- Bad tokens
+-- Lemmas about bad tokens
 
 complaint_of_adds : (k : Kind) (at : Location) (m : Message) → Adds (with_complaint_of k at m)
 complaint_of_adds Kind.Fatal at m = fatal_adds at m
@@ -62,7 +62,7 @@ pub bad_reads : (limits : Limits) (context : Context) (t : SourceToken) (r : Rea
 bad_reads limits context t r =
     stands (between (passed (skip_of r.stack) t.kind)) (complained limits context t) (complained_grows limits context t)
 
--- Tokens that fit
+-- Lemmas about tokens that fit
 
 acted_grows : (limits : Limits) (context : Context) (place : Place) (actions : List Action) → Grows (acted limits context place actions)
 acted_grows limits context place [] = nothing_grows
@@ -98,7 +98,7 @@ took_reads limits context t r =
     (fitted limits context t (taken grammar known (atom_of t) r.stack).actions)
     (fitted_grows limits context t (taken grammar known (atom_of t) r.stack).actions)
 
--- Any token
+-- Lemmas about any token
 
 judged_reads : (limits : Limits) (context : Context) (t : SourceToken) (r : Reading) → Reads (judged limits context t r)
 judged_reads limits context t r =

@@ -22,7 +22,7 @@ use Rattle.inf_program.proofs.Shapes.{CutFirst, CutSecond, Fit, NoToken, OneToke
 use Rattle.inf_program.proofs.Soundness.{All, HasProgram, Main, Regular, Search, Skip, bad_on, behind_end, ended_on, followed_reads}
 use Rattle.inf_program.proofs.Soundness.{never_ends, open_on, quiet_within, run_on, search_by, skip_all, skip_more}
 
--- The first turn
+-- Lemmas about the first turn
 
 -- The first token that is handed on is no end of a file.
 abbrev FirstIsNoEnd : List Step → Type 0
@@ -117,7 +117,7 @@ begun_on limits sources o k all s g sort (OneToken m (Unfit t) rest steps free) 
 begun_on limits sources o k all s g sort (TwoTokens m given next rest steps is_hash free) =
     sort_on limits sources o k all.skip all.search s g m given (Reads next ∷ rest) steps (hash_no_end given is_hash) sort
 
--- By the number of turns
+-- Lemmas by the number of turns
 
 main_more : (limits : Limits) (sources : Sources) (o : Choices) (k : ℕ) → All limits sources o k → (s : State)
     → s.reading ≡ between Recovery.Reads → AreRegular limits sources o (suc k) s → has_ended (side_run limits sources o (suc k) s) ≡ true

@@ -24,7 +24,7 @@ use Rattle.inf_program.proofs.{Asking.Calm, Asking.given_settled, EndStacks.ends
 use Rattle.inf_program.proofs.Stepping.{followed_over, followed_supplied, over_ends}
 use Rattle.inf_program.proofs.Shapes.{AllMild, NoToken, OneToken, Shape, TwoTokens}
 
--- Steps
+-- Lemmas about steps
 
 -- steps that hand nothing on
 pub none_asked : (limits : Limits) (context : Context) (steps : List Step) (x : ReaderState) → NoneGiven steps → AllMild steps
@@ -43,7 +43,7 @@ none_read limits context (Passes m ∷ steps) x free = none_read limits context 
 none_read limits context (Ends m ∷ steps) x free = none_read limits context steps (step_by limits context (Ends m) x) free
 none_read limits context (Reads given ∷ steps) x free = absurd free
 
--- Turns
+-- Lemmas about turns
 
 -- Behind a turn something is asked between two pieces alone.
 pub record Rests (x : ReaderState) : Type 0 where
@@ -91,7 +91,7 @@ turn_rests limits sources o s c =
     turn_by limits (context_of o s) (side_steps limits o s) (stand_of s) (mild_at limits o (position_of s.reading) s)
     (shape_at limits o (position_of s.reading) s) c
 
--- Behind a turn
+-- Lemmas about the state behind a turn
 
 not_between : (r : Reading) → is_mode_ended r.mode ≡ true → is_between r ≡ false
 not_between r e = by_mode r.mode e
@@ -149,7 +149,7 @@ followed_calm sources o x of_file r false over going =
     (rested_calm (carried_out sources o x)
     (subst (λ (y : State). Calm (stand_of y)) (sym carried) (gone_calm sources o x r (is_mode_ended x.reading.mode) refl)))
 
--- All turns
+-- Lemmas about all turns
 
 second_none : (a b : Bool) → (a || b) ≡ false → a ≡ false
 second_none true b e = absurd (true≢false e)

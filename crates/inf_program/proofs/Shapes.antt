@@ -19,7 +19,7 @@ use Rattle.inf_program.specs.{Turns.AllFit, Turns.IsFit, Turns.step_by, definiti
 use Rattle.inf_program.specs.definition.Steps.{AllKept, Ends, Passes, Reads, Step}
 use Rattle.inf_program.proofs.Grouping.{step_fit}
 
--- Shapes
+-- Lemmas about shapes
 
 pub data Shape (all : List Step) : Type 0 where
   NoToken : NoneGiven all → Shape all
@@ -34,7 +34,7 @@ AllMild (Reads given ∷ steps) = AllMild steps
 AllMild (Passes m ∷ steps) = ((a : Request) → m.asked a ≡ a) × AllMild steps
 AllMild (Ends m ∷ steps) = ((a : Request) → m.asked a ≡ a) × AllMild steps
 
--- Steps that hand nothing on
+-- Lemmas about steps that hand nothing on
 
 pub none_fit : (limits : Limits) (context : Context) (steps : List Step) (s : ReaderState) → NoneGiven steps → AllFit limits context steps s
 none_fit limits context [] s free = tt
@@ -54,7 +54,7 @@ none_skipped (Passes m ∷ steps) skip free = none_skipped steps skip free
 none_skipped (Ends m ∷ steps) skip free = none_skipped steps skip free
 none_skipped (Reads given ∷ steps) skip free = absurd free
 
--- Hashes
+-- Lemmas about hashes
 
 by_routine : (b : Bool) → skips (mode_behind (cond b Recovery.SkipsRoutine Recovery.SkipsDirective) (TokenKind.Mark Mark.Hash)) ≡ true
 by_routine true = refl
@@ -114,7 +114,7 @@ some_behind_hash tokens h r at is_hash = by_stack r.stack refl
         (subst (λ (xs : List ℕ). IsText grammar (Symbol.Rule piece_rule ∷ []) xs p.events) atoms p.is_text))
     by_stack (symbol ∷ symbols) some = ap is_empty some
 
--- Steps within a piece
+-- Lemmas about steps within a piece
 
 -- a token does not fit
 abbrev pub Misfits : Given → List (Symbol Action) → Type 0

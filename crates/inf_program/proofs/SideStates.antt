@@ -34,7 +34,7 @@ pub record Matches (c : Conditions) (s : State) : Type 0 where
   pub seated : AreSeated (is_between s.reading) c.pending
   pub levels : FewIn c.left_out
 
--- the same where a directive may end yet
+-- conditionals and sides agree, where a directive may still end
 pub record Ready (c : Conditions) (s : State) : Type 0 where
   pub agree : Agree c s.sides
   pub declared : c.declared ≡ s.declared
@@ -50,7 +50,7 @@ pub record Behind (q : ℕ) (t : TurnState) (s : State) (IsReady : Conditions �
   pub most : now.most_tokens ≡ s.most_tokens
   pub ready : has_ended s ≡ false → IsReady now
 
--- The end of a directive
+-- Lemmas about the end of a directive
 
 pub none_alike : (texts : List Text) → is_none_pending (pendings texts) ≡ has_none texts
 none_alike [] = refl
@@ -140,7 +140,7 @@ then_rested q t s b =
     subst (λ (x : TurnState). Behind q (turn_rested x) (rested s) (λ now. Matches now (rested s))) (sym b.same)
     (rested_by q b.now s b.most b.ready (has_ended s) refl)
 
--- Where no directive is being read, and no side is left out
+-- Lemmas for the case that no directive is being read, and no side is left out
 
 pub record IsOpen (c : Conditions) (s : State) : Type 0 where
   pub agree : Agree c s.sides
@@ -159,7 +159,7 @@ open_ready c s i = record {
   levels = subst (λ (left_out : Option LeftOut). FewIn left_out) (sym i.stay) tt;
 }
 
--- other conditionals are open
+-- where other conditionals are open, conditionals and sides agree as before
 open_with : (c : Conditions) (s : State) (inner among : List Conditional) (sides : List Side) → IsOpen c s
     → sides ≡ open_sides inner among
     → Agree (record c { inner = inner; among = among }) (record s.sides { sides = sides })
@@ -174,7 +174,7 @@ open_with c s inner among sides i e = record {
 all_open : (c : Conditions) (s : State) → IsOpen c s → s.sides.sides ≡ open_sides c.inner c.among
 all_open c s i = subst (λ (left_out : Option LeftOut). StandFor left_out c.inner c.among s.sides.sides) i.stay i.agree.sides
 
--- Files
+-- Lemmas about files
 
 entered : (inner among : List Conditional) → inner_only (open_sides inner among) ≡ open_sides inner []
 entered inner among = inner_of inner among ∙ sym (append-nil (map (side_of true true) inner))

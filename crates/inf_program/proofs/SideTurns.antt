@@ -92,7 +92,7 @@ judged_are_given limits context t said j x =
     parted ∙ (last_steps limits context j.unmatched j.ended j refl refl z
     ∙ (joined ∙ ap (λ (xs : List Step). steps_by limits context xs y) same))
 
--- One token
+-- Lemmas about one token
 
 -- what is known of a token by its judgement and by the sides
 pub record Taken (limits : Limits) (o : Choices) (c : Conditions) (s : State) (b : Judged) : Type 0 where
@@ -181,7 +181,7 @@ stands_still limits o c s b k calm none =
       asks = none_asked limits (context_of o s) (side_steps limits o s) (stand_of s) free (mild_at limits o p s) ∙ calm.asks;
     }
 
--- Behind the token
+-- Lemmas about the state behind the token
 
 pub agree_silent : (c : Conditions) (x : Sides) → Agree c x → Agree (silent c) x
 agree_silent c x a =
@@ -284,7 +284,7 @@ carried_alike sources o q c s y b p still reads false over =
     (if m then y else if is_mode_ended y.reading.mode then left y else answered y.work.asked sources o (asked_nothing y))) (sym over)
     (gone_alike sources o q c s y b p still reads p.rests.quiet)
 
--- One turn
+-- Lemmas about one turn
 
 abbrev pub Matched : ℕ → TurnState → State → Type 0
 Matched q t s = Behind q t s (λ now. Matches now s)
@@ -317,7 +317,7 @@ turned_alike limits sources o c q s most going of_file m calm =
           (sym of_file) (then_rested q2 gone (carried_out sources o y) carried));
     }
 
--- All turns
+-- Lemmas about all turns
 
 -- what is known of a state from which reading goes on
 pub record Goes (c : Conditions) (s : State) : Type 0 where
@@ -332,7 +332,7 @@ pub record Ran (t : TurnState) (s : State) : Type 0 where
   pub most : conditions.most_tokens ≡ s.most_tokens
   pub goes : has_ended s ≡ false → Goes conditions s
 
--- `n` turns from a state on
+-- Lemmas about `n` turns from a state on
 abbrev RunsAlike : Limits → Sources → Choices → ℕ → Type 0
 RunsAlike limits sources o n =
     (c : Conditions) (q : ℕ) (s : State) → c.most_tokens ≡ s.most_tokens → (has_ended s ≡ false → Goes c s)

@@ -32,7 +32,7 @@ use Rattle.inf_program.proofs.{Events.Agrees, Events.not_ahead, Events.steps_agr
 use Rattle.inf_program.proofs.Stepping.{Comes, comes_next, comes_same, comes_then, followed_plainly, goes_on, stand, turn_lands, turn_steps}
 use Rattle.inf_program.proofs.Walking.{IsAt, Walked, comes_at, first_step, front_agrees, front_steps, front_walked, is_within}
 
--- The bad token
+-- Lemmas about the bad token
 
 pub skips_as : (tokens : List SourceToken) (r : Reading) → At tokens r → skip_of r.stack ≡ skip_behind (map atom_of tokens)
 skips_as tokens r at =
@@ -63,7 +63,7 @@ bad_step limits context (Kept t) tokens w x at inside same wrong =
     } in
     (turns_take_tokens limits).cut context t x unfit ∙ cut_is limits context t tokens w x at same
 
--- Tokens that are passed over
+-- Lemmas about tokens that are passed over
 
 skip_one : (limits : Limits) (context : Context) (given : Given) (skip : Recovery) (w : Compilation) → skips skip ≡ true
     → step_by limits context (Reads given) (stand (between skip) w) ≡ stand (between (mode_behind skip (token_in given).kind)) w
@@ -107,7 +107,7 @@ bad_steps limits context before given after atoms left done x a more wrong all =
     (bad_step limits context given done.tokens done.work y a.inside.at (some_left a.inside.derives.leads more) a.same wrong)
     ∙ skip_steps limits context after (skip_from done.tokens (token_in given)) (cut_by limits context (token_in given) done.work) all)
 
--- The turn that hands on the bad token
+-- Lemmas about the turn that hands on the bad token
 
 pub bad_behind : (limits : Limits) (sources : Sources) (o : Choices) (m : PieceState) (x : State) (left : List (Symbol Action))
     (before : List Step) (given : Given) (after : List Step)
@@ -203,7 +203,7 @@ bad_walked limits sources o s (Behind b) fresh going =
     (comes_then limits sources o (followed sources o now) (followed sources o (stepped limits o now))
     (followed sources o (lands (cut_behind b))) one two)
 
--- Turns that pass tokens over
+-- Lemmas about turns that pass tokens over
 
 pub position_skips : (skip : Recovery) → skips skip ≡ true → position_of (between skip) ≡ passed_over
 position_skips Recovery.SkipsRoutine e = refl

@@ -27,7 +27,7 @@ use Rattle.inf_program.proofs.FrontTurns.{BadRead, FirstFit, IsFront, bad_read, 
 use Rattle.inf_program.proofs.Shapes.{CutFirst, CutSecond, Fit, Sorted, shape_skipped, sorted}
 use Rattle.inf_program.proofs.Stepping.{followed_over, followed_plainly, goes_on, handled_reading, over_ends, rested_reading}
 
--- Readings behind a turn
+-- Lemmas about readings behind a turn
 
 -- a program from a state on
 abbrev pub HasProgram : Limits → Sources → Choices → State → Type 0
@@ -80,7 +80,7 @@ ended_on sources o x reading false going =
         ap (λ b. if b then x else if is_mode_ended x.reading.mode then left x else answered x.work.asked sources o (asked_nothing x)) going
         ∙ ap (λ (r : Reading). if is_mode_ended r.mode then left x else answered x.work.asked sources o (asked_nothing x)) reading
 
--- The claims about `k` turns
+-- Lemmas about the claims about `k` turns
 
 abbrev pub Main : Limits → Sources → Choices → ℕ → Type 0
 Main limits sources o k =
@@ -114,7 +114,7 @@ pub record All (limits : Limits) (sources : Sources) (o : Choices) (k : ℕ) : T
   pub skip : Skip limits sources o k
   pub search : Search limits sources o k
 
--- One turn more
+-- Lemmas about one turn more
 
 pub run_on : (limits : Limits) (sources : Sources) (o : Choices) (k : ℕ) (s : State) → has_ended s ≡ false
     → has_ended (side_run limits sources o (suc k) s) ≡ true
@@ -153,7 +153,7 @@ never_ends limits sources o x quiet r =
     true≢false (sym r.ends ∙ (ap has_ended (followed_plainly sources o x quiet)
     ∙ goes_on x r.is_going quiet.is_not_over quiet.has_more))
 
--- Tokens that are passed over
+-- Lemmas about tokens that are passed over
 
 -- behind a bad piece
 skip_done : (limits : Limits) (sources : Sources) (o : Choices) (from : SkipState) (x : State) → x ≡ lands from
@@ -239,7 +239,7 @@ skip_all limits sources o k main more from x same r true over =
 skip_all limits sources o k main more from x same r false over =
     skip_by limits sources o k main more from x same over r from.skip refl
 
--- Fronts
+-- Lemmas about fronts
 
 -- a bad piece, and the program behind it
 pub bad_on : (limits : Limits) (sources : Sources) (o : Choices) (k : ℕ) → Skip limits sources o k → (s x : State)

@@ -11,7 +11,7 @@ use Rattle.inf_grammar.specs.{Evaluated.language_is_decided, Language.grammar, L
 use Rattle.inf_reader.specs.{Handing.is_empty, Reading.piece_rule}
 use Rattle.inf_program.specs.definition.Fronts.{is_whole}
 
--- Symbols that end with a token
+-- Lemmas about symbols that end with a token
 
 -- the texts of symbols end with a token, as rules show up to some depth
 pub record Closes (g : Grammar Action) (symbols : List (Symbol Action)) : Type 0 where
@@ -68,7 +68,7 @@ closes_left g k d atom (suc n) (Symbol.Rule rule ∷ symbols) f c =
     closes_left g k d atom n (chosen g k atom rule ++ symbols) (chosen_fits g k d atom rule symbols f)
     (subst (λ parts. Closes g (parts ++ symbols)) (sym o.is) (closes_row g rule o.row symbols o.one c.deep c.closes_there))
 
--- The rest of a piece
+-- Lemmas about the rest of a piece
 
 abbrev pub IsRest : List (Symbol Action) → Type 0
 IsRest symbols = (symbols ≡ []) ⊎ Closes grammar symbols

@@ -18,7 +18,7 @@ use Rattle.inf_program.specs.definition.States.{State, answered, asked_nothing, 
 use Rattle.inf_program.specs.definition.States.{included_by, handled, is_resting, left, left_by, piece_closed, rested}
 use Rattle.inf_program.specs.SideTurns.{IsQuietBySide, position_of, side_run, side_turn, stand_of, stepped}
 
--- Turns that lead from one state to another
+-- Lemmas about turns that lead from one state to another
 
 pub record Comes (limits : Limits) (sources : Sources) (o : Choices) (s t : State) : Type 0 where
   pub turns : ℕ
@@ -111,7 +111,7 @@ followed_over sources o s over =
     (λ _. ap (λ b. if b then s else if is_mode_ended s.reading.mode then left s else answered s.work.asked sources o (asked_nothing s)) over))
     ∙ ap (λ b. if b then s else if is_resting s then piece_closed s else s) (over_ends s over)
 
--- The reading behind a token
+-- Lemmas about the reading behind a token
 
 included_reading : (sources : Sources) (o : Choices) (unit : Place) (text : List ℕ) (i : Inclusion) (s : State)
     → (included_by sources o unit text i s).reading ≡ s.reading
@@ -185,7 +185,7 @@ followed_supplied sources o s =
     ∙ of_both (λ (x : State). x.is_supplied ≡ s.is_supplied) s.is_supplied s (carried_out sources o s) (λ _. refl)
     (λ _. carried_supplied sources o s)
 
--- The steps of a turn
+-- Lemmas about the steps of a turn
 
 abbrev pub stand : Reading → Compilation → ReaderState
 stand r w = record { reading = r; work = w }

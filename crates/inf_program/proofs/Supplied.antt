@@ -23,7 +23,7 @@ use Rattle.inf_program.proofs.{Readings.regular_readings_are_programs, RegularTu
 use Rattle.inf_program.proofs.Programs.{same_end, turns_do_programs}
 use Rattle.inf_program.proofs.TextTurns.{TextRan, beside, texts_alike, texts_beside, texts_end}
 
--- One text
+-- Lemmas about one text
 
 -- the conditionals at the front of a text, of which none is open
 abbrev front_conditions : ℕ → Conditions
@@ -78,7 +78,7 @@ text_program limits sources o number s =
     (text_regular limits sources o (text_length number) (text_start o number s) refl) (text_over limits sources o number s) in
     (p.final, p.is_program)
 
--- All texts
+-- Lemmas about all texts
 
 supplied_from : (limits : Limits) (sources : Sources) (o : Choices) (number : ℕ) (s : State) (next : Option ℕ) → next_behind number s ≡ next
     → ((m : ℕ) (t : State) → next ≡ Some m → (end : State) × AreSupplied limits sources o end m t)
@@ -106,7 +106,7 @@ texts_are_programs limits = record {
   all = λ sources o number s. supplied_within limits sources o most_texts number s (omega arith);
 }
 
--- The turns of a text
+-- Lemmas about the turns of a text
 
 -- A state of turns, behind which the routines behind a number are still to be read, has the files, the compilation and the messages of a state,
 -- which were all written.
@@ -191,7 +191,7 @@ text_speaks limits sources o n number v s final p program =
       passed = refl;
     }
 
--- The ending
+-- Lemmas about the ending
 
 abbrev ended_with : Limits → List ℕ → Nesting → Compilation → List ℕ → Outcome
 ended_with limits serial nesting w told =

@@ -23,7 +23,7 @@ use Rattle.inf_program.proofs.SideStates.{Matches, Ready, open_ready, then_reste
 use Rattle.inf_program.proofs.SideTurns.{Matched, Passed, Taken, Turned, agree_silent, none_handed, passed_by, stepped_alike, still_ready}
 use Rattle.inf_program.proofs.SideTurns.{taken_by}
 
--- One turn by sides
+-- Lemmas about one turn by sides
 
 text_ready : (c : Conditions) (s y : State) (b : Judged) → Passed c s y b → (HandsNone b.judged → y.reading ≡ s.reading)
     → ((b.now.pending ≡ []) × (b.now.left_out ≡ None)) ⊎ HandsNone b.judged → Ready (silent b.now) y
@@ -66,7 +66,7 @@ text_turned limits sources o c q s most supplied m =
           })));
     }
 
--- All turns by sides
+-- Lemmas about all turns by sides
 
 pub record TextRan (t : TurnState) (s : State) : Type 0 where
   pub conditions : Conditions
@@ -102,7 +102,7 @@ texts_alike limits sources o zero c q s most supplied matches = record { conditi
 texts_alike limits sources o (suc n) c q s most supplied matches =
     text_by limits sources o n (texts_alike limits sources o n) c q s most supplied matches (has_ended s) refl
 
--- The end of a text
+-- Lemmas about the end of a text
 
 -- a token takes bytes, or is the end of the text, and ends it
 text_takes : (limits : Limits) (o : Choices) (s : TurnState)
@@ -164,7 +164,7 @@ texts_end limits o (suc n) s few =
     (text_turns limits o n (turn_rested (turn_stepped limits o s))) (λ e. e)
     (λ _. end_by limits o n (texts_end limits o n) s few (text_takes limits o s))
 
--- Lines
+-- Lemmas about lines
 
 -- State with some lines before those that are still to be written, where other lines were written, and another number of the last routine
 -- that was read.

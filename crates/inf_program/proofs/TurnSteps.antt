@@ -19,14 +19,14 @@ use Rattle.inf_program.specs.Turns.{AreQuiet, IsQuiet, all_steps, end_steps, giv
 use Rattle.inf_program.specs.Turns.{steps_behind, steps_by, steps_of}
 use Rattle.inf_program.specs.Writing.{silent_turn, silent_turned}
 
--- Steps one behind the other
+-- Lemmas about steps one behind the other
 
 pub steps_joined : (limits : Limits) (context : Context) (a b : List Step) (s : ReaderState)
     → steps_by limits context (a ++ b) s ≡ steps_by limits context b (steps_by limits context a s)
 steps_joined limits context [] b s = refl
 steps_joined limits context (x ∷ a) b s = steps_joined limits context a b (step_by limits context x s)
 
--- Tokens that are handed on
+-- Lemmas about tokens that are handed on
 
 handed_is : (limits : Limits) (h : Forwarded) (context : Context) (t : SourceToken) (s : ReaderState)
     → handed_as limits h context t s ≡ steps_by limits context (given_steps (given_as h t)) s
@@ -54,7 +54,7 @@ ended_is : (limits : Limits) (place : Option Place) (context : Context) (s : Rea
 ended_is limits None context s = refl
 ended_is limits (Some place) context s = refl
 
--- A token by its judgement
+-- Lemmas about a token by its judgement
 
 judged_is : (limits : Limits) (context : Context) (t : SourceToken) (said : Option Said) (j : Filtered) (s : ReaderState)
     → judged_taken limits context t j (said_told limits said context s)
@@ -77,7 +77,7 @@ one_turn_steps : (limits : Limits) (o : Choices) (s : State)
     → stand_of (stepped limits o s) ≡ steps_by limits (context_of o s) (steps_of limits o s) (stand_of s)
 one_turn_steps limits o s = judged_is limits (context_of o s) (token_of s) (judgement_said o s) (judgement o s) (stand_of s)
 
--- A turn behind which nothing else happens
+-- Lemmas about a turn behind which nothing else happens
 
 answered_plainly : (asked : Request) (sources : Sources) (o : Choices) (s : State) → asked ≡ Nothing
     → answered asked sources o s ≡ s
@@ -102,7 +102,7 @@ rested_plainly s inside =
 followed_plainly : (sources : Sources) (o : Choices) (s : State) → IsQuiet s → followed sources o s ≡ s
 followed_plainly sources o s quiet = ap rested (carried_plainly sources o s quiet) ∙ rested_plainly s quiet.is_inside
 
--- Turns one behind the other
+-- Lemmas about turns one behind the other
 
 pub turns_are_steps : (limits : Limits) (sources : Sources) (o : Choices) (n : ℕ) (s : State) → AreQuiet limits sources o n s
     → stand_of (stepped limits o (silent_turned limits sources o n s))

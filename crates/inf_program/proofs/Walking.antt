@@ -31,7 +31,7 @@ pub record IsAt (atoms : List ℕ) (left : List (Symbol Action)) (m : PieceState
   pub same : m.state ≡ afresh x
   pub inside : InPiece m.tokens m.over atoms m.course left x.reading
 
--- A turn
+-- Lemmas about a turn
 
 turn_is_at : (limits : Limits) (o : Choices) (x : State) (at : Position) (p : Progress) (atoms : List ℕ)
     (left : List (Symbol Action))
@@ -99,7 +99,7 @@ comes_at limits sources o m x atoms left s is =
     (comes_same limits sources o (followed sources o x) x (followed_plainly sources o x (quiet_at m x atoms left s is)))
     (comes_next limits sources o x (going_at m x atoms left s is))
 
--- Turns
+-- Lemmas about turns
 
 pub record Walked (limits : Limits) (sources : Sources) (o : Choices) (atoms : List ℕ) (left : List (Symbol Action)) (m : PieceState)
     (s : State) : Type 0
@@ -131,7 +131,7 @@ walk limits sources o (suc n) atoms left m x s all =
       is_at = w.is_at;
     }
 
--- The first token
+-- Lemmas about the first token
 
 pub first_step : (limits : Limits) (context : Context) (t : SourceToken) (m : Between) (w : Compilation) → is_end t.kind ≡ false
     → step limits context t (between Recovery.Reads) (passed m w) ≡ step_by limits context (Reads (Kept t)) (piece_first m w)

@@ -64,7 +64,7 @@ early_back sources o serial name e ended p =
       is_ending = p.is_ending ∙ sym (early_ending sources o serial name p.end ended all);
     }
 
--- Outcomes
+-- Lemmas about outcomes
 
 there_by : (sources : Sources) (o : Choices) (serial name source : List ℕ) (e : Outcome) → sources name ≡ Some source → (b : Bool)
     → has_ended (start sources o name) ≡ b → IsCompiled sources o serial name e ↔ IsOutcomeOfProgram sources o serial name e

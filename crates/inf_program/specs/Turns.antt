@@ -33,7 +33,7 @@ abbrev pub steps_by : Limits → Context → List Step → ReaderState → Reade
 steps_by limits context [] s = s
 steps_by limits context (x ∷ steps) s = steps_by limits context steps (step_by limits context x s)
 
--- The steps of a turn
+-- Definitions of the steps of a turn
 
 abbrev pub given_steps : List Given → List Step
 given_steps [] = []
@@ -63,7 +63,7 @@ judgement_said o s = (judged (site_of o.settings s.reading) s.work.output (token
 abbrev pub steps_of : Limits → Choices → State → List Step
 steps_of limits o s = judged_steps limits (context_of o s) (token_of s) (judgement_said o s) (judgement o s)
 
--- Turns one behind the other
+-- Definitions of turns one behind the other
 
 -- Behind a turn nothing else happens: no fatal message came, no file ends, no directive asks for anything, and no piece has ended.
 pub record IsQuiet (s : State) : Type 0 where
@@ -82,7 +82,7 @@ abbrev pub all_steps : Limits → Sources → Choices → ℕ → State → List
 all_steps limits sources o zero s = steps_of limits o s
 all_steps limits sources o (suc n) s = steps_of limits o s ++ all_steps limits sources o n (silent_turn limits sources o s)
 
--- Steps within a piece
+-- Definitions of steps within a piece
 
 -- A token fits in the piece at hand.
 pub record IsFit (t : SourceToken) (r : Reading) : Type 0 where

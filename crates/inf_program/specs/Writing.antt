@@ -16,7 +16,7 @@ with_lines lines told s = record s { work = with_lines_before lines s.work; told
 abbrev pub unwritten : State → State
 unwritten s = with_lines s.told [] s
 
--- Turns that write no line.
+-- Definitions of turns that write no line
 
 abbrev pub silent_turn : Limits → Sources → Choices → State → State
 silent_turn limits sources o s = followed sources o (stepped limits o s)

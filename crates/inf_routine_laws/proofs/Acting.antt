@@ -45,7 +45,7 @@ use Rattle.inf_routine_laws.proofs.{Balance.Good, Balance.good_still, Balance.op
 use Rattle.inf_routine_laws.proofs.Constructing.{alone_owns, case_code_owns, entered_good, switched_owns, tested_owns}
 use Rattle.inf_routine_laws.proofs.Naming.{code_good, condition_reached, next_reached, statement_good}
 
--- Names, texts, words and actions of a unit
+-- Lemmas about names, texts, words and actions of a unit
 
 no_fault : {A B : Type 0} {a : A} → Some a ≡ None → B
 no_fault e = absurd (cc e)
@@ -97,9 +97,9 @@ pub settled_idle : (limits : Limits) (set : CharSet) (locals : List Local) (toke
     Idle s.out (settled limits set locals tokens leaves s).out
 settled_idle limits set locals tokens leaves s = used_idle (settled_used {limits = limits} set locals tokens leaves s)
 
--- Units of a routine
+-- Lemmas about units of a routine
 
--- The book of a compilation
+-- Lemmas about the book of a compilation
 abbrev pub Balanced : Counts → Counts → Counts → Compilation → Type 0
 Balanced due spare extra w = Good due spare extra w.labels w.constructs w.output
 
@@ -121,7 +121,7 @@ settled_good limits context first due spare extra w g =
     (idle_leaves w.output s.out (settled_idle limits context.set w.locals w.unit.tokens w.unit.gathering.leaves
     (record { out = w.output; operands = [] }))) g)
 
--- The effect of a unit
+-- Lemmas about the effect of a unit
 
 -- whether a unit gives the place of a label that was not given before, where it gives one
 abbrev IsNew : Statement → Compilation → Type 0
@@ -165,7 +165,7 @@ case_effect limits context trees due spare extra w g =
     extra w.labels w.constructs w.output (case_code_owns limits (next_case w.constructs) (map tree_in trees))
     (λ n. let p = next_reached w.constructs n in omega (arith, p)) g
 
--- The end of a unit, by its finding
+-- Lemmas about the end of a unit, by its finding
 
 some_finding : {A : Type 0} {a : A} {B : Type 0} → Some a ≡ None → B
 some_finding e = absurd (cc e)
@@ -311,7 +311,7 @@ case_ends_good limits context place due spare extra w g =
     (named (part_begun limits p ready))
     (entered_good limits (is_default ready.unit.items) due spare extra ready.labels ready.constructs ready.output is_ready))
 
--- Quiet actions
+-- Lemmas about quiet actions
 
 nested_good : (context : Context) (place : Place) (b : Bool) (due spare extra : Counts) (w : Compilation) → Balanced due spare extra w →
     Balanced due spare extra (nested context place b w)
@@ -379,7 +379,7 @@ role_good limits context place Role.Close due spare extra w q g = cc
 role_good limits context place Role.Deeper due spare extra w q g = nested_good context place (is_deep w 1) due spare extra w g
 role_good limits context place role due spare extra w q g = g
 
--- Happenings
+-- Lemmas about happenings
 
 quiet_happens_good : (limits : Limits) (context : Context) (h : Happening) (due spare extra : Counts) (w : Compilation) →
     happens_quietly h ≡ true → AllLeave (h ∷ []) → Balanced due spare extra w → Balanced due spare extra (happens limits context h w)

@@ -12,7 +12,7 @@ use Rattle.inf_routine_laws.specs.Laws.{LeavesRoutine}
 use Rattle.inf_routine_laws.proofs.Booking.{Came, Counts, Sound, came, one, one_is, paid_together, sound_as, sound_label, sound_paid}
 use Rattle.inf_routine_laws.proofs.Booking.{sound_still}
 
--- Labels with names
+-- Lemmas about labels with names
 
 abbrev pub unless_given : Bool → ℕ → ℕ
 unless_given true n = 0
@@ -54,7 +54,7 @@ abbrev pub reached : ℕ → List Construct → ℕ
 reached n [] = 0
 reached n (c ∷ constructs) = reached_in n c c.kind + reached n constructs
 
--- Books
+-- Lemmas about books
 
 pub record Good (due spare extra : Counts) (labels : List NamedLabel) (constructs : List Construct) (o : Out) : Type 0 where
   pub together : o.kept ≡ None

@@ -17,7 +17,7 @@ use Rattle.inf_label_laws.specs.Labels.{marks, operand_labels, uses}
 use Rattle.inf_label_laws.proofs.Owning.{Owned, Settles, behind_is, marks_joined, some_of_two, uses_joined}
 use Rattle.inf_routine_laws.specs.Laws.{LeavesRoutine}
 
--- Labels that cells mark, branch to and jump to
+-- Lemmas about labels that cells mark, branch to and jump to
 
 abbrev pub cell_marks : List Cell → List ℕ
 cell_marks [] = []
@@ -53,7 +53,7 @@ cell_uses_joined ((Of (Special.Branches branch)) ∷ a) b =
 cell_uses_joined ((Of (Special.Jumps label)) ∷ a) b = ap (λ ns. label.number ∷ ns) (cell_uses_joined a b)
 cell_uses_joined ((Of (Special.Refers target)) ∷ a) b = cell_uses_joined a b
 
--- Instructions
+-- Lemmas about instructions
 
 marks_plain : (bytes : List ℕ) → cell_marks (plain bytes) ≡ []
 marks_plain [] = refl
@@ -128,7 +128,7 @@ instruction_uses i =
     ∙ uses_operands i.operands)))))
     ∙ ap (λ ns. operand_labels i.operands ++ ns) (uses_branch i.branch)))))
 
--- Places of labels
+-- Lemmas about places of labels
 
 has_place : (place : ℕ) (cells : List Cell) (n : ℕ) → 1 ≤ times n (cell_marks cells) → is_some (long_place place cells n) ≡ true
 has_place place [] n h = absurd (omega (arith, h))
@@ -166,7 +166,7 @@ no_place place ((Of (Special.Branches branch)) ∷ cells) n h = no_place (place 
 no_place place ((Of (Special.Jumps label)) ∷ cells) n h = no_place (place + 2) cells n h
 no_place place ((Of (Special.Refers target)) ∷ cells) n h = no_place (place + 2) cells n h
 
--- Labels that have a place
+-- Lemmas about labels that have a place
 
 placed_target : (places : Places) (target : Destination) (rest : Option Label) →
     ((n : ℕ) → 1 ≤ times n (target_labels target) → is_some (places n) ≡ true) → rest ≡ None →
@@ -237,7 +237,7 @@ whole_missing place cells w = none_missing (long_place place cells) cells (λ n 
 pub whole_twice : (cells : List Cell) → AreWhole cells → twice_behind [] cells ≡ None
 whole_twice cells w = none_twice [] cells (λ n. let p = w.once n in omega (arith, p))
 
--- The book
+-- Lemmas about the book
 
 -- how often a number is that of one label
 unfoldable pub one : ℕ → Label → ℕ
@@ -255,7 +255,7 @@ pub one_other : (n : ℕ) (l : Label) → (n ≡ l.number → ⊥) → one n l �
 unfolding one
 one_other n l h = times_other n l.number [] h
 
--- Items that were laid, as cells of the open routine
+-- Lemmas about items that were laid, as cells of the open routine
 
 pub record Grew (items : List Item) (before now : Opened) : Type 0 where
   pub marked : cell_marks now.contents.cells ≡ cell_marks before.contents.cells ++ marks items
@@ -331,7 +331,7 @@ grew_all (item ∷ items) code now h =
       grew = grew_both (item ∷ []) items first.before later.before now first.grew later.grew;
     }
 
--- Books
+-- Lemmas about books
 
 abbrev pub Counts : Type 0
 Counts = ℕ → ℕ

@@ -74,9 +74,9 @@ items_laid_own limits ((CodeItem.Mark l) ∷ items) =
     owned_then {c = laid limits (CodeItem.Mark l)} {d = laid_all limits items} {needs = uses items} {a = l.number ∷ []} {b = marks items}
     (owned_free {c = laid limits (CodeItem.Mark l)} (owned_item limits (CodeItem.Mark l))) (items_laid_own limits items)
 
--- Joints and ends
+-- Lemmas about joints and ends
 
--- Code that marks one label, which is due, and needs one
+-- Lemmas about code that marks one label, which is due, and needs one
 
 pub marks_one : (l : Label) (due : Counts) → (n : ℕ) → one n l + due n ≡ times n (l.number ∷ []) + due n
 marks_one l due n = ap (λ k. k + due n) (sym (one_is n l))
@@ -258,9 +258,9 @@ ends_objects limits due spare extra labels c around o how v e g =
     paid : (a b d g x y : ℕ) → g ≡ x + y → x ≡ a → y ≡ b → a + (b + d) ≡ g + d
     paid a b d g x y p q r = omega (arith, p, q, r)
 
--- Cases, joints, and loops over objects
+-- Lemmas about cases, joints, and loops over objects
 
--- Cases
+-- Lemmas about cases
 
 case_is : (n : ℕ) (old : Case) → case_due n old ≡ times n (case_labels old)
 case_is n Case.Nothing = refl
@@ -321,7 +321,7 @@ ends_cases limits due spare extra labels c around o old had_default e g =
     subst (λ k. Good due spare extra labels around (ending limits c k o)) (sym e)
     (ends_as limits due spare extra labels c around o old (λ n. ap (cased_in n c) e) (λ n. ap (reached_in n c) e) g)
 
--- Another case begins: the one before it is closed, and its own label is due.
+-- Where a further case begins, the one before it is closed, and the label of the new one is due.
 enters : (limits : Limits) (due spare rest extra : Counts) (labels : List NamedLabel) (c : Construct) (around : List Construct) (o : Out)
     (old : Case) (k : Kind) (n_due : Counts) → ((n : ℕ) → cased_in n c c.kind ≡ case_due n old + one n c.end)
     → ((n : ℕ) → reached_in n c c.kind ≡ case_due n old + one n c.end)
@@ -374,7 +374,7 @@ entered_good limits is_default due spare extra labels [] o g = g
 entered_good limits is_default due spare extra labels (c ∷ around) o g =
     entered_as limits c.kind is_default due spare extra labels c around o refl g
 
--- Joints
+-- Lemmas about the joints of statements, the code between their parts
 
 abbrev Joined : Limits → Counts → Counts → Counts → List NamedLabel → Construct → List Construct → Out → Kind → Type 0
 Joined limits due spare extra labels c around o k =

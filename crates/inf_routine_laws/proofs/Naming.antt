@@ -26,7 +26,7 @@ use Rattle.inf_routine_laws.proofs.Constructing.{code_owns, needs_one, none_need
 use Rattle.inf_routine_laws.proofs.Balance.{Good, cased, good_label, good_paid, named_all, named_due, reached, reached_in, unless_given}
 use Rattle.inf_routine_laws.proofs.Booking.{Counts, came, one, one_is, paid_together, sound_as, sound_paid}
 
--- Labels with names
+-- Lemmas about labels with names
 
 not_some : {A : Type 0} {B : Type 0} {a : A} → None ≡ Some a → B
 not_some e = absurd (cc e)
@@ -34,7 +34,7 @@ not_some e = absurd (cc e)
 some_same : {A : Type 0} {a b : A} → Some a ≡ Some b → a ≡ b
 some_same e = cc e
 
--- Lists of labels with names
+-- Lemmas about lists of labels with names
 
 -- a label that is found is one of them
 found_all : (n : ℕ) (key : List ℕ) (labels : List NamedLabel) (k : Known) → known_of key labels ≡ Some k →
@@ -106,7 +106,7 @@ put_all n key spelling k (l ∷ labels) e = go (bytes_eq key l.key) e (λ f. put
     go true f later = let s = ap (λ (x : Known). one n x.label) (some_same f) in omega (arith, s)
     go false f later = let r = later f in omega (arith, r)
 
--- The book where labels with names change
+-- Lemmas about the book where labels with names change
 
 good_named : (due spare rest extra : Counts) (labels now : List NamedLabel) (constructs : List Construct) (o : Out) →
     ((n : ℕ) → named_due n now + rest n ≤ named_due n labels + spare n) → ((n : ℕ) → named_due n labels ≤ named_due n now) →
@@ -232,9 +232,9 @@ placed_good limits due spare extra constructs name labels o h g =
     given_as limits due spare extra constructs name (next_label o) labels (record o { next = behind o.next })
     (known_of (folded name) labels) refl h (good_label due spare extra labels constructs o g)
 
--- Statements that hold no others
+-- Lemmas about statements that hold no others
 
--- Labels of open statements
+-- Lemmas about labels of open statements
 
 continue_in : (n : ℕ) (c : Construct) (k : Kind) → times n (label_in (continue_of c k)) ≤ reached_in n c k
 continue_in n c Kind.While = let e = one_is n c.next in omega (arith, e)
@@ -309,7 +309,7 @@ left_good limits on due spare extra labels constructs o g =
     {needs = label_in (left_to on constructs)} due spare extra labels constructs o
     (jumped_owns limits (left_to on constructs)) (λ n. let p = left_reached on constructs n in omega (arith, p)) g
 
--- Assembly lines
+-- Lemmas about assembly lines
 
 record IsBranch (due spare extra : Counts) (constructs : List Construct) (b : Option Branch) (labels : List NamedLabel)
     (o : Out) : Type 0 where

@@ -107,7 +107,7 @@ ended_good limits at c around w due spare extra l g =
     good_still due spare extra w.labels around (closed limits c w.output) (at.behind.output (closed limits c w.output))
     (l (closed limits c w.output)) g
 
--- Each kind of statement
+-- Lemmas about each kind of statement
 
 if_good : (b : Bool) (limits : Limits) (context : Context) (opens : Moment) (test : Quiet) (body : Nested false) (closes : Moment) →
     Keeps limits context body → Keeps limits context (If {b = b} opens test body closes)

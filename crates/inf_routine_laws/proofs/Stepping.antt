@@ -153,7 +153,7 @@ step_ends_good limits context place due spare extra c around w is e none g =
     (λ _. step_carried limits context (place_of p place ready) (found_in limits context p ready) due spare extra c around (named ready) is e
     none g)
 
--- The objects of a loop
+-- Lemmas about the objects of a loop
 
 abbrev pub IsLoopedIn : Counts → Counts → Counts → Construct → List Construct → Compilation → Type 0
 IsLoopedIn due spare extra c around v = IsLooped due spare extra v.labels c around v.constructs v.output

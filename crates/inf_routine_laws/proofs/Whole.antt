@@ -39,7 +39,7 @@ use Rattle.inf_routine_laws.proofs.{Stepping.ends_case_kind}
 use Rattle.inf_routine_laws.proofs.Balance.{Good, cased, named_all, named_due, reached, unless_given}
 use Rattle.inf_routine_laws.proofs.Booking.{AreWhole, Counts, cell_marks, cell_uses, one, some_is, whole_missing, whole_twice}
 
--- Tokens as they are read
+-- Lemmas about tokens as they are read
 
 leaves_then : (o p q : Out) → LeavesRoutine o p → LeavesRoutine p q → LeavesRoutine o q
 leaves_then o p q a b = record {
@@ -93,9 +93,9 @@ tokens_leave (s ∷ seen) symbols l =
     (behind_leaves s.directive (closings n.left) s.behind l.0.1 l.0.0))
     (ends_leave s.directive (closings n.left) others l.0.1 (tokens_leave seen n.left l.1))
 
--- Routines
+-- Lemmas about routines
 
--- The fault of a routine whose labels are whole
+-- Lemmas about the fault of a routine whose labels are whole
 
 full_label : (b : Bool) (s : Limit) (rest : Option CloseFault) → is_of_labels rest ≡ false →
     is_of_labels (if b then Some (CloseFault.Full s) else rest) ≡ false
@@ -146,7 +146,7 @@ closed_label limits how code (Some r) e w =
     (whole_label place (references_before r.is_lost code.finished) r.contents (w r refl))
     (finished_label r.is_lost (code_limits limits) (code.finished ++ padded code.scale (routine_cells place how r.contents)))
 
--- The end of a routine
+-- Lemmas about the end of a routine
 
 none_some : {A : Type 0} {B : Type 0} {a : A} → Some a ≡ None → B
 none_some e = absurd (cc e)
@@ -173,12 +173,7 @@ ended_good limits labels (c ∷ []) o h g =
     cases_kind : (k : Kind) → are_cases k ≡ true → case_kind k ≡ true
     cases_kind (Kind.Cases old had_default) e = refl
     cases_kind (Kind.Switch old had_default) e = refl
-    cases_kind Kind.If e = cc
-    cases_kind Kind.Else e = cc
-    cases_kind Kind.While e = cc
-    cases_kind Kind.Do e = cc
-    cases_kind Kind.For e = cc
-    cases_kind (Kind.Objects how v) e = cc
+    cases_kind other e = cc
 ended_good limits labels (c ∷ d ∷ constructs) o h g = cc
 
 has_its_labels : (limits : Limits) (v : Compilation) → own_alone v.constructs ≡ true → Balanced none_due none_due none_due v →
@@ -194,7 +189,7 @@ has_its_labels limits v h g fits few none how =
           let p = b.known n (omega (arith, used)) in let q = no_due n v.labels none in omega (arith, p, q);
     })
 
--- A routine that has just begun
+-- Lemmas about a routine that has just begun
 
 begun_good : (w : Compilation) → HasBegun w → Balanced none_due none_due none_due w
 begun_good w h = record {
@@ -238,7 +233,7 @@ routine_has limits context r w e h l =
     body_has limits context r.body (run limits context r.semicolon.all v) (same.1 ∙ none) (ap own_alone same.0 ∙ own_begun v h)
     (quiet_good limits context r.semicolon.all none_due none_due none_due v r.semicolon.are l2.0 (begun_good v h)) l3.0
 
--- Headers
+-- Lemmas about headers
 
 no_routine : {A : Type 0} {B : Type 0} {a : A} → None ≡ Some a → B
 no_routine e = absurd (cc e)
@@ -312,7 +307,7 @@ headers_begin limits context at name names w e free none l =
     begun_behind at.behind (act limits context at.place Action.EndLocals w) l
     (subst HasBegun (sym same) (header_begins limits context first name w.unit.headed own none))
 
--- Conditional directives
+-- Lemmas about conditional directives
 
 begun_opened : (x : Option Limit) (r : Routines) → (begun_unless x r).opened ≡ r.opened
 begun_opened None r = refl

@@ -28,7 +28,7 @@ use Rattle.inf_routine_trees.specs.Bodies.{fits, start_seen, started, token_done
 use Rattle.inf_routine_trees.proofs.Pieces.{word_happens, worded}
 use Rattle.inf_routine_trees.proofs.Trees.{AreAll, IsTree, happen_quiet, moved_seen, room_lays}
 
--- The beginning of a case
+-- Lemmas about the beginning of a case
 
 record Starts (symbols : List (Symbol Action)) (seen : List Seen) (events : List (Event Action)) : Type 0 where
   start : Start
@@ -109,7 +109,7 @@ starts (SwitchWord {class}) limits symbols seen events text =
     let wd = worded limits OfSwitch class symbols seen events text in
     with_word OfSwitch symbols seen events wd.word wd.rest wd.late wd.same wd.text wd.ends wd.happen wd.quiet (λ l context w. refl)
 
--- The values, behind any unit
+-- Lemmas about the values, behind any unit
 
 both_ways : (b : Bool) → b ≡ true → b ≡ false → ⊥
 both_ways true is not_so = cc

@@ -12,8 +12,8 @@ use Rattle.inf_statement_laws.specs.Laid.{happens, next_comes, passed, run}
 use Rattle.inf_statement_laws.specs.Nested.{Case, Do, For, If, IfElse, Nested, NoStep, Objectloop, Plain, Step, StepEnds, Switch, Then}
 use Rattle.inf_statement_laws.specs.Nested.{While, happenings, step_happenings}
 use Rattle.inf_language.specs.{Texts.happenings_before, Units.TakeAll}
-use Rattle.inf_routine_trees.specs.Bodies.{Block, Case as CaseTree, Do as DoTree, For as ForTree, If as IfTree, IfElse as ElseTree}
-use Rattle.inf_routine_trees.specs.Bodies.{Nothing, Objectloop as LoopTree, Simple, Switch as SwitchTree, Then as ThenTree, Tree}
+use Rattle.inf_routine_trees.specs.Bodies.{Block, Do as DoTree, For as ForTree, If as IfTree, IfElse as ElseTree}
+use Rattle.inf_routine_trees.specs.Bodies.{Objectloop as LoopTree, Switch as SwitchTree, Then as ThenTree, Tree}
 use Rattle.inf_routine_trees.specs.Bodies.{While as WhileTree, With, bracketed_seen, is_close, later_effects, maybe_seen, next_effect}
 use Rattle.inf_routine_trees.specs.Bodies.{tree_laid, tree_seen, with_effect, with_effects}
 use Rattle.inf_routine_trees.proofs.Endings.{act_opening, both_true, last_took}
@@ -26,7 +26,7 @@ abbrev pub ends_at : Option Between → Moment → Moment
 ends_at None at = at
 ends_at (Some m) at = record at { behind = m }
 
--- Among happenings
+-- Lemmas about happenings
 
 abbrev pub given : Effects → List Happening → List Happening
 given effects [] = []
@@ -307,12 +307,9 @@ held : (holding : Tree → Tree) (inside : Tree) → with_effects [] inside ≡ 
 held holding inside same = ap (held_by holding) same
 
 pub none_effects : (tree : Tree) → with_effects [] tree ≡ (tree, [])
-none_effects Nothing = refl
 none_effects (ThenTree one others) =
     ap (λ (x : Tree × Effects). let y = with_effects x.1 others in (ThenTree x.0 y.0, y.1)) (none_effects one)
     ∙ ap (λ (y : Tree × Effects). (ThenTree one y.0, y.1)) (none_effects others)
-none_effects (Simple statement one_by_one) = refl
-none_effects (CaseTree start values one_by_one colon) = refl
 none_effects (Block brace inside closing) =
     ap (λ (x : Tree × Effects). (Block brace x.0 closing, x.1)) (none_effects inside)
 none_effects (IfTree stands word test body) = held (λ x. IfTree stands word test x) body (none_effects body)
@@ -329,6 +326,7 @@ none_effects (LoopTree stands word loop body) = held (λ x. LoopTree stands word
 none_effects (SwitchTree stands word value brace cases closing) =
     held (λ x. SwitchTree stands word value brace x closing) cases (none_effects cases)
 none_effects (With statement behind) = ap (λ (x : Tree × Effects). (With x.0 behind, x.1)) (none_effects statement)
+none_effects other = refl
 
 -- Trees with effects have the same tokens, and are written as those without.
 
@@ -337,13 +335,10 @@ effect_seen None tree = refl
 effect_seen (Some m) tree = refl
 
 pub effects_seen : (effects : Effects) (tree : Tree) → tree_seen (with_effects effects tree).0 ≡ tree_seen tree
-effects_seen effects Nothing = refl
 effects_seen effects (ThenTree one others) =
     let x = with_effects effects one in
     let y = with_effects x.1 others in
     ap (λ l. l ++ tree_seen y.0) (effects_seen effects one) ∙ ap (λ l. tree_seen one ++ l) (effects_seen x.1 others)
-effects_seen effects (Simple statement one_by_one) = refl
-effects_seen effects (CaseTree start values one_by_one colon) = refl
 effects_seen effects (Block brace inside closing) = ap (λ l. brace ∷ (l ++ closing ∷ [])) (effects_seen effects inside)
 effects_seen effects (IfTree stands word test body) =
     let x = with_effects effects body in
@@ -374,3 +369,4 @@ effects_seen effects (SwitchTree stands word value brace cases closing) =
     effect_seen (next_effect x.1) (SwitchTree stands word value brace x.0 closing)
     ∙ ap (λ l. word ∷ (bracketed_seen value ++ brace ∷ (l ++ closing ∷ []))) (effects_seen effects cases)
 effects_seen effects (With statement behind) = effects_seen effects statement
+effects_seen effects other = refl

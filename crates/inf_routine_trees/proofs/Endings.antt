@@ -91,7 +91,7 @@ any_parts b (Symbol.Token class ∷ parts) symbols is = any_parts true parts sym
 any_parts b (Symbol.Act a ∷ parts) symbols is = any_parts (b && is_close a) parts symbols is
 any_parts b (Symbol.Rule rule ∷ parts) symbols is = any_parts (ends rule || (b && goes_on rule)) parts symbols is
 
--- Symbols behind others that end so
+-- Lemmas about symbols behind others that end so
 end-append : (b : Bool) (parts symbols : List (Symbol Action)) → end_so b parts ≡ true → end_so true symbols ≡ true
     → end_so b (parts ++ symbols) ≡ true
 end-append b [] symbols is behind = subst (λ x. end_so x symbols ≡ true) (sym is) behind

@@ -32,7 +32,7 @@ pub statement_ends : end_so false (statement ∷ []) ≡ true
 unfolding ends
 statement_ends = refl
 
--- A `do`
+-- Lemmas about a `do`
 
 abbrev until_front : List (Symbol Action)
 until_front = 'open_parenthesis' ∷ !begin ∷ !outer ∷ expression ∷ !end_until ∷ 'close_parenthesis' ∷ []
@@ -144,7 +144,7 @@ do_tree {b} limits n below stands next seen events text are_seen few fewer =
     by_rows (IsTree b limits next seen events) (number do_rest)
     ((λ t. do_row_tree limits n below stands next seen events wd t are_seen few fewer), tt) wd.text
 
--- Statements in braces
+-- Lemmas about statements in braces
 
 block_rows : Rows mark_statement_1 (row (statement ∷ mark_statement_1 ∷ []) ∷ row [] ∷ [])
 unfolding grammar

@@ -24,7 +24,7 @@ use Rattle.inf_trees.proofs.{UnitsRead.place_before, UnitsRead.seen_parts}
 use Rattle.inf_routine_trees.specs.Bodies.{AtTop, Bracketed, Inner, OfSwitch, Standing, UnitWritten, bracketed_done, bracketed_seen}
 use Rattle.inf_routine_trees.specs.Bodies.{token_done, unit_done, word_done}
 
--- The happenings of events
+-- Lemmas about the happenings of events
 
 pub are_of : (next : Place) (events : List (Event Action)) (seen : List Seen) → TakeAll events seen
     → AreOf events (happenings_before next events seen)
@@ -49,7 +49,7 @@ quiet-append (h ∷ xs) ys x y =
     let both = and_parts (happens_quietly h) (happen_quietly xs) x in
     and_from (happens_quietly h) (happen_quietly (xs ++ ys)) both.0 (quiet-append xs ys both.1 y)
 
--- A unit in brackets, with the action that ends it
+-- Lemmas about a unit in brackets, with the action that ends it
 
 abbrev pub unit_symbols : List (Symbol Action)
 unit_symbols = !begin ∷ !outer ∷ expression ∷ []
@@ -159,7 +159,7 @@ test_runs {limits} {end} b context w =
     run_then limits context (Takes b.tree.bracket.token b.tree.bracket.behind ∷ b.unit_happens) last w
     ∙ ap (run limits context last) (b.runs context w)
 
--- The word of a statement that holds others
+-- Lemmas about the word of a statement that holds others
 
 abbrev pub before_word : Standing → List (Symbol Action)
 before_word AtTop = []
@@ -235,7 +235,7 @@ worded limits OfSwitch class symbols seen events text =
       ends = sym (ap case_first d.are ∙ ap case_first t.are);
     }
 
--- The end of such a statement
+-- Lemmas about the end of such a statement
 
 pub record Closed (seen : List Seen) (events : List (Event Action)) : Type 0 where
   pub none : seen ≡ []

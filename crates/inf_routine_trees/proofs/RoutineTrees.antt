@@ -73,7 +73,7 @@ last_happens next seen events text =
     ∙ (ap (λ es. happenings_before next es (p.front ++ l.s ∷ [])) (sym events_are)
     ∙ ap (λ x. happenings_before next events x) seen_are))))
 
--- The routine
+-- Lemmas about the routine
 
 -- The tokens of a text are a routine, and its happenings, with effects behind the ends of statements, have the effect of the routine with
 -- these behind its statements.

@@ -75,7 +75,7 @@ tree_opening limits next seen events t all last effects context w ahead none =
     ap (λ (v : Compilation). v.opening) (sym (tree_runs limits next seen events t effects context w ahead none))
     ∙ none_behind limits context next effects false events seen w all last (λ e. cc)
 
--- Statements of one unit
+-- Lemmas about statements of one unit
 
 pub happen_quiet : (next : Place) (events : List (Event Action)) (seen : List Seen) → AreQuiet events
     → happen_quietly (happenings_before next events seen) ≡ true
@@ -118,7 +118,7 @@ simple_tree limits next seen events b are_seen few =
       rests = λ effects. refl;
     }
 
--- Statements that hold others
+-- Lemmas about statements that hold others
 
 abbrev pub AreAll : List Seen → Type 0
 AreAll seen = AreSeen (atoms_of seen) (tokens_of seen)

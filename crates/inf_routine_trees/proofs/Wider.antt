@@ -19,45 +19,24 @@ wider b (Switch opens value cases brace closes) = Switch opens value cases brace
 
 pub wider_same : (b : Bool) (n : Nested false) → happenings (wider b n) ≡ happenings n
 unfolding wider
-wider_same b (Plain plain) = refl
 wider_same b (Then first second) =
     ap (λ l. l ++ happenings (wider b second)) (wider_same b first) ∙ ap (λ l. happenings first ++ l) (wider_same b second)
-wider_same b (If opens test body closes) = refl
-wider_same b (IfElse opens test body joins word other closes) = refl
-wider_same b (While opens test body closes) = refl
-wider_same b (Do opens body word joins test closes) = refl
-wider_same b (For opens start joins test step bracket body closes) = refl
-wider_same b (Objectloop opens loop ends joins bracket body closes) = refl
-wider_same b (Switch opens value cases brace closes) = refl
+wider_same b other = refl
 
 pub wider_laid : (b : Bool) (limits : Limits) (context : Context) (n : Nested false) (w : Compilation)
     → laid limits context (wider b n) w ≡ laid limits context n w
 unfolding wider
-wider_laid b limits context (Plain plain) w = refl
 wider_laid b limits context (Then first second) w =
     ap (laid limits context (wider b second)) (wider_laid b limits context first w)
     ∙ wider_laid b limits context second (laid limits context first w)
-wider_laid b limits context (If opens test body closes) w = refl
-wider_laid b limits context (IfElse opens test body joins word other closes) w = refl
-wider_laid b limits context (While opens test body closes) w = refl
-wider_laid b limits context (Do opens body word joins test closes) w = refl
-wider_laid b limits context (For opens start joins test step bracket body closes) w = refl
-wider_laid b limits context (Objectloop opens loop ends joins bracket body closes) w = refl
-wider_laid b limits context (Switch opens value cases brace closes) w = refl
+wider_laid b limits context other w = refl
 
 -- with the effects behind its statements
 pub wider_put : (b : Bool) (effects : Effects) (n : Nested false)
     → put effects (wider b n) ≡ (wider b (put effects n).0, (put effects n).1)
 unfolding wider
-wider_put b effects (Plain plain) = refl
 wider_put b effects (Then first second) =
     let x = put effects first in
     ap (λ (y : Nested b × Effects). let z = put y.1 (wider b second) in (Then y.0 z.0, z.1)) (wider_put b effects first)
     ∙ ap (λ (z : Nested b × Effects). (Then (wider b x.0) z.0, z.1)) (wider_put b x.1 second)
-wider_put b effects (If opens test body closes) = refl
-wider_put b effects (IfElse opens test body joins word other closes) = refl
-wider_put b effects (While opens test body closes) = refl
-wider_put b effects (Do opens body word joins test closes) = refl
-wider_put b effects (For opens start joins test step bracket body closes) = refl
-wider_put b effects (Objectloop opens loop ends joins bracket body closes) = refl
-wider_put b effects (Switch opens value cases brace closes) = refl
+wider_put b effects other = refl

@@ -58,7 +58,7 @@ pub data Tree : Type 0 where
   Switch : (stands : Standing) (word : Seen) (value : Bracketed) (brace : Seen) (cases : Tree) (closing : Seen) → Tree
   With : (statement : Tree) (behind : Between) → Tree
 
--- The tokens of trees
+-- Definitions of the tokens of trees
 
 abbrev pub statement_seen : Statement → List Seen
 statement_seen s = all_seen s.unit ++ s.semicolon ∷ []
@@ -66,7 +66,7 @@ statement_seen s = all_seen s.unit ++ s.semicolon ∷ []
 abbrev pub bracketed_seen : Bracketed → List Seen
 bracketed_seen b = b.bracket ∷ (all_seen (b.unit no_unit) ++ b.closing ∷ [])
 
--- those of a unit that may be missing
+-- the tokens of a unit that may be missing
 abbrev pub maybe_seen : Option (UnitAtHand → List Part) → List Seen
 maybe_seen None = []
 maybe_seen (Some unit) = all_seen (unit no_unit)
@@ -130,7 +130,7 @@ TreeWritten (Objectloop stands word loop body) = UnitWritten loop.unit × TreeWr
 TreeWritten (Switch stands word value brace cases closing) = UnitWritten value.unit × TreeWritten cases
 TreeWritten (With statement behind) = TreeWritten statement
 
--- The effects of trees
+-- Definitions of the effects of trees
 
 -- a token is taken, with the conditional directives that end behind it
 abbrev pub token_done : Context → Seen → Compilation → Compilation
@@ -246,7 +246,7 @@ tree_laid limits context (Switch stands word value brace cases closing) w =
     ended_as limits (opening_of value) (with_kind_in inside.constructs c.0) v.constructs inside
 tree_laid limits context (With statement behind) w = passed behind (tree_laid limits context statement w)
 
--- Effects behind statements
+-- Definitions of effects behind statements
 
 -- whether an action ends a statement that holds others
 abbrev pub is_close : Action → Bool

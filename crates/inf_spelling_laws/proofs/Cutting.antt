@@ -24,7 +24,7 @@ not_true : (t : Bool) → not t ≡ true → t ≡ false
 not_true true e = sym e
 not_true false e = refl
 
--- A word
+-- Lemmas about a word
 
 abbrev pub word_cut : List ℕ → Cut
 word_cut [] = cut true [] []
@@ -39,7 +39,7 @@ word_is (b ∷ bytes) behind all stops =
     ap (λ t. cond t (more b (word_cut (bytes ++ behind))) (cut true [] (b ∷ (bytes ++ behind)))) parts.0
     ∙ ap (more b) (word_is bytes behind parts.1 stops)
 
--- A text
+-- Lemmas about a text
 
 abbrev text_cut : List ℕ → Cut
 text_cut [] = cut false [] []
@@ -62,7 +62,7 @@ text_open (b ∷ bytes) behind all none =
     let parts = and_parts (not (b == 34)) (list_all (λ b. not (b == 34)) bytes) all in
     text_more b (bytes ++ behind) parts.0 ∙ ap (more b) (text_open bytes behind parts.1 none)
 
--- A quote
+-- Lemmas about a quote
 
 abbrev quote_cut : Bool → List ℕ → Cut
 quote_cut after_at [] = cut false [] []
@@ -94,7 +94,7 @@ quote_open after_at (b ∷ bytes) behind all ends =
     let parts = and_parts (not (ends_line b) && not (b == 39 && not after_at)) (is_quoted (b == 64) bytes) all in
     quote_more after_at b (bytes ++ behind) parts.0 ∙ ap (more b) (quote_open (b == 64) bytes behind parts.1 ends)
 
--- A token, and the bytes that are left behind it
+-- Lemmas about a token, and the bytes that are left behind it
 
 pub record Found : Type 0 where
   pub token : Token
@@ -138,45 +138,7 @@ word_token (b ∷ bytes) behind some all stops =
 
 mark_token : (m : Mark) (behind : List ℕ) → token_cut (mark_bytes m ++ behind) ≡ mark_cut m behind
 mark_token Mark.Arrow behind = refl
-mark_token Mark.LongArrow behind = refl
-mark_token Mark.Minus behind = refl
-mark_token Mark.Decrement behind = refl
-mark_token Mark.Plus behind = refl
-mark_token Mark.Increment behind = refl
-mark_token Mark.Times behind = refl
-mark_token Mark.Divide behind = refl
-mark_token Mark.Remainder behind = refl
-mark_token Mark.BitAnd behind = refl
-mark_token Mark.LogicalAnd behind = refl
-mark_token Mark.BitOr behind = refl
-mark_token Mark.LogicalOr behind = refl
-mark_token Mark.BitNot behind = refl
-mark_token Mark.LogicalNot behind = refl
-mark_token Mark.NotEqual behind = refl
-mark_token Mark.Assign behind = refl
-mark_token Mark.Equal behind = refl
-mark_token Mark.Greater behind = refl
-mark_token Mark.GreaterOrEqual behind = refl
-mark_token Mark.DoubleGreater behind = refl
-mark_token Mark.Less behind = refl
-mark_token Mark.LessOrEqual behind = refl
-mark_token Mark.DoubleLess behind = refl
-mark_token Mark.Comma behind = refl
-mark_token Mark.Semicolon behind = refl
-mark_token Mark.Colon behind = refl
-mark_token Mark.OpenParenthesis behind = refl
-mark_token Mark.CloseParenthesis behind = refl
-mark_token Mark.OpenBracket behind = refl
-mark_token Mark.CloseBracket behind = refl
-mark_token Mark.OpenBrace behind = refl
-mark_token Mark.CloseBrace behind = refl
-mark_token Mark.Dot behind = refl
-mark_token Mark.DotAnd behind = refl
-mark_token Mark.DotHash behind = refl
-mark_token Mark.Hash behind = refl
-mark_token Mark.DoubleHash behind = refl
-mark_token Mark.Question behind = refl
-mark_token Mark.At behind = refl
+mark_token other behind = refl
 
 mark_stops : (m : Mark) (b : ℕ) (behind : List ℕ) (o : Option Mark) → is_none o ≡ true
     → elim o [ None ↦ found (Sign m) (b ∷ behind) | Some longer ↦ mark_cut longer behind ] ≡ found (Sign m) (b ∷ behind)

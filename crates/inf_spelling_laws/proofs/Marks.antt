@@ -59,50 +59,12 @@ mark_spelled (b ∷ c ∷ bytes) m e = long_spelled (b ∷ c ∷ bytes) m long_m
 
 pub spelled_mark : (m : Mark) → mark_of (mark_bytes m) ≡ Some m
 spelled_mark Mark.Arrow = refl
-spelled_mark Mark.LongArrow = refl
-spelled_mark Mark.Minus = refl
-spelled_mark Mark.Decrement = refl
-spelled_mark Mark.Plus = refl
-spelled_mark Mark.Increment = refl
-spelled_mark Mark.Times = refl
-spelled_mark Mark.Divide = refl
-spelled_mark Mark.Remainder = refl
-spelled_mark Mark.BitAnd = refl
-spelled_mark Mark.LogicalAnd = refl
-spelled_mark Mark.BitOr = refl
-spelled_mark Mark.LogicalOr = refl
-spelled_mark Mark.BitNot = refl
-spelled_mark Mark.LogicalNot = refl
-spelled_mark Mark.NotEqual = refl
-spelled_mark Mark.Assign = refl
-spelled_mark Mark.Equal = refl
-spelled_mark Mark.Greater = refl
-spelled_mark Mark.GreaterOrEqual = refl
-spelled_mark Mark.DoubleGreater = refl
-spelled_mark Mark.Less = refl
-spelled_mark Mark.LessOrEqual = refl
-spelled_mark Mark.DoubleLess = refl
-spelled_mark Mark.Comma = refl
-spelled_mark Mark.Semicolon = refl
-spelled_mark Mark.Colon = refl
-spelled_mark Mark.OpenParenthesis = refl
-spelled_mark Mark.CloseParenthesis = refl
-spelled_mark Mark.OpenBracket = refl
-spelled_mark Mark.CloseBracket = refl
-spelled_mark Mark.OpenBrace = refl
-spelled_mark Mark.CloseBrace = refl
-spelled_mark Mark.Dot = refl
-spelled_mark Mark.DotAnd = refl
-spelled_mark Mark.DotHash = refl
-spelled_mark Mark.Hash = refl
-spelled_mark Mark.DoubleHash = refl
-spelled_mark Mark.Question = refl
-spelled_mark Mark.At = refl
+spelled_mark other = refl
 
 pub short_is : (b : ℕ) → mark_of (b ∷ []) ≡ first_mark b
 short_is b = refl
 
--- A mark with the next byte
+-- Lemmas about a mark with the next byte
 
 one : (x : Bool) (m : Mark) → cond (x && true) (Some m) None ≡ cond x (Some m) None
 one true m = refl
@@ -120,43 +82,15 @@ three false true m n o = refl
 three false false m n o = refl
 
 pub longer_is : (m : Mark) (b : ℕ) → mark_of (mark_bytes m ++ b ∷ []) ≡ longer_mark m b
-longer_is Mark.Arrow b = refl
-longer_is Mark.LongArrow b = refl
 longer_is Mark.Minus b = three (b == 45) (b == 62) Mark.Decrement Mark.Arrow Mark.LongArrow
 longer_is Mark.Decrement b = one (b == 62) Mark.LongArrow
 longer_is Mark.Plus b = one (b == 43) Mark.Increment
-longer_is Mark.Increment b = refl
-longer_is Mark.Times b = refl
-longer_is Mark.Divide b = refl
-longer_is Mark.Remainder b = refl
 longer_is Mark.BitAnd b = one (b == 38) Mark.LogicalAnd
-longer_is Mark.LogicalAnd b = refl
 longer_is Mark.BitOr b = one (b == 124) Mark.LogicalOr
-longer_is Mark.LogicalOr b = refl
 longer_is Mark.BitNot b = two (b == 126) (b == 61) Mark.LogicalNot Mark.NotEqual
-longer_is Mark.LogicalNot b = refl
-longer_is Mark.NotEqual b = refl
 longer_is Mark.Assign b = one (b == 61) Mark.Equal
-longer_is Mark.Equal b = refl
 longer_is Mark.Greater b = two (b == 61) (b == 62) Mark.GreaterOrEqual Mark.DoubleGreater
-longer_is Mark.GreaterOrEqual b = refl
-longer_is Mark.DoubleGreater b = refl
 longer_is Mark.Less b = two (b == 61) (b == 60) Mark.LessOrEqual Mark.DoubleLess
-longer_is Mark.LessOrEqual b = refl
-longer_is Mark.DoubleLess b = refl
-longer_is Mark.Comma b = refl
-longer_is Mark.Semicolon b = refl
-longer_is Mark.Colon b = refl
-longer_is Mark.OpenParenthesis b = refl
-longer_is Mark.CloseParenthesis b = refl
-longer_is Mark.OpenBracket b = refl
-longer_is Mark.CloseBracket b = refl
-longer_is Mark.OpenBrace b = refl
-longer_is Mark.CloseBrace b = refl
 longer_is Mark.Dot b = two (b == 38) (b == 35) Mark.DotAnd Mark.DotHash
-longer_is Mark.DotAnd b = refl
-longer_is Mark.DotHash b = refl
 longer_is Mark.Hash b = one (b == 35) Mark.DoubleHash
-longer_is Mark.DoubleHash b = refl
-longer_is Mark.Question b = refl
-longer_is Mark.At b = refl
+longer_is other b = refl

@@ -109,7 +109,7 @@ skip set limit false (b ∷ gap) x seen fits =
         cond-true (is_white set b) (ByteStep.Skip State.Gap) _ (sym (space_is set b) ∙ parts.0) in
         record { later = r.later; same = ap (λ s. after set limit s b (marked State.Gap seen) (gap ++ x)) step ∙ r.same }
 
--- Words
+-- Lemmas about words
 
 or_none : (t : Bool) → t ≡ (t || false)
 or_none true = refl
@@ -149,7 +149,7 @@ module _ (set : CharSet) (limit b : ℕ) (bytes : List ℕ) (seen : Sight) (stop
       ap (λ s. (after set limit s b (marked State.Gap seen) bytes).ending) step
       ∙ run_find set limit (begins_number b) bytes (kept 32 b (marked State.Gap seen))
 
--- Bytes that fit nothing
+-- Lemmas about bytes that fit nothing
 
 abbrev pub is_unfit : Ending → Bool
 is_unfit Ending.Unfit = true

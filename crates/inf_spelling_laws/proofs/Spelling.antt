@@ -97,7 +97,7 @@ reads set limit lines rest more =
       some = s.some;
     }
 
--- There is no other.
+-- A part of the bytes has one spelling alone
 
 same_piece : (set : CharSet) (limit : ℕ) (lines : Lines) (rest : List ℕ) (p q : Piece) → IsSpelled set limit lines rest p
     → IsSpelled set limit lines rest q → p ≡ q
@@ -127,7 +127,7 @@ parts_are_spelled set limit lines rest more =
       parted = λ p is. record { part = r.part; is = r.is; same = same_piece set limit lines rest p r.piece is r.spelled ∙ r.same };
     }
 
--- A whole source
+-- Lemmas about a whole source
 
 record All (set : CharSet) (rest : List ℕ) : Type 0 where
   parts : List Part

@@ -6,7 +6,7 @@ use Rattle.std.specs.List.{list_all}
 use Rattle.inf_characters.specs.declared.characters.CharSet.{CharSet}
 use Rattle.inf_scanner.specs.declared.tokens.Mark.{Mark}
 
--- Bytes
+-- Definitions of bytes
 
 abbrev pub ends_line : ℕ → Bool
 ends_line b = (b == 10) || (b == 13)
@@ -43,7 +43,7 @@ is_gap set in_comment [] behind = not in_comment || is_empty behind
 is_gap set true (b ∷ gap) behind = is_gap set (not (ends_line b)) gap behind
 is_gap set false (b ∷ gap) behind = if b == 33 then is_gap set true gap behind else is_space set b && is_gap set false gap behind
 
--- Marks of one byte, and longer ones
+-- Definitions of marks of one byte, and longer ones
 
 abbrev pub short_marks : List (ℕ × Mark)
 short_marks =
@@ -123,7 +123,7 @@ IsToken (OpenQuote bytes) span behind =
 IsToken (Stray b) span behind = (span ≡ b ∷ []) × (begins_nothing b ≡ true)
 IsToken End span behind = (span ≡ []) × (behind ≡ [])
 
--- A token with the gap before it and the bytes behind it
+-- Definitions of a token with the gap before it and the bytes behind it
 
 pub record Part : Type 0 where
   pub gap : List ℕ

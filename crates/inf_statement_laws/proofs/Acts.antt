@@ -37,7 +37,7 @@ SameOpen w v = (v.constructs ≡ w.constructs) × (v.closed ≡ w.closed)
 pub same_then : (a b c : Compilation) → SameOpen a b → SameOpen b c → SameOpen a c
 same_then a b c first second = (second.0 ∙ first.0, second.1 ∙ first.1)
 
--- Tokens
+-- Lemmas about tokens
 
 nested_same : (context : Context) (place : Place) (b : Bool) (w : Compilation) → SameOpen w (nested context place b w)
 nested_same context place true w = (refl, refl)
@@ -56,7 +56,7 @@ took_same context t w =
     let s = sized context u in
     same_then w s (took context t w) (sized_same context u) (nested_same context t.place (opens t.kind && is_deep s 0) s)
 
--- Units
+-- Lemmas about units
 
 -- units that leave all open statements unchanged
 abbrev is_quiet_part : Part → Bool
@@ -89,9 +89,7 @@ quiet_finished limits context first Part.Start w q =
     quiet_carried limits context first Part.Start (found_in limits context Part.Start w) (named w) refl
 quiet_finished limits context first Part.Switched w q =
     quiet_carried limits context first Part.Switched (found_in limits context Part.Switched w) (named w) refl
-quiet_finished limits context first Part.Step w q = cc
-quiet_finished limits context first Part.Loop w q = cc
-quiet_finished limits context first Part.Case w q = cc
+quiet_finished limits context first other w q = cc
 
 quiet_prepared : (limits : Limits) (p : Part) (w : Compilation) → is_quiet_part p ≡ true → SameOpen w (case_prepared limits p w)
 quiet_prepared limits Part.Case w q = cc
@@ -106,7 +104,7 @@ quiet_part limits context place p w q =
     (λ _. same_then w ready (part_finished limits context (place_of p place ready) p ready) (quiet_prepared limits p (part_prepared w) q)
     (quiet_finished limits context (place_of p place ready) p ready q))
 
--- Actions
+-- Lemmas about actions
 
 quiet_note_of : (context : Context) (n : Note) (w : Compilation) → SameOpen w (noted_of context n w)
 quiet_note_of context n w =
@@ -143,21 +141,19 @@ quiet_end limits context place _ w q = cc
 
 quiet_role : (limits : Limits) (context : Context) (place : Place) (r : Role) (w : Compilation) → is_quiet_role r ≡ true →
     SameOpen w (played limits context place r w)
-quiet_role limits context place (Role.Gather s) w q = (refl, refl)
 quiet_role limits context place (Role.Note n) w q = quiet_note limits context n w
 quiet_role limits context place (Role.End e) w q = quiet_end limits context place e w q
 quiet_role limits context place (Role.Open o) w q = cc
 quiet_role limits context place Role.Join w q = cc
 quiet_role limits context place Role.Close w q = cc
 quiet_role limits context place Role.Deeper w q = nested_same context place (is_deep w 1) w
-quiet_role limits context place Role.MaybeDeeper w q = (refl, refl)
-quiet_role limits context place Role.Nothing w q = (refl, refl)
+quiet_role limits context place other w q = (refl, refl)
 
 quiet_act : (limits : Limits) (context : Context) (place : Place) (a : Action) (w : Compilation) → is_quiet a ≡ true →
     SameOpen w (act limits context place a w)
 quiet_act limits context place a w q = quiet_role limits context place (role_of a) w q
 
--- Happenings
+-- Lemmas about happenings
 
 quiet_happens : (limits : Limits) (context : Context) (h : Happening) (w : Compilation) → happens_quietly h ≡ true →
     SameOpen w (happens limits context h w)
@@ -172,7 +168,7 @@ quiet_run limits context (h ∷ hs) w q =
     let v = happens limits context h w in
     same_then w v (run limits context hs v) (quiet_happens limits context h w both.0) (quiet_run limits context hs v both.1)
 
--- Units that change the innermost
+-- Lemmas about units that change the innermost
 
 -- Tells whether the innermost statement has changed in its kind alone, or in its step alone.
 abbrev pub KindIn : Construct → List Construct → List Construct → Type 0
@@ -247,7 +243,7 @@ loop_ends limits context place w c around e =
     (named ready)
     c around e)
 
--- a case
+-- lemmas about the beginning of a case
 entered_kind_by : (limits : Limits) (k : Kind) (b : Bool) (c : Construct) (o : Out) →
     (after : Kind) × ((entered_by limits k b c o).0 ≡ record c { kind = after })
 entered_kind_by limits (Kind.Switch old had_default) true c o = (_, refl)
@@ -313,7 +309,7 @@ case_none_ahead limits context place w =
     (named (part_begun limits Part.Case ready))).1
     ∙ (actions_named_same (are_own begun.constructs) begun).1)
 
--- The routine's own cases
+-- Lemmas about the routine's own cases
 
 -- whether no statement is open but the routine's own cases
 abbrev pub own_alone : List Construct → Bool

@@ -27,14 +27,14 @@ use Rattle.inf_statement_laws.proofs.Acts.{step_ends}
 use Rattle.inf_statement_laws.proofs.Nesting.{Compound, body_is_nested, do_is_nested, embedded_is_nested, for_is_nested, if_is_nested}
 use Rattle.inf_statement_laws.proofs.Nesting.{objectloop_is_nested, statement_is_nested, switch_is_nested, while_is_nested}
 
--- Happenings behind others
+-- Lemmas about happenings behind others
 
 pub run_then : (limits : Limits) (context : Context) (xs ys : List Happening) (w : Compilation) →
     run limits context (xs ++ ys) w ≡ run limits context ys (run limits context xs w)
 run_then limits context [] ys w = refl
 run_then limits context (x ∷ xs) ys w = run_then limits context xs ys (happens limits context x w)
 
--- The innermost of the open statements, with none closed ahead
+-- Lemmas about the innermost of the open statements, with none closed ahead
 
 record At (c : Construct) (around : List Construct) (w : Compilation) : Type 0 where
   is : w.constructs ≡ c ∷ around
@@ -236,7 +236,7 @@ do_is limits context opens body word joins test closes w e inner =
       none_ahead = end.none_ahead;
     }
 
--- The step of a `for`
+-- Lemmas about the step of a `for`
 
 kept_step : (c : Construct) (around constructs : List Construct) → StepIn c around constructs
     → constructs ≡ with_step_in constructs c ∷ around
@@ -361,7 +361,7 @@ switch_is limits context opens value cases brace closes w e inner =
       none_ahead = end.none_ahead;
     }
 
--- Each nested statement
+-- Lemmas about each nested statement
 
 pub laid_as : {b : Bool} (limits : Limits) (context : Context) (n : Nested b) → Inner limits context n
 laid_as limits context (Plain {b} plain) w e =
@@ -409,7 +409,7 @@ laid_as limits context (Switch {b} opens value cases brace closes) w e =
     let whole = switch_is {b = b} limits context opens value cases brace closes w e (laid_as limits context cases) in
     record { runs = whole.runs; holds = holds_same b w.constructs w.constructs refl; none_ahead = whole.none_ahead }
 
--- The laws
+-- Proofs of the laws
 
 whole_of : {b : Bool} (limits : Limits) (context : Context) (s : Nested b) (hs : List Happening) → happenings s ≡ hs →
     IsWhole limits context s hs
@@ -448,7 +448,7 @@ statements_are_laid_whole limits = record {
   of_rests = λ context rest hs m is. let n = rest_nested rest hs m is in (n.nested, n.is, whole_of limits context n.nested hs n.same);
 }
 
--- Routines
+-- Lemmas about routines
 
 pub alone_behind : {b : Bool} (limits : Limits) (context : Context) (n : Nested b) (w : Compilation) → w.closed ≡ 0 →
     own_alone w.constructs ≡ true
@@ -460,13 +460,7 @@ alone_behind limits context (Then before behind) w e h =
 alone_behind limits context (Case values ends) w e h =
     case_alone limits context ends.place (run limits context values.all w)
     (ap own_alone (quiet_run limits context values.all w values.are).0 ∙ h)
-alone_behind limits context (If opens test body closes) w e h = h
-alone_behind limits context (IfElse opens test body joins word other closes) w e h = h
-alone_behind limits context (While opens test body closes) w e h = h
-alone_behind limits context (Do opens body word joins test closes) w e h = h
-alone_behind limits context (For opens start joins test step bracket body closes) w e h = h
-alone_behind limits context (Objectloop opens loop ends joins bracket body closes) w e h = h
-alone_behind limits context (Switch opens value cases brace closes) w e h = h
+alone_behind limits context other w e h = h
 
 -- the depth is not 0 where two statements are open, or one that is not the routine's own cases
 more_by : (k : Option Kind) (n : ℕ) → depth_by k (suc (suc n)) ≡ 0 → ⊥
@@ -508,7 +502,7 @@ routines_are_laid_whole limits = record {
   ends = λ context body hs m is. let n = body_nested body hs m is in ends_open limits context n.0 hs n.1;
 }
 
--- Closing ahead
+-- Lemmas about statements that are closed ahead
 
 abbrev pub ahead : Limits → ℕ → Compilation → Compilation
 ahead limits count w = record (constructs_laid (all_ended limits count w.constructs) w) { closed = count }

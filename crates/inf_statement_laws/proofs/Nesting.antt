@@ -21,7 +21,7 @@ use Rattle.inf_statement_laws.proofs.Rules.{switch_parts, switch_row, switch_val
 use Rattle.inf_statement_laws.proofs.Rules.{while_test}
 use Rattle.inf_statement_laws.proofs.Texts.{OfRule, Parts, raised, read_deep, split}
 
--- Quiet texts
+-- Lemmas about quiet texts
 
 quietly_joined : (xs ys : List Happening) → happen_quietly xs ≡ true → happen_quietly ys ≡ true → happen_quietly (xs ++ ys) ≡ true
 quietly_joined [] ys h k = k
@@ -49,7 +49,7 @@ abbrev pub quiet_of : (deep : ℕ) (symbols : List (Symbol Action)) (hs : List H
     → all_quiet symbols ≡ true → Quiet
 quiet_of deep symbols hs p q = record { all = hs; are = quiet_parts (OfRule deep) (quiet_rule deep) symbols hs p q }
 
--- Nested statements
+-- Lemmas about nested statements
 
 record Nests (b : Bool) (hs : List Happening) : Type 0 where
   nested : Nested b
@@ -329,7 +329,7 @@ switch_nests deep b hs below o =
 plainly : {b : Bool} {rest : Symbol Action} {hs : List Happening} → Compound b rest hs → Nests b hs
 plainly c = record { nested = c.nested; same = c.same }
 
--- One of the six rules
+-- Lemmas about one of the six rules
 data Rest : ℕ → Type 0 where
   AnIf : Rest (number if_rest)
   AWhile : Rest (number while_rest)
@@ -393,7 +393,7 @@ nest_rule (suc deep) b rule hs o e =
           ]
     ]
 
--- The texts
+-- Lemmas about the texts
 
 pub statement_is_nested : (hs : List Happening) → IsRead statement hs → (s : Nested false) × (happenings s ≡ hs)
 statement_is_nested hs is =

@@ -28,7 +28,7 @@ use Rattle.inf_statement_laws.proofs.Laying.{run_then}
 use Rattle.inf_statement_laws.proofs.Rules.{header_parts, last_parts, piece_begins, quiet_header, routine_begins, routine_fits}
 use Rattle.inf_statement_laws.proofs.Rules.{routine_parts, semicolon_parts}
 
--- Tokens
+-- Lemmas about tokens
 
 actions_happen : (limits : Limits) (context : Context) (t : SourceToken) (m : Between) (actions : List Action) (w : Compilation)
     → next_comes (passed m (took context t (acted limits context t.place actions w))) ≡ run limits context (token_happenings t m actions) w
@@ -110,7 +110,7 @@ tokens_happen limits = record {
   directives = λ files place w. refl;
 }
 
--- The statements that conditional directives close ahead
+-- Lemmas about the statements that conditional directives close ahead
 
 -- the actions of `count` endings
 abbrev ends : ℕ → List Action
@@ -159,7 +159,7 @@ behind_ends_run limits context t b m zero rest others w = refl
 behind_ends_run limits context t b m (suc count) rest others w =
     behind_ends_run limits context t b m count rest others (act limits context t.place Action.Close w)
 
--- Inside of a routine
+-- Lemmas about tokens inside of a routine
 
 abbrev all_inside : List Action → Bool
 all_inside [] = true
@@ -282,7 +282,7 @@ routine_is_inside r =
     (quiet_then r.semicolon (happenings r.body ++ last) (inside_joined (happenings r.body) last (nested_is_inside r.body)
     (quiet_is_inside r.last.all r.last.are)))
 
--- Reading
+-- Lemmas about reading
 
 -- whether the effect from a conditional directive on is still to be put behind ends
 abbrev Waits : Option Between → List (Symbol Action) → Type 0
@@ -397,7 +397,7 @@ all_read limits context (s ∷ seen) symbols l i d w e waits =
     ∙ (ap (run limits context others) (actions_happen limits context s.token own st.rest st.from)
     ∙ (sym (run_then limits context (token_happenings s.token own st.rest) others st.from) ∙ sym st.runs)))
 
--- Routines
+-- Lemmas about routines
 
 routine_of : (n : ℕ) (hs : List Happening) → Parts (OfRule n) routine_parts hs → (r : Routine) × (routine_happenings r ≡ hs)
 routine_of n hs p =

@@ -68,7 +68,7 @@ all_quiet (Symbol.Token class ∷ symbols) = all_quiet symbols
 all_quiet (Symbol.Act a ∷ symbols) = is_quiet a && all_quiet symbols
 all_quiet (Symbol.Rule rule ∷ symbols) = is_quiet_rule rule && all_quiet symbols
 
--- By evaluation over the table
+-- Lemmas by evaluation over the table
 
 abbrev keeps : (ℕ → Bool) → (List (Symbol Action) → Bool) → ℕ → Bool
 keeps rules test rule = not (rules rule) || all_rows test (grammar.rows_of rule)
@@ -151,7 +151,7 @@ pub embedded_rows : grammar.rows_of (number value_3) ≡ row (top_item ∷ value
 unfolding grammar
 embedded_rows = refl
 
--- The symbols in the rows of statements that hold others
+-- Lemmas about the symbols in the rows of statements that hold others
 
 abbrev pub if_test : List (Symbol Action)
 if_test = 'open_parenthesis' ∷ !begin ∷ !outer ∷ expression ∷ !end_if ∷ 'close_parenthesis' ∷ []
@@ -305,7 +305,7 @@ pub quiet_switch_value : all_quiet switch_value ≡ true
 unfolding is_quiet_rule
 quiet_switch_value = refl
 
--- A routine
+-- Lemmas about a routine
 
 abbrev pub header_parts : List (Symbol Action)
 header_parts = !routine ∷ 'open_bracket' ∷ NAME ∷ directive_1 ∷ []

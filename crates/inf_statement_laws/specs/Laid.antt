@@ -15,7 +15,7 @@ use Rattle.inf_reader.specs.Acting.{act}
 use Rattle.inf_statement_laws.specs.Happenings.{Acts, Between, Happening, Moment, Takes}
 use Rattle.inf_statement_laws.specs.Nested.{Case, Do, For, If, IfElse, Nested, Objectloop, Plain, Switch, Then, While, step_happenings}
 
--- Happenings one by one
+-- Definitions of happenings one by one
 
 abbrev pub passed : Between → Compilation → Compilation
 passed m w = record w {
@@ -37,7 +37,7 @@ abbrev pub run : Limits → Context → List Happening → Compilation → Compi
 run limits context [] w = w
 run limits context (h ∷ happenings) w = run limits context happenings (happens limits context h w)
 
--- Statements that hold others
+-- Definitions of statements that hold others
 
 -- the compilation with a construct as the innermost of the open ones `around`, and with the code so far
 abbrev pub holding : Moment → Construct × Out → List Construct → Compilation → Compilation

@@ -85,7 +85,7 @@ pub record RoutinesAreReadWhole (limits : Limits) : Type 0 where
   pub end : (context : Context) (r : Routine) (w : Compilation) → w.closed ≡ 0 → w.constructs ≡ []
       → depth (body_laid limits context r w).constructs ≡ 0
 
--- The happenings of statements that end one behind the other, at these places.
+-- the happenings of statements that end one behind the other, at the places of a list
 abbrev pub endings : List Place → List Happening
 endings [] = []
 endings (place ∷ places) = Acts (plainly_at place) Action.Close ∷ endings places

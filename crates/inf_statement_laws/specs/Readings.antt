@@ -14,7 +14,7 @@ use Rattle.inf_reader.specs.Acting.{all_acted}
 use Rattle.inf_statement_laws.specs.{Laid.happens, Laid.laid, Laid.passed, Laid.run, Nested.Nested, Nested.happenings}
 use Rattle.inf_statement_laws.specs.Happenings.{Acts, Between, Happening, Moment, Quiet, Takes}
 
--- The effect between two tokens
+-- Definitions of the effect between two tokens
 
 abbrev pub nothing_between : Between
 nothing_between = record { report = λ o r. r; output = λ o. o; most_labels = λ o n. n; asked = λ a. a }
@@ -38,7 +38,7 @@ directive_between limits files place = record nothing_between {
   most_labels = λ o n. max n (labels (begun limits o).code);
 }
 
--- Tokens
+-- Definitions of tokens
 
 -- A token with its atom, by which the grammar knows it, the effect behind it, and the effect from where the first
 -- conditional directive ends behind it, if one does.
@@ -71,7 +71,7 @@ all_taken limits context (s ∷ seen) symbols w =
     (directed limits s.directive (closings n.left)
     (passed s.behind (took context s.token (all_acted limits context s.token.place n.actions w))))
 
--- The happenings of tokens
+-- Definitions of the happenings of tokens
 
 -- the happenings of one token, behind some actions
 abbrev pub token_happenings : SourceToken → Between → List Action → List Happening

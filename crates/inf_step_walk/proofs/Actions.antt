@@ -373,7 +373,7 @@ module _ {limits : Limits} {context : Context} {Q : Premises} where
   directive_steps : (place : Place) (w : Compilation) → Q Ending.Directive → Walks limits context Q (directive_end limits context place) w
   directive_steps place w q = names_steps (first_place w.unit.tokens place) (names_in w.unit.tokens) w q
 
-  -- Headers
+  -- Lemmas about headers
 
   class_named_steps : (first : Place) (names : List Name) (w : Compilation)
       → Walks limits context Q (class_named limits context first names) w
@@ -399,7 +399,7 @@ module _ {limits : Limits} {context : Context} {Q : Premises} where
       let first = first_place w.unit.tokens place in
       Begins first (heading_steps first (names_in w.unit.tokens) (code_begun limits w) r)
 
-  -- Notes
+  -- Lemmas about notes
 
   note_steps : (n : Note) (w : Compilation) → Walks limits context Q (noted_of context n) w
   note_steps n w r =
@@ -417,7 +417,7 @@ module _ {limits : Limits} {context : Context} {Q : Premises} where
       (steps_if (is_verb_word n && is_wordy context w) (Rests (λ u h. h) refl)
       (note_steps n w r))))))
 
-  -- Actions
+  -- Lemmas about actions
 
   ended_steps : (place : Place) (e : Ending) (w : Compilation) → Q e → Walks limits context Q (ended limits context place e) w
   ended_steps place Ending.Locals w q r = header_steps place w r
@@ -471,7 +471,7 @@ module _ {limits : Limits} {context : Context} {Q : Premises} where
       After {x = record w { opening = None }} {s = r} (Rests (λ u h. h) refl)
       (acted_steps q place actions (record w { opening = None }) r)
 
-  -- Tokens
+  -- Lemmas about tokens
 
   pub took_steps : (t : SourceToken) (w : Compilation) → Walks limits context Q (took context t) w
   took_steps t w r =
@@ -479,7 +479,7 @@ module _ {limits : Limits} {context : Context} {Q : Premises} where
       After {x = v} {s = r} (unit_steps w (unit_taken t w.unit) r)
       (Behind (token_checked context t) Sizes (λ s. Nests t.place (opens t.kind && is_deep (sized context v) 0)))
 
-  -- Bad tokens
+  -- Lemmas about bad tokens
 
   checked_steps : (opening : Option Place) (w : Compilation) → Walks limits context Q (opening_checked_at opening context) w
   checked_steps None w r = stays w r

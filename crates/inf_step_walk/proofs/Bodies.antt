@@ -115,7 +115,7 @@ module _ {limits : Limits} {Q : Premises} where
   class_declared_grows : (name : Name) (number : ℕ) (o : Out) → Grown limits Q o (class_declared limits name number o)
   class_declared_grows name number o = declares name.bytes name.place (Meaning.Class (number % 65536)) (λ u. tt)
 
-  -- Classes
+  -- Lemmas about classes
 
   class_begun_grows : (short : List ℕ) (name : Name) (o : Out) → Grown limits Q o (class_begun limits short name o)
   class_begun_grows short name o = go (class_header_fault limits short o.tables.world)
@@ -145,7 +145,7 @@ module _ {limits : Limits} {Q : Premises} where
       let v = lost_begun w.output in
       puts (class_declared limits name 0 v) (Follows (lost_grows w.output) (class_declared_grows name 0 v)) r
 
-  -- Objects
+  -- Lemmas about objects
 
   joined_grows : (class : Option ℕ) (o : Out) → Grown limits Q o (joined_some limits class o)
   joined_grows None o = Stays
@@ -193,7 +193,7 @@ module _ {limits : Limits} {Q : Premises} where
       let v = lost_begun w.output in
       puts (object_declared limits name 0 v) (Follows (lost_grows w.output) (object_declared_grows name 0 v)) r
 
-  -- Entries
+  -- Lemmas about entries
 
   set_grows : (number : Option ℕ) (is_given : Bool) (o : Out) → Grown limits Q o (attribute_set_some number is_given o)
   set_grows None is_given o = Stays
@@ -519,7 +519,7 @@ module _ {limits : Limits} {context : Context} {Q : Premises} where
       ∙ ap (λ f. entry_told limits context first f (any_placed limits context text name v)) (any_told limits context text name r w))
       (told_ends place (any_finding limits context text name w) w (any_placed limits context text name w) (any_lays context text name w r))
 
-  -- Routines that are values
+  -- Lemmas about routines that are values
 
   embedded_steps : (first : Place) (name : Option ℕ) (h : Headed) (x w : Compilation) (r : Reported)
       → Inner limits Q x r w (with_report r w)

@@ -140,7 +140,7 @@ module _ {limits : Limits} {Q : Premises} where
       let v = name_declared limits name (Meaning.Attribute (attribute_number o)) o in
       Follows {p = v} (declares name.bytes name.place (Meaning.Attribute (attribute_number o)) (λ u. tt)) (new_attribute_grows v)
 
-  -- Properties
+  -- Lemmas about properties
 
   new_property_grows : (is_additive : Bool) (v : Value) (o : Out) → ((u : Out) → Before u o → ValueStands u v)
       → Grown limits Q o (new_property is_additive v o)
@@ -163,7 +163,7 @@ module _ {limits : Limits} {Q : Premises} where
       Follows (used_grows context w) (Follows named (new_property_grows is_additive (value_of limits context w) v
       (λ u e. value_there limits context w u (before named u e))))
 
-  -- Variables
+  -- Lemmas about variables
 
   new_global_grows : (v : Value) (o : Out) → ((u : Out) → Before u o → ValueStands u v) → Grown limits Q o (new_global v o)
   new_global_grows v o stands = go (nat_le 235 (length o.tables.globals))
@@ -192,7 +192,7 @@ module _ {limits : Limits} {Q : Premises} where
       Follows (used_grows context w) (Follows named (new_global_grows (value_of limits context w) v
       (λ u e. value_there limits context w u (before named u e))))
 
-  -- Abbreviations
+  -- Lemmas about abbreviations
 
   text_declared_grows : (error : Option UnitError) (items : List TextItem) (o : Out) → Grown limits Q o (text_declared error items o)
   text_declared_grows None items o = other refl (λ u h. h)
@@ -208,7 +208,7 @@ module _ {limits : Limits} {Q : Premises} where
   abbreviation_grows error items o q =
       Follows (text_declared_grows error items o) (unless_grows error items (text_declared error items o) q)
 
-  -- Low strings
+  -- Lemmas about low strings
 
   low_by_grows : (name : Name) (items : Result (List TextItem) UnitError) (o : Out) → Grown limits Q o (low_named_by limits name items o)
   low_by_grows name (Err error) o = declares name.bytes name.place (Meaning.Number 0) (λ u. tt)
@@ -223,7 +223,7 @@ module _ {limits : Limits} {Q : Premises} where
   low_string_grows context None name w =
       low_by_grows name (or_error (text_of context.set Mode.Text (quoted_in w.unit.tokens))) w.output
 
-  -- Arrays
+  -- Lemmas about arrays
 
   opened_grows : (k : ArrayKind) (name : Name) (o : Out) → Grown limits Q o (array_opened limits k name o)
   opened_grows k name o = go (open_fault limits k o.tables.arrays)
@@ -399,7 +399,7 @@ module _ {limits : Limits} {context : Context} {Q : Premises} where
       (λ v. low_string_added limits context.set d.finding name v.unit.tokens v.output) (λ r. refl)
       (low_string_grows context d.finding name w)
 
-  -- Releases, serial numbers and letters
+  -- Lemmas about releases, serial numbers and letters
 
   pub release_steps : (first : Place) (w : Compilation) → Walks limits context Q (release limits context first) w
   release_steps first w r =
@@ -434,7 +434,7 @@ module _ {limits : Limits} {context : Context} {Q : Premises} where
       steps_if (ignores w.letters) (unit_ends first true nothing_found w r)
       (switches_by_steps first (letters_behind (has_code w.output.code) name.bytes w.letters) w q r)
 
-  -- Arrays
+  -- Lemmas about arrays
 
   pub array_steps : (first : Place) (names : List Name) (w : Compilation)
       → Walks limits context Q (array_named limits context first names) w

@@ -46,7 +46,7 @@ use Rattle.inf_step_walk.specs.Standing.{ValuesStand, WorldStands, WrittenStands
 use Rattle.inf_step_walk.specs.Walking.{Grown, Premises, Stays, Tables}
 use Rattle.inf_step_walk.proofs.Premises.{SimpleStands, SimplesStand, all_join}
 
--- Lists
+-- Lemmas about lists
 
 -- A name is put in its place or behind the others.
 
@@ -60,7 +60,7 @@ names_put u key s (n ∷ names) stands h = go (bytes_eq key n.name) (names_put u
     go true rest = (stands, h.1)
     go false rest = (h.0, rest)
 
--- Instructions as cells
+-- Lemmas about instructions as cells
 
 small_or_large : (u : Out) (b : Bool) (number : ℕ) → WrittenStands u (if b then Written.Small number else Written.Large number)
 small_or_large u true number = tt
@@ -112,7 +112,7 @@ instruction_stands u parts h =
     (branch_stands u parts.branch))
     (plain_stands u parts.text)
 
--- The open routine with an item more
+-- Lemmas about the open routine with an item more
 
 pub item_joins : (u : Out) (parts : Parts) (opened : Option Opened) → AllWrittenStand u parts.operands → RoutineStands u opened
     → RoutineStands u (with_item parts opened)
@@ -175,7 +175,7 @@ closed_stand u scale kind place (Some o) h = go o.is_lost
         all_join (CellStands u) cells (padding scale (size_of cells)) (with_stand u place kind o.contents (body_bytes place o.contents) h)
         (known_stand u _)
 
--- Names
+-- Lemmas about names
 
 pub never : {A : Type 0} → true ≡ false → A
 never e = absurd (cc e)
@@ -204,7 +204,7 @@ routine_among u routine routines h k = go (is_among routine routines)
     go true = k
     go false = all_join (λ (routine : ℕ). routine < length u.names.names) routines (routine ∷ []) k (h, tt)
 
--- The routine of the veneer
+-- Lemmas about the routine of the veneer
 
 none_stands : (u : Out) (P : Type 0) (number : Option ℕ) → IsWithin number (length u.names.names) → SimpleStands u P (simple_by None number)
 none_stands u P None h = tt
@@ -234,7 +234,7 @@ routine_stands u P limits None name o e =
     found_simple_stands u P (found_in name o.names) (number_of name o.names) (used_within u name o.first o.names e.few_names)
 routine_stands u P limits (Some fault) name o e = never e.complete
 
--- Meanings of names that were declared
+-- Lemmas about meanings of names that were declared
 
 abbrev pub FoundStands : Out → Found Place → Type 0
 FoundStands u (Found.Declared m place) = MeaningStands u m

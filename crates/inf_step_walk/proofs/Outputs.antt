@@ -61,7 +61,7 @@ KeepsIf u P c = (o : Out) → GoesIf P u o (c o)
 pub record Sound (limits : Limits) (u : Out) (P : Type 0) (c : Code) : Type 0 where
   pub keeps : KeepsIf u P c
 
--- Limits that are passed
+-- Lemmas about limits that are passed
 
 or_true : (b : Bool) → (b || true) ≡ true
 or_true true = refl
@@ -96,7 +96,7 @@ table_keeps limits u limit o = (
 pub symbols_keep : (limits : Limits) (u : Out) → Keeps u (symbols_passed limits)
 symbols_keep limits u o = ((λ e. never e.complete), (λ e h. never e.complete))
 
--- Items
+-- Lemmas about items
 
 lost_symbols : (item : Item) (past : Past) → (without_lost item past).symbols ≡ past.symbols
 lost_symbols (Item.Instruction parts) past = refl
@@ -221,7 +221,7 @@ jump_keeps limits u P label =
     (Item.Instruction (record { opcode = Opcode.Jump; operands = Operand.Offset label ∷ []; store = None; branch = None; text = [] }))
     (λ p. (tt, tt))
 
--- Routines
+-- Lemmas about routines
 
 limit_symbols : (limit : CodeLimit) (past : Past) → (passed_limit limit past).symbols ≡ past.symbols
 limit_symbols CodeLimit.Labels past = refl
@@ -285,7 +285,7 @@ close_keeps limits u kind o =
     goes_then u o v (closed limits kind o) (by_closed limits u kind o (fault_closed limits kind o.code))
     (labels_keep limits u (past_of limits o).labels v)
 
--- Beginnings
+-- Lemmas about how code or a condition begins
 
 begun_code : (u o : Out) (full : Option CodeLimit) → Holds u o → Holds u (record o { code = begun_unless full o.code })
 begun_code u o None h = h
@@ -301,7 +301,7 @@ begin_keeps limits u o = go (full_begun limits o.code)
 pub scale_keeps : (u : Out) (scale : Scale) → Keeps u (with_scale scale)
 scale_keeps u scale o = goes_nowhere u o
 
--- Texts and words
+-- Lemmas about texts and words
 
 strings_before : (limits : Limits) (u o : Out)
     → IsBefore (Some (record (past_of limits o) { strings = true })) o.tables.dictionary.list o.names.names u → Before u o
@@ -383,7 +383,7 @@ pub word_stands : (limits : Limits) (u : Out) (text : Text) (how : WordUse) (is_
 word_stands limits u text how is_plural o e =
     e.has_words text (word_there text (with_word limits text how is_plural o) (used_words_stand limits text how is_plural o) e.complete)
 
--- Names
+-- Lemmas about names
 
 longer : (a b c : ℕ) → a ≤ b → b ≤ c → a ≤ c
 longer a b c f g = omega (arith, f, g)

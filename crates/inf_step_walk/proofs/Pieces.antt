@@ -25,7 +25,7 @@ use Rattle.inf_step_walk.proofs.Outputs.{instruction_before, instruction_keeps, 
 use Rattle.inf_step_walk.proofs.Outputs.{naming_keeps, open_keeps, refer_keeps, scale_keeps, table_keeps, text_keeps, used_keeps}
 use Rattle.inf_step_walk.proofs.Outputs.{word_keeps}
 
--- Pieces of code put together
+-- Lemmas about pieces of code put together
 
 pub sound_nothing : {limits : Limits} {u : Out} {P : Type 0} → Sound limits u P nothing
 sound_nothing {limits} {u} {P} = record { keeps = if_nowhere u P }
@@ -46,7 +46,7 @@ sound_mark {limits} {u} {P} label = record { keeps = mark_keeps limits u P label
 pub sound_jump : {limits : Limits} {u : Out} {P : Type 0} (label : Label) → Sound limits u P (jumped limits label)
 sound_jump {limits} {u} {P} label = record { keeps = jump_keeps limits u P label }
 
--- Calls of supplied routines
+-- Lemmas about calls of supplied routines
 
 take_stand : (u : Out) (P : Type 0) (n : ℕ) (all : List Simple) → SimplesStand u P all → SimplesStand u P (take n all)
 take_stand u P zero all h = tt
@@ -143,7 +143,7 @@ laid_by {limits} {u} {P} wide (Binds f g a b) = record {
 }
 laid_by wide (By x g b) = record { keeps = λ o. (laid_by wide (b (x o))).keeps o }
 
--- Changes of an output
+-- Lemmas about changes of an output
 
 low_added_keeps : (limits : Limits) (u : Out) (bytes : List ℕ) (o : Out) → Goes u o (low_added limits bytes o)
 low_added_keeps limits u bytes o = go (low_fits limits bytes o.tables.low_strings)

@@ -63,10 +63,10 @@ pub trees_in : (L : Target → Type 0) (trees : List Rooted) → RootsMeet L tre
 trees_in L [] h = tt
 trees_in L (r ∷ trees) h = (h.0, trees_in L trees h.1)
 
--- Trees of a unit
+-- Lemmas about trees of a unit
 
 module _ (L : Target → Type 0) where
-  -- Operators
+  -- Lemmas about operators
 
   number_stands : (number : Option ℕ) (t : Tree) → TreeMeets L t → TreeMeets L (number_or number t)
   number_stands (Some n) t h = tt
@@ -97,7 +97,7 @@ module _ (L : Target → Type 0) where
   bracketed_stands order [] h = tt
   bracketed_stands order (a ∷ trees) h = h
 
-  -- Symbols
+  -- Lemmas about symbols
 
   listed_stands : (unit n : ℕ) (g : Gathered) → RootsMeet L g.trees → RootsMeet L (listed unit n g).trees
   listed_stands unit zero g h = h
@@ -141,7 +141,7 @@ module _ (L : Target → Type 0) where
   gathered_stand w unit operands (s ∷ symbols) g all h =
       gathered_stand w unit operands symbols (acted w unit operands s g) all (acted_stands w unit operands s g all h)
 
-  -- All trees of a unit, from the first on
+  -- Lemmas about all trees of a unit, from the first on
 
   reversed_stand : (trees : List Rooted) → RootsMeet L trees → RootsMeet L (reverse trees)
   reversed_stand [] h = tt

@@ -99,7 +99,7 @@ module _ {limits : Limits} {context : Context} {Q : Premises} where
       → Walks limits context Q (unit_ended limits context first has_last found) w
   unit_ends first has_last found w r = Ends first has_last found w (rests w r)
 
--- Parts, and open statements
+-- Lemmas about parts, and open statements
 
 module _ {limits : Limits} {Q : Premises} where
   -- Parts
@@ -210,7 +210,7 @@ module _ {limits : Limits} {context : Context} {Q : Premises} where
       (inside (λ (v : Compilation). part_finished limits context (place_of p place v) p v)
       (Next {x = part_prepared w} (Puts Stays (λ u h. h) refl) (prepared_lays p (part_prepared w) r)) (finished_steps place p w ready r))
 
-  -- Routines
+  -- Lemmas about routines
 
   pub opened_steps : (first : Place) (h : Headed) (told : Findings) (x w : Compilation) (r : Reported)
       → Inner limits Q x r w (with_report r w)
@@ -247,7 +247,7 @@ module _ {limits : Limits} {context : Context} {Q : Premises} where
       let ended = cases_ended limits w in
       steps_if w.is_replaced (passed_steps true w r) (Finishes (kind_ended ended.is_embedded) place ended Over)
 
-  -- Stubs and routines that are to be replaced
+  -- Lemmas about stubs and routines that are to be replaced
 
   pub replace_steps : (first : Place) (names : List Name) (w : Compilation) → Walks limits context Q (replace limits context first names) w
   replace_steps first [] w r = passed_steps true w r

@@ -354,7 +354,7 @@ all_finds u names are = record { finds = finds }
     finds (Target.Place area place) h = tt
     finds (Target.System constant) h = tt
 
--- Values of names
+-- Lemmas about values of names
 
 abbrev MaybeMeaning : Out → Option Meaning → Type 0
 MaybeMeaning u None = Unit {0}
@@ -384,7 +384,7 @@ values_stand u (n ∷ names) values e h =
     (λ v is. meaning_value u (meaning_in (Some n.standing)) v is (standing_meaning u n.standing h.0))
     (λ vs is. values_stand u names vs is h.1)
 
--- Objects with the first four, and the defaults of properties
+-- Lemmas about objects with the first four, and the defaults of properties
 
 first_stand : (u : Out) (names : List (List ℕ)) → ObjectsStand u (map first_object names)
 first_stand u [] = tt
@@ -398,7 +398,7 @@ defaults_stand : (u : Out) (declared : List DeclaredProperty) → DefaultsStand 
 defaults_stand u [] h = tt
 defaults_stand u (d ∷ declared) h = (h.0, defaults_stand u declared h.1)
 
--- All areas
+-- Lemmas about all areas
 
 places_found : (targets : Lookup) (words : List (Text × Word)) (places : List ℕ) → AllFound targets words (map declared_at places)
 places_found targets words [] = tt

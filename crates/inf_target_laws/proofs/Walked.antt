@@ -41,7 +41,7 @@ use Rattle.inf_step_walk.proofs.{Lists.end_holds, Premises.There, Premises.roots
 use Rattle.inf_step_walk.proofs.Outputs.{Goes, GoesIf, Sound, begin_keeps, close_keeps, goes_nowhere, items_keep, none_open_keeps}
 use Rattle.inf_step_walk.proofs.Pieces.{GivesIf, fixed_stand, goes, laid_by, made_by, made_sound, sound_jump, sound_mark, sound_then}
 use Rattle.inf_limit_laws.specs.Reached.{Here, IsBehind, IsReached, Supplies, Turns}
-use Rattle.inf_limit_laws.proofs.Turns.{actions_grow, between_walks, ended_walks, followed_walks, rested_walks}
+use Rattle.inf_limit_laws.proofs.Turns.{actions_grow, between_walks, ended_walks, followed_goes, rested_goes}
 use Rattle.inf_target_laws.specs.Laws.{Held, Leads, StepsKeepTargets, TargetsStand}
 
 -- A step by the limits and the context at hand, which lemmas find in it
@@ -84,7 +84,7 @@ module _ {limits : Limits} {context : Context} {u : Out} where
   nested_steps place true w = record { on = λ e. e; kept = λ e h. h }
   nested_steps place false w = stays w
 
--- Statements that hold others
+-- Lemmas about statements that hold others
 
 pub between_gives : {u : Out} {P : Type 0} (limits : Limits) (c : Construct) → GivesIf limits u P (between limits c)
 between_gives {u} {P} limits c = laid_by (λ t h. h) (between_laid limits (There u P) c)
@@ -223,9 +223,9 @@ looped_over_moves {u} {P} limits (r ∷ trees) k constructs =
     constructs in
     record { keeps = m.keeps; steps = m.steps }
 
--- Walks
+-- Lemmas about walks
 
--- Open statements
+-- Lemmas about open statements
 
 module _ {limits : Limits} {context : Context} {u : Out} where
   constructs_step : (P : Type 0) (w : Compilation) (laying : Laying (List Construct)) → (Before u (laying w.output).1 → P)
@@ -279,7 +279,7 @@ module _ {limits : Limits} {context : Context} {u : Out} where
       Stood w.output} {M = There u (Before u w.output)} (λ t s e. s u e) trees m) w.constructs in
       constructs_step (Before u w.output) w (looped_over limits trees w.constructs) (v.keeps w.output).0 v
 
--- Changes within a unit
+-- Lemmas about changes within a unit
 
 pub inner_steps : {limits : Limits} {context : Context} {Q : Premises} {w v t : Compilation} {r : Reported} → Inner limits Q w r v t
     → (u : Out) → Steps limits context u w v
@@ -295,7 +295,7 @@ inner_steps (Loops {w} trees m) u = loops_step trees w m
 inner_steps {limits} (Over {w}) u =
     constructs_step (Unit {0}) w (ended limits w.constructs) (λ e. tt) (ended_moves limits w.constructs)
 
--- Walks
+-- Lemmas about walks
 
 close_as_steps : {limits : Limits} {context : Context} {u : Out} (how : RoutineKind) (place : Place) (w : Compilation)
     → Steps limits context u w (close_as limits how context place w)
@@ -377,14 +377,14 @@ stepped_steps limits o s =
     turned_steps (token_of s) b.judged b.now.said (stand_of s)
 
 pub rested_steps : {limits : Limits} {context : Context} {u : Out} (s : State) → Steps limits context u s.work (rested s).work
-rested_steps s = ran (rested_walks s)
+rested_steps s = ran (rested_goes s).runs
 
 -- a whole turn
 pub turn_steps : {u : Out} (limits : Limits) (sources : Sources) (o : Choices) (s : State)
     → Steps limits (context_of o s) u s.work (turn limits sources o s).work
 turn_steps limits sources o s =
     let t = turned limits o s in
-    steps_then (stepped_steps limits o s) (steps_then (ran (followed_walks sources o t)) (record { on = λ e. e; kept = λ e h. h }))
+    steps_then (stepped_steps limits o s) (steps_then (ran (followed_goes sources o t).runs) (record { on = λ e. e; kept = λ e h. h }))
 
 -- From the start on
 

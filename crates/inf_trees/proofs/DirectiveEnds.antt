@@ -31,7 +31,7 @@ abbrev pub IsOver : Compilation → Compilation → Type 0
 IsOver w v = v.unit ≡ over true w.unit
 
 module _ (limits : Limits) (context : Context) (first : Place) where
-  -- constants
+  -- Lemmas about constants
 
   added_unit : (found : Option Finding) (w : Compilation) → (constant_added limits context found w).unit ≡ w.unit
   added_unit None w = refl
@@ -60,7 +60,7 @@ module _ (limits : Limits) (context : Context) (first : Place) where
       of_both (IsOver w) (is_first_declared names w.output.names) (unit_ended limits context first true nothing_found w)
       (constant limits context first names w) (λ e. refl) (λ e. constant_over names w)
 
-  -- routines
+  -- Lemmas about routines
 
   replace_over : (names : List Name) (w : Compilation) → IsOver w (replace limits context first names w)
   replace_over [] w = refl
@@ -114,7 +114,7 @@ module _ (limits : Limits) (context : Context) (first : Place) where
   low_over [] w = refl
   low_over (name ∷ names) w = refl
 
-  -- letters, releases and serial numbers
+  -- Lemmas about letters, releases and serial numbers
 
   switches_by_over : (letters : Option Letters) (w : Compilation) → IsOver w (switches_by limits context first letters w)
   switches_by_over None w = refl
@@ -140,7 +140,7 @@ module _ (limits : Limits) (context : Context) (first : Place) where
   serial_by_over None w = refl
   serial_by_over (Some digits) w = refl
 
-  -- any directive
+  -- Lemmas about any directive
 
   carried_over : (d : Directive) (names : List Name) (w : Compilation) → IsOver w (carried_out limits d context first names w)
   carried_over Directive.Include names w = refl

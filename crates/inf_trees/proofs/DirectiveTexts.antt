@@ -17,7 +17,7 @@ use Rattle.inf_trees.proofs.{RuleRows.of_rule, UnitStates.Ended, UnitStates.Free
 use Rattle.inf_trees.proofs.UnitWalks.{bind, declared, each_row, from_some, holds, or_else, walk}
 use Rattle.inf_trees.proofs.Weights.{AllKeep, directive_bytes, directive_places, of_directives, weighed, weight}
 
--- Atoms that are in no two sets
+-- Lemmas about atoms that are in no two sets
 
 apart : (xs ys atom : ℕ) → bit_and xs ys ≡ 0 → has xs atom ≡ true → has ys atom ≡ true → ⊥
 apart xs ys atom none x y =
@@ -63,7 +63,7 @@ pub sign_outside : (symbols : List (Symbol Action)) → outside ('hash' ∷ symb
 unfolding grammar
 sign_outside symbols = refl
 
--- Rows
+-- Lemmas about rows
 
 abbrev pub unit_end : List (Symbol Action)
 unit_end = !end_directive ∷ 'semicolon' ∷ []

@@ -25,7 +25,7 @@ use Rattle.inf_trees.proofs.{Semicolons.opens_nothing, Semicolons.over_taken, St
 use Rattle.inf_trees.proofs.{UnitsGo.Goes, UnitsTyped.units_typed}
 use Rattle.inf_trees.proofs.Needs.{Bytes, Kind, Places, front_needs, little_room, needs, needs_in}
 
--- The semicolon
+-- Lemmas about the semicolon
 
 -- behind a unit that is over the semicolon has no report
 semicolon_taken : (context : Context) (s : Seen) (u : UnitAtHand) (w : Compilation) → opens s.token.kind ≡ false → w.unit ≡ over true u

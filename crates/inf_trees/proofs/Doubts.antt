@@ -23,7 +23,7 @@ use Rattle.inf_trees.proofs.{Beside.acted_gathers, Needs.needs, Needs.steps_need
 use Rattle.inf_trees.proofs.UnitsRead.{at, before-append, note_first, place_before, ready, seen_parts, tokens_count, tokens_opening}
 use Rattle.inf_trees.proofs.UnitsRead.{told_beside, value_reads}
 
--- Reading by two lists of events
+-- Lemmas about reading by two lists of events
 
 read-append : (early late : List (Event Action)) (front : List Seen) (rest : List SourceToken) (u : UnitAtHand) → TakeAll early front
     → read_by (early ++ late) (tokens_of front ++ rest) u ≡ read_by late rest (read_by early (tokens_of front) u)
@@ -51,7 +51,7 @@ brackets-append : (xs ys : List SourceToken) (depth : ℕ) → brackets_behind y
 brackets-append [] ys depth = refl
 brackets-append (x ∷ xs) ys depth = brackets-append xs ys (depth_behind x.kind depth)
 
--- The expression
+-- Lemmas about the expression
 
 -- The source of an expression whose tokens a unit has been read by
 pub record Valued (level : ℕ) (atoms : List ℕ) (events : List (Event Action)) (tokens : List SourceToken) (u : UnitAtHand) : Type 0 where
@@ -70,7 +70,7 @@ pub record IsDoubted (front tokens : List Seen) (early steps : List (Event Actio
       → u.begun ≤ length u.tokens → length (u.tokens ++ tokens_of (front ++ tokens)) < 4294967295
       → Valued level (atoms_of (front ++ tokens)) (early ++ Did Action.OuterSure ∷ steps) (tokens_of (front ++ tokens)) u
 
--- Behind the first tokens
+-- Lemmas about the state behind the first tokens
 
 -- the unit before it is known whether an expression is open, and once it is
 abbrev maybe : UnitAtHand → UnitAtHand
@@ -121,7 +121,7 @@ pub length_opening : (context : Context) (too_many : Option Place) (count : ℕ)
 length_opening context None count w = refl
 length_opening context (Some place) count w = refl
 
--- The unit with the expression
+-- Lemmas about the unit with the expression
 
 valued_reads : (u : UnitAtHand) (front tokens : List Seen) (early steps : List (Event Action)) → (d : IsDoubted front tokens early steps)
     → (v : Valued d.level (atoms_of (front ++ tokens)) (early ++ Did Action.OuterSure ∷ steps) (tokens_of (front ++ tokens)) (maybe u))
@@ -233,7 +233,7 @@ doubted_expression limits front tokens rest early steps late d on u are_seen beg
           ∙ (tokens_opening context (without_outer (ready u)) front w ∙ none))) room;
     }
 
--- The two ways to such an expression
+-- Lemmas about the two ways to an expression that is known only behind its first tokens
 
 -- tokens with the atoms of two parts
 pub record Apart (early late : List ℕ) (seen : List Seen) : Type 0 where

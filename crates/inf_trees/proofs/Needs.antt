@@ -244,15 +244,7 @@ module _ (limits : Limits) (u : UnitAtHand) (parts : List Part) where
   note_room Note.Default little rest = rest (last_note (noted Note.Default u) refl refl little.on little.line little.once)
   note_room Note.Store little rest = rest (last_note (noted Note.Store u) refl refl little.on little.line little.once)
   note_room (Note.Branch sense) little rest = rest (last_note (noted (Note.Branch sense) u) refl refl little.on little.line little.once)
-  note_room Note.Begin little rest = too_much (needs Bytes parts) little.once
-  note_room Note.Local little rest = too_much (needs Bytes parts) little.once
-  note_room Note.Arrow little rest = too_much (needs Bytes parts) little.once
-  note_room Note.Semicolon little rest = too_much (needs Bytes parts) little.once
-  note_room Note.Hold little rest = too_much (needs Bytes parts) little.once
-  note_room Note.Rule little rest = too_much (needs Bytes parts) little.once
-  note_room Note.AsmText little rest = too_much (needs Bytes parts) little.once
-  note_room Note.LineToken little rest = too_much (needs Bytes parts) little.once
-  note_room Note.VerbWord little rest = too_much (needs Bytes parts) little.once
+  note_room other little rest = too_much (needs Bytes parts) little.once
 
 taken_on : (t : SourceToken) (u : UnitAtHand) → u.is_over ≡ false
     → taken t u ≡ record u { tokens = u.tokens ++ t ∷ []; depth = depth_behind t.kind u.depth }

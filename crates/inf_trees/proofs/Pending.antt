@@ -152,9 +152,4 @@ is_last _ = false
 
 pub none_last : {s : State} {seen : List Seen} {events : List (Event Action)} → is_last s ≡ true → Pending s seen events → ⊥
 none_last last OfFree = cc
-none_last last (OfOpen o) = cc
-none_last last (OfLead l a) = cc
-none_last last (OfMaybe l) = cc
-none_last last OfWord = cc
-none_last last (OfRule ends bracket name closing one two three) = cc
-none_last last OfLost = cc
+none_last last other = cc

@@ -15,7 +15,7 @@ is_among rule (Symbol.Token class ∷ symbols) = is_among rule symbols
 is_among rule (Symbol.Act a ∷ symbols) = is_among rule symbols
 is_among rule (Symbol.Rule other ∷ symbols) = (rule == other) || is_among rule symbols
 
--- what holds of each of some rows
+-- the premise that `P` holds of the parts of each of some rows
 abbrev pub Each : (List (Symbol Action) → Type 0) → List (Row Action) → Type 0
 Each P [] = Unit {0}
 Each P (x ∷ rows) = P x.parts × Each P rows

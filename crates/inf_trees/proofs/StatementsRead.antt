@@ -33,7 +33,7 @@ use Rattle.inf_trees.proofs.ItemTexts.{ABlock, ACase, AUnit, Holds, ItemText, st
 use Rattle.inf_trees.proofs.Needs.{Bytes, NoLine, front_needs, little_room, needs_in}
 use Rattle.inf_trees.proofs.UnitsRead.{before-append, expressed_does, expression_form, gathers, note_first}
 
--- The tokens between a unit and the one before
+-- Lemmas about the tokens between a unit and the one before
 
 pub few_before : (tokens : List SourceToken) → length (take 1 tokens) ≤ 1
 few_before tokens = let count = length-take 1 tokens in omega (arith, count)
@@ -104,7 +104,7 @@ begun_unit limits symbols typed small seen events kind text =
       little = λ plain. let few = small_needs symbols seen b.late small b.text plain in omega (arith, few, front, count);
     }
 
--- The effect of a statement
+-- Lemmas about the effect of a statement
 
 statement_runs : (limits : Limits) (context : Context) (next : Place) (u : UnitAtHand) (tokens : List Seen) (semicolon : Seen)
     (early : List (Event Action)) (atom : ℕ) (w : Compilation) (parts : List Part)
@@ -190,7 +190,7 @@ statements_are_trees limits = record {
   items = λ u seen events text are_seen few. by_text limits [] u seen events (top_item_text limits seen events text) are_seen few;
 }
 
--- Units in brackets
+-- Lemmas about units in brackets
 
 pub bracketed_units_are_trees : (limits : Limits) → BracketedUnitsAreTrees limits
 bracketed_units_are_trees limits u seen events text are_seen few =

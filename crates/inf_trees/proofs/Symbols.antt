@@ -11,7 +11,7 @@ use Rattle.inf_language.specs.Texts.{atoms_of, happenings_before}
 use Rattle.inf_language.proofs.{Derivations.texts_take_all, TextsSplit.split}
 use Rattle.inf_trees.proofs.{Doubts.apart, UnitsRead.before-append, UnitsRead.place_before}
 
--- A token at the front of a text, and an action
+-- Lemmas about a token at the front of a text, and an action
 
 pub record TokenFirst (symbols : List (Symbol Action)) (seen : List Seen) (events : List (Event Action)) : Type 0 where
   pub s : Seen
@@ -72,7 +72,7 @@ pub act_first : (a : Action) (symbols : List (Symbol Action)) (seen : List Seen)
     → IsText grammar (Symbol.Act a ∷ symbols) (atoms_of seen) events → ActFirst a symbols seen events
 act_first a symbols seen events text = act_by a symbols text seen refl
 
--- Two parts of a text
+-- Lemmas about two parts of a text
 
 pub record PartsOf (xs ys : List (Symbol Action)) (seen : List Seen) (events : List (Event Action)) : Type 0 where
   pub front : List Seen

@@ -26,7 +26,7 @@ pub data State : Type 0 where
   Ended : State
   Never : State
 
--- The ends of units
+-- Lemmas about the ends of units
 
 -- whether an end is that of a case where a statement is read, or the other way round
 abbrev pub is_other : Option Bool → Option Bool → Bool
@@ -60,7 +60,7 @@ abbrev pub closes_with : Action → ℕ → Bool
 closes_with Action.EndCase class = class == 117
 closes_with _ class = class == 0
 
--- Steps from what is open to what is open next
+-- Lemmas about steps from what is open to what is open next
 
 -- An expression may be read for a wider one, and is whole where its items are; it is open once its first tokens are.
 pub data Fits : State → State → Type 0 where

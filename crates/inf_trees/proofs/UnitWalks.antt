@@ -17,7 +17,7 @@ use Rattle.inf_trees.proofs.UnitStates.{Marking, MayBegin, Misread, Misses, Name
 use Rattle.inf_trees.proofs.UnitStates.{Ranges, Rules, RulesBy, Ruling, Same, State, Tails, Takes, TokenMove, Turns, Typed, Worded, Words}
 use Rattle.inf_trees.proofs.UnitStates.{all_steps, closes_with, fits_then, is_note, is_other, no_sure}
 
--- Values that are computed, with the equation that shows each
+-- Lemmas about values that are computed, with the equation that shows each
 
 abbrev found : {A : Type 0} (o : Option A) → Option ((a : A) × (o ≡ Some a))
 found None = None
@@ -75,7 +75,7 @@ fitted s Lost = Some Loses
 fitted Ended Ended = Some Same
 fitted _ _ = None
 
--- Tokens
+-- Lemmas about tokens
 
 record TokenStep (s : State) (class : ℕ) : Type 0 where
   at : State
@@ -108,7 +108,7 @@ token_step e s class =
     Some (record { at = Free; to = Open false []; fits = f; moves = Joint }))))
     (plain_token s class)
 
--- Actions
+-- Lemmas about actions
 
 record ActStep (s : State) (a : Action) : Type 0 where
   at : State
@@ -187,7 +187,7 @@ act_step (Open true (Whole level ∷ [])) Action.PrintRule =
     Some (record { at = Open true (Whole level ∷ []); to = Free; fits = Same; moves = ByRule })
 act_step s a = open_step s a
 
--- Rows
+-- Lemmas about rows
 
 pub one_of : (P : List (Symbol Action) → Type 0) (x : Row Action) (rows : List (Row Action)) → P x.parts
     → ((r : Row Action) → IsOneOf r rows → P r.parts) → (r : Row Action) → IsOneOf r (x ∷ rows) → P r.parts
@@ -220,7 +220,7 @@ declared Action.EndCase rule = lists Lost Free (Open false []) rule
 declared Action.EndStatement rule = lists Free Lost (Open false (Sign (grammar.atoms_of 50) ∷ Whole commas ∷ [])) rule
 declared _ rule = None
 
--- The walk
+-- Lemmas about the walk
 
 abbrev ended : (e a : Action) (s : State) (symbols : List (Symbol Action)) (t : State)
     → Option (Typed declared e s (Symbol.Act a ∷ symbols) t)

@@ -76,7 +76,7 @@ nothing_goes limits u = record {
 pub nothing : (limits : Limits) → Going limits [] []
 nothing limits u are_seen begun few = nothing_goes limits u
 
--- A token by itself
+-- Lemmas about a token by itself
 
 pub alone_goes : (limits : Limits) (s : Seen) (atom : ℕ) (u : UnitAtHand) (seen : List Seen) (events : List (Event Action))
     → Goes limits (record u { tokens = u.tokens ++ s.token ∷ []; depth = depth_behind s.token.kind u.depth }) seen events
@@ -101,7 +101,7 @@ alone limits s atom seen events on u are_seen begun few =
     (on (record u { tokens = u.tokens ++ s.token ∷ []; depth = depth_behind s.token.kind u.depth }) are_seen.1
     (omega (arith, begun, count)) (omega (arith, few, count)))
 
--- Notes
+-- Lemmas about notes
 
 pub noted_goes : (limits : Limits) (a : Action) (n : Note) (u v : UnitAtHand) (seen : List Seen) (events : List (Event Action))
     → is_quiet a ≡ true → need_of a ≡ note_need n → noted n (ready u) ≡ ready v
@@ -146,7 +146,7 @@ not_true false is = refl
 abbrev crowds : Limits → UnitAtHand → Bool
 crowds limits u = nat_lt (limits Setting.Code) u.code
 
--- The effects of notes, where there is room
+-- Lemmas about the effects of notes, where there is room
 
 pub text_acts : (limits : Limits) (context : Context) (place : Place) (u : UnitAtHand) (w : Compilation)
     → has_room limits Note.PrintText u ≡ true
@@ -188,7 +188,7 @@ pub end_acts : (limits : Limits) (context : Context) (place : Place) (u : UnitAt
 end_acts limits context place u w room =
     cond-false (is_full u) (operands_named (record w { unit = u })) (record w { unit = noted Note.OuterEnd u }) (not_true (is_full u) room)
 
--- The actions that note something
+-- Lemmas about the actions that note something
 pub data IsAny : Action → Type 0 where
   AnEnd : IsAny Action.OuterEnd
   AText : IsAny Action.PrintText
@@ -254,7 +254,7 @@ note_goes limits ABranchNot u seen events on =
     noted_goes limits Action.BranchNot (Note.Branch false) u v seen events refl refl refl (λ context place w room. refl)
     (on v.gathering v.items v.code v.outer)
 
--- An expression
+-- Lemmas about an expression
 
 pub expressed : (limits : Limits) (tokens rest : List Seen) (steps late : List (Event Action)) → HasForm (atoms_of tokens) steps
     → Going limits rest late → Going limits (tokens ++ rest) (Did Action.Outer ∷ (steps ++ late))
@@ -285,7 +285,7 @@ abbrev pub Leading : Limits → List Seen → List (Event Action) → Type 0
 Leading limits tokens events =
     (rest : List Seen) (late : List (Event Action)) → Going limits rest late → Going limits (tokens ++ rest) (events ++ late)
 
--- A text that is printed
+-- Lemmas about a text that is printed
 
 pub text_printed : (limits : Limits) (s : Seen) (atom : ℕ) (rest : List Seen) (late : List (Event Action)) → Going limits rest late
     → Going limits (s ∷ rest) (Did Action.OuterMaybe ∷ Took atom ∷ Did Action.PrintText ∷ late)

@@ -25,7 +25,7 @@ use Rattle.inf_language.proofs.{TextsSplit.only_steps}
 use Rattle.inf_trees.specs.Trees.{tokens_told, told_at, with_outer, with_value}
 use Rattle.inf_trees.proofs.Beside.{acted_gathers, step_acts, told_opening}
 
--- The happenings of two parts of a text, before another token
+-- Lemmas about the happenings of two parts of a text, before another token
 
 abbrev pub place_before : List Seen → Place → Place
 place_before [] next = next
@@ -53,7 +53,7 @@ outer_acts : (limits : Limits) (context : Context) (next : Place) (events : List
 outer_acts limits context next events [] w = refl
 outer_acts limits context next events (s ∷ seen) w = refl
 
--- One token
+-- Lemmas about one token
 
 pub one_taken : (context : Context) (s : Seen) (u : UnitAtHand) (w : Compilation) → w.opening ≡ None
     → next_comes (passed s.behind (took context s.token (record w { unit = u })))
@@ -106,7 +106,7 @@ told_beside limits context next u (Took atom ∷ events) (s ∷ seen) tokens g f
     ∙ told_beside limits context next u events seen (tokens ++ s.token ∷ []) g first (depth_behind s.token.kind depth)
     (passed s.behind (told_at context more s.token w)) steps all (told_at_opening context more s.token w ∙ none)
 
--- Notes
+-- Lemmas about notes
 
 -- an action before the next token, wherever that stands
 pub note_first : (limits : Limits) (context : Context) (next : Place) (a : Action) (seen : List Seen) (events : List (Event Action))

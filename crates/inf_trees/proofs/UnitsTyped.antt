@@ -170,22 +170,16 @@ module _ (limits : Limits) where
       → Leaves (Symbol.Token one ∷ Symbol.Act Action.Bracket ∷ Symbol.Token two ∷ Symbol.Act Action.Name ∷ Symbol.Token three ∷ []) atoms
       events
       → (seen : List Seen) → atoms_of seen ≡ atoms → Ruler false seen events
-  ruler (ALeaf h (AnAct (ALeaf i (AnAct (ALeaf j NoLeaf))))) [] is = cc
-  ruler (ALeaf h (AnAct (ALeaf i (AnAct (ALeaf j NoLeaf))))) (b ∷ []) is = cc
-  ruler (ALeaf h (AnAct (ALeaf i (AnAct (ALeaf j NoLeaf))))) (b ∷ n ∷ []) is = cc
   ruler (ALeaf {atom = one} h (AnAct (ALeaf {atom = two} i (AnAct (ALeaf {atom = three} j NoLeaf))))) (b ∷ n ∷ c ∷ []) is =
       record { bracket = b; name = n; closing = c; one = one; two = two; three = three; same = refl; are = refl }
-  ruler (ALeaf h (AnAct (ALeaf i (AnAct (ALeaf j NoLeaf))))) (b ∷ n ∷ c ∷ x ∷ seen) is = cc
+  ruler (ALeaf h (AnAct (ALeaf i (AnAct (ALeaf j NoLeaf))))) other is = cc
 
   ruler_by : {one two three : ℕ} {atoms : List ℕ} {events : List (Event Action)}
       → Leaves (Symbol.Token one ∷ Symbol.Act Action.Bracket ∷ Symbol.Act Action.OuterEnd ∷ Symbol.Token two ∷ Symbol.Act Action.Name
       ∷ Symbol.Token three ∷ []) atoms events → (seen : List Seen) → atoms_of seen ≡ atoms → Ruler true seen events
-  ruler_by (ALeaf h (AnAct (AnAct (ALeaf i (AnAct (ALeaf j NoLeaf)))))) [] is = cc
-  ruler_by (ALeaf h (AnAct (AnAct (ALeaf i (AnAct (ALeaf j NoLeaf)))))) (b ∷ []) is = cc
-  ruler_by (ALeaf h (AnAct (AnAct (ALeaf i (AnAct (ALeaf j NoLeaf)))))) (b ∷ n ∷ []) is = cc
   ruler_by (ALeaf {atom = one} h (AnAct (AnAct (ALeaf {atom = two} i (AnAct (ALeaf {atom = three} j NoLeaf)))))) (b ∷ n ∷ c ∷ []) is =
       record { bracket = b; name = n; closing = c; one = one; two = two; three = three; same = refl; are = refl }
-  ruler_by (ALeaf h (AnAct (AnAct (ALeaf i (AnAct (ALeaf j NoLeaf)))))) (b ∷ n ∷ c ∷ x ∷ seen) is = cc
+  ruler_by (ALeaf h (AnAct (AnAct (ALeaf i (AnAct (ALeaf j NoLeaf)))))) other is = cc
 
   -- a text that an opcode takes, or an operand, by the opcode
   line_noted : (b : Bool) (u : UnitAtHand) (rest : List Seen) (late : List (Event Action))
@@ -448,15 +442,7 @@ plain_rest a late e plain first = subst (λ k. Agrees e (by_end k (case_first la
 
 typed_nothing : {e : Action} {s t : State} {symbols : List (Symbol Action)} → symbols ≡ [] → Typed declared e s symbols t → Fits s t
 typed_nothing none (Done f) = f
-typed_nothing none (Takes f move typed) = cc
-typed_nothing none (Does f move plain typed) = cc
-typed_nothing none (Ends f closes) = cc
-typed_nothing none (Else other) = cc
-typed_nothing none (Changes c rest f change w typed) = cc
-typed_nothing none (Misread c change typed) = cc
-typed_nothing none (Lists q listed on f typed) = cc
-typed_nothing none (Tails q listed f) = cc
-typed_nothing none (ByRows each) = cc
+typed_nothing none other = cc
 
 record TokenTyped (e : Action) (s : State) (class : ℕ) (symbols : List (Symbol Action)) (t : State) : Type 0 where
   at : State

@@ -23,7 +23,7 @@ use Rattle.inf_trees.proofs.{UnitsGo.steps_quiet}
 use Rattle.inf_trees.proofs.UnitsRead.{HasForm, before-append, note_first, place_before, ready, seen_parts, tokens_count, tokens_opening}
 use Rattle.inf_trees.proofs.UnitsRead.{told_beside}
 
--- An expression behind others
+-- Lemmas about an expression behind others
 
 further_reads : (tokens : List SourceToken) (value : Source) (u r : UnitAtHand)
     → r ≡ record (ready u) { tokens = r.tokens; gathering = r.gathering; depth = brackets_behind tokens u.depth }
@@ -99,7 +99,7 @@ further limits tokens rest steps late form on u are_seen begun few =
           ∙ more.does context next (tokens_told context (ready u) tokens w) (tokens_opening context (ready u) tokens w ∙ none) room;
     }
 
--- Values that are joined
+-- Lemmas about values that are joined
 
 pub range_joined : (limits : Limits) (rest : List Seen) (late : List (Event Action)) → Going limits rest late
     → Going limits rest (Did Action.To ∷ late)

@@ -42,7 +42,7 @@ abbrev pub all_seen : List Part → List Seen
 all_seen [] = []
 all_seen (p ∷ parts) = part_seen p ++ all_seen parts
 
--- The unit
+-- Definitions of the unit
 
 -- a unit whose next token begins an expression
 abbrev pub with_outer : UnitAtHand → UnitAtHand
@@ -112,7 +112,7 @@ AreWritten u (Further level tokens value ∷ parts) =
     × AreWritten (with_further (tokens_of tokens) value u) parts
 AreWritten u (Joined joint ∷ parts) = AreWritten (stepped joint u) parts
 
--- The reports of tokens
+-- Definitions of the reports of tokens
 
 -- The report of the last token of a unit: one where it is a bracket that is nested too deep, and one where the expression to
 -- which it belongs has too many tokens.

@@ -54,7 +54,7 @@ all_fit_by limits context (Reads (Kept t) ∷ steps) s reads kept fit =
           (all_fit_by limits context steps (took limits context t s.reading s.work) reads kept both.1),
     )
 
--- Texts
+-- Lemmas about texts
 
 none_over : (symbols : List (Symbol Action)) (count : ℕ) → symbols ≡ [] → closings symbols ≡ suc count → ⊥
 none_over symbols count none over = let zero_is : 0 ≡ suc count = sym (ap closings none) ∙ over in absurd (omega (arith, zero_is))
@@ -91,7 +91,7 @@ texts_act : (limits : Limits) (seen : List Seen) (events : List (Event Action))
 texts_act limits seen events text context w =
     text_runs limits context seen (Symbol.Rule piece_rule ∷ []) events text (rule_is_spaced piece_rule) pieces_end None w tt
 
--- Whole pieces
+-- Lemmas about whole pieces
 
 turns_act : (limits : Limits) (sources : Sources) (o : Choices) (n : ℕ) (s : State) (m : Between) (t : SourceToken) (steps : List Step)
     (events : List (Event Action)) (text : IsText grammar (Symbol.Rule piece_rule ∷ []) (atoms_of (seen_in t steps)) events)

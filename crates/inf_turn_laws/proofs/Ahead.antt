@@ -105,7 +105,7 @@ behind_ends_run limits context t b m zero rest others w = refl
 behind_ends_run limits context t b m (suc count) rest others w =
     behind_ends_run limits context t b m count rest others (act limits context t.place Action.Close w)
 
--- Tokens
+-- Lemmas about tokens
 
 pub actions_happen : (limits : Limits) (context : Context) (t : SourceToken) (m : Between) (actions : List Action) (w : Compilation)
     → next_comes (passed m (took context t (acted limits context t.place actions w))) ≡ run limits context (token_happenings t m actions) w

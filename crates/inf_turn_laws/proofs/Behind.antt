@@ -32,7 +32,7 @@ none_over _ symbols is = refl
 one_over : (a : Action) (symbols : List (Symbol Action)) → is_close a ≡ true → closings (Symbol.Act a ∷ symbols) ≡ 1 + closings symbols
 one_over a symbols is = ap (λ b. closings (Symbol.Act b ∷ symbols)) (close_is a is)
 
--- Ends of statements among happenings
+-- Lemmas about ends of statements among happenings
 
 no_ends : (effect : Option Between) (hs : List Happening) → behind_ends effect 0 hs ≡ hs
 no_ends None hs = refl
@@ -77,7 +77,7 @@ given_open : (effects : Effects) (at : Moment) (a : Action) (others : List Happe
 given_open effects at a others is =
     ap (λ b. Acts (if b then ends_at (next_effect effects) at else at) a ∷ given (if b then later_effects effects else effects) others) is
 
--- The happenings of a text
+-- Lemmas about the happenings of a text
 
 -- an action before a token
 act_by : (b : Bool) (a : Action) (symbols : List (Symbol Action)) (events : List (Event Action)) (counts : List ℕ) (s : Seen)
@@ -129,7 +129,7 @@ text_given (action {a = a} {symbols = symbols} {events = events} leads) (s ∷ s
     (λ less fewer. text_given leads (s ∷ seen) are effect less fewer)
 text_given (row is_row free leads) seen are effect count few = text_given leads seen are effect count (omega (arith, few))
 
--- The tokens with effects behind them
+-- Lemmas about the tokens with effects behind them
 
 pub merged_by_atoms : (counts : List ℕ) (seen : List Seen) → atoms_of (merged_by counts seen) ≡ atoms_of seen
 merged_by_atoms counts [] = refl

@@ -28,7 +28,7 @@ use Rattle.inf_turn_laws.specs.Directives.{PiecesDoTheirDirectives, all_merged, 
 use Rattle.inf_turn_laws.proofs.{Acted.all_fit_by, Marks.steps_seen, Unclosed.directives_close_none}
 use Rattle.inf_turn_laws.proofs.Merged.{ClosesNone, merged_atoms, merged_seen, none_merged, taken_merged}
 
--- The steps of a front
+-- Lemmas about the steps of a front
 
 done_joined : (limits : Limits) (context : Context) (a b : List Step) (p : Progress)
     → done_by limits context (a ++ b) p ≡ done_by limits context b (done_by limits context a p)
@@ -69,7 +69,7 @@ walked_atoms limits o (suc n) m further =
     ap (λ (xs : List ℕ). kept_atoms (steps_at limits o within m.state) ++ xs) (walked_atoms limits o n (moved limits o m) further)
     ∙ sym (atoms_joined (steps_at limits o within m.state) (steps_from limits o n (moved limits o m)) further)
 
--- The text of a front
+-- Lemmas about the text of a front
 
 grouped_atoms : (steps : List Step) → AllKept steps → atoms_of (grouped steps).seen ≡ kept_atoms steps
 grouped_atoms [] kept = refl

@@ -53,7 +53,7 @@ took_locals context t w =
     let v = sized context with_token in
     nested_locals context t.place (opens t.kind && is_deep v 0) v ∙ sized_locals context with_token
 
--- A note
+-- Lemmas about a note
 
 noted_of_locals : (context : Context) (n : Note) (w : Compilation) → (noted_of context n w).locals ≡ w.locals
 noted_of_locals context Note.OuterSure w = sized_locals context (record w { unit = unit_noted Note.OuterSure w.unit })
@@ -106,18 +106,13 @@ noted_locals limits context Note.OuterSure w inner = noted_of_locals context Not
 noted_locals limits context Note.OuterWord w inner = noted_of_locals context Note.OuterWord w
 noted_locals limits context _ w inner = refl
 
--- The end of a unit
+-- Lemmas about the end of a unit
 
 effect_locals : (limits : Limits) (context : Context) (p : Part) (trees : List Rooted) (w : Compilation)
     → (part_effect limits context p trees w).locals ≡ w.locals
 unfolding part_effect
 effect_locals limits context (Part.Statement s) trees w = refl
-effect_locals limits context Part.Condition trees w = refl
-effect_locals limits context Part.Start trees w = refl
-effect_locals limits context Part.Step trees w = refl
-effect_locals limits context Part.Loop trees w = refl
-effect_locals limits context Part.Switched trees w = refl
-effect_locals limits context Part.Case trees w = refl
+effect_locals limits context other trees w = refl
 
 carried_locals : (limits : Limits) (context : Context) (first : Place) (p : Part) (f : Option Finding) (w : Compilation)
     → (part_carried limits context first p f w).locals ≡ w.locals
@@ -176,19 +171,16 @@ ended_locals limits context place _ w inner = absurd (never inner)
 
 played_locals : (limits : Limits) (context : Context) (place : Place) (r : Role) (w : Compilation) → is_inner r ≡ true
     → (played limits context place r w).locals ≡ with_all_named (played_names limits context r w) w.locals
-played_locals limits context place (Role.Gather s) w inner = refl
 played_locals limits context place (Role.Note n) w inner = noted_locals limits context n w inner
 played_locals limits context place (Role.End e) w inner = ended_locals limits context place e w inner
 played_locals limits context place (Role.Open o) w inner = nested_locals context (last_place w.unit.tokens place) (is_deep w 1) w
-played_locals limits context place Role.Join w inner = refl
 played_locals limits context place Role.Close w inner =
     of_both (λ (v : Compilation). v.locals ≡ w.locals) (nat_lt 0 w.closed) (record w { closed = w.closed - 1 }) (construct_ended limits w)
     (λ _. refl) (λ _. refl)
 played_locals limits context place Role.Deeper w inner = nested_locals context place (is_deep w 1) w
-played_locals limits context place Role.MaybeDeeper w inner = refl
-played_locals limits context place Role.Nothing w inner = refl
+played_locals limits context place other w inner = refl
 
--- Happenings, one by one
+-- Lemmas about happenings, one by one
 
 run_locals : (limits : Limits) (context : Context) (happenings : List Happening) (w : Compilation) → AreInner happenings
     → (run limits context happenings w).locals ≡ with_units (names_in limits context happenings w) w.locals
@@ -201,7 +193,7 @@ run_locals limits context (Takes t m ∷ happenings) w inner =
     run_locals limits context happenings (happens limits context (Takes t m) w) inner
     ∙ ap (with_units (names_in limits context happenings (happens limits context (Takes t m) w))) (took_locals context t w)
 
--- The end of a routine
+-- Lemmas about the end of a routine
 
 pub unused_are_warned : (limits : Limits) → UnusedAreWarned limits
 unused_are_warned limits context place happenings w new inner kept =
@@ -218,7 +210,7 @@ unused_are_warned limits context place happenings w new inner kept =
     ∙ ap (λ (x : Compilation). with_full context.names place (full limits x.output)
     (with_warnings context place (unused units w.locals) told)) (sym same)
 
--- Headers
+-- Lemmas about headers
 
 locals_stay : (limits : Limits) (context : Context) (place : Place) (names : List Seen) (w : Compilation)
     → (run limits context (happenings_before place (local_events names) names) w).locals ≡ w.locals

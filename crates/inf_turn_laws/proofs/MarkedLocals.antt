@@ -102,7 +102,7 @@ unused_are_told context place units ls r new =
     ap (λ xs. with_all_unused context place xs r) (with_units-marks units ls new.different)
     ∙ warned context place (λ n. is_named_in n units) ls r new.unnamed
 
--- Headers
+-- Lemmas about headers
 
 absent : (name : List ℕ) (ls : List Local) → local_of name ls ≡ None → is_local name ls ≡ false
 absent name [] e = refl

@@ -21,7 +21,7 @@ use Rattle.inf_trees.proofs.DirectiveTexts.{pieces_have, sign_outside, unit_end}
 use Rattle.inf_program.specs.definition.Fronts.{ends_in}
 use Rattle.inf_turn_laws.proofs.Merged.{ClosesNone}
 
--- Rules whose texts end no statement
+-- Lemmas about rules whose texts end no statement
 
 abbrev pub is_close : Action → Bool
 is_close Action.Close = true
@@ -88,7 +88,7 @@ whole_is_open : are_open (whole_directive ∷ unit_end) ≡ true
 unfolding is_open_rule
 whole_is_open = refl
 
--- A piece that begins as such a directive
+-- Lemmas about a piece that begins as such a directive
 
 row_ends : {parts : List (Symbol Action)} → DirectiveRow parts → (atom : ℕ) (atoms : List ℕ) (events : List (Event Action))
     → is_word atom ≡ true → (leads : Leads grammar (parts ++ []) (atom ∷ atoms) events []) → AllZero (ends_in leads)

@@ -19,7 +19,7 @@ use Rattle.inf_statement_laws.specs.{Happenings.Acts, Happenings.Happening, Happ
 use Rattle.inf_language.specs.{HeaderNames.local_events, Headers.AreNames, NamedLocals.leaves_names, NamedLocals.unit_names}
 use Rattle.inf_language.specs.{Texts.happenings_before, Texts.tokens_of}
 
--- The names of units
+-- Definitions of the names of units
 
 -- the names of a unit: those of its expressions, and those in which it stores
 abbrev pub names_of : UnitAtHand → List Name
@@ -95,7 +95,7 @@ AreInner [] = Unit {0}
 AreInner (Acts at a ∷ happenings) = (is_inner (role_of a) ≡ true) × AreInner happenings
 AreInner (Takes t m ∷ happenings) = AreInner happenings
 
--- Locals
+-- Definitions of locals
 
 -- whether some local has a name, in any case
 abbrev pub is_local : List ℕ → List Local → Bool
@@ -131,7 +131,7 @@ with_warnings context place [] r = r
 with_warnings context place (l ∷ locals) r =
     with_warnings context place locals (with_warning (location context.names place) (UnusedLocal l.name) r)
 
--- Laws
+-- Definitions of laws
 
 -- The report behind the end of a routine at a place, where `locals` are not used: the error of its labels and offsets, then a warning about
 -- each of these locals, and then the first limit that was passed.

@@ -250,7 +250,7 @@ list_found w numbers turns enough t false e =
     (truth (is_among (length_in t.bytes (t.variables 3) / 2) t.bytes (t.variables 3) (t.variables 2) 0))
     (equal_is t (t.variables 3) 0 false e) (list_searched w numbers turns enough t)
 
--- Whether an object is a class
+-- Lemmas about whether an object is a class
 
 abbrev class_told : World → Truth
 class_told w =
@@ -283,7 +283,7 @@ truth_not : (b : Bool) → truth ((truth b == 0) || false) ≡ truth (not b)
 truth_not true = refl
 truth_not false = refl
 
--- The statements for an object
+-- Lemmas about the statements for an object
 
 abbrev asks_class : World → ℕ → Truth
 asks_class w n = tests w Test.Equal (Leaf (Operand.Variable 2)) (Leaf (Operand.Known n))

@@ -24,7 +24,7 @@ pub both_found : (s : Store) (b c : Bool) → (if b then is_found s c else is_fo
 both_found s true c = refl
 both_found s false c = refl
 
--- The order with signs, by the sides of 32768
+-- Lemmas about the order with signs, by the sides of 32768
 
 pub below : (x : ℕ) → x < 32768 → shifted x ≡ x + 32768
 below x h = omega (arith, h)

@@ -15,7 +15,7 @@ use Rattle.inf_veneer_laws.specs.Running.{IsSupplied, Meets, Numbers, called_wit
 use Rattle.inf_veneer_laws.proofs.Flow.{comes_to, guard_passes, guard_returns, is_found, returns_with}
 use Rattle.inf_veneer_laws.proofs.Locals.{entered_left, one_local}
 
--- Assignments
+-- Lemmas about assignments
 
 byte_is_written : (w : World) (numbers : Numbers) (turns a i n : ℕ) (s : Store) →
     called_with w numbers turns write_byte (a ∷ i ∷ n ∷ []) s ≡ returns_with n (byte_written a i n s)
@@ -26,20 +26,14 @@ word_is_written : (w : World) (numbers : Numbers) (turns a i n : ℕ) (s : Store
 word_is_written w numbers turns a i n s = ap (returns_with n) (ap (word_written a i n) (entered_left (a ∷ i ∷ n ∷ []) s))
 
 write_byte_meets : (w : World) (numbers : Numbers) → Meets w numbers write_byte (IsSupplied w Veneer.WriteByte)
-write_byte_meets w numbers [] s n t e turns enough = none_some e
-write_byte_meets w numbers (a ∷ []) s n t e turns enough = none_some e
-write_byte_meets w numbers (a ∷ i ∷ []) s n t e turns enough = none_some e
 write_byte_meets w numbers (a ∷ i ∷ v ∷ []) s n t e turns enough =
     byte_is_written w numbers turns a i v s ∙ e
-write_byte_meets w numbers (a ∷ i ∷ v ∷ x ∷ ns) s n t e turns enough = none_some e
+write_byte_meets w numbers other s n t e turns enough = none_some e
 
 write_word_meets : (w : World) (numbers : Numbers) → Meets w numbers write_word (IsSupplied w Veneer.WriteWord)
-write_word_meets w numbers [] s n t e turns enough = none_some e
-write_word_meets w numbers (a ∷ []) s n t e turns enough = none_some e
-write_word_meets w numbers (a ∷ i ∷ []) s n t e turns enough = none_some e
 write_word_meets w numbers (a ∷ i ∷ v ∷ []) s n t e turns enough =
     word_is_written w numbers turns a i v s ∙ e
-write_word_meets w numbers (a ∷ i ∷ v ∷ x ∷ ns) s n t e turns enough = none_some e
+write_word_meets w numbers other s n t e turns enough = none_some e
 
 pub entries_are_written : EntriesAreWritten
 entries_are_written w numbers = (write_byte_meets w numbers, write_word_meets w numbers)
@@ -73,7 +67,7 @@ pub step_answered : (w : World) (s : Store) →
     step_end w s ≡ comes_to (Returned (step_result (s.variables 3) (s.variables 4) (s.variables 5))) s
 step_answered w s = step_answered_by w s (s.variables 4 == 0) refl
 
--- Steps
+-- Lemmas about steps
 
 byte_is_stepped : (w : World) (numbers : Numbers) (turns a i d k : ℕ) (s : Store) →
     called_with w numbers turns step_byte (a ∷ i ∷ d ∷ k ∷ []) s
@@ -98,22 +92,14 @@ word_is_stepped w numbers turns a i d k s =
     ∙ ap (returns_with (step_result d k n)) (ap (word_written a i m) (one_local ns s 5 n refl))
 
 step_byte_meets : (w : World) (numbers : Numbers) → Meets w numbers step_byte (IsSupplied w Veneer.StepByte)
-step_byte_meets w numbers [] s n t e turns enough = none_some e
-step_byte_meets w numbers (a ∷ []) s n t e turns enough = none_some e
-step_byte_meets w numbers (a ∷ i ∷ []) s n t e turns enough = none_some e
-step_byte_meets w numbers (a ∷ i ∷ d ∷ []) s n t e turns enough = none_some e
 step_byte_meets w numbers (a ∷ i ∷ d ∷ k ∷ []) s n t e turns enough =
     byte_is_stepped w numbers turns a i d k s ∙ e
-step_byte_meets w numbers (a ∷ i ∷ d ∷ k ∷ x ∷ ns) s n t e turns enough = none_some e
+step_byte_meets w numbers other s n t e turns enough = none_some e
 
 step_word_meets : (w : World) (numbers : Numbers) → Meets w numbers step_word (IsSupplied w Veneer.StepWord)
-step_word_meets w numbers [] s n t e turns enough = none_some e
-step_word_meets w numbers (a ∷ []) s n t e turns enough = none_some e
-step_word_meets w numbers (a ∷ i ∷ []) s n t e turns enough = none_some e
-step_word_meets w numbers (a ∷ i ∷ d ∷ []) s n t e turns enough = none_some e
 step_word_meets w numbers (a ∷ i ∷ d ∷ k ∷ []) s n t e turns enough =
     word_is_stepped w numbers turns a i d k s ∙ e
-step_word_meets w numbers (a ∷ i ∷ d ∷ k ∷ x ∷ ns) s n t e turns enough = none_some e
+step_word_meets w numbers other s n t e turns enough = none_some e
 
 pub entries_are_stepped : EntriesAreStepped
 entries_are_stepped w numbers = (step_byte_meets w numbers, step_word_meets w numbers)

@@ -17,7 +17,7 @@ pub or_false : (b : Bool) → (b || false) ≡ b
 or_false true = refl
 or_false false = refl
 
--- Statements behind one another
+-- Lemmas about statements behind one another
 
 pub both_by : (first second : Effect) (s : Store) (m : Option (Outcome × Store)) → first s ≡ m →
     both_run first second s ≡ (m then λ r. followed_by second r.0 r.1)
@@ -33,7 +33,7 @@ both_returns first second s t n e = both_by first second s (comes_to (Returned n
 pub both_same : (first other second : Effect) (s t : Store) → first s ≡ other t → both_run first second s ≡ both_run other second t
 both_same first other second s t e = both_by first second s (other t) e
 
--- a statement with a condition that is known, and others behind it
+-- the run of an `if` whose condition is known, with others behind it
 pub if_by : (holds : Truth) (body : Effect) (s : Store) (b : Bool) → holds s ≡ is_found s b →
     if_run holds body s ≡ (if b then body s else comes_to Done s)
 if_by holds body s b e = ap (λ (o : Option (Bool × Store)). o then λ p. if p.0 then body p.1 else Some (Done, p.1)) e
@@ -50,7 +50,7 @@ pub guard_returns : (holds : Truth) (body rest : Effect) (s t : Store) (n : ℕ)
     body s ≡ comes_to (Returned n) t → both_run (if_run holds body) rest s ≡ comes_to (Returned n) t
 guard_returns holds body rest s t n e f = both_returns (if_run holds body) rest s t n (if_by holds body s true e ∙ f)
 
--- Turns of a loop
+-- Lemmas about turns of a loop
 
 while_by : (holds : Truth) (body : Effect) (turns : ℕ) (s : Store) (b : Bool) → holds s ≡ is_found s b →
     while_run holds body (suc turns) s

@@ -37,7 +37,7 @@ entered_left ns s =
 pub one_local : (ns : List ℕ) (s : Store) (k n : ℕ) → is_local k ≡ true → left s (with_variable k n (entered ns s)) ≡ s
 one_local ns s k n known = local_left s (entered ns s) k n known ∙ entered_left ns s
 
--- Variables that are no locals
+-- Lemmas about variables that are no locals
 
 swapped : (b c : Bool) (x y z : ℕ) → (b ≡ true → c ≡ false) →
     (if b then x else (if c then y else z)) ≡ (if c then y else (if b then x else z))

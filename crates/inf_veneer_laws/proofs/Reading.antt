@@ -59,7 +59,7 @@ own_stored : (w : World) (numbers : Numbers) → Calls w numbers (codes "CP__Tab
 own_stored w numbers calls s n known =
     ap call_stored (calls.comes (s.variables 1 ∷ s.variables 2 ∷ []) s n s (known, refl)).1
 
--- Addresses
+-- Lemmas about addresses
 
 abbrev next_returned : World → Effect
 next_returned w = return_run w (sum_of place (Leaf (Operand.Known 1)) ∷ [])
@@ -114,7 +114,7 @@ address_meets w numbers h calls (o ∷ p ∷ []) s n t e turns enough =
     ∙ e.1
 address_meets w numbers h calls (o ∷ p ∷ x ∷ ns) s n t e turns enough = none_some e.1
 
--- Lengths
+-- Lemmas about lengths
 
 abbrev length_asked : World → Numbers → Effect
 length_asked w numbers = asked w (operand_in numbers property_length) GetPropLen (named.a ∷ []) (codes "a")
@@ -199,7 +199,7 @@ length_meets w numbers h calls (o ∷ p ∷ []) s n t e turns enough =
     ∙ e.1
 length_meets w numbers h calls (o ∷ p ∷ x ∷ ns) s n t e turns enough = none_some e.1
 
--- Values
+-- Lemmas about values
 
 abbrev own_word_returned : World → Effect
 own_word_returned w =

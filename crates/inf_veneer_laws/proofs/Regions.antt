@@ -13,7 +13,7 @@ use Rattle.inf_veneer_laws.specs.Running.{Calls, Numbers, ended, entered}
 use Rattle.inf_veneer_laws.proofs.{Comparing.guard_value, Comparing.number_returned, Comparing.tests, Locals.entered_left, Own.returns_0}
 use Rattle.inf_veneer_laws.proofs.Flow.{comes_to, is_found, or_false, returns_with}
 
--- The order of two numbers against 0
+-- Lemmas about the order of two numbers against 0
 
 at_most_by : (x y : ℕ) (b c : Bool) → (x == y) ≡ b → nat_lt y x ≡ c →
     not (less 0 (if b then 0 else if c then 1 else 65535)) ≡ nat_le x y
@@ -64,7 +64,7 @@ least_is w numbers calls s c few bound =
     ap (tested_by w Test.AtLeast s) (calls.comes (x ∷ y ∷ []) s (order x y) s (few, bound, refl, refl)).1
     ∙ ap (is_found s) (at_least x y)
 
--- The statements
+-- Lemmas about the statements
 
 abbrev is_nothing : World → Truth
 is_nothing w = tests w Test.Equal (Leaf (Operand.Variable 1)) (Leaf (Operand.Known 0))

@@ -277,7 +277,7 @@ sent_by w numbers calls x turns next o p v ns s few false true e f n u m answers
       same = a.same;
     }
 
--- The calls
+-- Lemmas about the calls
 
 answers_as : (e : Effect) (s now : Store) (a b : ℕ × Store) → a ≡ b → Answers e s now a.0 a.1 → Answers e s now b.0 b.1
 answers_as e s now a b h c = record {

@@ -26,7 +26,7 @@ number_of w numbers r = w.later (Target.Name (numbers r.name))
 abbrev pub message_number : World → Numbers → ℕ
 message_number w numbers = w.later (Target.Name (numbers (name_of Veneer.CallProperty)))
 
--- These numbers, and that of the routine that sends messages, differ.
+-- The numbers of supplied routines, and that of the routine that sends messages, differ.
 abbrev pub IsOther : World → Numbers → Routine → List Routine → Type 0
 IsOther w numbers r [] = (number_of w numbers r == message_number w numbers) ≡ false
 IsOther w numbers r (other ∷ all) = ((number_of w numbers r == number_of w numbers other) ≡ false) × IsOther w numbers r all
@@ -45,7 +45,7 @@ called_in w numbers action (r ∷ all) s f ns =
 abbrev pub with_texts : World → Numbers → Option Operand → World
 with_texts w numbers action = record w { called = called_in w numbers action routines }
 
--- so too for the calls of these routines, up to a depth
+-- the world in which calls, and the calls in these up to a depth, run the texts of supplied routines
 abbrev pub with_texts_to : ℕ → World → Numbers → Option Operand → World
 with_texts_to zero w numbers action = w
 with_texts_to (suc depth) w numbers action = with_texts (with_texts_to depth w numbers action) numbers action

@@ -222,7 +222,7 @@ routine_events r =
     ∷ (local_events r.locals ++ Did Action.EndLocals ∷ mark_taken Mark.Semicolon
     ∷ (statement_events true r.body ++ Did Action.EndRoutine ∷ mark_taken Mark.CloseBracket ∷ mark_taken Mark.Semicolon ∷ []))
 
--- Tokens
+-- Definitions of tokens
 
 abbrev pub atoms_of : Events → List ℕ
 atoms_of [] = []

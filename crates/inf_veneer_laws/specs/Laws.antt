@@ -11,7 +11,7 @@ use Rattle.inf_veneer_laws.specs.Routines.{provides_property, read_property, reg
 use Rattle.inf_veneer_laws.specs.Routines.{write_property, write_word}
 use Rattle.inf_veneer_laws.specs.Running.{Calls, IsSupplied, Meets, Numbers}
 
--- Texts
+-- Definitions of texts
 
 abbrev pub text_named : List ℕ → List (List ℕ) → List (List ℕ) → Option (List ℕ)
 text_named name [] texts = None
@@ -39,7 +39,7 @@ TextsAreSpelled =
     × IsText (codes "Z__Region") region
     × IsText (name_of Veneer.OfClass) of_class
 
--- Entries of arrays, in any world
+-- Laws about the routines that write and step entries of arrays, in any world
 
 abbrev pub EntriesAreWritten : Type 0
 EntriesAreWritten =
@@ -51,7 +51,7 @@ EntriesAreStepped =
     (w : World) (numbers : Numbers) →
     Meets w numbers step_byte (IsSupplied w Veneer.StepByte) × Meets w numbers step_word (IsSupplied w Veneer.StepWord)
 
--- Objects and properties
+-- Laws about the routines that count children and read, write and step properties
 
 abbrev pub ChildrenAreCounted : Type 0
 ChildrenAreCounted = (w : World) (numbers : Numbers) → HasObjects w → Meets w numbers count_children (CountsChildren w)

@@ -7,7 +7,7 @@ use Rattle.inf_expressions.specs.declared.{operators.Test.Test, operators.Unary.
 use Rattle.inf_veneer_laws.specs.Sources.{Ask, Evaluate, Expression, For, GetProp, GetPropAddr, GetPropLen, If, Name, Number, One, Return}
 use Rattle.inf_veneer_laws.specs.Sources.{ReturnFalse, ReturnTrue, Routine, Statement, System, Then, Two, While}
 
--- Names of locals
+-- Definitions of names of locals
 
 abbrev pub a : Expression
 a = Name (codes "a")
@@ -33,7 +33,7 @@ p = Name (codes "p")
 abbrev pub n : Expression
 n = Name (codes "n")
 
--- Expressions of some operators
+-- Definitions of expressions of some operators
 
 abbrev pub assigned : Expression → Expression → Expression
 assigned to value = Two Binary.Assign to value
@@ -101,7 +101,7 @@ count_children = record {
       (Evaluate (assigned o (One (Unary.Relative Relative.Sibling) o))))) (Return n));
 }
 
--- Properties
+-- Definitions of properties
 
 abbrev pub write_property : Routine
 write_property = record {

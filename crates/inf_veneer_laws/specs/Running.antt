@@ -71,7 +71,7 @@ asked w known q operands variable s =
 abbrev pub printed : World → Tree → Effect
 printed w t s = value_of w t s then λ p. Some (Returned 1, tells LineEnd (tells (AtPacked p.0) p.1))
 
--- Statements as control flow
+-- Definitions of statements as control flow
 
 abbrev pub control : World → (List ℕ → Operand) → Statement → Control
 control w known (Evaluate e) = Does (alone_run w (tree_of known e ∷ []))

@@ -20,23 +20,11 @@ module _ (address : Target → ℕ) where
   -- the type of a token is no 15, and it is that of the table
   type_is : (t : LineToken) → (token_type t, number_in address (token_value t)) ≡ token_seen address t
   type_is (LineToken.Noun Noun.Noun) = refl
-  type_is (LineToken.Noun Noun.Held) = refl
-  type_is (LineToken.Noun Noun.Multi) = refl
-  type_is (LineToken.Noun Noun.MultiHeld) = refl
-  type_is (LineToken.Noun Noun.MultiExcept) = refl
-  type_is (LineToken.Noun Noun.MultiInside) = refl
-  type_is (LineToken.Noun Noun.Creature) = refl
-  type_is (LineToken.Noun Noun.Special) = refl
-  type_is (LineToken.Noun Noun.Number) = refl
-  type_is (LineToken.Noun Noun.Topic) = refl
   type_is (LineToken.Preposition text true true) = refl
   type_is (LineToken.Preposition text true false) = refl
   type_is (LineToken.Preposition text false true) = refl
   type_is (LineToken.Preposition text false false) = refl
-  type_is (LineToken.Filter n) = refl
-  type_is (LineToken.Attribute n) = refl
-  type_is (LineToken.Scope n) = refl
-  type_is (LineToken.Routine n) = refl
+  type_is other = refl
 
   no_end : (t : LineToken) → (token_type t == 15) ≡ false
   no_end (LineToken.Noun n) = refl
@@ -44,10 +32,7 @@ module _ (address : Target → ℕ) where
   no_end (LineToken.Preposition text true false) = refl
   no_end (LineToken.Preposition text false true) = refl
   no_end (LineToken.Preposition text false false) = refl
-  no_end (LineToken.Filter n) = refl
-  no_end (LineToken.Attribute n) = refl
-  no_end (LineToken.Scope n) = refl
-  no_end (LineToken.Routine n) = refl
+  no_end other = refl
 
   abbrev Found : Type 0
   Found = List (ℕ × ℕ) × List ℕ

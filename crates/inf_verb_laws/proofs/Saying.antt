@@ -14,7 +14,7 @@ use Rattle.inf_verb_laws.specs.Saying.{AreNew, AreRight, IsRight, LinesAgree, Ta
 use Rattle.inf_verb_laws.specs.Saying.{with_line_told, with_lines, with_more_lines, with_more_words, with_one, with_word, with_words}
 use Rattle.inf_verb_laws.proofs.Extended.{extend_agrees}
 
--- The verb of a word, by its place among all
+-- Lemmas about the verb of a word, by its place among all
 
 abbrev place : Text → List (List Text) → Option ℕ
 place t [] = None
@@ -41,7 +41,7 @@ byte_of : (o : Option ℕ) → verb_byte_of o ≡ byte_from 0 o
 byte_of None = refl
 byte_of (Some m) = ap (λ k. 255 - k) (let same : m ≡ 0 + m = omega arith in same)
 
--- Words
+-- Lemmas about words
 
 verb_joined : (known : Option Word) (how : WordUse) (p : Bool) → verb_in_word (Some (joined known how p)) ≡ or_verb (verb_in how) (verb_in_word known)
 verb_joined None (WordUse.Verb n) p = refl
@@ -349,7 +349,7 @@ module _ (f : Line → LineOf) where
       let tail : map lines_of list ≡ shown vs = cc e in
       changed_by t n g h vs list x v k head tail (λ m p. changed_at t m g h k vs list tail one.1 p) (has_word t v.words) one.0 at
 
-  -- `Extend`
+  -- Lemmas about `Extend`
 
   words_stay : (t : Text) (h : VerbIs → VerbIs) → ((v : VerbIs) → (h v).words ≡ v.words) → (vs : List VerbIs)
       → all_words (changed t h vs) ≡ all_words vs
@@ -391,7 +391,7 @@ module _ (f : Line → LineOf) where
         single = λ u. subst (OneOf u) (sym stays) (a.single u);
       }
 
-  -- Further words
+  -- Lemmas about further words
 
   abbrev with_words_more : List Text → VerbIs → VerbIs
   with_words_more words v = record v { words = v.words ++ words }
@@ -432,7 +432,7 @@ module _ (f : Line → LineOf) where
     single = λ u. subst (OneOf u) (sym (words_more t words vs)) (one_more t words u (all_words vs) new (a.single t) (a.single u));
   }
 
-  -- `Verb`
+  -- Lemmas about `Verb`
 
   edited_end : (g : VerbOf → VerbOf) (list : List VerbOf) (x : VerbOf) → edited (length list) g (list ++ x ∷ []) ≡ list ++ g x ∷ []
   edited_end g [] x = refl
@@ -469,7 +469,7 @@ module _ (f : Line → LineOf) where
         single = λ t. subst (OneOf t) (sym ws) (one_end t words (all_words vs) (new t) (a.single t));
       }
 
-  -- All that a source says
+  -- Lemmas about all that a source says
 
   one_step : (said : Said) (vs : List VerbIs) (s : Tables) → Agrees vs s → IsRight said vs → Agrees (with_said vs said) (with_one f said s)
   one_step (Verb is_meta words lines) vs s a right = verb_step vs s is_meta words lines a right

@@ -14,7 +14,7 @@ pub record Tables : Type 0 where
 abbrev pub no_tables : Tables
 no_tables = record { verbs = record { list = [] }; words = record { list = [] } }
 
--- Words
+-- Definitions of words
 
 abbrev pub with_word : WordUse → Bool → Text → Tables → Tables
 with_word how is_plural t s = record s { words = with_use t how is_plural s.words }
@@ -25,7 +25,7 @@ with_words how texts s = fold (λ s t. with_word how false t s) s texts
 abbrev pub verb_use : Bool → ℕ → WordUse
 verb_use is_meta number = if is_meta then WordUse.MetaVerb number else WordUse.Verb number
 
--- Lines, each as the tables have it, by a function of the line
+-- Definitions of lines, each as the tables have it, by a function of the line
 
 abbrev pub with_line_told : (Line → LineOf) → ℕ → LinePlace → Line → Tables → Tables
 with_line_told f number how l s =
@@ -64,7 +64,7 @@ with_one f (Plural t) s = with_word WordUse.Other true t s
 abbrev pub with_all : (Line → LineOf) → List Said → Tables → Tables
 with_all f all s = fold (λ s said. with_one f said s) s all
 
--- No word of a new verb, and none that `=` gives a verb, is one of a verb already.
+-- Definitions by which no word of a new verb, and none that `=` gives a verb, is one of a verb already
 
 abbrev pub all_words : List VerbIs → List (List Text)
 all_words vs = map (λ v. v.words) vs

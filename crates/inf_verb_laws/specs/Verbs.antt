@@ -63,7 +63,7 @@ with_said verbs said = verbs
 abbrev pub verbs : List Said → List VerbIs
 verbs all = fold with_said [] all
 
--- Actions, and routines that parse, by their first appearance
+-- Definitions of actions, and routines that parse, by their first appearance
 
 abbrev pub distinct : List ℕ → List ℕ → List ℕ
 distinct seen [] = []

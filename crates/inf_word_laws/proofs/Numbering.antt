@@ -37,7 +37,7 @@ use Rattle.inf_word_laws.proofs.Steps.{limit_stands, steps_keep_words, used_word
 
 -- Names by their numbers
 
--- Names in their list
+-- Lemmas about names in their list
 
 pub not_some : {A B : Type 0} {a : A} → None ≡ Some a → B
 not_some e = absurd (cc e)

@@ -36,14 +36,14 @@ past_tables : (limits : Limits) (past : Option Past) (code : Routines) → is_so
 past_tables limits None code = refl
 past_tables limits (Some past) code = refl
 
--- another room of the same limits of tables
+-- where only limits beside those of tables were passed, words stay
 with_past : (text : Text) (limits : Limits) (o v : Out) (code : Routines) (q : Past) → q.tables ≡ (past_by limits o.past code).tables
     → v.tables ≡ o.tables → v.past ≡ Some q → Stands text o → Stands text v
 with_past text limits o v code q same tables past stands =
     same_stands text o v (ap (λ t. is_some (word_of text t.dictionary.list)) tables)
     (ap is_limited_by past ∙ (ap is_some same ∙ past_tables limits o.past code)) stands
 
--- Items
+-- Lemmas about items
 
 lost_tables : (item : Item) (past : Past) → (without_lost item past).tables ≡ past.tables
 lost_tables (Item.Instruction parts) past = refl
@@ -82,7 +82,7 @@ keeps_item : (limits : Limits) (item : Item) → Keeps (laid limits item)
 unfolding laid
 keeps_item limits item = record { keeps = λ text o stands. laid_stands limits item o.kept text o stands }
 
--- Routines
+-- Lemmas about routines
 
 pub limit_tables : (limit : CodeLimit) (past : Past) → (passed_limit limit past).tables ≡ past.tables
 limit_tables CodeLimit.Labels past = refl
@@ -115,7 +115,7 @@ left_stands limits None text o stands =
     with_past text limits o (with_labels_left limits None o) o.code (passed_limit CodeLimit.Labels (past_of limits o)) refl refl refl stands
 left_stands limits (Some rest) text o stands = stands
 
--- Texts and names
+-- Lemmas about texts and names
 
 text_stands : (limits : Limits) (fit : Bool) (bytes : List ℕ) (text : Text) (o : Out) → Stands text o
     → Stands text (with_text_by limits fit bytes o)
@@ -146,7 +146,7 @@ referred_stands limits (Some fault) name place text o stands =
     with_past text limits o (referred_by limits (Some fault) name place o) o.code (record (past_of limits o) { symbols = true })
     refl refl refl stands
 
--- Words
+-- Lemmas about words
 
 some_by : (b : Bool) (word : Word) (known : Option Word) → is_some known ≡ true → is_some (if b then Some word else known) ≡ true
 some_by true word known is = refl

@@ -24,7 +24,7 @@ abbrev pub object : ℕ → ℕ → ℕ → ℕ → ℕ → List ℕ
 object attributes parent sibling child table =
     attributes ∷ replicate 5 0 ++ word parent ++ word sibling ++ word child ++ word table
 
--- no words
+-- the dictionary of a story that has no words
 abbrev pub no_words : List ℕ
 no_words = 3 ∷ 46 ∷ 44 ∷ 34 ∷ 9 ∷ 0 ∷ 0 ∷ []
 

@@ -12,7 +12,7 @@ use Rattle.inf_world_laws.proofs.Order.{again, drop_out, join, kept, or_nothing,
 use Rattle.inf_world_laws.proofs.Lookup.{IsClass, Named, class_there, found_within, named_at, object_in, thing_is, things_in, things_length, told}
 use Rattle.inf_world_laws.proofs.Lists.{numbers_are}
 
--- Truths
+-- Lemmas about truths
 
 or_split : {P : Type 0} (a b : Bool) → (a || b) ≡ true → (a ≡ true → P) → (b ≡ true → P) → P
 or_split true b e f g = f refl
@@ -42,7 +42,7 @@ same_number n m e = grind arith
 pub is_same : (n : ℕ) → nat_eq n n ≡ true
 is_same n = grind arith
 
--- Sets of numbers
+-- Lemmas about sets of numbers
 
 pub contains_both : (xs ys : List ℕ) (n : ℕ) → contains (xs ++ ys) n ≡ (contains xs n || contains ys n)
 contains_both [] ys n = refl
@@ -97,7 +97,7 @@ apart_is seen (n ∷ l) a =
 pub distinct_again : (xs : List ℕ) → distinct [] (distinct [] xs) ≡ distinct [] xs
 distinct_again xs = apart_is [] (distinct [] xs) (are_apart [] xs)
 
--- Classes as the tables have them
+-- Lemmas about classes as the tables have them
 
 has_number_is : (n : ℕ) (l : List ℕ) → has_number n l ≡ contains l n
 has_number_is n [] = refl
@@ -126,7 +126,7 @@ passed_is : (l xs : List ℕ) (ys : List ℕ) → l ≡ distinct [] xs → ((n :
     → l ≡ distinct [] (xs ++ ys)
 passed_is l xs ys e h = sym (distinct_both l xs ys e ∙ ap (λ k. l ++ k) (all_seen l ys h) ∙ append-nil l)
 
--- Attributes
+-- Lemmas about attributes
 
 abbrev pub flags : (ℕ → Bool) → List Bool
 flags f = map f (range_with_len 0 48)
@@ -139,7 +139,7 @@ together_is : (f g : ℕ → Bool) (l : List ℕ) → together (map f l) (map g 
 together_is f g [] = refl
 together_is f g (n ∷ l) = ap (λ k. (f n || g n) ∷ k) (together_is f g l)
 
--- Things whose classes are all there
+-- Lemmas about things whose classes are all there
 
 pub record IsClosed (before : List Thing) (l : List ℕ) : Type 0 where
   pub within : (c : ℕ) → contains l c ≡ true → c < 5 + length before
@@ -178,7 +178,7 @@ closed_joined before l k c t at there old own m = record {
       (λ g. own.closed d n g h))));
 }
 
--- All classes that a body names
+-- Lemmas about all classes that a body names
 
 module _ (additive : ℕ → Bool) where
   -- the body with a list of classes, with what they have of attributes, and with their properties

@@ -16,7 +16,7 @@ use Rattle.inf_world_laws.specs.Whole.{AreKinds, GivenFits, IndividualFits, Prop
 use Rattle.inf_world_laws.proofs.Order.{again, has_is, or_nothing}
 use Rattle.inf_world_laws.proofs.Classes.{contains_both, distinct_both, distinct_has, is_same, or_exchanged, or_false, same_number}
 
--- Places of names
+-- Lemmas about places of names
 
 position_at : (x : ℕ) (l zs : List ℕ) → contains l x ≡ false → position_or_len (nat_eq x) (l ++ x ∷ zs) ≡ length l
 position_at x [] zs new = ap (λ b. cond (not b) (1 + position_or_len (nat_eq x) zs) 0) (is_same x)
@@ -91,7 +91,7 @@ numbered_new names done count numbers x i new number = record {
         i.known y
         ∙ ap (λ b. cond b (Some (number_of names (Individual y))) None) (sym (has_more x y done ∙ ap (λ b. b || contains done y) other))
 
--- One property
+-- Lemmas about one property
 
 last_value : (own : List Property) (q : Property) (x : Value)
     → with_last_value x (own ++ q ∷ []) ≡ own ++ record q { values = q.values ++ x ∷ [] } ∷ []
@@ -145,7 +145,7 @@ module _ (additive : ℕ → Bool) (v : WorldOf) (kinds : AreKinds additive v)
   given_placed n count own takes (x ∷ values) f =
       ap (with_values values) (first_placed n count own takes (Some x) f) ∙ values_placed n count own (x ∷ []) values
 
-  -- All properties
+  -- Lemmas about all properties
 
   abbrev IsSingle : List Property → Type 0
   IsSingle own = numbers_of own ≡ distinct [] (numbers_of own)

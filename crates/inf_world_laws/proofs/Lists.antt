@@ -8,7 +8,7 @@ use Rattle.inf_world_laws.specs.{Declaring.property, Things.contains, Things.dis
 use Rattle.inf_world_laws.specs.Laws.{Properties, PropertiesAgree, as_properties, inherited_above, inherited_all, numbers_of}
 use Rattle.inf_world_laws.proofs.{Order.order_agrees, Properties.values_agree}
 
--- Numbers that are new, each behind those before it
+-- Lemmas about numbers that are new, each behind those before it
 
 abbrev AreNew : List ℕ → List ℕ → Type 0
 AreNew seen [] = Unit {0}
@@ -66,7 +66,7 @@ all_found seen (p ∷ ps) a =
     ∙ ap (λ l. p ∷ l) (without_first p ps (numbers_of ps) others)
     ∙ ap (λ l. p ∷ l) (all_found (p.number ∷ seen) ps a.1)
 
--- The two lists
+-- Lemmas about the two lists
 
 module _ (additive : ℕ → Bool) where
   pub fold_map : (above : List Property) (givers : List Properties)

@@ -121,7 +121,7 @@ module _ (additive : ℕ → Bool) where
       (has_is additive p.0 arrows t t.is_class refl)
       ∙ choose (not t.is_class && t.arrows == arrows) (length (things_in all)) (latest arrows (things_in all))
 
-  -- Headers
+  -- Lemmas about headers
 
   not_open : (b : Bool) (f : WorldFault) (g : Option WorldFault) → cond b (Some f) g ≡ None → g ≡ None
   not_open true f g e = absurd (cc e)
@@ -158,7 +158,7 @@ module _ (additive : ℕ → Bool) where
       ap (λ o. with_hung (parent_above o) (suc n) name w) found
       ∙ hung_below limits (latest n before) (suc n) name w (latest n before == 0) free
 
-  -- Classes
+  -- Lemmas about classes
 
   pub record IsClass (c : ℕ) (all : List Named) (w : WorldOf) : Type 0 where
     pub named : Named

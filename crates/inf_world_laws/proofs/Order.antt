@@ -38,7 +38,7 @@ numbers_lacked own (p ∷ above) =
     ∙ ap (λ b. cond b (without (numbers_of own) (numbers_of above)) (p.number ∷ without (numbers_of own) (numbers_of above)))
     (has_is p.number own)
 
--- Lists without repeats
+-- Lemmas about lists without repeats
 
 pub same_seen : (s t xs : List ℕ) → ((n : ℕ) → contains s n ≡ contains t n) → distinct s xs ≡ distinct t xs
 same_seen s t [] h = refl
@@ -132,7 +132,7 @@ drop_out s t u (x ∷ xs) h =
     (contains t x) (contains s x) refl refl
     ∙ ap (λ b. cond b (distinct u xs) (x ∷ distinct (x ∷ u) xs)) (sym (h x))
 
--- Properties
+-- Lemmas about properties
 
 numbers_both : (xs ys : List Property) → numbers_of (xs ++ ys) ≡ numbers_of xs ++ numbers_of ys
 numbers_both [] ys = refl

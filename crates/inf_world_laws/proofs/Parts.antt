@@ -33,7 +33,7 @@ pub record Keeps (f : WorldOf → WorldOf) : Type 0 where
   pub further : (v : Value) (w : WorldOf) → f (with_further_value v w) ≡ with_further_value v (f w)
   pub individual : (w : WorldOf) → f (with_individual w) ≡ with_individual (f w)
 
--- An attribute
+-- Lemmas about an attribute
 
 set_given : (a n : ℕ) (b : Bool) (v : Option Value) (w : WorldOf) (k : Option Bool)
     → with_set_attribute a b (given_of k n v w) ≡ given_of k n v (with_set_attribute a b w)
@@ -50,7 +50,7 @@ set_keeps a b = record {
   individual = λ w. refl;
 }
 
--- A class
+-- Lemmas about a class
 
 class_kept : {A : Type 0} (P : WorldOf → A) (c : ℕ) (w : WorldOf) → ((b : BodyOf) → P (record w { body = b }) ≡ P w) → (z : Bool)
     (o : Option Object) → P (cond z w (class_by o c w)) ≡ P w
@@ -205,7 +205,7 @@ module _ (f : WorldOf → WorldOf) (k : Keeps f) where
   property_fits (Declared n) r h = number_fits n r.world h
   property_fits (Individual name) r h = individual_fits (number_in name r.numbers) r.world h
 
--- Many classes, and many attributes
+-- Lemmas about many classes, and many attributes
 
 abbrev with_classes : List ℕ → Run → Run
 with_classes [] r = r
@@ -244,7 +244,7 @@ attribute_past a b parts r =
     (classes_past (lifted (with_set_attribute a b))
     (λ c r. ap (λ w. record { world = w; numbers = r.numbers }) (class_behind_attribute c a b r.world)) (classes_of parts) r)
 
--- Parts in their order
+-- Lemmas about parts in their order
 
 abbrev all_given : List Part → Run → Run
 all_given parts r = fold (λ r p. given p r) r (properties_of parts)
@@ -370,7 +370,7 @@ module _ (limits : Limits) where
         (bodies_fit bodies (body_done b r) h.2),
   )
 
--- The tree
+-- Lemmas about the tree
 
 first_parents : (objects : List Object) → parents_of (all_objects objects) ≡ 0 ∷ 0 ∷ 0 ∷ 0 ∷ map (λ o. o.parent) objects
 unfolding first_names

@@ -20,7 +20,7 @@ use Rattle.inf_world_laws.proofs.Lookup.{Named, begun_as, headed_is, object_in, 
 use Rattle.inf_world_laws.proofs.Classes.{AreWhole, IsClosed, IsWhole, all_classes, classed, distinct_again, flags, nothing_closed}
 use Rattle.inf_world_laws.proofs.Given.{Numbered, all_given, as_given, placed}
 
--- Things in the order of their numbers
+-- Lemmas about things in the order of their numbers
 
 abbrev more : (ℕ → Bool) → List ℕ → List Thing → List Declaration → List Thing
 more additive names before [] = []
@@ -36,7 +36,7 @@ reverse_made additive names before (d ∷ declarations) =
     ∙ ap (λ l. l ++ more additive names (t ∷ before) declarations) (reverse-append (t ∷ []) before)
     ∙ append_assoc (reverse before) (t ∷ []) (more additive names (t ∷ before) declarations)
 
--- One more thing
+-- Lemmas about one more thing
 
 closed_more : (before : List Thing) (t : Thing) (l : List ℕ) → IsClosed before l → IsClosed (t ∷ before) l
 closed_more before t l i = record {
@@ -60,7 +60,7 @@ all_whole before t old new c u e = by (c == 5 + length before) e (old c u)
     by true e rest = let same : t ≡ u = cc in subst (IsWhole (t ∷ before)) same (whole_more before t t new)
     by false e rest = whole_more before t u (rest e)
 
--- Attributes of a body, one by one
+-- Lemmas about attributes of a body, one by one
 
 abbrev with_said : WorldOf → List (Option Bool) → WorldOf
 with_said w said = record w { body = record w.body { said = said } }

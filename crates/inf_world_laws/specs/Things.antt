@@ -5,7 +5,7 @@ use Rattle.std.specs.Prelude.{◌&&◌, Option, Some, None, if◌then◌else◌}
 use Rattle.std.specs.List.{filter_map, flat_map, list_any, position_or_len}
 use Rattle.inf_area.specs.declared.targets.Value.{Value}
 
--- Declarations
+-- Definitions of declarations
 
 pub data PropertyName : Type 0 where
   Declared : ℕ → PropertyName  -- by its number: 1 is `name`, 4 the first that the source declares
@@ -120,7 +120,7 @@ abbrev pub properties_of : (ℕ → Bool) → List (List (ℕ × List Value)) �
 properties_of additive givers =
     filter_map (λ n. option_map (λ values. (n, values)) (values_given additive givers n)) (distinct [] (flat_map (map (λ p. p.0)) givers))
 
--- All together
+-- Definitions of things as a whole
 
 abbrev pub thing : (ℕ → Bool) → List ℕ → Declaration → List Thing → Thing
 thing additive names d before = let above = giving before [] d.classes in record {

@@ -305,7 +305,7 @@ const ROUTINE: &[u8] =
 const ROUTINE_CODE: &[u8] =
     b"\x02U\x02\x01\x00U\x00\x06\x01T\x01\x01\x01\x95\x01W\x01\x02\x02\xE6\xBF\x02\xB0\x00";
 
-/// This routine by its header, its units and its end, each by a call.
+/// A course that reads a routine by its header, its units and its end, each by a call.
 static PIECEWISE: Course = Course {
     source: ROUTINE,
     rows: &[
@@ -321,7 +321,7 @@ static PIECEWISE: Course = Course {
     code: ROUTINE_CODE,
 };
 
-/// This routine by one call, from its bracket to its semicolon.
+/// A course that reads the routine of `PIECEWISE` by one call, from its bracket to its semicolon.
 static WHOLE: Course = Course {
     source: ROUTINE,
     rows: &[(

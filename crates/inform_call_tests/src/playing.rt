@@ -267,7 +267,7 @@ impl<'a, B: Bounds> Run<'a, B> {
         Ok(())
     }
 
-    /// Ends the session behind calls that were `made`, of which these are the messages. Returns the story, where there is one.
+    /// Ends the session behind calls that were `made`, with the messages `lines`, and returns the story, where there is one.
     fn end(
         self,
         rt: &impl Abort,

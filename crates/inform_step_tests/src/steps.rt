@@ -382,7 +382,7 @@ static NEEDED: [Wanted; 9] = [
     (Step::End, "", [4, 19, 5, 16, 132, 14], BARE),
 ];
 
-/// Makes these steps, one after the other.
+/// Makes the steps of `rows`, one after the other.
 fn make_steps<B: Bounds>(
     rt: &impl Abort,
     run: &mut Run<'_, B>,

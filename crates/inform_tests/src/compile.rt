@@ -18,7 +18,7 @@ pub const NO_ERRORS: &str = "Errors: 0, warnings: 0\n";
 static PIECES: [(&[u8], usize); 20] = [
     (b"\x05\x00\x00\x01\x03\xC0\x03\xC1\x03\xB8", 1),
     (b"\x01\x02\x01\xD8\x03\xB8\x00\x00260307\x00\x42", 1),
-    // its length and its checksum
+    // the length and the checksum of the story
     (b"\x00\xF4\x1E\x6D", 1),
     (b"\x00", 34),
     (b"\x80\x00", 1),
@@ -36,7 +36,7 @@ static PIECES: [(&[u8], usize); 20] = [
     (b"\x03\x13\x19\x5D\xD3\xB0\xA5\x00", 1),
     (b"\x00", 482),
     (b"\x03.,\"\x09\x00\x00\x00", 1),
-    // its code
+    // the code of the story
     (
         b"\x00\x8F\x00\xF2\xBA\x00\x00\x00\x00\xB2\x35\x51\xC6\x85\xB0\x00",
         1,

@@ -18,7 +18,7 @@ use Rattle.inf_program.specs.definition.NextToken.{Position, at_front, behind_at
 use Rattle.inf_program.specs.definition.Fronts.{Course, Derives, Front, IsOpen, Progress, done_by, fresh_progress, is_whole, kept_atoms}
 use Rattle.inf_program.specs.definition.Fronts.{progress_of, reached}
 
--- Tokens that are passed over
+-- Definitions of tokens that are passed over
 
 -- the effect of the conditional directives among steps
 abbrev pub all_passed : List Step → Compilation → Compilation
@@ -72,7 +72,7 @@ abbrev pub AllSkipOn : Limits → Choices → ℕ → SkipState → Type 0
 AllSkipOn limits o zero k = Unit {0}
 AllSkipOn limits o (suc n) k = SkipsOn limits o k × AllSkipOn limits o n (skipped_on limits o k)
 
--- The bad token
+-- Definitions of the bad token
 
 -- the compilation behind a bad token
 abbrev pub cut_by : Limits → Context → SourceToken → Compilation → Compilation

@@ -18,7 +18,7 @@ use Rattle.inf_program.specs.definition.States.{AsksNothing, State, context_of}
 use Rattle.inf_program.specs.definition.Steps.{AllKept, Ends, Passes, Reads, Step}
 use Rattle.inf_program.specs.definition.NextToken.{Position, at_front, behind_at, steps_at, within}
 
--- Events of a text
+-- Definitions of events of a text
 
 -- the actions before the next token
 abbrev pub actions_first : List (Event Action) → List Action
@@ -40,7 +40,7 @@ are_over (e ∷ events) = false
 abbrev pub is_whole : List (Event Action) → List (Symbol Action) → Bool
 is_whole events left = are_over events && is_empty left
 
--- Statements that are over
+-- Definitions of statements that are over
 
 -- For each token of a text, the number of statements that hold others and are over behind it, whatever the next token is: the symbols
 -- behind it begin with the ends of these.
@@ -71,7 +71,7 @@ pub record Derives (symbols : List (Symbol Action)) (atoms : List ℕ) (course :
   pub leads : Leads grammar symbols atoms course.events left
   pub are_ends : ends_in leads ≡ course.ends
 
--- The effect of tokens
+-- Definitions of the effect of tokens
 
 -- The kept tokens of a piece so far, the number of statements that are over behind the last one, what is still to come of its text, and
 -- the compilation.
@@ -107,7 +107,7 @@ kept_atoms (Reads (Unfit t) ∷ steps) = kept_atoms steps
 kept_atoms (Passes m ∷ steps) = kept_atoms steps
 kept_atoms (Ends m ∷ steps) = kept_atoms steps
 
--- Tokens of a file
+-- Definitions of tokens of a file
 
 -- The state within a piece: the files that are open, with the conditionals and the compilation; the kept tokens of the piece so far; the
 -- number of statements that are over behind the last one; and what is still to come of its text.

@@ -56,7 +56,7 @@ context_of o s = record { names = s.nesting.names; set = s.nesting.cursor.set; s
 abbrev pub has_ended : State → Bool
 has_ended s = s.is_over || has_ended_at (record { reading = s.reading; work = s.work })
 
--- Files
+-- Definitions of files
 
 -- the conditionals that are open between the directives of a file, by their sides
 abbrev pub conditionals_of : List Side → List Conditional
@@ -110,7 +110,7 @@ included_by sources o unit text (OpensNone why) s = none_included unit text why 
 abbrev pub included : Sources → Choices → Place → List ℕ → State → State
 included sources o unit text s = included_by sources o unit text (inclusion sources o.directories text s.nesting) s
 
--- Requests of directives
+-- Definitions of requests of directives
 
 -- the state in which nothing is asked any more
 abbrev pub asked_nothing : State → State
@@ -137,7 +137,7 @@ handled sources o s = if s.is_supplied then s else carried_out sources o s
 abbrev pub AsksNothing : State → Type 0
 AsksNothing s = s.is_supplied ≡ false → s.work.asked ≡ Nothing
 
--- The end of a directive
+-- Definitions of the end of a directive
 
 -- whether the reading is between two directives, and in no conditional one
 abbrev pub is_resting : State → Bool

@@ -21,14 +21,16 @@ returns-in_err-check-clause-called g c =
 pub returns-in_err-start-clause-called : goal.returns-in_err-start-clause-called
 returns-in_err-start-clause-called g c =
     let before = c.args.self.now.session in
+    let reader = record before.progress.reader { machine = c.start.new.self } in
+    let after = record before { progress = record before.progress { reader = reader } } in
     let begin = begun_with_rule c.args.rule in
     let e : c.from_residual-in_err-start.result ≡ Err (UnitFault.Lost Fault.Memory) = search rules in
     subst (λ (a : Result Bool UnitFault). ReadsPart g.F.Files g.M.Sink g.B.Bounds.most begin (part_read g.B.Bounds.most) c.args.files.now
-    c.args.files.now c.args.messages.now c.args.messages.now before before a) (sym e)
+    c.args.files.now c.args.messages.now c.args.messages.now before after a) (sym e)
     (record {
       answers = λ going honest start nested kept. cc;
       lost = fails_at_once g.F.Files g.M.Sink g.B.Bounds.most c.args.files.now c.args.files.now c.args.messages.now c.args.messages.now
-          c.args.messages.now before before before {T = Bool} begin (Err (UnitFault.Lost Fault.Memory)) refl refl (λ s. refl) (λ s. refl)
+          c.args.messages.now before before after {T = Bool} begin (Err (UnitFault.Lost Fault.Memory)) refl refl (λ s. refl) (λ s. refl)
           refl;
       fault = tt;
       adds = (appends_none g.M.Sink c.args.messages.now, ((λ _. refl), refl));
