@@ -288,7 +288,7 @@ class Tables:
                 "use Rattle.inf_syntax.specs.declared.words.Keyword.{Keyword}\n"
                 "use Rattle.inf_syntax.specs.declared.words.Keyword.TheVariants as keyword\n\n"
                 "abbrev pub words : List (List ℕ)\nwords =\n" + listed + "\n    ∷ []\n\n"
-                "-- the same words as keywords, in the same order\n"
+                "-- the words of the grammar as keywords, in the order of `words`\n"
                 "unfoldable pub keywords : List Keyword\nkeywords =\n" + keywords + "\n    ∷ []\n")
 
     def set_term(self, name):
@@ -383,7 +383,7 @@ class Tables:
             for at, rule in enumerate(chunk):
                 rows = self.page.rules[rule]
                 head = "    " + ("∷ " if at else "")
-                out.append(f"    -- {rule_name(rule)}")
+                out.append(f"    -- the rows of rule `{rule_name(rule)}`")
                 out.append(head + "(" + "\n        ∷ ".join(self.row_term(rule, row) for row in rows) + "\n        ∷ [])")
             made[f"inf_syntax/specs/Table{number}.antt"] = "\n".join(out + ["    ∷ []", ""])
         return made
@@ -396,10 +396,10 @@ class Tables:
         rules = list(self.page.rules)
         return ("-- Facts computed of each rule, in the order of their numbers. Made from docs/grammar.txt; that they hold is proved.\n"
                 "use Rattle.std.specs.Prelude.{ℕ, List, [], ◌∷◌, Bool, true, false}\n\n"
-                "-- the atoms that begin it\n" + listed("beginnings", "ℕ", [hex(self.facts.begins[r]) for r in rules])
-                + "\n-- the atoms that may stand behind it\n" + listed("followers", "ℕ", [hex(self.facts.follows[r]) for r in rules])
-                + "\n-- whether it can be empty\n" + listed("empties", "Bool", ["true" if self.facts.empty[r] else "false" for r in rules])
-                + "\n-- more than the steps through it to a token\n" + listed("step_bounds", "ℕ", [str(self.facts.steps[r]) for r in rules]))
+                "-- the atoms that begin each rule\n" + listed("beginnings", "ℕ", [hex(self.facts.begins[r]) for r in rules])
+                + "\n-- the atoms that may stand behind each rule\n" + listed("followers", "ℕ", [hex(self.facts.follows[r]) for r in rules])
+                + "\n-- tells of each rule whether it can be empty\n" + listed("empties", "Bool", ["true" if self.facts.empty[r] else "false" for r in rules])
+                + "\n-- a number above that of the steps through each rule to a token\n" + listed("step_bounds", "ℕ", [str(self.facts.steps[r]) for r in rules]))
 
     # src/
 
@@ -452,7 +452,7 @@ class Tables:
         return (head + static("CLASSES", "The atoms of each class.", "Set", classes)
                 + static("PARTS", "The parts of all rows, row by row, the last part of a row first.", "Symbol<Do>", parts, 8)
                 + static("ROWS", "All rows, rule by rule.", "Row", rows)
-                + static("RULES", "Each rule.", "Rule", rules))
+                + static("RULES", "The rules, by their numbers.", "Rule", rules))
 
     def starts_code(self):
         listed = "".join(f"\n/// {means}\npub const {rule_name(rule).upper()}: u8 = {self.rule_numbers[rule]};\n" for rule, means in STARTS.items())

@@ -24,7 +24,7 @@ use std::alloc::AllocError;
 /// The use that is made of an expression.
 #[derive(Clone, Copy, Debug, PartialEq, Eq)]
 pub enum Use {
-    /// None: the expression is computed for its effect alone.
+    /// The value is used for nothing: the expression is computed for its effect.
     Nothing,
     /// An operand: its own where the expression is simple, and else the stack.
     Operand,

@@ -7,6 +7,6 @@ pub record Fixups : Type 0 where
   pub list : List Fixup
   pub limit : ℕ
 
--- other fixups under the same limit
+-- fixups with the list `list` in place of theirs, under their limit
 abbrev pub with_fixups : List Fixup → Fixups → Fixups
 with_fixups list fixups = record fixups { list = list }

@@ -1,6 +1,6 @@
 -- Bytes in pages.
 use Rattle.std.specs.{Global.Box, List.AllByRecursion, List.flat_map}
-use Rattle.std.specs.Prelude.{◌≡◌, ℕ, ◌*◌, ◌<◌, ◌≤◌, ◌^◌, List, length}
+use Rattle.std.specs.Prelude.{◌≡◌, ℕ, ◌+◌, ◌*◌, ◌<◌, ◌≤◌, ◌^◌, List, ◌++◌, length, take, drop}
 
 -- the bytes of pages, one behind the other
 abbrev pub page_bytes : List (Box (List ℕ)) → List ℕ
@@ -15,3 +15,7 @@ pub record IsPaged (pages : List (Box (List ℕ))) (len : ℕ) : Type 0 where
   pub whole : AreWhole pages
   pub within : len ≤ 1024 * length pages
   pub counted : 1024 * length pages < 2 ^ 63
+
+-- bytes with those from a place on set to others
+abbrev pub with_bytes : List ℕ → ℕ → List ℕ → List ℕ
+with_bytes bytes at others = take at bytes ++ others ++ drop (at + length others) bytes

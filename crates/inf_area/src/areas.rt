@@ -45,6 +45,16 @@ pub trait Area {
         Ok(())
     }
 
+    /// Appends the bytes of the area to `out`. It fails for want of memory alone.
+    fn append_to(&self, out: &mut Vec<u8>) -> Result<(), AllocError>
+        ensures { OnOk result (out.new.items ≡ out.old.items ++ bytes self.now) }
+    {
+        for place in 0..self.len() {
+            out.push(self.byte(place))?;
+        }
+        Ok(())
+    }
+
     /// Sets the byte at the place `at`, which is within the area.
     fn patch_byte(&mut self, at: usize, byte: u8)
         requires { at < length (bytes self.old) }
@@ -124,6 +134,10 @@ impl Area for FlatArea {
 
     fn append(&mut self, added: &[u8]) -> Result<(), AllocError> {
         self.content.extend_from_slice(added)
+    }
+
+    fn append_to(&self, out: &mut Vec<u8>) -> Result<(), AllocError> {
+        out.extend_from_slice(&self.content)
     }
 
     fn patch_byte(&mut self, at: usize, byte: u8) {

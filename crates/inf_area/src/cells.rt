@@ -16,7 +16,7 @@ pub enum Cell {
     Later(Target),
 }
 
-/// Why a table was not written.
+/// The reason why a table was not written.
 #[derive(Clone, Copy, Debug, PartialEq, Eq)]
 pub enum WriteFault {
     /// There would be more fixups than there may be.

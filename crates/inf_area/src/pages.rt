@@ -1,7 +1,7 @@
 //! Areas whose bytes are in pages.
-ghost use Rattle.std.specs.Prelude.{◌≡◌, ◌+◌, ◌*◌, ◌^◌, ◌<◌, ◌≤◌, ℕ, List, [], ◌∷◌, ◌++◌, length, take, drop, slice_index, slice_set, OnOk};
-ghost use Rattle.std.specs.Prelude.{OnErr};
-ghost use Rattle.inf_area.specs.Pages.{page_bytes, AreWhole};
+ghost use Rattle.std.specs.Prelude.{◌≡◌, ◌+◌, ◌*◌, ◌%◌, ◌^◌, ◌<◌, ◌≤◌, ℕ, List, [], ◌∷◌, ◌++◌, length, take, drop, slice_index, slice_set, OnOk};
+ghost use Rattle.std.specs.Prelude.{IfOk, OnErr};
+ghost use Rattle.inf_area.specs.Pages.{page_bytes, with_bytes, AreWhole};
 
 use crate::areas::Area;
 use crate::words::word_bytes;
@@ -44,6 +44,23 @@ impl PagedArea {
             len: 0,
         }
     }
+
+    // Appends bytes from the front of `added`, as many as the page of the next byte has room for, and returns how many they
+    // are. Where no memory is left for a page the area stays as it was.
+    fn append_piece(&mut self, added: &[u8]) -> Result<usize, AllocError>
+        requires { 0 < length added.now }
+        ensures count { IfOk result (λ count. (0 < count) × (count ≤ length added.now)) }
+        ensures ok { IfOk result (λ count. self.new ≡ self.old ++ take count added.now) }
+        ensures err { OnErr result (self.new ≡ self.old) }
+    {
+        if self.len / PAGE_LEN >= self.pages.len() {
+            add_page(self.alloc, &mut self.pages)?;
+        }
+        let count = added.len().min(PAGE_LEN - self.len % PAGE_LEN);
+        set_bytes(self.pages.as_mut_slice(), self.len, &added[..count]);
+        self.len += count;
+        Ok(count)
+    }
 }
 
 // Returns the byte at a place of the pages.
@@ -66,6 +83,26 @@ fn set_byte(pages: &mut [Page], at: usize, byte: u8)
     page[at % PAGE_LEN] = byte;
 }
 
+// Sets the bytes of a page from a place on.
+fn set_in_page(page: &mut Page, at: usize, bytes: &[u8])
+    requires whole { length page.old.value ≡ 1024 }
+    requires room { at + length bytes.now ≤ 1024 }
+    ensures { page.new.value ≡ with_bytes page.old.value at bytes.now }
+{
+    page[at..at + bytes.len()].copy_from_slice(bytes);
+}
+
+// Sets the bytes from a place of the pages on, all of which are in one page.
+fn set_bytes(pages: &mut [Page], at: usize, bytes: &[u8])
+    requires whole { AreWhole pages.old }
+    requires within { at < 1024 * length pages.old }
+    requires room { at % 1024 + length bytes.now ≤ 1024 }
+    ensures bytes { page_bytes pages.new ≡ with_bytes (page_bytes pages.old) at bytes.now }
+    ensures whole { AreWhole pages.new }
+{
+    set_in_page(&mut pages[at / PAGE_LEN], at % PAGE_LEN, bytes);
+}
+
 // Appends a page of zeros. There are at most as many pages as keep the number of bytes below 2 ^ 63, as for any list.
 fn add_page(alloc: Global, pages: &mut Vec<Page>) -> Result<(), AllocError>
     requires { AreWhole pages.old.items }
@@ -81,6 +118,29 @@ fn add_page(alloc: Global, pages: &mut Vec<Page>) -> Result<(), AllocError>
     }
     let page = Box::new(alloc, [0; PAGE_LEN])?;
     pages.push(page)?;
+    Ok(())
+}
+
+// Appends the first `count` bytes of a page to `out`.
+fn append_front(page: &Page, count: usize, out: &mut Vec<u8>) -> Result<(), AllocError>
+    requires whole { length page.now.value ≡ 1024 }
+    requires within { count ≤ 1024 }
+    ensures { OnOk result (out.new.items ≡ out.old.items ++ take count page.now.value) }
+{
+    out.extend_from_slice(&page[..count])
+}
+
+// Appends the first `len` bytes of the pages to `out`, a page at a time.
+fn append_pages(pages: &[Page], len: usize, out: &mut Vec<u8>) -> Result<(), AllocError>
+    requires { AreWhole pages.now }
+    ensures { OnOk result (out.new.items ≡ out.old.items ++ take len (page_bytes pages.now)) }
+{
+    let mut left = len;
+    for page in pages {
+        let count = left.min(PAGE_LEN);
+        append_front(page, count, out)?;
+        left -= count;
+    }
     Ok(())
 }
 
@@ -102,6 +162,26 @@ impl Area for PagedArea {
         set_byte(self.pages.as_mut_slice(), self.len, byte);
         self.len += 1;
         Ok(())
+    }
+
+    fn append(&mut self, added: &[u8]) -> Result<(), AllocError> {
+        let len = self.len();
+        let mut rest = added;
+        while !rest.is_empty() {
+            match self.append_piece(rest) {
+                Ok(count) => rest = &rest[count..],
+                Err(fault) => {
+                    let end = self.len();
+                    self.cut(len, end - len);
+                    return Err(fault);
+                }
+            }
+        }
+        Ok(())
+    }
+
+    fn append_to(&self, out: &mut Vec<u8>) -> Result<(), AllocError> {
+        append_pages(self.pages.as_slice(), self.len, out)
     }
 
     fn patch_byte(&mut self, at: usize, byte: u8) {

@@ -16,7 +16,7 @@ use inf_settings::bounds::Bounds;
 use std::alloc::{AllocError, AllocFailed, Global};
 use std::marker::{Model, PhantomData};
 
-/// Why an array was not opened, or has no more entries.
+/// The reason why an array was not opened, or has no more entries.
 #[derive(Clone, Copy, Debug, PartialEq, Eq)]
 pub enum ArrayFault {
     /// A `string` array would have more than 255 entries.

@@ -19,10 +19,10 @@ const MOST: usize = 235;
 // The number of variables of a story.
 const ALL: usize = 240;
 
-/// Why a variable was not added.
+/// The reason why a variable was not added.
 #[derive(Clone, Copy, Debug, PartialEq, Eq)]
 pub enum GlobalFault {
-    /// There are 235.
+    /// There are 235 variables already.
     TooMany,
     /// No memory was left.
     Memory,

@@ -57,7 +57,7 @@ long_bridge old new ((Of what) ∷ cells) n e =
     (ap (λ k. place_from nowhere (old + special_size what) (new + k) cells n) size ∙ long_bridge (old + special_size what)
     (new + special_size what) cells n (omega arith))
 
--- the references
+-- the fixups of cells at their final places are those at the places with long branches, less the bytes that were saved
 pub fixups_bridge : (long : Places) (saved old new : ℕ) (cells : List Cell) → old ≡ new + saved →
     kept_fixups long saved (kept_from old cells) ≡ closed_fixups long old new cells
 fixups_bridge long saved old new [] e = refl

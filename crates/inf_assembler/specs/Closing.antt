@@ -34,7 +34,7 @@ kept_place long saved [] number = None
 kept_place long saved (entry ∷ others) number =
     if marks number entry.what then Some (entry.place - saved) else kept_place long (saved + saving long entry) others number
 
--- no places
+-- the places of a routine of which no label has one
 abbrev pub nowhere : Places
 nowhere number = None
 

@@ -53,7 +53,7 @@ pub enum Limit {
     Refs,
 }
 
-/// Why a routine was not opened or did not grow.
+/// The reason why a routine was not opened or did not grow.
 #[derive(Clone, Copy, Debug, PartialEq, Eq)]
 pub enum GrowFault {
     /// The routine would pass a limit.
@@ -84,7 +84,7 @@ impl<T: Drop> From<AllocFailed<T>> for GrowFault {
     }
 }
 
-/// Why a routine was not closed.
+/// The reason why a routine was not closed.
 #[derive(Clone, Copy, Debug, PartialEq, Eq)]
 pub enum CloseFault {
     /// A label that a branch or jump goes to, and that no place is marked with, the first by use.

@@ -19,7 +19,7 @@ use Rattle.inf_bodies.specs.Objects.{class_of, entry_told, found_at, joined_faul
 abbrev pub last_at : List SourceToken → ℕ
 last_at tokens = length tokens - 1
 
--- Classes
+-- Definitions of classes
 
 abbrev pub class_finding : Option ℕ → Option WorldFault → ℕ → Option Finding
 class_finding None fault at = Some (wrong_kind (order at))
@@ -34,7 +34,7 @@ abbrev pub class_read : Limits → Context → Place → Compilation → Compila
 class_read limits context place w =
     let at = last_at w.unit.tokens in class_read_by limits context (first_place w.unit.tokens place) at (class_of (found_at at w)) w
 
--- Attributes
+-- Definitions of attributes
 
 abbrev pub attribute_in : Meaning → Option ℕ
 attribute_in (Meaning.Attribute number) = Some number
@@ -78,7 +78,7 @@ abbrev pub attribute_read : Limits → Context → Place → Compilation → Com
 attribute_read limits context place w =
     let at = last_at w.unit.tokens in attribute_read_by limits context (first_place w.unit.tokens place) at (attribute_of (found_at at w)) w
 
--- Properties
+-- Definitions of properties
 
 abbrev pub property_in : Meaning → Option ℕ
 property_in (Meaning.Property number is_additive) = Some number

@@ -21,7 +21,7 @@ use Rattle.inf_named_values.specs.declared.declarations.Declared.{Declared}
 use Rattle.inf_bodies.specs.declared.headers.Header.{Header}
 use Rattle.inf_bodies.specs.ShortNames.{bracketed, name_packed, packed_name, short_text}
 
--- Refusals of the world
+-- Definitions of refusals of the world
 
 -- the setting that bounds a count
 abbrev pub setting_of : WorldSetting → Setting
@@ -49,7 +49,7 @@ refused_finding (Some WorldFault.Memory) name = None
 abbrev pub entry_told : Limits → Context → Place → Option Finding → Compilation → Compilation
 entry_told limits context first f w = unit_ended limits context first false (found_alone f) w
 
--- Meanings of names
+-- Definitions of meanings of names
 
 abbrev pub found_at : ℕ → Compilation → Found Place
 found_at at w = found_in (bytes_at w.unit.tokens at) w.output.names
@@ -124,7 +124,7 @@ header_in tokens =
     let word = word_place tokens in
     if is_nearby (bytes_at tokens word) then below word (object_header_of word tokens) else object_header_of word tokens
 
--- Classes
+-- Definitions of classes
 
 -- a body is open that belongs to nothing, since something is wrong with its header
 abbrev pub lost_begun_by : Option WorldFault → Code
@@ -167,7 +167,7 @@ class_with limits context first name d w =
 abbrev pub class_header : Limits → Context → Place → Name → Compilation → Compilation
 class_header limits context first name w = class_with limits context first name (plainly_known name (name_order w.unit.tokens) w) w
 
--- Objects
+-- Definitions of objects
 
 -- the finding about arrows, the first of which is at a place: no object is above them
 abbrev pub hung_finding : Result ℕ Misfit → ℕ → Option Finding

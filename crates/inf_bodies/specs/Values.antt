@@ -143,7 +143,7 @@ value_read_at limits context first name w =
 abbrev pub value_read : Limits → Context → Place → Compilation → Compilation
 value_read limits context place w = value_read_at limits context (first_place w.unit.tokens place) (name_place w.unit.outer) w
 
--- Routines
+-- Definitions of routines
 
 -- the place of the bracket that opens one, which is the last of its unit
 abbrev pub bracket_step : ℕ → Option TokenKind → ℕ → ℕ

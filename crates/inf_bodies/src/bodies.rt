@@ -70,7 +70,7 @@ pub(crate) fn is_words(number: Option<usize>) -> bool
     }
 }
 
-// Classes and attributes
+// Functions for classes and attributes
 
 /// Returns the finding about the name of `class` at `at`: that the world refused the class by `fault`, or that there is
 /// no such class.
@@ -142,7 +142,7 @@ fn attribute_finding(number: Option<usize>, at: usize) -> Option<Finding>
     }
 }
 
-// Properties
+// Functions for properties
 
 /// Declares the name of individual property `number`, if there is a name.
 fn declare_individual<B: Bounds>(

@@ -125,7 +125,7 @@ pub(crate) fn tell_entry<B: Bounds>(
     compilation.end_alone(context, first, false, found)
 }
 
-// Classes
+// Functions for classes
 
 /// Ends the header of a class with `name`, which begins at `first`.
 pub fn class_header<B: Bounds>(
@@ -186,7 +186,7 @@ fn open_class<B: Bounds>(
     }
 }
 
-// Objects
+// Functions for objects
 
 /// Returns the number of the source's class that the word of a header names, if it names one.
 fn class_of_word<B: Bounds>(compilation: &Compilation<B>) -> Option<usize>

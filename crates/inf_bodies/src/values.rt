@@ -59,7 +59,7 @@ fn wrong_if(is_wrong: bool) -> Option<Finding>
     }
 }
 
-// Words of the dictionary
+// Functions for words of the dictionary
 
 /// Returns the leaf of an expression that has no other, or `None`.
 fn only_leaf(leaves: &[Leaf]) -> Option<Leaf>
@@ -82,7 +82,7 @@ fn text_value(has_variables: bool, text: &Text) -> Value
     }
 }
 
-// Routines
+// Functions for routines
 
 /// Returns the place of the last bracket: `at`, if that is one, or `bracket`.
 fn bracket_step(bracket: usize, at: usize, kind: Option<TokenKind>) -> usize
@@ -130,7 +130,7 @@ fn embedded_findings(own: Option<Finding>, are_locals: bool, header: Findings) -
     }
 }
 
-// Words of the dictionary
+// Functions for words of the dictionary
 
 /// Returns whether a character or a text is a word of the dictionary, as a value of the property whose name is at a
 /// place, or of the one that was given last.
@@ -233,7 +233,7 @@ fn place_text<B: Bounds>(
     Ok(found)
 }
 
-// Expressions
+// Functions for expressions
 
 /// Puts the value of the unit's expression, with which nothing is wrong, into a property, and returns the finding about
 /// it.
@@ -335,7 +335,7 @@ pub fn value_of_body<B: Bounds>(
     tell_entry(compilation, context, first, found)
 }
 
-// Routines
+// Functions for routines
 
 /// Returns the address of the next routine, as a value.
 fn next_routine<B: Bounds>(compilation: &Compilation<B>) -> Value

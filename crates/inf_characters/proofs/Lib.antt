@@ -4,3 +4,4 @@ pub mod Faults
 pub mod Pairs
 pub mod Pieces
 pub mod Plain
+pub mod Singles

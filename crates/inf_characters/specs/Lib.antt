@@ -2,3 +2,4 @@ pub mod Characters
 pub mod Items
 pub mod Numbers
 pub mod Reading
+pub mod Runs

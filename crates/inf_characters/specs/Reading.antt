@@ -1,4 +1,4 @@
--- How the bytes of a source are read as a text (Inform Designer's Manual, section 1.11 and table 2).
+-- The way in which the bytes of a source are read as a text (Inform Designer's Manual, section 1.11 and table 2).
 use Rattle.std.specs.Prelude.{◌≡◌, ℕ, zero, suc, ◌+◌, ◌-◌, ◌*◌, ◌==◌, nat_lt, nat_le, Bool, false, not, ◌&&◌, ◌||◌, Option, Some, None}
 use Rattle.std.specs.Prelude.{Result, Ok, Err, List, [], ◌∷◌, ◌++◌, length, take, drop, replicate, codes, if◌then◌else◌}
 use Rattle.std.specs.List.{list_any, prefix_len}

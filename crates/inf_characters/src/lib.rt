@@ -7,6 +7,7 @@ mod characters;
 mod escapes;
 mod numbers;
 mod reading;
+mod runs;
 mod texts;
 
 pub use characters::{CharSet, Zscii, is_line_end, is_white, source_char};

@@ -2,7 +2,7 @@
 ghost use Rattle.std.specs.Prelude.{◌≡◌, ◌<◌, ◌≤◌, IfSome, length};
 ghost use Rattle.inf_characters.specs.{Numbers.capped, Reading.digit_of, Reading.number_from};
 
-/// A number that no character and no code has. A greater one is read as this.
+/// A number that no character and no code has; a greater number is read as `LIMIT`.
 const LIMIT: u32 = 65536;
 
 /// Returns the value of a digit of the base, or `None` where `byte` is none.

@@ -1,4 +1,4 @@
-//! How the bytes of a source are read as a text.
+//! The way in which the bytes of a source are read as a text.
 ghost use Rattle.std.specs.{List.list_all, List.list_any, Result.is_ok};
 ghost use Rattle.std.specs.Prelude.{◌≡◌, ◌<◌, ◌≤◌, ◌^◌, ◌∷◌, ◌++◌, IfErr, IfOk, OnOk, length, replicate, false, true};
 ghost use Rattle.inf_characters.specs.{Characters.is_line_end, Numbers.IsPieceOf, declared.characters.CharSet.CharSet as Set};
@@ -7,6 +7,7 @@ ghost use Rattle.inf_characters.specs.Reading.{Reads, is_new_line_mark, is_plain
 
 use crate::characters::{CharSet, Zscii, is_line_end, is_white, source_char};
 use crate::escapes::escape_piece;
+use crate::runs::{push_characters, run_len};
 use crate::texts::{Text, TextItem};
 use std::alloc::{AllocError, AllocFailed, Global};
 use thiserror::Error;
@@ -22,7 +23,7 @@ pub enum Mode {
     Abbreviation,
 }
 
-/// Why a text can't be read.
+/// The reason why a text can't be read.
 #[derive(Clone, Copy, Debug, PartialEq, Eq, Drop, Error)]
 pub enum TextFault {
     /// An `@` without an escape behind it.
@@ -93,10 +94,17 @@ pub fn read_text(alloc: Global, bytes: &[u8], set: CharSet, mode: Mode) -> Resul
     let mut rest = bytes;
     let mut after_mark = false;
     while let Some((first, tail)) = rest.split_first() {
-        let piece = piece_at(set, mode, after_mark, *first, tail)?;
-        push_times(&mut items, &piece.item, piece.count)?;
-        rest = &tail[piece.behind..];
-        after_mark = piece.is_mark;
+        let len = run_len(rest);
+        if len > 0 {
+            push_characters(&mut items, &rest[..len])?;
+            rest = &rest[len..];
+            after_mark = false;
+        } else {
+            let piece = piece_at(set, mode, after_mark, *first, tail)?;
+            push_times(&mut items, &piece.item, piece.count)?;
+            rest = &tail[piece.behind..];
+            after_mark = piece.is_mark;
+        }
     }
     Ok(Text::from_items(items))
 }
@@ -114,7 +122,12 @@ pub fn are_plain(bytes: &[u8]) -> bool
 fn all_plain(bytes: &[u8]) -> bool
     ensures { result ≡ list_all is_plain bytes.now }
 {
-    bytes.iter().all(|byte| is_plain(*byte))
+    // The loop goes on behind a byte that is not plain, so that many are looked at at once.
+    let mut plain = true;
+    for byte in bytes {
+        plain = plain & is_plain(*byte);
+    }
+    plain
 }
 
 /// Returns whether a byte of a text is a character or white space by itself.

@@ -94,7 +94,7 @@ module _ (limits : CodeLimits) (finished : ℕ) (refs : Fixups) (bytes new : Lis
     behind = record { start = holds.start ∙ is.behind.start; open_still = holds.open_still; limits = holds.limits ∙ is.behind.limits };
   }
 
--- or it is refused
+-- a call that makes code or is refused, and then leaves it as it was
 pub code_or_same : {T E : Type 0} (limits : CodeLimits) (finished : ℕ) (refs : Fixups) (bytes new : List ℕ) (routine longer : State)
     (contents : Contents) → IsCode limits finished refs bytes (Some routine)
     → (r : Result T E) → OnOk r (Holds contents routine bytes longer new) → OnErr r ((longer ≡ routine) × (new ≡ bytes)) → IsCode limits

@@ -106,7 +106,7 @@ no_work settings = record {
   told = record { release = 1; serial = None };
 }
 
--- Letters
+-- Definitions of letters
 
 -- All that were said so far hold from now on: the next routine and the next string are filled up as the version wants it, texts are packed
 -- with abbreviations or without them, the language has the name `DEBUG` or has it not, and warnings are told or not.
@@ -121,7 +121,7 @@ letters_chosen letters w =
       report = warnings_chosen (warns letters) w.report;
     }
 
--- Units
+-- Definitions of units
 
 -- A piece begins. No locals of a routine before it are known in it.
 abbrev pub piece_begun : Compilation → Compilation
@@ -237,7 +237,7 @@ abbrev pub is_class : TokenKind → List ℕ → Compilation → Bool
 is_class TokenKind.Name bytes w = names_class (found_in bytes w.output.names)
 is_class _ bytes w = false
 
--- Expressions of the unit at hand
+-- Definitions of expressions of the unit at hand
 
 abbrev pub operands_of : Compilation → List Operand
 operands_of w = all_looked w.locals w.output w.unit.tokens w.unit.gathering.leaves
@@ -262,7 +262,7 @@ trees_at first wanted operands w = trees_of wanted first operands w.unit.gatheri
 abbrev pub passed : Bool → Compilation → Compilation
 passed has_last w = record w { unit = over has_last w.unit }
 
--- A routine
+-- Definitions of a routine
 
 -- A header, which begins at a place, opens a routine with its locals. With an error it still declares its name, where that
 -- is free, and its locals. Z-Machine Standard 1.1, section 5.2.
@@ -356,7 +356,7 @@ close_open limits context place w = code_closed limits context place (cases_ende
 abbrev pub close : Limits → Context → Place → Compilation → Compilation
 close limits context place w = if w.is_replaced then passed true w else close_open limits context place w
 
--- Directives, which begin at a place
+-- Definitions of directives, which begin at a place
 
 -- Text of the unit, in the character set of the sources.
 abbrev pub words_of : CharSet → Unit → Words

@@ -174,7 +174,7 @@ are_plain in_memory (s ∷ symbols) plain = are_plain in_memory symbols (plain &
 abbrev pub symbols_heard : List Symbol → Crowd → Crowd
 symbols_heard symbols c = record c { tells = c.tells || not (are_plain (are_in_memory symbols false) symbols true) }
 
--- The value at hand
+-- Definitions of the value at hand
 
 -- The parts of a unit behind those of the values that are kept come, one kind after the other.
 abbrev pub value_leaves : Settings → List Local → Out → List SourceToken → List Leaf → Crowd → Crowd

@@ -8,7 +8,7 @@ use Rattle.inf_report.specs.declared.messages.FixedLimit.{FixedLimit}
 use Rattle.inf_unit.specs.{Messages.Diagnostic, Messages.FileNames, Messages.location, Messages.message_of, Tokens.SourceToken, Tokens.told}
 use Rattle.inf_compilation.specs.Words.{nowhere}
 
--- Expressions
+-- Definitions of expressions
 
 -- Message of an error at a token, and its place.
 abbrev pub blame_at : UnitError → Option SourceToken → Diagnostic
@@ -30,7 +30,7 @@ pub record Findings : Type 0 where
   pub many : FixedLimit
   pub again : Option Again
 
--- Names
+-- Definitions of names
 
 -- A name that is declared already, if the names refuse it: names of the language, and first declarations, stay as they are. That
 -- there are too many names is no error of the unit.
@@ -50,7 +50,7 @@ again_message files bytes (Some first) = Declared bytes (location files first)
 abbrev pub again_told : FileNames → Again → Diagnostic
 again_told files a = record { place = a.name.place; message = again_message files a.name.bytes a.first }
 
--- Units
+-- Definitions of units
 
 -- Finding that there is one more than there may be, which is told of the first token.
 abbrev pub many_finding : Bool → Option Finding
@@ -76,7 +76,7 @@ told_of files tokens first (Some f) all = told_by f.error files tokens first f a
 abbrev pub told_as : FileNames → List SourceToken → Place → Findings → Option Diagnostic
 told_as files tokens first all = told_of files tokens first all.least all
 
--- Headers
+-- Definitions of headers
 
 -- A local that is named again.
 abbrev pub again_local : Option Repeated → Option Again

@@ -218,7 +218,7 @@ stops_ending limits sources o serial was now old mid new turns w over t = record
       subst (λ (x : State). IsFront (w.lines ++ t.front) (ending_of limits o serial x).messages) same (t.begins w.lines);
 }
 
--- where the messages of the veneer were not all written, or nothing behind them
+-- Lemmas for the case that the messages of the veneer were not all written, or nothing behind them
 
 pub supplies_early : {B : Type 0} (limits : Limits) (o : Choices) (was now : Session B) (old new : Option (List ℕ))
     → SuppliesAll limits o was now old new → SuppliesPart limits o was old new
@@ -275,7 +275,7 @@ early_ending limits sources o was session start opened old mid new turns w over 
           subst (λ (x : State). IsFront (w.lines ++ t.front) (supplied limits o x).told) same (t.begins w.lines);
     }
 
--- Want of memory
+-- Lemmas about want of memory
 
 pub memory_any : (f : Fault) (A : Type 0) → A → IfMemory f A
 memory_any Fault.Memory A holds = holds
@@ -334,7 +334,7 @@ pub if_ok_both : {T E : Type 0} (r : Result T E) (P Q : T → Type 0) → IfOk r
 if_ok_both (Ok x) P Q p q = (p, q)
 if_ok_both (Err fault) P Q p q = tt
 
--- A main source that is there
+-- Lemmas about a main source that is there
 
 outcome_of : (x : Option (List ℕ)) (s : Sources) (o : Choices) (serial name : List ℕ) (e : Outcome) → (x ≡ None → ⊥) →
     IsCompiled s o serial name e → IsOutcomeOf x s o serial name e

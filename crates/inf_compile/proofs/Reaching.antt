@@ -24,7 +24,7 @@ use Rattle.inf_ending.specs.Ending.{Outcome, missing}
 use Rattle.inf_session.proofs.{Leadings.run_going, Leadings.run_sum, Stepping.end_ends}
 use Rattle.inf_compile.specs.{Outcome.IsOutcomeOf, Outcome.ending_of, OutcomeLaws.OutcomesExist}
 
--- A turn
+-- Lemmas about a turn
 
 -- the rests of files that wait, whatever character set they are read by
 abbrev rests : List Waiting → List (List ℕ)
@@ -155,7 +155,7 @@ turn_goes limits sources o s =
       | inr m ↦ inr m
     ]
 
--- Turns
+-- Lemmas about turns
 
 -- The innermost file was left for the one around it.
 abbrev Popped : List (List ℕ) → State → Type 0
@@ -258,7 +258,7 @@ reach limits sources o (suc room) n =
     by_rest limits sources o (suc room) (λ inner is m. subst (λ (k : ℕ). AllReach limits sources o k m) (omega (arith, is))
     (reach limits sources o room m)) n
 
--- An outcome
+-- Lemmas about an outcome
 
 outcome_by : (x : Option (List ℕ)) (sources : Sources) (o : Choices) (serial name : List ℕ) →
     (e : Outcome) × IsOutcomeOf x sources o serial name e

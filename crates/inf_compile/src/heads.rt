@@ -33,7 +33,7 @@ pub fn read_head<F: Files>(open_files: &mut OpenFiles, files: &mut F) -> Result<
         StopsInHead (head_front (nesting (F.sources files.old) start (F.openings files.old) open_files.old).cursor)
         (open_files.new.lexer.window.given - 16777216) (unread (F.sources files.old) (F.openings files.new)))) }
 
-    // These hold with any reader.
+    // The clauses below hold with any reader.
     ensures went { Went F.Files files.old files.new open_files.old open_files.new }
     ensures fits { OnOk result (StaysFit F.Files files.old files.new open_files.old) }
     ensures failed { open_files.new.lexer.has_failed ≡ is_err result }

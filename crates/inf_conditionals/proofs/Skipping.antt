@@ -12,7 +12,7 @@ use Rattle.inf_conditionals.specs.{Open.Conditions, Words.word_of, declared.filt
 use Rattle.inf_conditionals.specs.{declared.words.ConditionalWord.ConditionalWord}
 use Rattle.inf_conditionals.specs.Judging.{judged, judged_by, offered, passed, passed_by}
 
--- Words of conditionals
+-- Lemmas about words of conditionals
 
 -- Tells whether bytes without capitals have five to seven letters, of which the first is that of `else` or of `if`.
 abbrev looks : List ℕ → Bool
@@ -86,7 +86,7 @@ other_is_no_word s other =
     ∙ ap (λ (b : Bool). nat_lt 4 (length (lowered s)) && b) (and-false (nat_lt (length (lowered s)) 8))
     ∙ and-false (nat_lt 4 (length (lowered s))))
 
--- Tokens
+-- Lemmas about tokens
 
 -- In a side that is left out a token only passes if it is neither the end nor a `#` nor a word of a conditional.
 pub only_passes : (c : Conditions) (kind : TokenKind) (bytes : List ℕ) → is_some c.left_out ≡ true → is_end kind ≡ false

@@ -14,7 +14,7 @@ use Rattle.inf_conditionals.specs.ReadAgain.{IsReadBy, all_fit, all_taken, condi
 use Rattle.inf_conditionals.specs.Waiting.{CanWait, IsAdded, waiting_in}
 use Rattle.inf_conditionals.specs.{declared.open_conditions.Waiting.Waiting}
 
--- One token more
+-- Lemmas about one token more
 
 -- nothing was taken where a condition begins
 pub begun_is : (ts : List SourceToken) (stack : List (Symbol Action)) (u : Unit) → ts ≡ [] → stack ≡ condition_begun.stack → u ≡ no_unit →
@@ -57,7 +57,7 @@ read_by_more ts t k new is fit e = (
   e ∙ ap (λ (c : Condition). condition_took t c) is.1 ∙ sym (taken_more ts t condition_begun),
 )
 
--- Tokens one by one
+-- Lemmas about tokens one by one
 
 pub drop_at : (ts : List SourceToken) (at : ℕ) (t : SourceToken) → slice_get ts at ≡ Some t → drop at ts ≡ t ∷ drop (suc at) ts
 drop_at ts at t e =
@@ -115,7 +115,7 @@ all_added before ts now at e a = a ∙ ap (λ (l : List SourceToken). before ++ 
 pub added_undone : (before more now : List SourceToken) → now ≡ before ++ more → take (length before) now ≡ before
 added_undone before more now e = ap (λ (l : List SourceToken). take (length before) l) e ∙ take-append_seam before more
 
--- The last condition that waits
+-- Lemmas about the last condition that waits
 
 pub last_waits : (ws now : List Waiting) (w : Waiting) (tokens : List SourceToken) → now ≡ ws ++ w ∷ [] →
     waiting_in (reverse now) tokens ≡ waiting_in (w ∷ reverse ws) tokens

@@ -15,7 +15,7 @@ pub record Condition : Type 0 where
   pub stack : List (Symbol Action)
   pub unit : Unit
 
--- The tokens of a condition
+-- Definitions of the tokens of a condition
 
 -- the rule of the pieces
 abbrev pub piece_rule : ℕ
@@ -42,7 +42,7 @@ is_none_left (symbol ∷ symbols) = false
 abbrev pub is_whole : Condition → Bool
 is_whole k = is_none_left k.stack
 
--- The value of a condition
+-- Definitions of the value of a condition
 
 abbrev pub tree_in : Rooted → Tree
 tree_in r = r.tree

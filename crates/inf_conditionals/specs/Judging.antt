@@ -45,7 +45,7 @@ given_up c = record c { pending = []; conditions = [] }
 abbrev pub unfit : Conditions → Behind
 unfit c = record { now = given_up c; judged = record none_handed { token = Some Forwarded.Unfit } }
 
--- The end of a conditional directive
+-- Definitions of the end of a conditional directive
 
 -- the result where the directive has no conditional to end or to turn; among tokens that are passed over this is not reported
 abbrev pub unmatched : Bool → Place → Conditions → Behind
@@ -72,7 +72,7 @@ effected e is_quiet p c =
     let b = effected_by e is_quiet p c in
     record b { judged = record b.judged { ended = if is_quiet then None else Some p.place } }
 
--- The tokens of a conditional directive
+-- Definitions of the tokens of a conditional directive
 
 -- the conditionals with one more directive that is being read, inside the others
 abbrev pub awaiting : Place → Bool → Awaits → Conditions → Conditions
@@ -118,7 +118,7 @@ named TokenKind.Name bytes if_declared o p c =
     passed (awaiting p.place p.is_inner (Awaits.End (Effect.Opens (is_kept if_declared o c.declared bytes))) c)
 named _ bytes if_declared o p c = unfit c
 
--- A token of a condition
+-- Definitions of a token of a condition
 
 -- the conditionals with a message about a condition; among tokens that are passed over there is none
 abbrev pub saying : Bool → Option Said → Conditions → Conditions
@@ -160,7 +160,7 @@ awaited (Awaits.Name if_declared) site o t p c = named t.kind t.bytes if_declare
 awaited (Awaits.Condition wanted) site o t p c = asked c.conditions wanted site o t p c
 awaited (Awaits.End e) site o t p c = if is_mark Mark.Semicolon t.kind then effected e site.is_quiet p c else unfit c
 
--- A token of a kept side
+-- Definitions of a token of a kept side
 
 -- the conditionals with a `#` that is held back
 abbrev pub held : Bool → Place → Conditions → Conditions
@@ -219,7 +219,7 @@ behind_sign None place site o t c =
     let b = offered false site o t s.now in
     record b { judged = record b.judged { sign = sign_handed place s.judged.token } }
 
--- A token of a side that is left out
+-- Definitions of a token of a side that is left out
 
 -- The conditionals behind a word of a conditional. One that ends the side begins a directive, which has no effect of its own any more.
 abbrev pub word_passed : ConditionalWord → Place → LeftOut → Conditions → Conditions
@@ -238,7 +238,7 @@ in_side site o t side c =
     if is_end t.kind then offered false site o t (record c { left_out = None; sign = None })
     else passed (passed_by (word_of (keyword t)) t side c)
 
--- Any token
+-- Definitions of any token
 
 abbrev pub judged_by : Option LeftOut → Option Place → Site → Out → SourceToken → Conditions → Behind
 judged_by (Some side) sign site o t c = in_side site o t side c
@@ -248,7 +248,7 @@ judged_by None None site o t c = offered (site.is_between && is_none_pending c.p
 abbrev pub judged : Site → Out → SourceToken → Conditions → Behind
 judged site o t c = judged_by c.left_out c.sign site o t c
 
--- The places where a part of the reading may end
+-- Definitions of the places where a part of the reading may end
 
 -- Tells whether the word of this directive has acted already.
 abbrev pub has_acted : Awaits → Bool

@@ -54,7 +54,7 @@ latest_among (c ∷ inner) among = c ∷ inner
 abbrev pub latest : Conditions → List Conditional
 latest c = latest_among c.inner c.among
 
--- these conditionals, with the first one in its second side
+-- conditionals of a list, with the first one in its second side
 abbrev pub turned_first : List Conditional → List Conditional
 turned_first [] = []
 turned_first (c ∷ cs) = record c { is_second = true } ∷ cs

@@ -30,7 +30,7 @@ abbrev pub with_right : Limits → Option Said → Code
 with_right limits (Some (Right tokens leaves)) o = actions_added limits tokens leaves o
 with_right limits _ o = o
 
--- Errors
+-- Definitions of errors
 
 -- the message of an error at a token, and its place
 abbrev pub blame_at : Place → UnitError → Option SourceToken → Diagnostic
@@ -50,7 +50,7 @@ abbrev pub told_by : Place → Condition → Option Finding → Option Said
 told_by directive k None = Some (right k)
 told_by directive k (Some f) = Some (wrong directive k f)
 
--- Sizes
+-- Definitions of sizes
 
 -- the most brackets that stand in one another
 abbrev pub most_nested : ℕ

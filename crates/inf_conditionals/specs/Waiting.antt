@@ -4,7 +4,7 @@ use Rattle.inf_unit.specs.Tokens.{SourceToken}
 use Rattle.inf_conditionals.specs.{Condition.Condition, Condition.condition_begun, declared.open_conditions.Waiting.Waiting}
 use Rattle.inf_conditionals.specs.ReadAgain.{IsReadBy, all_fit, all_taken}
 
--- This many tokens were added behind others, and they are those that the condition has taken.
+-- Behind the tokens `before` the tokens that the condition has taken were added, `count` of them.
 pub record IsAdded (count : ℕ) (k : Condition) (before now : List SourceToken) : Type 0 where
   pub few : List SourceToken
   pub count_is : count ≡ length few

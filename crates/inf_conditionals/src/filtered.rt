@@ -5,11 +5,11 @@ use inf_scanner::Place;
 /// The way in which a token is handed on to the machine of the grammar.
 #[derive(Clone, Copy, Debug, PartialEq, Eq)]
 pub enum Forwarded {
-    /// As one that is kept.
+    /// The token is kept: the grammar gets it.
     Kept,
-    /// As one that does not fit.
+    /// The token does not fit where it is.
     Unfit,
-    /// Not at all: it is taken by a condition.
+    /// The token belongs to a condition, and the grammar does not get it.
     Condition,
 }
 
@@ -34,11 +34,11 @@ pub struct Filtered {
 /// The place in the reading at which a token comes.
 #[derive(Clone, Copy, Debug, PartialEq, Eq)]
 pub struct Site {
-    /// Between the pieces of a source.
+    /// Tells whether the token is between the pieces of a source.
     pub is_between: bool,
-    /// Among tokens that are passed over behind a bad one.
+    /// Tells whether the token is among those that are passed over behind a bad one.
     pub is_quiet: bool,
-    /// The most tokens that a condition may have there.
+    /// The most tokens that a condition may have.
     pub longest: usize,
 }
 

@@ -24,7 +24,7 @@ pub(crate) struct OpenConditions {
     alloc: Global,
     /// The innermost condition, unless it waits to be read again.
     innermost: Option<Condition>,
-    /// Those that wait, inner ones last.
+    /// The conditions that wait for one inside of them, inner ones last.
     waiting: Vec<Waiting>,
     /// The tokens of those among them that are short.
     tokens: UnitTokens,

@@ -13,7 +13,7 @@ pub enum Effect {
     Turns,
     /// The latest conditional is closed.
     Closes,
-    /// Nothing: its word ended a side that was left out.
+    /// The directive waits for nothing: its word ended a side that was left out.
     Nothing,
 }
 

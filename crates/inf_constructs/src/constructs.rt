@@ -22,11 +22,11 @@ use std::marker::Model;
 /// The objects that a loop over objects goes over.
 #[derive(Clone, Copy, Debug, PartialEq, Eq)]
 pub enum Over {
-    /// None: the unit of the loop is not whole, or had an error.
+    /// The loop goes over no objects: its unit is not whole, or had an error.
     Nothing,
     /// The children of an object.
     Children,
-    /// All objects.
+    /// The loop goes over all objects.
     All,
 }
 

@@ -31,7 +31,7 @@ abbrev pub or_error : Result (List TextItem) TextFault → Result (List TextItem
 or_error (Ok items) = Ok items
 or_error (Err fault) = Err (fault_error fault)
 
--- Abbreviations
+-- Definitions of abbreviations
 
 -- Whether there are as many abbreviations as there may be: of three banks with 32 texts each, the first has the string variables.
 abbrev pub has_most_abbreviations : Out → Bool
@@ -102,7 +102,7 @@ abbreviation limits context place w =
 abbrev pub abbreviate_header : Limits → Context → Place → Compilation → Compilation
 abbreviate_header limits context first w = unit_ended limits context first false (found_alone None) w
 
--- Low strings with names
+-- Definitions of low strings with names
 
 -- a name whose declaration has an error stands for 0
 abbrev pub named_nothing : Limits → Name → Code

@@ -22,7 +22,7 @@ use Rattle.inf_unit.specs.{Tokens.SourceToken, Units.bytes_at, Units.first_place
 use Rattle.inf_named_values.specs.{Declarations.declared_ended, Declarations.name_declared, Declarations.plainly_known, Values.looked_value}
 use Rattle.inf_named_values.specs.{Values.value_of, Values.variables_from, declared.declarations.Declared.Declared}
 
--- The header
+-- Definitions of the header
 
 -- the kind of an array, by the token behind its name
 abbrev pub kind_named : List ℕ → ArrayKind
@@ -82,7 +82,7 @@ abbrev pub array_named : Limits → Context → Place → List Name → Compilat
 array_named limits context first [] w = passed false w
 array_named limits context first (name ∷ names) w = array_header limits context first name w
 
--- Entries
+-- Definitions of entries
 
 -- The first entry is alone where it is the last one, too: as a number it asks for that many zeros, and as a text for its
 -- characters.

@@ -11,7 +11,7 @@ use Rattle.inf_unit.specs.Units.{quoted_in}
 use Rattle.inf_compilation.specs.{Context.Context, Findings.found_alone}
 use Rattle.inf_compilation.specs.Actions.{Compilation, finding_at, operands_of, trees_at, unit_ended}
 
--- Releases
+-- Definitions of releases
 
 -- the number of an expression, where it is known
 abbrev pub known_number : List Tree → Option ℕ
@@ -44,7 +44,7 @@ release limits context first w =
     release_with limits context first (known_number (map tree_in (trees_at 0 Wanted.Constant (operands_of w) w)))
     (finding_at 0 Wanted.Constant w) w
 
--- Serial numbers
+-- Definitions of serial numbers
 
 abbrev pub is_digit : ℕ → Bool
 is_digit byte = nat_le 48 byte && nat_le byte 57

@@ -47,7 +47,7 @@ fn read_or_error(
     }
 }
 
-// Abbreviations
+// Functions for abbreviations
 
 /// Returns whether there are as many abbreviations as there may be.
 fn has_most_abbreviations<B: Bounds>(out: &Output<B>) -> bool
@@ -200,7 +200,7 @@ pub fn abbreviate_header<B: Bounds>(
     compilation.end_unit(context, first, false, &Findings::none())
 }
 
-// Low strings
+// Functions for low strings
 
 /// Declares `name` as 0.
 fn name_nothing<B: Bounds>(name: &Name, out: &mut Output<B>) -> Result<(), AllocError>

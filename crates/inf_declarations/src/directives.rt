@@ -37,7 +37,7 @@ use std::alloc::AllocError;
 /// The greatest number of locals of a routine that `Stub` makes (Designer's Manual, fourth edition, section 25).
 const MOST_STUB_LOCALS: u16 = 4;
 
-/// Keeps the first of these names as that of a routine that is to be replaced, and uses it.
+/// Keeps the first of `names` as that of a routine that is to be replaced, and uses it.
 pub fn replace<B: Bounds>(
     compilation: &mut Compilation<B>,
     context: &Context<'_>,

@@ -20,7 +20,7 @@ use std::alloc::AllocError;
 /// The number of digits of a serial number.
 const SERIAL_DIGITS: usize = 6;
 
-// Releases
+// Functions for releases
 
 /// Returns the number of the expression in `forest`, where it is known.
 fn known_number(forest: &Forest) -> Option<u16>
@@ -107,7 +107,7 @@ pub fn release<B: Bounds>(
     release_with(compilation, context, first, number, found)
 }
 
-// Serial numbers
+// Functions for serial numbers
 
 fn is_digit(byte: u8) -> bool
     ensures { result ≡ is_digit byte }

@@ -6,7 +6,7 @@ ghost use Rattle.inf_devices.specs.declared.files.OpenFault.TheVariants.{Memory}
 
 use std::alloc::{AllocError, AllocFailed};
 
-/// Why a source could not be opened.
+/// The reason why a source could not be opened.
 #[derive(Clone, Copy, Debug, PartialEq, Eq)]
 pub enum OpenFault {
     /// No source has the name.
@@ -33,7 +33,7 @@ impl<T: Drop> From<AllocFailed<T>> for OpenFault {
     }
 }
 
-/// Why a source could not be read further.
+/// The reason why a source could not be read further.
 #[derive(Clone, Copy, Debug, PartialEq, Eq)]
 pub enum ReadFault {
     /// The device failed.

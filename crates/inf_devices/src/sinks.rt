@@ -1,7 +1,7 @@
 ghost use Rattle.std.specs.Prelude.{◌≡◌, ℕ, ◌<◌, ◌≤◌, List, Option, IsErr, IfOk, OnOk, IfErr, length, take};
 ghost use Rattle.inf_devices.specs.{Files.Rose, Sinks.Takes, Sinks.Writes};
 
-/// Why a sink took nothing.
+/// The reason why a sink took nothing.
 #[derive(Clone, Copy, Debug, PartialEq, Eq)]
 pub enum SinkFault {
     /// The device failed.

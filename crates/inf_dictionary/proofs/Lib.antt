@@ -1,3 +1,4 @@
+pub mod Again
 pub mod Ranks
 pub mod Wholes
 pub mod Halves

@@ -1,6 +1,6 @@
 //! The words of a story, and how they are written.
 ghost use Rattle.std.specs.Prelude.{◌≡◌, ◌<◌, ◌≤◌, ◌++◌, ◌∷◌, [], None, OnOk, OnErr, IfErr, IfOk, IfNone, IfSome, IsNone, MatchResult};
-ghost use Rattle.std.specs.Prelude.{length, unwrap_or};
+ghost use Rattle.std.specs.Prelude.{Some, length, true, unwrap_or};
 ghost use Rattle.inf_dictionary.specs.{Texts.AreRising, Texts.AreWhole, Texts.texts_of, declared.dictionary.AddFault.TheVariants.Memory};
 ghost use Rattle.inf_dictionary.specs.Words.{add_fault, dictionary_bytes, entry_bytes, first_misfit, is_misfit, verb_of, with_use, word_of};
 ghost use Rattle.inf_settings.specs.declared.setting.Setting.{Setting};
@@ -51,6 +51,13 @@ impl<B: Bounds> Model for Dictionary<B> {
 
     ghost invariant = { λ d. (length d.words.entries ≤ d.limit) × AreRising (texts_of d.words.entries) × AreWhole
         (texts_of d.words.entries) };
+}
+
+/// Returns whether `before` is `word`: a use that leads from one to the other says nothing new.
+fn is_known(before: Option<Word>, word: Word) -> bool
+    ensures { result ≡ true → before ≡ Some word }
+{
+    before == Some(word)
 }
 
 /// Appends the bytes of a word's entry.
@@ -113,8 +120,12 @@ impl<B: Bounds> Dictionary<B> {
         if let Some(fault) = self.add_fault(before, word_use) {
             return Err(fault);
         }
-        self.words
-            .insert(text, joined(before, word_use, is_plural))?;
+        let word = joined(before, word_use, is_plural);
+        // Most uses say nothing new.
+        if is_known(before, word) {
+            return Ok(());
+        }
+        self.words.insert(text, word)?;
         Ok(())
     }
 

@@ -142,9 +142,9 @@ pub struct StoryPlace<'r> {
 enum Look {
     /// No look told whether there is one.
     Unknown,
-    /// There is none.
+    /// The story's file is not there.
     Absent,
-    /// There is one, with these numbers.
+    /// The story's file is there, with these numbers.
     File(FileNumbers),
 }
 

@@ -21,7 +21,7 @@ pub takes_none : (old : Option (List ℕ)) → Takes old old []
 takes_none None = refl
 takes_none (Some before) = ap (λ l. Some l) (sym (append-nil before))
 
--- nothing was written
+-- a device that took nothing took a front of any lines
 pub takes_no_front : (lines : List ℕ) (old : Option (List ℕ)) → TakesFront lines old old
 takes_no_front lines old = record { front = []; takes = takes_none old; begins = record { rest = lines; is_cut = refl } }
 

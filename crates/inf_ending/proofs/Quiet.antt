@@ -21,17 +21,17 @@ unless_told (Fault.Read name) A told = cc
 unless_told Fault.Messages A told = tt
 unless_told (Fault.Story n) A told = cc
 
--- nothing was written
+-- where nothing was written, no failure to write is hidden
 pub hides_none : {T : Type 0} (r : Result T Fault) (n : ℕ) → HidesNoFailure r n n
 hides_none (Ok x) n = (refl, tt)
 hides_none (Err f) n = (tt, unless_any f (n ≡ n) refl)
 
--- messages could not be written
+-- where the answer says that messages could not be written, no failure to write is hidden
 pub hides_told : {T : Type 0} (r : Result T Fault) (before now : ℕ) → IsErrAnd r (λ f. f ≡ Fault.Messages) → HidesNoFailure r before now
 hides_told (Ok x) before now told = absurd told
 hides_told (Err f) before now told = (tt, unless_told f (now ≡ before) told)
 
--- a refused call behind others that counted no failure
+-- where a refused call comes behind others that counted no failure, no failure to write is hidden
 pub hides_behind : {T : Type 0} (r : Result T Fault) (first before now : ℕ) → IsErr r → before ≡ first
     → IfErr r (λ f. UnlessMessages f (now ≡ before)) → HidesNoFailure r first now
 hides_behind (Ok x) first before now is same hides = cc

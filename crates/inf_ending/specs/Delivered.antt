@@ -44,7 +44,7 @@ pub record EndsCleanOf (limits : Limits) (serial : List ℕ) (files : FileNames)
     pub takes : Takes old new (front ++ closing 0 warnings)
     pub last : front ++ closing 0 warnings ≡ before ++ (finished limits serial files w).messages
 
--- This is the story of some compiled work of which no error and no fatal error was counted, and whose last lines are the last ones that a
+-- The story is that of some compiled work of which no error and no fatal error was counted, and whose last lines are the last ones that a
 -- sink took.
 pub record EndsClean (serial : List ℕ) (story old new : Option (List ℕ)) : Type 0 where
   pub limits : Limits

@@ -16,9 +16,9 @@ use std::alloc::Global;
 /// The way in which a compilation ended.
 #[derive(Clone, Copy, Debug, PartialEq, Eq)]
 pub enum Status {
-    /// With no error, and a story.
+    /// The compilation ended with no error, and with a story.
     Success,
-    /// With errors or a fatal one, and no story.
+    /// The compilation ended with errors or a fatal error, and without a story.
     Errors,
 }
 

@@ -1,4 +1,4 @@
-//! Why a compilation was given up.
+//! The reason why a compilation was given up.
 ghost use Rattle.std.specs.Prelude.{◌≡◌};
 ghost use Rattle.inf_ending.specs.Faults.{fault_of};
 
@@ -6,7 +6,7 @@ use inf_report::report::ReportFault;
 use std::alloc::AllocError;
 use thiserror::Error;
 
-/// Why a compilation was given up.
+/// The reason why a compilation was given up.
 #[derive(Debug, Drop, Error)]
 pub enum Fault {
     /// No memory was left.
@@ -43,7 +43,7 @@ impl From<ReportFault> for Fault {
     }
 }
 
-/// Why a turn of the reading was given up. Each turn answers this in place of a `Fault`, which is many times as large.
+/// The reason why a turn of the reading was given up. Each turn answers this in place of a `Fault`, which is many times as large.
 #[derive(Clone, Copy, Debug, PartialEq, Eq)]
 pub enum Halt {
     /// No memory was left.

@@ -51,13 +51,13 @@ found symbols = judged Wanted.Value 10 operands symbols
 abbrev trees : List Symbol → List Tree
 trees symbols = map (λ (r : Rooted). r.tree) (trees_of Wanted.Value 10 operands symbols)
 
--- Expressions of a wrong kind.
+-- Lemmas about expressions of a wrong kind
 
 -- x + (child): a function of the system is no value; the error is at its name
 function_without_brackets : found (leaf 10 x ∷ leaf 13 child ∷ Symbol.Bracketed 12 ∷ op Operation.Add ∷ []) ≡ Some (wrong_kind 13)
 function_without_brackets = refl
 
--- child, alone
+-- the function `child` alone is of the wrong kind
 function_alone : found (leaf 10 child ∷ []) ≡ Some (wrong_kind 10)
 function_alone = refl
 
@@ -104,7 +104,7 @@ address_as_target : found (leaf 10 x ∷ leaf 12 1 ∷ Symbol.Two (Binary.Proper
     (wrong_kind 10)
 address_as_target = refl
 
--- The kinds that a unit wants.
+-- Lemmas about the kinds that a unit wants
 
 -- child(x) is a value and no constant; a variable is none, and the constant known later no number
 no_constant_of_code : judged Wanted.Constant 10 operands (leaf 10 child ∷ leaf 12 x ∷ Symbol.Call 1 ∷ []) ≡ Some (no_constant 10)
@@ -167,7 +167,7 @@ loop_of_negative : judged Wanted.Loop 9 operands (leaf 11 x ∷ Symbol.Prefix 10
     (wrong_kind 10)
 loop_of_negative = refl
 
--- Numbers that are out of range.
+-- Lemmas about numbers that are out of range
 
 -- 5 / 0 and 5 / random, where the function is wrong too, but further on; x / 0 is code
 by_zero : found (leaf 10 5 ∷ leaf 12 0 ∷ op Operation.Divide ∷ []) ≡ Some (out_of_range 10)
@@ -190,7 +190,7 @@ by_wrong_target = refl
 after_zero : trees (leaf 10 2 ∷ leaf 12 5 ∷ leaf 14 0 ∷ op Operation.Divide ∷ op Operation.Add ∷ []) ≡ tree.Leaf (Operand.Known 2) ∷ []
 after_zero = refl
 
--- Arguments.
+-- Lemmas about arguments
 
 abbrev ones : ℕ → List Symbol → List Symbol
 ones zero rest = rest
@@ -227,7 +227,7 @@ least_number : judged Wanted.Constant 10 operands (leaf 10 5 ∷ leaf 12 x ∷ S
 unfolding error_number
 least_number = refl
 
--- Numbers.
+-- Lemmas about numbers
 
 abbrev of : ℕ → ℕ → Operation → List Tree
 of a b o =
@@ -315,7 +315,7 @@ comma : trees (leaf 10 1 ∷ leaf 12 2 ∷ Symbol.Comma ∷ []) ≡ tree.Two Bin
     (tree.Leaf (Operand.Known 2)) ∷ []
 comma = refl
 
--- Trees.
+-- Lemmas about trees
 
 -- child(x); indirect(K, 1); K(1, 2, 3), a list that leans to the right; K()
 call_of_child : trees (leaf 10 child ∷ leaf 12 x ∷ Symbol.Call 1 ∷ []) ≡ tree.One (Unary.Relative Relative.Child)
@@ -336,13 +336,6 @@ call_of_three = refl
 
 call_of_none : trees (leaf 10 later ∷ Symbol.Call 0 ∷ []) ≡ tree.One Unary.Call (tree.Leaf (Operand.Later (Target.Name 7))) ∷ []
 call_of_none = refl
-
--- two expressions, of which one is a leaf without brackets
-abbrev bare : List Symbol → List (Option ℕ)
-bare symbols = map (λ (r : Rooted). r.origin.bare) (trees_of Wanted.Operand 10 operands symbols)
-
-bare_leaf : bare (leaf 10 x ∷ leaf 12 x ∷ Symbol.Bracketed 11 ∷ leaf 15 3 ∷ Symbol.Prefix 14 Unary.Negate ∷ []) ≡ Some x ∷ None ∷ None ∷ []
-bare_leaf = refl
 
 -- Questions about a tree.
 abbrev at_x : Tree → Tree

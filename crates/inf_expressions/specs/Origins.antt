@@ -4,7 +4,7 @@ use Rattle.inf_expressions.specs.{declared.operators.Operand.Operand, declared.o
 
 -- the origin of no expression
 abbrev pub nowhere : Origin
-nowhere = record { first = 0; token = 0; bare = None; lead = record { first = 0; variable = None; is_whole = false } }
+nowhere = record { first = 0; token = 0; lead = record { first = 0; variable = None; is_whole = false } }
 
 abbrev pub variable_of : Operand → Option ℕ
 variable_of (Operand.Variable v) = Some v
@@ -14,11 +14,10 @@ variable_of (Operand.Function f) = None
 variable_of Operand.Unknown = None
 
 -- the origin of a leaf, which begins with itself
-abbrev pub of_leaf : ℕ → ℕ → ℕ → Operand → Origin
-of_leaf first token leaf operand = record {
+abbrev pub of_leaf : ℕ → ℕ → Operand → Origin
+of_leaf first token operand = record {
   first = first;
   token = token;
-  bare = Some leaf;
   lead = record { first = first; variable = variable_of operand; is_whole = true };
 }
 
@@ -29,18 +28,13 @@ bracketed_lead order lead =
     record { first = if lead.is_whole then order else lead.first; variable = lead.variable; is_whole = lead.is_whole }
 
 abbrev pub bracketed : ℕ → Origin → Origin
-bracketed order o = record { first = order; token = o.token; bare = None; lead = bracketed_lead order o.lead }
+bracketed order o = record { first = order; token = o.token; lead = bracketed_lead order o.lead }
 
 -- the origin of an expression behind an operator, which hides the first part of the expression
 abbrev pub prefixed : ℕ → Origin → Origin
-prefixed order o = record { first = order; token = o.token; bare = None; lead = record { first = order; variable = None; is_whole = true } }
+prefixed order o = record { first = order; token = o.token; lead = record { first = order; variable = None; is_whole = true } }
 
 -- the origin of an expression with an operator behind it, or with an operator and another expression
 abbrev pub followed : Origin → Origin
-followed o = record {
-  first = o.first;
-  token = o.token;
-  bare = None;
-  lead =
-      record { first = o.lead.first; variable = o.lead.variable; is_whole = false };
-}
+followed o =
+    record { first = o.first; token = o.token; lead = record { first = o.lead.first; variable = o.lead.variable; is_whole = false } }

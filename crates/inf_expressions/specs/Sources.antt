@@ -47,7 +47,7 @@ postfixes (a ∷ sources) = postfix a ++ postfixes sources
 -- The tree of an expression, and the tokens with which its text begins.
 abbrev pub meant : List Operand → Source → Rooted
 meant operands (Leaf first token leaf) =
-    record { tree = tree.Leaf (operand_at operands leaf); origin = of_leaf first token leaf (operand_at operands leaf) }
+    record { tree = tree.Leaf (operand_at operands leaf); origin = of_leaf first token (operand_at operands leaf) }
 meant operands (Brackets order a) = record { tree = (meant operands a).tree; origin = bracketed order (meant operands a).origin }
 meant operands (Prefix order op a) =
     record { tree = joined_single op (meant operands a).tree; origin = prefixed order (meant operands a).origin }

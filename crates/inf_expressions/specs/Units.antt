@@ -15,9 +15,9 @@ pub record Gathered : Type 0 where
 abbrev pub nothing_gathered : Gathered
 nothing_gathered = record { trees = []; finding = None }
 
-abbrev pub with_operand : ℕ → ℕ → ℕ → Operand → Gathered → Gathered
-with_operand first token leaf operand g = record {
-  trees = with_leaf operand (of_leaf first token leaf operand) g.trees;
+abbrev pub with_operand : ℕ → ℕ → Operand → Gathered → Gathered
+with_operand first token operand g = record {
+  trees = with_leaf operand (of_leaf first token operand) g.trees;
   finding = leaf_finding operand token g.finding;
 }
 
@@ -56,7 +56,7 @@ abbrev pub operand_at : List Operand → ℕ → Operand
 operand_at operands leaf = slice_index_or operands leaf (Operand.Known 0)
 
 abbrev pub acted : Wanted → ℕ → List Operand → Symbol → Gathered → Gathered
-acted w unit operands (Symbol.Leaf first token leaf) g = with_operand first token leaf (operand_at operands leaf) g
+acted w unit operands (Symbol.Leaf first token leaf) g = with_operand first token (operand_at operands leaf) g
 acted w unit operands (Symbol.Bracketed order) g = with_brackets order g
 acted w unit operands (Symbol.Prefix order op) g = with_unary_of op (Some order) g
 acted w unit operands (Symbol.Suffix op) g = with_unary_of op None g

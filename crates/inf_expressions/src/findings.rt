@@ -14,13 +14,13 @@ pub enum UnitError {
     NoZscii,
     /// A name is declared already.
     Declared,
-    /// A token names something that is not allowed there.
+    /// A token names something that is not allowed where it is.
     WrongKind,
     /// A name is used before its declaration.
     UsedBefore,
     /// There is no constant where one is needed.
     NotConstant,
-    /// A known number is not allowed there.
+    /// A known number is not allowed where it is.
     ConstantOutOfRange,
     /// A call has too many arguments.
     TooManyArguments,

@@ -57,6 +57,7 @@ impl Nodes {
     }
 
     /// Appends a node whose parts are in the list already, and returns its place.
+    #[inline(always)]
     #[tactic(auto, using(crate::proofs::NodeLemmas::one_more))]
     pub(crate) fn add(&mut self, node: Node) -> Result<usize, AllocError>
         requires { IsBelow (length self.old) node }

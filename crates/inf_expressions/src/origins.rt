@@ -11,7 +11,7 @@ pub struct Lead {
     pub first: u32,
     /// The variable that this part is, if it is one.
     pub variable: Option<u8>,
-    /// Whether nothing follows this part.
+    /// Tells whether nothing follows the part.
     pub is_whole: bool,
 }
 
@@ -22,8 +22,6 @@ pub struct Origin {
     pub first: u32,
     /// The order of the token at which an error of a leaf is reported.
     pub token: u32,
-    /// The place among the operands of the leaf that the expression is, where it has no brackets.
-    pub bare: Option<usize>,
     pub lead: Lead,
 }
 
@@ -34,7 +32,6 @@ pub(crate) fn nowhere() -> Origin
     Origin {
         first: 0,
         token: 0,
-        bare: None,
         lead: Lead {
             first: 0,
             variable: None,
@@ -53,14 +50,13 @@ fn variable_of(operand: Operand) -> Option<u8>
 }
 
 impl Origin {
-    /// Returns the origin of a leaf with this operand, the one at the place `leaf` among the operands of its unit.
-    pub(crate) fn of_leaf(first: u32, token: u32, leaf: usize, operand: Operand) -> Origin
-        ensures { result ≡ of_leaf first token leaf operand }
+    /// Returns the origin of a leaf with this operand.
+    pub(crate) fn of_leaf(first: u32, token: u32, operand: Operand) -> Origin
+        ensures { result ≡ of_leaf first token operand }
     {
         Origin {
             first,
             token,
-            bare: Some(leaf),
             lead: Lead {
                 first,
                 variable: variable_of(operand),
@@ -76,7 +72,6 @@ impl Origin {
         Origin {
             first: order,
             token: self.token,
-            bare: None,
             lead: bracketed_lead(self.lead, order),
         }
     }
@@ -88,7 +83,6 @@ impl Origin {
         Origin {
             first: order,
             token: self.token,
-            bare: None,
             lead: Lead {
                 first: order,
                 variable: None,
@@ -104,7 +98,6 @@ impl Origin {
         Origin {
             first: self.first,
             token: self.token,
-            bare: None,
             lead: Lead {
                 first: self.lead.first,
                 variable: self.lead.variable,

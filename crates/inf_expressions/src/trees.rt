@@ -1,14 +1,18 @@
-//! The latest trees of a unit.
-ghost use Rattle.std.specs.Prelude.{◌≡◌, [], List, OnOk, IfOk, reverse, map};
-ghost use Rattle.inf_expressions.specs.{Nodes.rooted_at, Rooted.begun, Rooted.bracketed_latest, Rooted.nobody, Rooted.seen};
-ghost use Rattle.inf_expressions.specs.{Rooted.seen_latest, Rooted.seen_two, Rooted.with_leaf, Rooted.with_two, Rooted.with_unary};
+//! The latest trees of a unit, which are judged as they are gathered.
+ghost use Rattle.std.specs.Prelude.{◌≡◌, [], IfOk, OnOk, map, reverse};
+ghost use Rattle.inf_expressions.specs.{Nodes.rooted_at, Rooted.begun, Rooted.nobody, Rooted.seen, Rooted.seen_two, Rooted.with_two};
+ghost use Rattle.inf_expressions.specs.Units.{call_joined, called, listed, nothing_gathered, parted, with_brackets, with_operand};
+ghost use Rattle.inf_expressions.specs.Units.{with_two_of, with_unary_of};
 
+use crate::findings::Finding;
 use crate::folding::{joined, joined_single};
 use crate::forest::Forest;
+use crate::judging::{call_finding, leaf_finding, two_finding, unary_finding};
 use crate::kinds::{Kind, Seen, kind_of};
 use crate::nodes::{Node, Nodes};
 use crate::operators::{Binary, Operand, Unary};
 use crate::origins::{Origin, nowhere};
+use crate::units::Wanted;
 use std::alloc::{AllocError, Global};
 use std::marker::Model;
 
@@ -19,31 +23,31 @@ pub struct Root {
     pub origin: Origin,
 }
 
-/// The trees so far; in contracts they are a list, the latest first.
+/// The trees of a unit so far, and the least finding. In contracts the trees are a list, the latest first.
 #[derive(Drop)]
-pub(crate) struct Trees {
+pub(crate) struct Gathered {
     nodes: Nodes,
     roots: Vec<Root>,
+    finding: Option<Finding>,
 }
 
-impl Model for Trees {
-    ghost use Rattle.std.specs.Prelude.{List};
-    ghost use Rattle.std.specs.Coded.{coded_list};
-    ghost use Rattle.inf_expressions.specs.Rooted.{Rooted, rooted_code};
+impl Model for Gathered {
+    ghost use Rattle.inf_expressions.specs.Units.{Gathered as Value_of, gathered_code};
     ghost use Rattle.inf_expressions.specs.contracts.operators.Operand as operand;
     ghost use Rattle.inf_expressions.specs.contracts.operators.Unary as unary;
     ghost use Rattle.inf_expressions.specs.contracts.operators.Binary as binary;
     ghost use Rattle.inf_expressions.specs.contracts.origins.Origin as origin;
+    ghost use Rattle.inf_expressions.specs.contracts.findings.Finding as told;
 
-    ghost Value = { List Rooted };
+    ghost Value = { Value_of };
 
-    ghost coded = { coded_list (rooted_code operand.the_row.coded unary.the_row.coded binary.the_row.coded origin.the_row.coded) };
+    ghost coded = { gathered_code operand.the_row.coded unary.the_row.coded binary.the_row.coded origin.the_row.coded told.the_row.coded };
 
     ghost use Rattle.inf_expressions.specs.Nodes.{rooted, AreRoots};
 
-    ghost view = { λ t. rooted t.nodes t.roots.items };
+    ghost view = { λ g. record { trees = rooted g.nodes g.roots.items; finding = g.finding } };
 
-    ghost invariant = { λ t. AreRoots t.nodes t.roots.items };
+    ghost invariant = { λ g. AreRoots g.nodes g.roots.items };
 }
 
 /// Returns the kind and the origin that count where there is no tree.
@@ -76,57 +80,68 @@ fn begun(front: Option<u32>, origin: Origin) -> Origin
     }
 }
 
-impl Trees {
-    /// Returns the list of no trees, with room for `count` of them.
-    pub(crate) fn with_capacity(alloc: Global, count: usize) -> Result<Trees, AllocError>
-        ensures { IfOk result (λ trees. trees ≡ []) }
+impl Gathered {
+    /// Returns a state of no trees and no finding, in the memory of `spare`, or with room for `count` trees.
+    #[inline(always)]
+    pub(crate) fn begun(
+        alloc: Global,
+        count: usize,
+        spare: Option<Forest>,
+    ) -> Result<Gathered, AllocError>
+        ensures { IfOk result (λ g. g ≡ nothing_gathered) }
     {
-        Ok(Trees {
-            nodes: Nodes::with_capacity(alloc, count)?,
-            roots: Vec::with_capacity(alloc, count)?,
+        let (mut nodes, mut roots) = match spare {
+            Some(forest) => (forest.nodes, forest.roots),
+            None => (
+                Nodes::with_capacity(alloc, count)?,
+                Vec::with_capacity(alloc, count)?,
+            ),
+        };
+        nodes.clear();
+        roots.clear();
+        Ok(Gathered {
+            nodes,
+            roots,
+            finding: None,
         })
     }
 
-    /// Returns the list of no trees, in the memory of those of `spare`.
-    pub(crate) fn over(spare: Forest) -> Trees
-        ensures { result ≡ [] }
-    {
-        let mut nodes = spare.nodes;
-        let mut roots = spare.roots;
-        nodes.clear();
-        roots.clear();
-        Trees { nodes, roots }
-    }
-
+    #[inline(always)]
     #[tactic(auto, using(crate::proofs::Roots::roots_step))]
-    pub(crate) fn leaf(&mut self, operand: Operand, origin: Origin) -> Result<(), AllocError>
-        ensures { OnOk result (self.new ≡ with_leaf operand origin self.old) }
+    pub(crate) fn leaf(
+        &mut self,
+        first: u32,
+        token: u32,
+        operand: Operand,
+    ) -> Result<(), AllocError>
+        ensures { OnOk result (self.new ≡ with_operand first token operand self.old) }
     {
+        let origin = Origin::of_leaf(first, token, operand);
         let place = self.nodes.add(Node::Leaf(operand))?;
         self.roots.push(Root { place, origin })?;
+        self.finding = leaf_finding(operand, token, self.finding);
         Ok(())
     }
 
     /// Puts the latest tree in brackets, of which the opening one has this order.
     #[tactic(auto, using(crate::proofs::Roots::roots_step))]
     pub(crate) fn bracketed(&mut self, order: u32) -> Result<(), AllocError>
-        ensures { OnOk result (self.new ≡ bracketed_latest order self.old) }
+        ensures { OnOk result (self.new ≡ with_brackets order self.old) }
     {
         if let Some(a) = self.roots.pop() {
+            let origin = a.origin.bracketed(order);
             self.roots.push(Root {
                 place: a.place,
-                origin: a.origin.bracketed(order),
+                origin,
             })?;
         }
         Ok(())
     }
 
-    /// Joins the latest tree to an operator, which is in front of it where `front` has its order. Returns the kind and the origin
-    /// that the tree had.
+    /// Joins the latest tree to an operator, which is in front of it where `front` has its order.
     #[tactic(auto, using(crate::proofs::Roots::roots_step))]
-    pub(crate) fn unary(&mut self, op: Unary, front: Option<u32>) -> Result<Seen, AllocError>
-        ensures value { OnOk result (self.new ≡ with_unary op front self.old) }
-        ensures saw { IfOk result (λ s. s ≡ seen_latest self.old) }
+    pub(crate) fn unary(&mut self, op: Unary, front: Option<u32>) -> Result<(), AllocError>
+        ensures { OnOk result (self.new ≡ with_unary_of op front self.old) }
     {
         if let Some(a) = self.roots.pop() {
             let saw = seen(&self.nodes, a);
@@ -134,17 +149,20 @@ impl Trees {
             let origin = begun(front, a.origin);
             let place = self.nodes.add(node)?;
             self.roots.push(Root { place, origin })?;
-            Ok(saw)
+            self.finding = unary_finding(op, saw, self.finding);
+            Ok(())
         } else {
-            Ok(nobody())
+            self.finding = unary_finding(op, nobody(), self.finding);
+            Ok(())
         }
     }
 
     /// Joins the latest two trees by an operator. Returns the kinds and the origins that they had.
+    #[inline(always)]
     #[tactic(auto, using(crate::proofs::Roots::roots_step))]
-    pub(crate) fn two(&mut self, op: Binary) -> Result<(Seen, Seen), AllocError>
-        ensures value { OnOk result (self.new ≡ with_two op self.old) }
-        ensures saw { IfOk result (λ s. s ≡ seen_two self.old) }
+    fn join(&mut self, op: Binary) -> Result<(Seen, Seen), AllocError>
+        ensures value { OnOk result (self.new ≡ record self.old { trees = with_two op self.old.trees }) }
+        ensures saw { IfOk result (λ s. s ≡ seen_two self.old.trees) }
     {
         if let (Some(b), Some(a)) = (self.roots.pop(), self.roots.pop()) {
             let saw = (seen(&self.nodes, a), seen(&self.nodes, b));
@@ -158,14 +176,68 @@ impl Trees {
         }
     }
 
-    /// Returns the trees, in the order of their texts.
-    #[tactic(auto, using(crate::proofs::Roots::reversed_roots))]
-    pub(crate) fn into_forest(self) -> Forest
-        ensures { map (rooted_at result.nodes) result.roots.items ≡ reverse self }
+    /// Joins the latest two trees by an operator, in a unit that begins at the order `unit`.
+    pub(crate) fn two(&mut self, unit: u32, op: Binary) -> Result<(), AllocError>
+        ensures { OnOk result (self.new ≡ with_two_of unit op self.old) }
     {
-        Forest {
+        let (a, b) = self.join(op)?;
+        self.finding = two_finding(op, unit, a, b, self.finding);
+        Ok(())
+    }
+
+    /// Joins the latest trees to a list with this number of joints.
+    pub(crate) fn list(&mut self, unit: u32, joints: u32) -> Result<(), AllocError>
+        ensures { OnOk result (self.new ≡ listed unit joints self.old) }
+    {
+        for _ in 0..joints {
+            self.two(unit, Binary::Then)?;
+        }
+        Ok(())
+    }
+
+    fn call_joined(&mut self, unit: u32, given: u32) -> Result<(), AllocError>
+        ensures { OnOk result (self.new ≡ call_joined unit given self.old) }
+    {
+        let (callee, list) = self.join(Binary::Call)?;
+        self.finding = call_finding(unit, given, callee, list, self.finding);
+        Ok(())
+    }
+
+    /// Joins the latest `given` trees to the list of arguments of a call of the tree before them.
+    pub(crate) fn call(&mut self, unit: u32, given: u32) -> Result<(), AllocError>
+        ensures { OnOk result (self.new ≡ called unit given self.old) }
+    {
+        if given == 0 {
+            self.unary(Unary::Call, None)
+        } else {
+            self.list(unit, given - 1)?;
+            self.call_joined(unit, given)
+        }
+    }
+
+    /// Reads a comma outside of brackets: it parts two values of a case, and elsewhere joins the latest two trees.
+    pub(crate) fn comma(&mut self, wanted: Wanted, unit: u32) -> Result<(), AllocError>
+        ensures { OnOk result (self.new ≡ parted wanted unit self.old) }
+    {
+        match wanted {
+            Wanted::Case => Ok(()),
+            Wanted::Value | Wanted::Constant | Wanted::Number | Wanted::Operand | Wanted::Loop => {
+                self.two(unit, Binary::Comma)
+            }
+        }
+    }
+
+    /// Returns the trees, in the order of their texts, and the least finding.
+    #[inline(always)]
+    #[tactic(auto, using(crate::proofs::Roots::reversed_roots))]
+    pub(crate) fn into_parts(self) -> (Forest, Option<Finding>)
+        ensures trees { map (rooted_at result.0.nodes) result.0.roots.items ≡ reverse self.trees }
+        ensures finding { result.1 ≡ self.finding }
+    {
+        let forest = Forest {
             nodes: self.nodes,
             roots: self.roots,
-        }
+        };
+        (forest, self.finding)
     }
 }

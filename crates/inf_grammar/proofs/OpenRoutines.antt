@@ -17,7 +17,7 @@ use Rattle.inf_grammar.proofs.OpenStacks.{are_calm, are_opening, are_outer, are_
 use Rattle.inf_grammar.proofs.OpenStacks.{directive_keeps, fits_row, is_array_row, is_directive_row, left_of, no_step, only_bit, opening_on}
 use Rattle.inf_grammar.proofs.OpenStacks.{outer, outside_on, stands, stands_on, tells}
 
--- Some tokens
+-- Lemmas about some tokens
 
 inside_behind : (events : List (Event Action)) (o : Option (Read Action)) → is_inside (behind events o) ≡ is_inside o
 inside_behind events None = refl
@@ -68,7 +68,7 @@ follow_calm symbols (atom ∷ atoms) s h =
     t.tells ∙ follow_calm (taken grammar known atom symbols).left atoms
     (calm_on atom (work known atom symbols) symbols s (omega arith) t.fits_it) t.goes_on
 
--- The front of a piece
+-- Lemmas about the front of a piece
 
 abbrev arrays : ℕ
 arrays = of_word (codes "array")
@@ -243,7 +243,7 @@ piece_front (atom ∷ atoms) h =
         ∙ ap (λ b. not b && open_behind_all false (atom ∷ atoms)) (or_no (has arrays atom))
         ∙ sym (ap (λ b. not (has arrays atom || (b && begin_array atoms)) && open_behind_all false (atom ∷ atoms)) (no_hash f))
 
--- The laws
+-- Proofs of the laws
 
 pub open_routines_are_bracketed : OpenRoutinesAreBracketed
 open_routines_are_bracketed front b = piece_front front ((bad_tokens_begin_nothing grammar known piece_rule front language_is_decided).1 b)

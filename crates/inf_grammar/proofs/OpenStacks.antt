@@ -94,7 +94,7 @@ abbrev pub is_directive_row : List (Symbol Action) → Bool
 is_directive_row parts =
     is_array_row parts || (are_outer parts && (bit_and (beginning grammar known parts) (of_word (codes "array")) == 0))
 
--- By evaluation over the table
+-- Lemmas by evaluation over the table
 
 -- Tells whether the rows of `rule` pass `test`, where the rule is one of `rules`.
 abbrev keeps : (ℕ → Bool) → (List (Symbol Action) → Bool) → ℕ → Bool
@@ -154,7 +154,7 @@ passes rules test all rule is r m = row_of_all test (grammar.rows_of rule) r m (
     in_rules true e h = h
     in_rules false e h = cc
 
--- Tokens
+-- Lemmas about tokens
 
 pub only_bit : (k atom : ℕ) → has (2 ^ k) atom ≡ true → atom ≡ k
 only_bit k atom h = by_test (atom == k) refl
@@ -184,7 +184,7 @@ opens_none is_open class atom h f =
     ap (λ b. if b then true else if atom == close_atom then false else is_open) (is_other class atom open_atom both.0 f)
     ∙ ap (λ b. if b then false else is_open) (is_other class atom close_atom both.1 f)
 
--- Symbols joined
+-- Lemmas about symbols joined
 
 plain_append : (rules : ℕ → Bool) (xs ys : List (Symbol Action)) → are_plain rules xs ≡ true → are_plain rules ys ≡ true →
     are_plain rules (xs ++ ys) ≡ true
@@ -285,7 +285,7 @@ pub tells : (is_open : Bool) (symbols : List (Symbol Action)) → stands is_open
 tells true symbols h = inside_is_in symbols h
 tells false symbols h = plain_is_out symbols h
 
--- One token
+-- Lemmas about one token
 
 pub chosen_passes : (rules : ℕ → Bool) (test : List (Symbol Action) → Bool) → agree_below (keeps rules test) (λ rule. true) 256 ≡ true
     → (atom rule : ℕ) (symbols : List (Symbol Action)) → rules rule ≡ true → fits grammar known atom (Symbol.Rule rule ∷ symbols)

@@ -1,7 +1,7 @@
 -- Facts computed of each rule, in the order of their numbers. Made from docs/grammar.txt; that they hold is proved.
 use Rattle.std.specs.Prelude.{ℕ, List, [], ◌∷◌, Bool, true, false}
 
--- the atoms that begin it
+-- the atoms that begin each rule
 abbrev pub beginnings : List ℕ
 beginnings =
     0x3ffffffffffcbffbffe119214824ca42192d91022000000 ∷ 0x3ffffffffffcbffbffe119214824ca42192d91022000000 ∷ 0x3ffffffffffcbffbffe119214824ca42192d90020000000 ∷ 0x3ffffffffffffffffffffffffffffffffffff0000000000
@@ -70,7 +70,7 @@ beginnings =
     ∷ 0x3ff7fffdcdff7e7ffffffbfffee6ffbf3fffff300800602c ∷ 0x8000000000 ∷ 0x20000000 ∷ 0x40000000
     ∷ []
 
--- the atoms that may stand behind it
+-- the atoms that may stand behind each rule
 abbrev pub followers : List ℕ
 followers =
     0x0 ∷ 0x3ffffffffffcbffbffe119214824ca42192d91022000000 ∷ 0x3ffffffffffcbffbffe119214824ca42192d91022000000 ∷ 0x2000000
@@ -139,7 +139,7 @@ followers =
     ∷ 0x0 ∷ 0x0 ∷ 0x0 ∷ 0x0
     ∷ []
 
--- whether it can be empty
+-- tells of each rule whether it can be empty
 abbrev pub empties : List Bool
 empties =
     true ∷ false ∷ false ∷ true
@@ -208,7 +208,7 @@ empties =
     ∷ false ∷ false ∷ false ∷ false
     ∷ []
 
--- more than the steps through it to a token
+-- a number above that of the steps through each rule to a token
 abbrev pub step_bounds : List ℕ
 step_bounds =
     6 ∷ 5 ∷ 4 ∷ 2

@@ -66,7 +66,7 @@ unfoldable pub all_rules : List CodeRule
 unfolding grammar known
 all_rules = rules_from 0 0 rules beginnings empties
 
--- The reading of the tables
+-- Definitions of the reading of the tables
 
 -- numbers of 64 bits as one, the lowest first
 abbrev pub joined_words : List ℕ → ℕ

@@ -5,7 +5,7 @@ use crate::rules;
 use inf_machine::{Symbol, Table};
 use inf_syntax::Action;
 
-/// The language.
+/// The table of the grammar of the whole language.
 pub(crate) struct Language;
 
 impl Table for Language {

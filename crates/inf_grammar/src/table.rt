@@ -929,7 +929,7 @@ pub(crate) static ROWS: [Row; 614] = [
     Row { begins: Set([0x40000000, 0x0, 0x0, 0x0]), parts: Span { start: 1375, end: 1378 } },
 ];
 
-/// Each rule.
+/// The rules, by their numbers.
 #[rattlefmt::skip]
 pub(crate) static RULES: [Rule; 256] = [
     Rule { begins: Set([0x2192d91022000000, 0xbffe119214824ca4, 0x3ffffffffffcbff, 0x0]), is_empty: true, rows: Span { start: 0, end: 2 }, other: Span { start: 0, end: 0 } },

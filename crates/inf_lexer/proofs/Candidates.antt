@@ -10,7 +10,7 @@ use Rattle.inf_lexer.specs.Entering.{ClosedAgain, Enters, IsEntered, Leaves, fir
 use Rattle.inf_lexer.specs.Entering.{with_closed}
 use Rattle.inf_lexer.specs.Names.{Nest, behind_sign, candidates, has_sign, name_beside, name_in, names_in, number_of}
 
--- One name alone
+-- Lemmas about one name alone
 
 pub there_alone : (sources : Sources) (name : List ℕ) → IsSome (sources name) → first_there sources (name ∷ []) ≡ Some name
 there_alone sources name there = go (sources name) there
@@ -25,7 +25,7 @@ absent_alone sources name absent = ap (λ (o : Option (List ℕ)). cond (is_some
 pub too_many_alone : (known : List (List ℕ)) (name : List ℕ) → 65535 ≤ number_of name known → has_one_too_many known (name ∷ []) ≡ true
 too_many_alone known name most = or_left (nat_le 65535 (number_of name known)) false (le-leb 65535 (number_of name known) most)
 
--- The first of more names
+-- Lemmas about the first of more names
 
 abbrev chosen : Bool → List ℕ → Option (List ℕ) → Option (List ℕ)
 chosen b name later = cond b (Some name) later
@@ -181,7 +181,7 @@ closed_in {A} sources known f xs i d name start before after lt is same later c 
   is_closed = c.is_closed ∙ ap (λ o. with_closed c.name o) same;
 }
 
--- the names in some directories
+-- Lemmas about the names in some directories
 
 pub of_each : {T E : Type 0} (r : Result T E) (P Q : T → Type 0) → ((x : T) → P x → Q x) → IfOk r P → IfOk r Q
 of_each (Ok x) P Q each p = each x p

@@ -188,7 +188,7 @@ found_on set limit (b ∷ bs) p word lines =
 pub heads_have_no_tokens : HeadsHaveNoTokens
 heads_have_no_tokens set limit p lines bytes = found_on set limit bytes p [] lines
 
--- The whole head
+-- Lemmas about the whole head
 
 -- behind a word, or behind the last, none has begun
 goes_on_free : (b : Bool) → is_word (goes_on_at b) ≡ false

@@ -17,7 +17,7 @@ head_end p word lines left rest e none =
     let both : left ++ rest ≡ [] = ap (λ l. l ++ rest) e ∙ none in
     subst (λ (l : List ℕ). record { place = p; word = word; lines = lines; rest = l } ≡ head_found p word lines l) (sym both) refl
 
--- Bytes that are passed over
+-- Lemmas about bytes that are passed over
 
 abbrev leads_behind : HeadStep → Bool
 leads_behind (HeadStep.Pass next) = is_behind next
@@ -63,7 +63,7 @@ goes_on_is HeadPlace.Word = refl
 goes_on_is HeadPlace.Comment = refl
 goes_on_is HeadPlace.Behind = refl
 
--- The end that is found
+-- Lemmas about the end that is found
 
 abbrev after_step : HeadStep → HeadPlace → List ℕ → Lines → ℕ → List ℕ → HeadFound
 after_step s p word lines b bs = elim s [

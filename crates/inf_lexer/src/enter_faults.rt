@@ -1,11 +1,11 @@
-//! Why a file was not entered.
+//! The reason why a file was not entered.
 ghost use Rattle.std.specs.Prelude.{◌≡◌};
 
 use inf_devices::files::OpenFault;
 use std::alloc::AllocError;
 use thiserror::Error;
 
-/// Why a file was not entered.
+/// The reason why a file was not entered.
 #[derive(Clone, Copy, Debug, PartialEq, Eq, Drop, Error)]
 pub enum EnterFault {
     /// The name is empty, or has a byte over 127.

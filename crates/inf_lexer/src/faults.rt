@@ -1,11 +1,11 @@
-//! Why no token was read.
+//! The reason why no token was read.
 ghost use Rattle.std.specs.Prelude.{◌≡◌};
 ghost use Rattle.inf_lexer.specs.declared.faults.LexFault.TheVariants.{Memory};
 
 use std::alloc::{AllocError, AllocFailed};
 use thiserror::Error;
 
-/// Why no token was read.
+/// The reason why no token was read.
 #[derive(Clone, Copy, Debug, PartialEq, Eq, Drop, Error)]
 pub enum LexFault {
     /// The source could not be read, or has more than 16,777,216 bytes.

@@ -13,19 +13,19 @@ const MOST_WORD_BYTES: usize = 256;
 /// The place in a head up to which bytes were taken.
 #[derive(Clone, Copy, Debug, PartialEq, Eq)]
 pub enum HeadPlace {
-    /// Before the first byte of a line.
+    /// The next byte is the first of a line.
     Line,
-    /// Behind a carriage return, to which a line feed belongs.
+    /// The last byte is a carriage return, to which a line feed belongs.
     Return,
-    /// Behind the `!` at the front of a line.
+    /// The last byte is the `!` at the front of a line.
     Sign,
     /// Between the words of a line.
     Gap,
-    /// In a word.
+    /// The last byte is one of a word.
     Word,
-    /// In the comment that ends the head.
+    /// The last byte is one of the comment that ends the head.
     Comment,
-    /// Behind the head.
+    /// The head has ended.
     Behind,
 }
 

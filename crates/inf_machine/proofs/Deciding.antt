@@ -9,7 +9,7 @@ use Rattle.inf_machine.specs.Decided.{is_sound, are_sound, is_decided}
 use Rattle.inf_machine.proofs.{Rows.fits_is_begun, Sets.has_and, Sets.has_within, Sets.has_zero}
 
 module _ {A : Type 0} where
-  -- The parts of the property that is computed of a rule
+  -- Lemmas about the parts of the property that is computed of a rule
 
   pub record Decided (g : Grammar A) (k : Known) (rule : ℕ) : Type 0 where
     pub whole : all_beginnings g k (g.rows_of rule) ≡ k.begins rule
@@ -113,7 +113,7 @@ module _ {A : Type 0} where
           (is_within (bit_and (k.begins rule) (k.follows rule)) r.unless) q in
           has_within (bit_and (k.begins rule) (k.follows rule)) r.unless atom two.1 both
 
-  -- Steps
+  -- Lemmas about steps
 
   -- an atom that fits the front of a stack is found within the steps through the front
   pub work_within : (g : Grammar A) (k : Known) (atom : ℕ) (xs ys : List (Symbol A)) → fits g k atom xs ≡ true →

@@ -7,7 +7,7 @@ use Rattle.inf_machine.specs.Machine.{Known, Taken, fits, taken, opened, are_act
 use Rattle.inf_machine.proofs.{Opened.before, Opened.opened_on, Ways.way_on, Ways.way_past}
 
 module _ {A : Type 0} where
-  -- Actions at the top of a stack
+  -- Lemmas about actions at the top of a stack
 
   pub acts_fit : (g : Grammar A) (k : Known) (atom : ℕ) (acts rest : List (Symbol A)) → are_acts acts ≡ true →
       fits g k atom (acts ++ rest) ≡ fits g k atom rest
@@ -26,7 +26,7 @@ module _ {A : Type 0} where
   acts_taken g k atom (Symbol.Rule rule ∷ acts) rest e = cc
   acts_taken g k atom (Symbol.Act a ∷ acts) rest e = ap (behind_all (a ∷ [])) (acts_taken g k atom acts rest e)
 
-  -- The walk
+  -- Lemmas about the walk
 
   -- the walk at the symbols `here`: the token taken from here on, behind the actions `now`, gives the result of taking it from the start
   pub record IsOn (g : Grammar A) (k : Known) (atom : ℕ) (all here : List (Symbol A)) (first now : List A) : Type 0 where
@@ -81,7 +81,7 @@ module _ {A : Type 0} where
           ∙ sym (way_on g k d atom rule rest fits_it).same
           ∙ ap (taken g k atom) (sym e)
 
-  -- The end of the walk
+  -- Lemmas about the end of the walk
 
   pub record Ends (g : Grammar A) (k : Known) (atom : ℕ) (all left : List (Symbol A)) (first now : List A) : Type 0 where
     pub fits_it : true ≡ fits g k atom all

@@ -15,7 +15,7 @@ and_false true = refl
 and_false false = refl
 
 module _ {A : Type 0} where
-  -- Symbols that end with a token
+  -- Lemmas about symbols that end with a token
 
   abbrev pub Closed : Grammar A → List (Symbol A) → Type 0
   Closed g symbols = (n : ℕ) × (closes g (last_symbol symbols) n ≡ true)
@@ -82,7 +82,7 @@ module _ {A : Type 0} where
       closed_left g k d atom n (chosen g k atom rule ++ symbols) (chosen_fits g k d atom rule symbols f)
       (subst (λ parts. Closed g (parts ++ symbols)) (sym o.is) (closed_row g rule o.row symbols o.one c))
 
-  -- Reading one more token
+  -- Lemmas about reading one more token
 
   pub record OneMore (g : Grammar A) (k : Known) (symbols : List (Symbol A)) (atoms : List ℕ) (atom : ℕ) (left : List (Symbol A)) : Type 0
     where
@@ -152,7 +152,7 @@ module _ {A : Type 0} where
           cond-true (fits g k x symbols) (behind es (read g k (taken g k x symbols).left (atoms ++ atom ∷ []))) None h
           ∙ ap (behind es) (on p i (ap (λ t. fits g k atom t.left) same ∙ f))
 
-  -- The law
+  -- Proof of the law
 
   pub sources_are_pieces : SourcesArePieces A
   sources_are_pieces g k rule deep further atoms d c =

@@ -7,7 +7,7 @@ use Rattle.inf_machine.specs.Machine.{Known, are_acts, acts_of, fits, opened, pa
 use Rattle.inf_machine.specs.Steps.{is_kept, step_at, step_of, Means, AllMean}
 use Rattle.inf_machine.proofs.Reaching.{IsOn, Ends, on_passed, at_rule, at_other, top_is}
 
--- Rows of steps
+-- Lemmas about rows of steps
 
 -- a step of a row changes where one is put, and nowhere else
 pub put_step : (steps : List Step) (atom : ℕ) (step : Step) (a : ℕ) →
@@ -95,7 +95,7 @@ put_among old rows rule atom step row now l at same put r a =
           | inr e ↦ inr e
         ]
 
--- Openings
+-- Lemmas about openings
 
 stays : {X : Type 0} (made more : List X) (place : ℕ) (x : X) → slice_get made place ≡ Some x → slice_get (made ++ more) place ≡ Some x
 stays [] more place x e = cc

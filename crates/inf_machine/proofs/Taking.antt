@@ -12,7 +12,7 @@ use Rattle.inf_machine.proofs.{Rows.begun_is_chosen, Rows.empty_counts, Rows.emp
 use Rattle.inf_machine.proofs.{Rows.none_chooses_other, Rows.some_is_begun, Rows.some_is_empty, Sets.has_or, Sets.has_within}
 
 module _ {A : Type 0} where
-  -- The row that an atom chooses
+  -- Lemmas about the row that an atom chooses
 
   pub record Choice (g : Grammar A) (k : Known) (atom rule : ℕ) (symbols : List (Symbol A)) : Type 0 where
     pub row : Row A
@@ -88,7 +88,7 @@ module _ {A : Type 0} where
       ap (λ parts. work k atom (parts ++ symbols)) c.is in
       omega (arith, same, c.less)
 
-  -- Steps
+  -- Lemmas about steps
 
   -- a token that fits takes at least one step
   pub some_work : (g : Grammar A) (k : Known) → IsDecided g k → (atom : ℕ) (symbols : List (Symbol A)) → fits g k atom symbols ≡ true →

@@ -62,7 +62,7 @@ module _ {A : Type 0} where
           λ x. subst (λ xs. Leads g symbols (atom ∷ atoms) xs left) (sym (append_assoc es p.events rest)) (lead x) in
           subst (λ t. Leads g t.left [] rest left → Leads g symbols (atom ∷ atoms) (t.events ++ rest) left) same there l
 
-  -- The laws
+  -- Proofs of the laws
 
   first_is_spaced : (g : Grammar A) (k : Known) (rule : ℕ) → IsSpaced g k (Symbol.Rule rule ∷ [])
   first_is_spaced g k rule = ((λ atom f. cc), tt)

@@ -16,7 +16,7 @@ use Rattle.inf_unit.specs.{Tokens.SourceToken, Units.bytes_at, Units.order}
 use Rattle.inf_tables.specs.World.{WorldOf}
 use Rattle.inf_named_values.specs.declared.declarations.Declared.{Declared}
 
--- Findings about the name
+-- Definitions of findings about the name
 
 -- the reason why a name cannot be declared that is declared already, or is one of the language
 abbrev pub standing_fault : Found Place → Option (DeclareFault Place)
@@ -91,7 +91,7 @@ declaration_ended limits context first name kind d w = declared_ended limits con
 abbrev pub name_declared : Limits → Name → Meaning → Code
 name_declared limits name m o = declared limits name.bytes name.place m o
 
--- Another name of an attribute or a property
+-- Definitions of another name of an attribute or a property
 
 abbrev pub is_alias : List Name → List Leaf → Bool
 is_alias [] leaves = false

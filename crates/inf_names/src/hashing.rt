@@ -1,4 +1,4 @@
-//! How names are hashed.
+//! The way in which names are hashed.
 ghost use Rattle.std.specs.Prelude.{◌≡◌};
 ghost use Rattle.std.specs.Hash.FoldHasher.{initial, write};
 

@@ -58,7 +58,7 @@ fn last_letter(name: &[u8]) -> u8
 pub struct Local {
     pub name: Spelling,
     pub place: Place,
-    /// Whether a statement has named it.
+    /// Tells whether a statement has named the local.
     pub is_named: bool,
 }
 

@@ -184,6 +184,23 @@ impl<P: Copy, B: Bounds> Symbols<P, B> {
         }
     }
 
+    /// Looks up a name, as `look` does, and returns what it found and the number by which references name it: of an unknown name, the
+    /// number that its first use gives it.
+    pub fn find(&self, name: &[u8]) -> (Found<P>, Option<usize>)
+        requires { length name.now ≤ 35 }
+        ensures found { result.0 ≡ found_in name.now self.now }
+        ensures number { result.1 ≡ number_of name.now self.now }
+    {
+        let key = Key::of(name);
+        if let Some(number) = self.number(&key) {
+            return (self.found_at(number), Some(number));
+        }
+        match system_meaning(name, self.is_debugging) {
+            Some(meaning) => (Found::System(meaning), None),
+            None => (Found::Unknown, Some(self.len())),
+        }
+    }
+
     /// Declares the name `name`, given in any case, at `place` with a meaning, and returns the number of names that are then declared.
     ///
     /// Refuses a name that the language has or that was declared, then a new one where there are as many names as there may be,

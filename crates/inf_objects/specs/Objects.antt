@@ -6,7 +6,7 @@ use Rattle.inf_properties.specs.{declared.open.GiveFault.GiveFault, declared.siz
 use Rattle.inf_objects.specs.{declared.body.Body.Body, declared.objects.Object.Object}
 use Rattle.inf_objects.specs.Attributes.{attributes_by, no_attributes, nothing_said, together}
 
--- Classes
+-- Definitions of classes
 
 abbrev pub has_number : ℕ → List ℕ → Bool
 has_number number [] = false
@@ -22,7 +22,7 @@ new_classes own number (n ∷ classes) =
 abbrev pub joined_classes : List ℕ → ℕ → List ℕ → List ℕ
 joined_classes own number classes = own ++ number ∷ [] ++ new_classes own number classes
 
--- Bodies
+-- Definitions of bodies
 
 -- a body behind its header
 abbrev pub begun : Owner → ℕ → ℕ → List ℕ → Body
@@ -105,7 +105,7 @@ head_fixups Owner.Nothing = 0
 abbrev pub object_fixups : Object → ℕ
 object_fixups o = head_fixups o.owner + (with_table (total o.owner o.properties)).fixups
 
--- The faults for which a class is refused.
+-- Definitions of the faults for which a class is refused
 
 -- the room for the properties of a body whose list has this number of classes
 abbrev pub room_with : ℕ → Room → Body → Room

@@ -21,7 +21,7 @@ abbrev pub shown : List Value → List Value
 shown [] = Value.Known 0 ∷ []
 shown (v ∷ values) = v ∷ values
 
--- Declared properties
+-- Definitions of declared properties
 
 -- one size byte before a single word, two before more; a length of 64 bytes is written as 0 (section 12.4.2)
 abbrev pub size_cells : ℕ → ℕ → List Cell

@@ -132,7 +132,7 @@ impl ClassNumbers {
 /// An object or a class of the source, once its body has ended.
 #[derive(Debug, Drop)]
 pub struct Object {
-    /// Whether this is an object or a class.
+    /// The kind of thing that it is: an object or a class.
     pub owner: Owner,
     /// The number of the parent; 0 where there is none.
     pub parent: usize,

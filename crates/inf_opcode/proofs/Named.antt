@@ -7,7 +7,7 @@ use Rattle.std.specs.Char.{to_ascii_lowercase}
 use Rattle.inf_opcode.specs.{Names.has_name, Names.name_of, Names.opcode_named, Names.opcodes, Slots.all_places, Slots.if_named}
 use Rattle.inf_opcode.specs.{Slots.letter, Slots.slot, declared.opcodes.Opcode.Opcode}
 
--- The slot of a name in any case
+-- Lemmas about the slot of a name in any case
 
 same_letter : (byte : ℕ) → letter (to_ascii_lowercase byte) ≡ letter byte
 same_letter byte = by_tests _ _
@@ -35,7 +35,7 @@ slot_same s w e =
     letter_same s w e (length s / 2) ∙ ap (λ n. letter (get_or w (n / 2) 0)) size in
     cc (size, first, before, last, middle)
 
--- The place of a name, by its slot
+-- Lemmas about the place of a name, by its slot
 
 abbrev place : List ℕ → ℕ
 place name = get_or all_places (slot name) 98

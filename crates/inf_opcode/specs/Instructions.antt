@@ -86,12 +86,12 @@ operand_cells (Operand.Variable number) = Plain number ∷ []
 operand_cells (Operand.Later target) = Of (Special.Refers target) ∷ []
 operand_cells (Operand.Offset label) = Of (Special.Jumps label) ∷ []
 
--- a store variable in a byte (section 4.6)
+-- the cell of a store variable, a byte (section 4.6), or none
 abbrev pub store_cells : Option ℕ → List Cell
 store_cells None = []
 store_cells (Some number) = Plain number ∷ []
 
--- a branch
+-- the cell of a branch, or none
 abbrev pub branch_cells : Option Branch → List Cell
 branch_cells None = []
 branch_cells (Some branch) = Of (Special.Branches branch) ∷ []

@@ -90,7 +90,7 @@ impl Operand {
 #[derive(Clone, Copy, Debug)]
 pub struct Instruction<'a> {
     pub opcode: Opcode,
-    /// At most eight operands.
+    /// The operands, eight at most.
     pub operands: &'a [Operand],
     /// The number of the variable that takes the result.
     pub store: Option<u8>,

@@ -1,92 +1,92 @@
 -- A use of names that are known changes nothing, and gives what looking them up gives.
-use Rattle.std.proofs.Common.{◌≡◌, ℕ, ◌+◌, List, [], ◌∷◌, ◌++◌, Bool, true, false, cond, Option, Some, None, refl, sym, ap, ◌∙◌, subst}
-use Rattle.std.specs.Prelude.{is_some}
+use Rattle.std.proofs.Common.{◌≡◌, ℕ, ◌+◌, List, [], ◌∷◌, ◌++◌, length, Bool, true, false, cond, Option, Some, None, refl, sym, ap, ◌∙◌}
+use Rattle.std.proofs.Common.{arith}
+use Rattle.std.proofs.lemmas.Bool.Decides.{nat_tests}
+use Rattle.std.specs.Prelude.{is_some, nat_le}
 use Rattle.std.specs.Str.{str_eq_ignore_ascii_case}
 use Rattle.inf_settings.specs.Bounds.{Limits}
 use Rattle.inf_scanner.specs.declared.tokens.Place.{Place}
 use Rattle.inf_characters.specs.declared.characters.CharSet.{CharSet}
 use Rattle.inf_expressions.specs.declared.operators.Operand.{Operand}
 use Rattle.inf_gathering.specs.declared.gathering.Leaf.{Leaf}
-use Rattle.inf_names.specs.{Spellings.Name, Symbols.found_in, declared.symbols.Found.Found}
+use Rattle.inf_names.proofs.Putting.{index_of-absent}
+use Rattle.inf_names.specs.{Spellings.Name, SystemNames.system_meaning, declared.meanings.Meaning.Meaning, declared.symbols.Found.Found}
+use Rattle.inf_names.specs.Symbols.{IsDeclared, IsUsed, Standing, Table, folded, found_as, found_in, index_of, number_by, standing_of}
 use Rattle.inf_names.specs.Locals.{Local, number_from, local_number, with_named}
 use Rattle.inf_unit.proofs.Cases.{of_both}
 use Rattle.inf_unit.specs.{Tokens.SourceToken, Units.bytes_at, Units.bytes_of, Units.name_at, declared.items.Item.Item}
 use Rattle.inf_output.specs.Output.{Out}
 use Rattle.inf_operands.specs.Operands.{Settled, found_operand, is_stack, leaf_named, leaves_named, looked, looked_by, looked_name}
-use Rattle.inf_operands.specs.Operands.{operand_by, referring, settled, settled_by, settled_leaf, settled_name, standing}
+use Rattle.inf_operands.specs.Operands.{settled, settled_by, settled_leaf, settled_name}
 use Rattle.inf_operands.specs.Operands.{store_named, stores_named, with_settled}
-use Rattle.inf_operands.specs.Uses.{LeafStays, is_plain}
+use Rattle.inf_operands.specs.Uses.{LeafStays, is_new}
 
--- a reference is not plain
-no_reference : {A : Type 0} (number : Option ℕ) (op : Operand) → op ≡ referring number → is_plain op ≡ true → A
-no_reference number op e plain =
-    let wrong : is_plain (referring number) ≡ true = subst (λ (x : Operand). is_plain x ≡ true) e plain in absurd (cc wrong)
+-- a name that is neither declared nor used is not among the names
+absent : (system : Option Meaning) (s : Option (Standing Place)) → found_as system s ≡ Found.Unknown → is_some s ≡ false
+absent system None is = refl
+absent system (Some (IsDeclared number meaning place)) is = absurd (cc is)
+absent system (Some (IsUsed spelling place)) is = absurd (cc is)
 
-known_stays : (known : Option Operand) (number : Option ℕ) (op : Operand) → op ≡ operand_by known None → is_plain op ≡ true
-    → operand_by known number ≡ op
-known_stays (Some k) number op e plain = sym e
-known_stays None number op e plain = no_reference None op e plain
-
--- the operand of a name with this finding, once it is used
-found_stays : (f : Found Place) (number : Option ℕ) (op : Operand) → op ≡ found_operand f None → is_plain op ≡ true
-    → found_operand f number ≡ op
-found_stays (Found.System m) number op e plain = known_stays (standing m) number op e plain
-found_stays (Found.Declared m place) number op e plain = known_stays (standing m) number op e plain
-found_stays Found.Used number op e plain = no_reference None op e plain
-found_stays Found.Unknown number op e plain = no_reference None op e plain
+-- its number is that of the next name
+next_name : (name : List ℕ) (t : Table Place) → found_in name t ≡ Found.Unknown → nat_le (length t.names) (index_of (folded name) t.names) ≡ true
+next_name name t is =
+    let last : index_of (folded name) t.names ≡ length t.names =
+    index_of-absent (folded name) t.names (absent (system_meaning t.is_debugging name) (standing_of (folded name) t.names) is) in
+    grind (arith, nat_tests, last)
 
 -- a name that is no local
 used_stays : (limits : Limits) (name : List ℕ) (place : Place) (o : Out) (op : Operand) (f : Found Place) → found_in name o.names ≡ f
-    → op ≡ found_operand f None → is_plain op ≡ true → settled_by limits None name place o ≡ (o, op)
-used_stays limits name place o op (Found.System m) is e plain =
-    rw (is, is) (ap (λ (x : Operand). (o, x)) (found_stays (Found.System m) None op e plain))
-used_stays limits name place o op (Found.Declared m first) is e plain =
-    rw (is, is) (ap (λ (x : Operand). (o, x)) (found_stays (Found.Declared m first) _ op e plain))
-used_stays limits name place o op Found.Used is e plain = no_reference None op e plain
-used_stays limits name place o op Found.Unknown is e plain = no_reference None op e plain
+    → op ≡ found_operand f (number_by f name o.names) → is_new (length o.names.names) op ≡ false
+    → settled_by limits None name place o ≡ (o, op)
+used_stays limits name place o op (Found.System m) is e known = rw (is, is) (ap (λ (x : Operand). (o, x)) (sym e))
+used_stays limits name place o op (Found.Declared m first) is e known = rw (is, is) (ap (λ (x : Operand). (o, x)) (sym e))
+used_stays limits name place o op Found.Used is e known = rw (is, is) (ap (λ (x : Operand). (o, x)) (sym e))
+used_stays limits name place o op Found.Unknown is e known =
+    let count = length o.names.names in
+    let wrong : true ≡ false = sym (next_name name o.names is) ∙ ap (is_new count) (sym e) ∙ known in absurd (cc wrong)
 
-name_stays : (limits : Limits) (locals : List Local) (name : List ℕ) (place : Place) (o : Out) (op : Operand) (local : Option ℕ)
-    → op ≡ looked_by local name o.names → is_plain op ≡ true → settled_by limits local name place o ≡ (o, op)
-name_stays limits locals name place o op (Some local) e plain = ap (λ (x : Operand). (o, x)) (sym e)
-name_stays limits locals name place o op None e plain = used_stays limits name place o op (found_in name o.names) refl e plain
+name_stays : (limits : Limits) (name : List ℕ) (place : Place) (o : Out) (op : Operand) (local : Option ℕ)
+    → op ≡ looked_by local name o.names → is_new (length o.names.names) op ≡ false → settled_by limits local name place o ≡ (o, op)
+name_stays limits name place o op (Some local) e known = ap (λ (x : Operand). (o, x)) (sym e)
+name_stays limits name place o op None e known = used_stays limits name place o op (found_in name o.names) refl e known
 
 at_name : (limits : Limits) (locals : List Local) (o : Out) (op : Operand) (name : Option Name)
-    → op ≡ looked_name locals o.names (bytes_of name) → is_plain op ≡ true → is_some name ≡ true
+    → op ≡ looked_name locals o.names (bytes_of name) → is_new (length o.names.names) op ≡ false → is_some name ≡ true
     → settled_name limits locals name o ≡ (o, op)
-at_name limits locals o op None e plain there = absurd (cc there)
-at_name limits locals o op (Some n) e plain there = name_stays limits locals n.bytes n.place o op (local_number n.bytes locals) e plain
+at_name limits locals o op None e known there = absurd (cc there)
+at_name limits locals o op (Some n) e known there = name_stays limits n.bytes n.place o op (local_number n.bytes locals) e known
 
-pub named_stays : (tokens : List SourceToken) (at : ℕ) (op : Operand) → is_plain op ≡ true → is_some (name_at tokens at) ≡ true
-    → LeafStays tokens (Leaf.Name at) op
-named_stays tokens at op plain there limits set locals o e = at_name limits locals o op (name_at tokens at) e plain there
+pub named_stays : (o : Out) (tokens : List SourceToken) (at : ℕ) (op : Operand) → is_new (length o.names.names) op ≡ false
+    → is_some (name_at tokens at) ≡ true → LeafStays o tokens (Leaf.Name at) op
+named_stays o tokens at op known there limits set locals e = at_name limits locals o op (name_at tokens at) e known there
 
 by_stack : (limits : Limits) (locals : List Local) (tokens : List SourceToken) (at : ℕ) (o : Out) (op : Operand) (b : Bool)
-    → op ≡ cond b (Operand.Variable 0) (looked_name locals o.names (bytes_at tokens at)) → is_plain op ≡ true
+    → op ≡ cond b (Operand.Variable 0) (looked_name locals o.names (bytes_at tokens at)) → is_new (length o.names.names) op ≡ false
     → is_some (name_at tokens at) ≡ true → cond b (o, Operand.Variable 0) (settled_name limits locals (name_at tokens at) o) ≡ (o, op)
-by_stack limits locals tokens at o op true e plain there = ap (λ (x : Operand). (o, x)) (sym e)
-by_stack limits locals tokens at o op false e plain there = at_name limits locals o op (name_at tokens at) e plain there
+by_stack limits locals tokens at o op true e known there = ap (λ (x : Operand). (o, x)) (sym e)
+by_stack limits locals tokens at o op false e known there = at_name limits locals o op (name_at tokens at) e known there
 
-pub alone_stays : (tokens : List SourceToken) (at : ℕ) (op : Operand) → is_plain op ≡ true → is_some (name_at tokens at) ≡ true
-    → LeafStays tokens (Leaf.Alone at) op
-alone_stays tokens at op plain there limits set locals o e =
-    by_stack limits locals tokens at o op (is_stack (bytes_at tokens at) (local_number (bytes_at tokens at) locals)) e plain there
+pub alone_stays : (o : Out) (tokens : List SourceToken) (at : ℕ) (op : Operand) → is_new (length o.names.names) op ≡ false
+    → is_some (name_at tokens at) ≡ true → LeafStays o tokens (Leaf.Alone at) op
+alone_stays o tokens at op known there limits set locals e =
+    by_stack limits locals tokens at o op (is_stack (bytes_at tokens at) (local_number (bytes_at tokens at) locals)) e known there
 
-pub number_stays : (tokens : List SourceToken) (number : ℕ) (op : Operand) → LeafStays tokens (Leaf.Number number) op
-number_stays tokens number op limits set locals o e = ap (λ (x : Operand). (o, x)) (sym e)
+pub number_stays : (o : Out) (tokens : List SourceToken) (number : ℕ) (op : Operand) → LeafStays o tokens (Leaf.Number number) op
+number_stays o tokens number op limits set locals e = ap (λ (x : Operand). (o, x)) (sym e)
 
-pub char_stays : (tokens : List SourceToken) (zscii : ℕ) (op : Operand) → LeafStays tokens (Leaf.Char zscii) op
-char_stays tokens zscii op limits set locals o e = ap (λ (x : Operand). (o, x)) (sym e)
+pub char_stays : (o : Out) (tokens : List SourceToken) (zscii : ℕ) (op : Operand) → LeafStays o tokens (Leaf.Char zscii) op
+char_stays o tokens zscii op limits set locals e = ap (λ (x : Operand). (o, x)) (sym e)
 
-pub system_stays : (tokens : List SourceToken) (at : ℕ) (op : Operand) → LeafStays tokens (Leaf.System at) op
-system_stays tokens at op limits set locals o e = ap (λ (x : Operand). (o, x)) (sym e)
+pub system_stays : (o : Out) (tokens : List SourceToken) (at : ℕ) (op : Operand) → LeafStays o tokens (Leaf.System at) op
+system_stays o tokens at op limits set locals e = ap (λ (x : Operand). (o, x)) (sym e)
 
 -- one leaf more, whose use changes nothing
 pub leaf_on : (limits : Limits) (set : CharSet) (locals : List Local) (tokens : List SourceToken) (l : Leaf) (leaves : List Leaf) (o : Out)
-    (operands : List Operand) (op : Operand) → LeafStays tokens l op → op ≡ looked locals o.names o.code.scale tokens l
+    (operands : List Operand) (op : Operand) → LeafStays o tokens l op → op ≡ looked locals o.names o.code.scale tokens l
     → settled limits set locals tokens leaves (record { out = o; operands = operands ++ op ∷ [] })
     ≡ settled limits set locals tokens (l ∷ leaves) (record { out = o; operands = operands })
 leaf_on limits set locals tokens l leaves o operands op stays e =
-    ap (λ (s : Out × Operand). settled limits set locals tokens leaves (with_settled s operands)) (sym (stays limits set locals o e))
+    ap (λ (s : Out × Operand). settled limits set locals tokens leaves (with_settled s operands)) (sym (stays limits set locals e))
 
 -- That statements name locals does not matter for the use of names.
 

@@ -18,7 +18,7 @@ use Rattle.inf_output.specs.{Actions.action_number, Actions.action_of, Actions.k
 use Rattle.inf_output.specs.Output.{Code, Out, referred, referred_as, string_at, with_text, with_word}
 use Rattle.inf_operands.specs.Texts.{text_at, text_packed}
 
--- Names
+-- Definitions of names
 
 abbrev pub function_of : NamedFunction → Function
 function_of NamedFunction.Child = Function.Child
@@ -60,12 +60,12 @@ found_operand (Found.Declared m place) number = operand_by (standing m) number
 found_operand Found.Used number = referring number
 found_operand Found.Unknown number = referring number
 
--- Operands whose names are only looked up
+-- Definitions of operands whose names are only looked up
 
 -- the operand of a name, which a local hides
 abbrev pub looked_by : Option ℕ → List ℕ → Table Place → Operand
 looked_by (Some local) name names = Operand.Variable local
-looked_by None name names = found_operand (found_in name names) None
+looked_by None name names = found_operand (found_in name names) (name_number name names)
 
 abbrev pub looked_name : List Local → Table Place → List ℕ → Operand
 looked_name locals names name = looked_by (local_number name locals) name names
@@ -148,7 +148,7 @@ looked_from locals o tokens (l ∷ leaves) ahead operands =
 abbrev pub all_looked : List Local → Out → List SourceToken → List Leaf → List Operand
 all_looked locals o tokens leaves = looked_from locals o tokens leaves (no_names false) []
 
--- Operands whose names and words are used
+-- Definitions of operands whose names and words are used
 
 -- the output so far, and the operands of some leaves
 pub record Settled : Type 0 where

@@ -3,11 +3,12 @@ ghost use Rattle.std.specs.Prelude.{◌≡◌, IfOk, IfSome, OnOk, false, true};
 ghost use Rattle.inf_gathering.specs.declared.gathering.Leaf.{Leaf};
 ghost use Rattle.inf_names.specs.{LocalList.listed, Symbols.Table, Symbols.no_names};
 ghost use Rattle.inf_scanner.specs.declared.tokens.Place.{Place as SourcePlace};
-ghost use Rattle.inf_operands.specs.{OperandLists.operands_in, Uses.LeafStays, Uses.LeavesStay, Uses.is_plain};
+ghost use Rattle.inf_operands.specs.{OperandLists.operands_in, Uses.LeafStays, Uses.LeavesStay, Uses.is_new};
 ghost use Rattle.inf_operands.specs.Operands.{all_looked, looked, looked_from, looked_leaf};
 
 use crate::operand_lists::OperandList;
 use crate::operands::{looked, looked_leaf};
+use inf_area::Target;
 use inf_expressions::Operand;
 use inf_gathering::gathering::Leaf;
 use inf_names::locals::Locals;
@@ -18,35 +19,43 @@ use inf_settings::bounds::{Bounds, Unbounded};
 use inf_unit::unit_tokens::UnitTokens;
 use std::alloc::{AllocError, Global};
 
-/// Returns whether `operand` is a known number, a variable or a function.
-fn is_plain(operand: Operand) -> bool
-    ensures { result ≡ is_plain operand }
+/// Returns whether `operand` is a reference to a name that is none of the first `count`.
+fn is_new(count: usize, operand: Operand) -> bool
+    ensures { result ≡ is_new count operand }
 {
     match operand {
-        Operand::Known(_) | Operand::Variable(_) | Operand::Function(_) => true,
-        Operand::Later(_) | Operand::Unknown => false,
+        Operand::Later(Target::Name(number)) => count <= number,
+        _ => false,
     }
 }
 
-/// Returns whether the use of the name at `at` of `tokens` is known to change nothing and to give `operand`, as looking it up does: it
-/// stands for a known number, a variable or a function.
+/// Returns whether the use of the name at `at` of `tokens` is known to change nothing in `out` and to give `operand`, as looking it up
+/// does: it is no new name.
 #[tactic(auto, using(crate::proofs::Staying::named_stays, crate::proofs::Staying::alone_stays))]
-fn name_stays(tokens: &UnitTokens, at: usize, operand: Operand) -> bool
-    ensures name { result ≡ true → LeafStays tokens.now (Leaf.Name at) operand }
-    ensures alone { result ≡ true → LeafStays tokens.now (Leaf.Alone at) operand }
+fn name_stays<B: Bounds>(out: &Output<B>, tokens: &UnitTokens, at: usize, operand: Operand) -> bool
+    ensures name { result ≡ true → LeafStays out.now tokens.now (Leaf.Name at) operand }
+    ensures alone { result ≡ true → LeafStays out.now tokens.now (Leaf.Alone at) operand }
 {
-    is_plain(operand) && tokens.name_at(at).is_some()
+    if is_new(out.names.len(), operand) {
+        return false;
+    }
+    tokens.name_at(at).is_some()
 }
 
-/// Returns whether the use of the name of `leaf`, a leaf of a unit with `tokens`, is known to change nothing and to give `operand`, as
-/// looking it up does.
+/// Returns whether the use of the name of `leaf`, a leaf of a unit with `tokens`, is known to change nothing in `out` and to give
+/// `operand`, as looking it up does.
 #[tactic(auto, using(crate::proofs::Staying::number_stays, crate::proofs::Staying::char_stays, crate::proofs::Staying::system_stays))]
-pub(crate) fn stays(tokens: &UnitTokens, leaf: Leaf, operand: Operand) -> bool
-    ensures { result ≡ true → LeafStays tokens.now leaf operand }
+pub(crate) fn stays<B: Bounds>(
+    out: &Output<B>,
+    tokens: &UnitTokens,
+    leaf: Leaf,
+    operand: Operand,
+) -> bool
+    ensures { result ≡ true → LeafStays out.now tokens.now leaf operand }
 {
     match leaf {
-        Leaf::Name(at) => name_stays(tokens, at, operand),
-        Leaf::Alone(at) => name_stays(tokens, at, operand),
+        Leaf::Name(at) => name_stays(out, tokens, at, operand),
+        Leaf::Alone(at) => name_stays(out, tokens, at, operand),
         Leaf::Number(_) | Leaf::Char(_) | Leaf::System(_) => true,
         Leaf::Word(_) | Leaf::Text(_) | Leaf::Action(_) => false,
     }
@@ -117,7 +126,7 @@ pub fn look_all<B: Bounds>(
             return Ok(false);
         };
         operands.push(operand)?;
-        stay = stay & stays(tokens, *leaf, operand);
+        stay = stay & stays(out, tokens, *leaf, operand);
         left = others;
     }
     Ok(stay)

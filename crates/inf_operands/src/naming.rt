@@ -7,7 +7,7 @@ ghost use Rattle.inf_operands.specs.Operands.{looked_leaf, looked_name};
 ghost use Rattle.inf_operands.specs.Uses.{LeavesStay};
 
 use crate::looking::{look_ahead, stays};
-use crate::operands::{found_operand, is_stack, looked, name_locals};
+use crate::operands::{is_stack, looked, looked_outside, name_locals};
 use inf_expressions::Operand;
 use inf_gathering::gathering::Leaf;
 use inf_names::locals::Locals;
@@ -38,7 +38,7 @@ fn noted_name<B: Bounds>(locals: &mut Locals, names: &Symbols<Place, B>, name: &
 {
     match note(locals, name) {
         Some(local) => Operand::Variable(local),
-        None => found_operand(names.look(name), None),
+        None => looked_outside(names, name),
     }
 }
 
@@ -52,7 +52,7 @@ fn noted_alone<B: Bounds>(locals: &mut Locals, names: &Symbols<Place, B>, name: 
     match note(locals, name) {
         Some(local) => Operand::Variable(local),
         None if is_stack(name, None) => Operand::Variable(0),
-        None => found_operand(names.look(name), None),
+        None => looked_outside(names, name),
     }
 }
 
@@ -125,7 +125,7 @@ pub fn note_all<B: Bounds>(
             return Ok(false);
         };
         operands.push(operand)?;
-        stay = stay & stays(tokens, *leaf, operand);
+        stay = stay & stays(out, tokens, *leaf, operand);
         left = others;
     }
     Ok(stay)

@@ -1,10 +1,11 @@
 //! The operands of a unit's leaves.
-ghost use Rattle.std.specs.Prelude.{◌≡◌, ◌≤◌, [], ◌∷◌, ◌++◌, List, IfOk, IfSome, OnOk, length, option_map};
+ghost use Rattle.std.specs.Prelude.{◌≡◌, ◌≤◌, [], ◌∷◌, ◌++◌, List, IfOk, IfSome, None, OnOk, length, option_map};
 ghost use Rattle.inf_names.specs.LocalList.{listed};
 ghost use Rattle.inf_unit.specs.NameTokens.{named};
 ghost use Rattle.inf_operands.specs.{OperandLists.operands_in, Texts.text_at};
 ghost use Rattle.inf_operands.specs.Operands.{Settled, found_operand, function_of, is_stack, leaf_added, leaf_named, leaves_named, looked};
-ghost use Rattle.inf_operands.specs.Operands.{looked_action, looked_alone, looked_leaf, looked_name, new_action, one_added, operand_by};
+ghost use Rattle.inf_operands.specs.Operands.{looked_action, looked_alone, looked_by, looked_leaf, looked_name, new_action, one_added};
+ghost use Rattle.inf_operands.specs.Operands.{operand_by};
 ghost use Rattle.inf_operands.specs.Operands.{referring, settled, settled_action, settled_alone, settled_as, settled_leaf, settled_name};
 ghost use Rattle.inf_operands.specs.Operands.{settled_text, settled_word, standing, stores_named, system_constant, system_operand};
 ghost use Rattle.inf_operands.specs.Operands.{word_operand, word_sum};
@@ -92,6 +93,16 @@ pub fn found_operand(found: Found<Place>, number: Option<usize>) -> Operand
     }
 }
 
+/// Returns the operand of `name`, which is no local and is only looked up in `names`.
+#[inline(always)]
+pub(crate) fn looked_outside<B: Bounds>(names: &Symbols<Place, B>, name: &[u8]) -> Operand
+    requires { length name.now ≤ 35 }
+    ensures { result ≡ looked_by None name.now names.now }
+{
+    let (found, number) = names.find(name);
+    found_operand(found, number)
+}
+
 /// Returns the operand of `name`, which is only looked up in `names`. A local of `locals` hides it.
 #[inline(always)]
 pub fn looked_name<B: Bounds>(locals: &Locals, names: &Symbols<Place, B>, name: &[u8]) -> Operand
@@ -100,7 +111,7 @@ pub fn looked_name<B: Bounds>(locals: &Locals, names: &Symbols<Place, B>, name: 
 {
     match locals.number(name) {
         Some(local) => Operand::Variable(local),
-        None => found_operand(names.look(name), None),
+        None => looked_outside(names, name),
     }
 }
 
@@ -122,7 +133,7 @@ fn looked_alone<B: Bounds>(locals: &Locals, names: &Symbols<Place, B>, name: &[u
     match locals.number(name) {
         Some(local) => Operand::Variable(local),
         None if is_stack(name, None) => Operand::Variable(0),
-        None => found_operand(names.look(name), None),
+        None => looked_outside(names, name),
     }
 }
 

@@ -57,7 +57,7 @@ proper_naming opcode variable operands store branch takes =
       text = subst (λ b. IsTrue (fits_text b [])) (sym takes.text) refl;
     }
 
--- the same of operands that were made
+-- an instruction of operands that were made is proper
 pub is_proper : (opcode : Opcode) (operands : List Simple) (all : List Operand) (store : Option ℕ) (branch : Option Branch) →
     all ≡ map written operands → Takes opcode (length operands) (is_some store) (is_some branch)
     → IsProper (record { opcode = opcode; operands = all; store = store; branch = branch; text = [] })

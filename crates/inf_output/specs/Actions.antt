@@ -8,7 +8,7 @@ use Rattle.inf_output.specs.Output.{Code, Out, declared, passed_table, referred,
 use Rattle.inf_verbs.specs.declared.routines.ActionFault.{ActionFault}
 use Rattle.inf_verbs.specs.Routines.{AllActions, action_fault, number_of, with_action, with_fake}
 
--- Keys
+-- Definitions of keys
 
 -- Key of an action among names: two signs stand before its own name, so it is the key of no other name.
 abbrev pub key_of : List ℕ → List ℕ
@@ -18,7 +18,7 @@ key_of name = codes "##" ++ name
 abbrev pub routine_name : List ℕ → List ℕ
 routine_name name = name ++ codes "Sub"
 
--- Numbers
+-- Definitions of numbers
 
 -- Number that a key stands for: a fake action is declared under its key among the names of the source, and any other that appeared
 -- among those that did.
@@ -40,7 +40,7 @@ number_by None seen = seen
 abbrev pub action_number : List ℕ → Out → Option ℕ
 action_number name o = number_by (fake_number (key_of name) o) (number_in (found_in (key_of name) o.seen))
 
--- Where an action appears that is no fake one
+-- Definitions of the places where an action appears that is no fake one
 
 -- An action that appears for the first time is declared under its key with the number of the actions that appeared before, as a word.
 abbrev pub next_seen : Out → ℕ
@@ -89,7 +89,7 @@ action_by limits None name place o = routine_used limits (routine_name name) pla
 abbrev pub action_of : Limits → List ℕ → Place → Out → Out × ℕ
 action_of limits name place o = action_by limits (fake_number (key_of name) o) name place o
 
--- Fake actions
+-- Definitions of fake actions
 
 -- First place of an action, as a fake one or not.
 abbrev pub place_in : Found Place → Option Place

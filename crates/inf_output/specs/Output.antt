@@ -39,7 +39,7 @@ pub record Out : Type 0 where
 abbrev pub Code : Type 0
 Code = Out → Out
 
--- Limits
+-- Definitions of limits
 
 -- Room left beside some code.
 abbrev pub whole : Limits → Routines → Past
@@ -124,7 +124,7 @@ first_table (Some other) limit = if nat_lt (place_of limit) (place_of other) the
 abbrev pub table_passed : Setting → Past → Past
 table_passed limit past = record past { tables = Some (first_table past.tables limit) }
 
--- Items
+-- Definitions of items
 
 -- First limit that an item in the open routine would pass, and the routines with the item.
 abbrev pub full_item : Item → Routines → Option CodeLimit
@@ -168,7 +168,7 @@ abbrev pub items_of : Option (List Item) → List Item
 items_of None = []
 items_of (Some items) = items
 
--- Routines
+-- Definitions of routines
 
 -- Another routine is opened, unless that passes a limit; its labels are counted from 0.
 abbrev pub passed_limit : CodeLimit → Past → Past
@@ -212,13 +212,13 @@ with_labels_left limits (Some rest) o = o
 abbrev pub closed : Limits → RoutineKind → Code
 closed limits kind o = with_labels_left limits (past_of limits o).labels (code_closed limits kind o)
 
--- Scale of packed addresses
+-- The scale of packed addresses, by which they are multiplied
 
 -- Packed addresses are multiplied by another scale: the next routine and the next string are filled up to it.
 abbrev pub with_scale : Scale → Code
 with_scale scale o = record o { code = record o.code { scale = scale }; strings = record o.strings { scale = scale } }
 
--- Strings
+-- Definitions of strings
 
 -- Place of the next string.
 abbrev pub string_at : Out → Target
@@ -232,7 +232,7 @@ with_text_by limits false text o = record o { past = Some (record (past_of limit
 abbrev pub with_text : Limits → List ℕ → Code
 with_text limits text o = with_text_by limits (fits limits text o.strings) text o
 
--- Tables
+-- Definitions of tables
 
 -- A table would hold more than its limit allows.
 abbrev pub passed_table : Limits → Setting → Code
@@ -267,7 +267,7 @@ abbrev pub with_word : Limits → Text → WordUse → Bool → Code
 with_word limits text how is_plural o =
     with_word_by limits (add_fault limits (word_of text o.tables.dictionary.list) how o.tables.dictionary) text how is_plural o
 
--- Names
+-- Definitions of names
 
 abbrev pub symbols_passed : Limits → Code
 symbols_passed limits o = record o { past = Some (record (past_of limits o) { symbols = true }) }
@@ -297,7 +297,7 @@ referred_as_by (Some fault) name names = None
 abbrev pub referred_as : Limits → List ℕ → Out → Option (Found Place × Option ℕ)
 referred_as limits name o = referred_as_by (refer_fault limits name o.names) name o.names
 
--- Words
+-- Definitions of words
 
 abbrev pub nothing : Code
 nothing o = o
@@ -376,7 +376,7 @@ pub record TakesVariable (opcode : Opcode) (operands : ℕ) (with_store with_bra
   pub branches : with_branch ≡ (row_of opcode).branches
   pub text : (row_of opcode).has_text ≡ false
 
--- Routines of the veneer
+-- Definitions of routines of the veneer
 
 -- Operand of a name whose number is known, or that is a variable.
 abbrev pub standing_simple : Meaning → Option Simple

@@ -91,3 +91,15 @@ begun_named limits Part.Step w = refl
 begun_named limits Part.Loop w = refl
 begun_named limits Part.Switched w = refl
 begun_named limits Part.Case w = refl
+
+-- The trees of a unit stay those of its operands while it begins and its locals are named.
+pub trees_begun : (limits : Limits) (p : Part) (w : Compilation) (operands : List Operand)
+    → trees_at (order_of p w) (wanted_of p) operands w
+    ≡ trees_at (order_of p (named (part_begun limits p w))) (wanted_of p) operands (named (part_begun limits p w))
+trees_begun limits (Part.Statement s) w operands = refl
+trees_begun limits Part.Condition w operands = refl
+trees_begun limits Part.Start w operands = refl
+trees_begun limits Part.Step w operands = refl
+trees_begun limits Part.Loop w operands = refl
+trees_begun limits Part.Switched w operands = refl
+trees_begun limits Part.Case w operands = refl

@@ -92,7 +92,7 @@ leaves_noted w = record w { locals = leaves_named w.unit.tokens w.unit.gathering
 abbrev pub stores_noted : Compilation → Compilation
 stores_noted w = record w { locals = stores_named w.unit.tokens w.unit.items w.locals }
 
--- Open statements
+-- Definitions of open statements
 
 -- A case begins, also one with an error: the code before it goes to the end of its `switch`.
 abbrev pub is_default : List Item → Bool

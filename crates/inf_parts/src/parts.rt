@@ -16,18 +16,17 @@ use inf_compilation::compilation::Compilation;
 use inf_compilation::context::Context;
 use inf_compilation::findings::Findings;
 use inf_constructs::lay_case;
-use inf_expressions::{Finding, Forest, UnitError, Wanted, judge_whole, least_of_both};
+use inf_expressions::{Finding, Forest, Operand, UnitError, Wanted, judge_whole, least_of_both};
 use inf_lexer::Place;
 use inf_opcode::Opcode;
 use inf_operands::naming::note_all;
-use inf_operands::operands::{name_stores, settle_all};
+use inf_operands::operands::{name_stores, settled};
 use inf_settings::bounds::Bounds;
 use inf_statements::effects::{Site, wanted_by};
 use inf_statements::statements::{Statement, lay_expression, lay_switched, lay_test};
 use inf_unit::items::Item;
 use inf_unit::unit::order;
 use std::alloc::AllocError;
-use std::mem;
 
 /// A unit of a routine that has expressions.
 #[derive(Clone, Copy, Debug, PartialEq, Eq)]
@@ -98,7 +97,8 @@ fn is_default(items: &[Item]) -> bool
 
 /// Marks the locals as named in which the unit stores.
 fn note_stores<B: Bounds>(compilation: &mut Compilation<B>)
-    ensures { work compilation.new ≡ stores_noted (work compilation.old) }
+    ensures noted { work compilation.new ≡ stores_noted (work compilation.old) }
+    ensures operands { compilation.new.operands.items ≡ compilation.old.operands.items }
 {
     name_stores(
         &mut compilation.locals,
@@ -107,39 +107,64 @@ fn note_stores<B: Bounds>(compilation: &mut Compilation<B>)
     );
 }
 
-/// Uses the names of the expressions of the unit, which begins at `first`, and returns their trees, in the memory of those of `spare`.
+fn is_same(operand: Operand, other: Operand) -> bool
+    ensures { result ≡ true → operand ≡ other }
+{
+    operand == other
+}
+
+/// Returns whether two lists of operands are the same.
+fn are_same(operands: &[Operand], others: &[Operand]) -> bool
+    ensures { result ≡ true → operands.now ≡ others.now }
+{
+    let mut left = operands;
+    let mut right = others;
+    while let (Some((a, behind)), Some((b, beside))) = (left.split_first(), right.split_first()) {
+        if !is_same(*a, *b) {
+            return false;
+        }
+        left = behind;
+        right = beside;
+    }
+    left.is_empty() && right.is_empty()
+}
+
+/// Uses the names of the expressions of the unit, which begins at `first`, and returns their trees. Where the operands stay as they were
+/// looked up, these are the trees of `looked`, and else they are in the memory of those.
 fn settle<B: Bounds>(
     compilation: &mut Compilation<B>,
     context: &Context<'_>,
     first: Place,
     part: Part,
-    spare: Forest,
+    looked: Forest,
 ) -> Result<Forest, AllocError>
+    requires { let w = work compilation.old in
+        rooted_in looked ≡ trees_at (order_of part w) (wanted_of part) compilation.old.operands.items w }
     ensures { IfOk result (λ forest. let s = settled_of B.most (handed context.now) (work compilation.old) in
         (rooted_in forest ≡ trees_at (order_of part (work compilation.old)) (wanted_of part) s.operands (work compilation.old))
         × (work compilation.new ≡ record (work compilation.old) { output = record s.out { first = first } })) }
 {
     let order = part_order(compilation, part);
-    let mut operands = mem::replace(&mut compilation.operands, Vec::new(compilation.alloc));
-    settle_all(
+    let operands = settled(
         compilation.alloc,
         context.set,
         &compilation.locals,
         &compilation.unit.tokens,
         compilation.unit.gathering.leaves(),
         &mut compilation.output,
-        &mut operands,
     )?;
     compilation.output.first = first;
+    if are_same(operands.as_slice(), compilation.operands.as_slice()) {
+        return Ok(looked);
+    }
     let (_, forest) = judge_whole(
         compilation.alloc,
         part.wanted(),
         order,
         compilation.unit.gathering.symbols(),
         operands.as_slice(),
-        Some(spare),
+        Some(looked),
     )?;
-    compilation.operands = operands;
     Ok(forest)
 }
 
@@ -237,6 +262,7 @@ fn look<B: Bounds>(
     ensures stays { let w = work compilation.old in IfOk result (λ found. found.1.stays ≡ true →
         LeavesStay w.locals w.output w.unit.tokens w.unit.gathering.leaves (operands_of w)) }
     ensures noted { OnOk result (work compilation.new ≡ leaves_noted (work compilation.old)) }
+    ensures operands { OnOk result (compilation.new.operands.items ≡ operands_of (work compilation.old)) }
 {
     let order = part_order(compilation, part);
     let stays = note_all(
@@ -275,6 +301,8 @@ fn found_in<B: Bounds>(
         part_laid B.most (handed context.now) first part (rooted_in found.1.forest) (named (part_begun B.most part w))
         ≡ part_finished B.most (handed context.now) first part w) }
     ensures noted { OnOk result (work compilation.new ≡ leaves_noted (work compilation.old)) }
+    ensures trees { let w = work compilation.old in IfOk result (λ found.
+        rooted_in found.1.forest ≡ trees_at (order_of part w) (wanted_of part) compilation.new.operands.items w) }
 {
     let (finding, mut looked) = look(compilation, part)?;
     let own = own_finding(compilation, context, part, opcode, &looked.forest);
@@ -285,7 +313,8 @@ fn found_in<B: Bounds>(
 
 /// Begins a case, also one with an error, if the unit, which is `part`, is one.
 fn begin_part<B: Bounds>(compilation: &mut Compilation<B>, part: Part) -> Result<(), AllocError>
-    ensures { OnOk result (work compilation.new ≡ part_begun B.most part (work compilation.old)) }
+    ensures begun { OnOk result (work compilation.new ≡ part_begun B.most part (work compilation.old)) }
+    ensures operands { compilation.new.operands.items ≡ compilation.old.operands.items }
 {
     match part {
         Part::Case => {
@@ -382,7 +411,7 @@ fn lay_part<B: Bounds>(
 }
 
 /// Ends the unit, which is `part` and begins at `first`, with `finding`, the least about it, if there is one: then it has no effect.
-/// The memory of the trees of `spare` is kept.
+/// Its trees, where names are only looked up, are in `looked`, whose memory is kept.
 fn carry_out_part<B: Bounds>(
     compilation: &mut Compilation<B>,
     context: &Context<'_>,
@@ -390,16 +419,18 @@ fn carry_out_part<B: Bounds>(
     part: Part,
     opcode: Option<Opcode>,
     finding: Option<Finding>,
-    spare: Forest,
+    looked: Forest,
 ) -> Result<(), AllocError>
-    requires { KnowsOpcode part opcode (work compilation.old) }
+    requires opcode { KnowsOpcode part opcode (work compilation.old) }
+    requires trees { let w = work compilation.old in
+        rooted_in looked ≡ trees_at (order_of part w) (wanted_of part) compilation.old.operands.items w }
     ensures { OnOk result (work compilation.new ≡ part_carried B.most (handed context.now) first part finding (work compilation.old)) }
 {
     if finding.is_none() {
-        let forest = settle(compilation, context, first, part, spare)?;
+        let forest = settle(compilation, context, first, part, looked)?;
         return lay_part(compilation, context, first, part, opcode, forest);
     }
-    compilation.forest = Some(spare);
+    compilation.forest = Some(looked);
     compilation.end_unit(context, first, part.has_last(), &Findings::alone(finding))
 }
 
@@ -446,6 +477,8 @@ fn take_up<B: Bounds>(
         part_laid B.most (handed context.now) first part (rooted_in found.1.forest) (named (part_begun B.most part w))
         ≡ part_finished B.most (handed context.now) first part w) }
     ensures named { OnOk result (work compilation.new ≡ named (part_begun B.most part (work compilation.old))) }
+    ensures trees { let w = work compilation.new in IfOk result (λ found.
+        rooted_in found.1.forest ≡ trees_at (order_of part w) (wanted_of part) compilation.new.operands.items w) }
 {
     let found = found_in(compilation, context, first, part, opcode)?;
     begin_part(compilation, part)?;

@@ -13,7 +13,7 @@ use inf_area::Value;
 use std::alloc::{AllocError, AllocFailed, Global};
 use std::marker::Model;
 
-/// Why a property, a value or a class was not taken.
+/// The reason why a property, a value or a class was not taken.
 #[derive(Clone, Copy, Debug, PartialEq, Eq)]
 pub enum GiveFault {
     /// The body gave the property already.

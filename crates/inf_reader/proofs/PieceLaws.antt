@@ -37,7 +37,7 @@ fronts_begin seen n b = record {
         ∙ ap (λ ts. is_some (read grammar known piece ts)) (take-append-drop n seen)
         ∙ all
 
--- Tokens that are faulty by themselves
+-- Lemmas about tokens that are faulty by themselves
 
 faulty_is_bad : (c : Bool) (k : TokenKind) (bytes : List ℕ) (m : Message) → fault_of_kind k ≡ Some m → atom_of_kind c k bytes ≡ bad_atom
 faulty_is_bad c (TokenKind.Bad b) bytes m h = refl

@@ -11,7 +11,7 @@ use Rattle.inf_conditionals.specs.{declared.filtered.Forwarded.Forwarded, declar
 use Rattle.inf_grammar.specs.Routines.{closings}
 use Rattle.inf_reader.specs.{Reading.ReaderState, Reading.Reading, Reading.bad, Reading.step, declared.recovery.Recovery.Recovery}
 
--- The places in the reading at which a token comes
+-- Definitions of the places in the reading at which a token comes
 
 abbrev pub is_empty : List (Symbol Action) → Bool
 is_empty [] = true
@@ -34,7 +34,7 @@ is_between r = reads r.mode && is_empty r.stack
 abbrev pub site_of : Settings → Reading → Site
 site_of settings r = record { is_between = is_between r; is_quiet = skips r.mode; longest = number_of Setting.ExpressionNodes settings }
 
--- The tokens that are handed on
+-- Definitions of the tokens that are handed on
 
 -- a `#` at a place, as a token
 abbrev pub hash : Place → SourceToken

@@ -41,7 +41,7 @@ is_mode_ended _ = false
 abbrev pub has_ended_at : ReaderState → Bool
 has_ended_at s = s.work.report.counts.is_over || is_mode_ended s.reading.mode
 
--- Bad pieces
+-- Definitions of bad pieces
 
 -- The way in which reading goes on behind a token that is passed over: after the next semicolon, in a routine after the first one behind
 -- the next closing bracket.
@@ -56,7 +56,7 @@ passed skip token = if is_end token then Recovery.Ended else passed_mark skip to
 abbrev pub skip_of : List (Symbol Action) → Recovery
 skip_of stack = if is_in_routine stack then Recovery.SkipsRoutine else Recovery.SkipsDirective
 
--- Tokens
+-- Definitions of tokens
 
 -- the messages with that about a token at a line: a text that is too long ends the compilation
 abbrev pub with_complaint_of : Kind → Location → Message → Reported → Reported

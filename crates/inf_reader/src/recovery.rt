@@ -8,11 +8,11 @@ use inf_unit::tokens::SourceToken;
 /// The way in which the next token of a source is read.
 #[derive(Clone, Copy, Debug, PartialEq, Eq)]
 pub enum Recovery {
-    /// By the grammar.
+    /// The token is read by the grammar.
     Reads,
-    /// In a bad piece: the token is passed over, up to the closing bracket of its routine.
+    /// The token is passed over, as all of a bad piece are up to the closing bracket of its routine.
     SkipsRoutine,
-    /// In a bad piece: the token is passed over, up to its semicolon.
+    /// The token is passed over, as all of a bad piece are up to its semicolon.
     SkipsDirective,
     /// The source has ended.
     Ended,

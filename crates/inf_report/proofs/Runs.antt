@@ -35,7 +35,7 @@ spaces_shown set run (b ∷ bs) = go (is_white set b) refl (spaces_shown set (ru
         (append_assoc run (b ∷ []) (take (prefix_len (is_white set) bs) bs)))
     go false is later = rw (is, append-nil run) refl
 
--- other bytes are shown as they are
+-- bytes that begin no white space are shown as they are
 others_shown : (set : CharSet) (bytes : List ℕ) → shown_behind set [] bytes ≡ take (prefix_len (is_alike set false) bytes) bytes ++
     shown_behind set [] (drop (prefix_len (is_alike set false) bytes) bytes)
 others_shown set [] = refl

@@ -21,7 +21,7 @@ pub data Told : Type 0 where
   End : Told
 
 pub data Message : Type 0 where
-  -- errors
+  -- These are errors.
   Syntax : (token : Told) → Message
   IllegalCharacter : Message
   UnclosedQuote : Message
@@ -50,10 +50,10 @@ pub data Message : Type 0 where
   MisplacedDefault : Message
   ErrorText : (words : Words) → Message
   LoneConditional : Message
-  -- warnings
+  -- These are warnings.
   UnusedLocal : (name : List ℕ) → Message
   WarningText : (words : Words) → Message
-  -- fatal errors
+  -- These are fatal errors.
   Exceeded : (setting : Setting) → Message
   NoInclude : (name : List ℕ) → Message
   TooManyFiles : Message

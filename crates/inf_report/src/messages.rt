@@ -10,10 +10,10 @@ use inf_settings::setting::Setting;
 /// The weight of a message.
 #[derive(Clone, Copy, Debug, PartialEq, Eq)]
 pub enum Kind {
-    /// No story is written.
+    /// An error: no story is written.
     Error,
     Warning,
-    /// Nothing behind it is read, and no story is written.
+    /// A fatal error: nothing behind its place is read, and no story is written.
     Fatal,
 }
 
@@ -27,9 +27,9 @@ pub struct Location<'a> {
 /// A token as a message names it.
 #[derive(Clone, Copy, Debug)]
 pub enum Told<'a> {
-    /// By the bytes that the source has for it.
+    /// The token is shown by the bytes that the source has for it.
     Bytes(&'a [u8]),
-    /// By the bytes between its single quotes.
+    /// The token, in single quotes, is shown by the bytes between them.
     Quote(&'a [u8]),
     /// A text, whatever its bytes are.
     Text,
@@ -44,15 +44,15 @@ pub enum FixedLimit {
     Locals,
     /// The global variables.
     Globals,
-    /// The attributes.
+    /// The attributes that a source declares.
     Attributes,
     /// The declared properties.
     Properties,
     /// The values of a property.
     Values,
-    /// The abbreviations.
+    /// The abbreviations that a source declares.
     Abbreviations,
-    /// The verbs.
+    /// The verbs that a source declares.
     Verbs,
 }
 

@@ -16,7 +16,7 @@ pub(crate) enum Item {
     Jump(u32),
     /// `print_ret` of a text.
     Text,
-    /// Another instruction.
+    /// An instruction of any other kind.
     Other(Parsed),
     /// No item of a routine, but the question for the bytes of the area.
     Bytes,
@@ -31,7 +31,7 @@ pub(crate) struct Parsed {
     pub(crate) branch: Option<Branch>,
 }
 
-/// Why an item was not written.
+/// The reason why an item was not written.
 #[derive(Clone, Copy, Debug)]
 pub(crate) enum Fault {
     /// The instruction set has no such instruction.

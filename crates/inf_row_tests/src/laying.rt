@@ -12,19 +12,19 @@ use std::alloc::{AllocError, Global};
 /// A way in which expressions are laid.
 #[derive(Clone, Copy)]
 pub(crate) enum Way {
-    /// Each without result.
+    /// Lays each expression without result.
     Alone,
-    /// Each with its value in a variable.
+    /// Lays each expression with its value in a variable.
     Value(u8),
-    /// Each as a branch over an instruction, where its truth is this.
+    /// Lays each expression as a branch over an instruction, which is taken where the expression has this truth.
     Branch(bool),
-    /// An instruction of the first two.
+    /// Lays an instruction whose operands are the first two expressions.
     Insert,
-    /// A call of the first with the others and the number 5.
+    /// Lays a call of the first expression with the others, and the number 5, as arguments.
     Call(Option<u8>),
-    /// A call of a routine of the veneer with all.
+    /// Lays a call of a routine of the veneer with all expressions as arguments.
     Spaces,
-    /// The first behind the others.
+    /// Lays the first expression behind the others.
     Apart,
 }
 

@@ -9,7 +9,7 @@ use inf_assembler::RoutineKind;
 use inf_test_lines::word;
 use std::alloc::{AllocError, Global};
 
-/// A line.
+/// A line of the script.
 #[derive(Clone, Copy)]
 enum Row {
     Title,

@@ -43,7 +43,7 @@ enum Entry {
     End,
 }
 
-/// A question.
+/// A question about a world.
 #[derive(Clone, Copy)]
 enum Question {
     IsGiven(usize),

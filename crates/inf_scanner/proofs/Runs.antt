@@ -16,7 +16,7 @@ pub no_run : (test : ℕ → Bool) → ((b : ℕ) → test b ≡ false) → (bs 
 no_run test none [] = refl
 no_run test none (b ∷ bs) = cond-false (test b) (1 + prefix_len test bs) 0 (none b)
 
--- Single bytes
+-- Lemmas about single bytes
 
 -- a byte that passes a test differs from one that fails
 other : (test : ℕ → Bool) (b n : ℕ) → test n ≡ false → test b ≡ true → (b == n) ≡ false
@@ -112,7 +112,7 @@ blank_white CharSet.Latin1 b passes = by (b == 32) (b == 9) (b == 12) (is_line_e
 gap_on : (set : CharSet) (b : ℕ) → is_blank b ≡ true → step_of set State.Gap b ≡ ByteStep.Skip State.Gap
 gap_on set b passes = cond-true (is_white set b) _ _ (blank_white set b passes)
 
--- One byte that leaves the state as it is
+-- Lemmas about one byte that leaves the state as it is
 
 abbrev seen_on : Sight → Kept → Sight
 seen_on seen kept = record { first = seen.first; kept = kept; lines = calm seen.lines }
@@ -177,7 +177,7 @@ run_skipped set limit (State.Mark m) gap b bs seen passes = cc
 run_skipped set limit State.Text gap b bs seen passes = cc
 run_skipped set limit (State.Quote a) gap b bs seen passes = cc
 
--- Runs
+-- Lemmas about runs
 
 abbrev ran : (ℕ → Sight → Sight) → List ℕ → Sight → Sight
 ran on [] seen = seen
@@ -205,7 +205,7 @@ run_found set limit s on step (b ∷ bytes) rest seen = by (stays s b) refl (run
         ∙ sym (step b (bytes ++ rest) seen e)
     by false e later = refl
 
--- Bytes that are kept
+-- Lemmas about bytes that are kept
 
 abbrev kept_as : List ℕ → Bool → Kept
 kept_as bytes is_cut = record { bytes = bytes; is_cut = is_cut }

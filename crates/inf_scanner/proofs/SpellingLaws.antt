@@ -13,7 +13,7 @@ use Rattle.inf_scanner.specs.Scanning.{Sight, Found, is_run_byte, begins_number,
 use Rattle.inf_scanner.specs.SpellingLaws.{AreSpelled, IsSpelled, LinesAreCounted, Piece, SourcesAreSpelledOnce, Spans, begins_gap}
 use Rattle.inf_scanner.specs.SpellingLaws.{begins_with, are_gaps, is_nothing, joined, kept_of, lines_ended, most_of, past_all}
 
--- From a gap to the end of the token behind it
+-- Lemmas that lead from a gap to the end of the token behind it
 
 record Gapped (set : CharSet) (limit : ℕ) (f : Found) (in_comment : Bool) (bs : List ℕ) (lines : Lines) : Type 0 where
   gap : List ℕ
@@ -180,7 +180,7 @@ gap_spelled set limit [] c seen k = at_end_of set limit c seen k
 gap_spelled set limit (b ∷ bs) true seen k = in_comment set limit b bs (gap_spelled set limit bs) seen k
 gap_spelled set limit (b ∷ bs) false seen k = in_gap set limit b bs (gap_spelled set limit bs) seen k
 
--- The whole source
+-- Lemmas about the whole source
 
 pub record Spelled (set : CharSet) (limit : ℕ) (lines : Lines) (rest : List ℕ) : Type 0 where
   pub piece : Piece
@@ -334,7 +334,7 @@ sources_are_spelled_once set limit source =
       no_other = λ others are. same_pieces set limit first_line source all.pieces others all.in_order are;
     }
 
--- Lines
+-- Lemmas about lines
 
 counted : (bytes : List ℕ) (lines : Lines) → (past_all bytes lines).line ≡ lines.line + lines_ended lines.after_return bytes
 counted [] lines = omega arith

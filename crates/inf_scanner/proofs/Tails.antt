@@ -14,7 +14,7 @@ use Rattle.inf_scanner.specs.{declared.scanner.Ending.Ending, declared.scanner.S
 use Rattle.inf_scanner.specs.Scanning.{Sight, Found, is_run_byte, find, kept}
 use Rattle.inf_scanner.specs.SpellingLaws.{Spans, ends_at, is_in_quote, kept_of, most_of, past_all}
 
--- The bytes that are kept
+-- Lemmas about the bytes that are kept
 
 abbrev kept_as : List ℕ → Bool → Kept
 kept_as bytes is_cut = record { bytes = bytes; is_cut = is_cut }
@@ -57,7 +57,7 @@ pub kept_nothing : (most : ℕ) → nothing_kept ≡ kept_of most []
 kept_nothing most =
     ap (λ bs. kept_as bs false) (sym (take_none most)) ∙ ap (λ c. kept_as (take most []) c) (sym (le-ltb most 0 (omega arith)))
 
--- Bytes at the end of others
+-- Lemmas about bytes at the end of others
 
 all_with : (test : ℕ → Bool) (bytes : List ℕ) (b : ℕ) → list_all test bytes ≡ true → test b ≡ true → list_all test (bytes ++ b ∷ []) ≡ true
 all_with test [] b all is = and_from (test b) true is refl
@@ -80,7 +80,7 @@ in_quote_with after (x ∷ bytes) b inside no_end no_quote =
     and_from (not (is_line_end x) && not (x == 39 && not after)) (is_in_quote (x == 64) (bytes ++ b ∷ [])) parts.0
     (in_quote_with (x == 64) bytes b parts.1 no_end no_quote)
 
--- Marks byte by byte
+-- Lemmas about marks byte by byte
 
 pick : (b n : ℕ) (front : List ℕ) (x m : Mark) (later : Option Mark) → mark_bytes x ≡ front ++ n ∷ []
     → (later ≡ Some m → mark_bytes m ≡ front ++ b ∷ []) → cond (b == n) (Some x) later ≡ Some m → mark_bytes m ≡ front ++ b ∷ []
@@ -125,7 +125,7 @@ longer_bytes Mark.Dot b x = pick b 38 (46 ∷ []) Mark.DotAnd x _ refl (pick b 3
 longer_bytes Mark.Hash b x = pick b 35 (35 ∷ []) Mark.DoubleHash x _ refl (no_more x _)
 longer_bytes _ b x = no_more x _
 
--- From inside a token to its end
+-- Lemmas that lead from inside a token to its end
 
 -- The token that goes on with these bytes, behind the front of its span.
 pub record Tail (set : CharSet) (limit : ℕ) (f : Found) (front bs : List ℕ) (lines : Lines) (first : ℕ) : Type 0 where

@@ -16,9 +16,9 @@ use std::alloc::{AllocError, Global};
 #[derive(Clone, Copy)]
 enum Sign {
     None,
-    /// `//`
+    /// The word ends with `//`.
     Single,
-    /// `//p`
+    /// The word ends with `//p`.
     Plural,
 }
 

@@ -6,85 +6,85 @@ use inf_text::Zscii;
 /// A mark of the language.
 #[derive(Clone, Copy, Debug, PartialEq, Eq)]
 pub enum Mark {
-    /// `->`
+    /// The mark `->`.
     Arrow,
-    /// `-->`
+    /// The mark `-->`.
     LongArrow,
-    /// `-`
+    /// The mark `-`.
     Minus,
-    /// `--`
+    /// The mark `--`.
     Decrement,
-    /// `+`
+    /// The mark `+`.
     Plus,
-    /// `++`
+    /// The mark `++`.
     Increment,
-    /// `*`
+    /// The mark `*`.
     Times,
-    /// `/`
+    /// The mark `/`.
     Divide,
-    /// `%`
+    /// The mark `%`.
     Remainder,
-    /// `&`
+    /// The mark `&`.
     BitAnd,
-    /// `&&`
+    /// The mark `&&`.
     LogicalAnd,
-    /// `|`
+    /// The mark `|`.
     BitOr,
-    /// `||`
+    /// The mark `||`.
     LogicalOr,
-    /// `~`
+    /// The mark `~`.
     BitNot,
-    /// `~~`
+    /// The mark `~~`.
     LogicalNot,
-    /// `~=`
+    /// The mark `~=`.
     NotEqual,
-    /// `=`
+    /// The mark `=`.
     Assign,
-    /// `==`
+    /// The mark `==`.
     Equal,
-    /// `>`
+    /// The mark `>`.
     Greater,
-    /// `>=`
+    /// The mark `>=`.
     GreaterOrEqual,
-    /// `<`
+    /// The mark `<`.
     Less,
-    /// `<=`
+    /// The mark `<=`.
     LessOrEqual,
-    /// `<<`
+    /// The mark `<<`.
     DoubleLess,
-    /// `>>`
+    /// The mark `>>`.
     DoubleGreater,
-    /// `,`
+    /// The mark `,`.
     Comma,
-    /// `;`
+    /// The mark `;`.
     Semicolon,
-    /// `:`
+    /// The mark `:`.
     Colon,
-    /// `(`
+    /// The mark `(`.
     OpenParenthesis,
-    /// `)`
+    /// The mark `)`.
     CloseParenthesis,
-    /// `[`
+    /// The mark `[`.
     OpenBracket,
-    /// `]`
+    /// The mark `]`.
     CloseBracket,
-    /// `{`
+    /// The mark `{`.
     OpenBrace,
-    /// `}`
+    /// The mark `}`.
     CloseBrace,
-    /// `.`
+    /// The mark `.`.
     Dot,
-    /// `.&`
+    /// The mark `.&`.
     DotAnd,
-    /// `.#`
+    /// The mark `.#`.
     DotHash,
-    /// `#`
+    /// The mark `#`.
     Hash,
-    /// `##`
+    /// The mark `##`.
     DoubleHash,
-    /// `?`
+    /// The mark `?`.
     Question,
-    /// `@`
+    /// The mark `@`.
     At,
 }
 
@@ -116,7 +116,7 @@ pub enum BadToken {
 pub struct DictionaryWord {
     /// The nine Z-characters of the word (Z-Machine Standard 1.1, section 13.3).
     pub text: [u8; 6],
-    /// Whether `//p` marks it as a plural.
+    /// Tells whether `//p` marks the word as a plural.
     pub is_plural: bool,
 }
 

@@ -17,7 +17,7 @@ use Rattle.inf_session.specs.{declared.session.Session.Session, declared.setup.S
 use Rattle.inf_session.specs.Standing.{HasObjects, IsBounded, ended}
 use Rattle.inf_ending.specs.Ending.{first_place}
 
--- The longest quoted token
+-- Lemmas about the longest quoted token
 
 kind_within : (k : TokenKind) (bytes : List ℕ) (most : ℕ) → (is_quoted_kind k ≡ true → length bytes ≤ most) → quoted_of_kind k bytes ≤ most
 kind_within TokenKind.Name bytes most few = omega arith
@@ -46,7 +46,7 @@ quoted_within site j t quoted most few before =
     (λ _. of_both (λ n. n ≤ most) (nat_lt quoted (quoted_bytes t)) (quoted_bytes t) quoted (λ _. kind_within t.kind t.bytes most few)
     (λ _. before))
 
--- The bounds of the settings
+-- Lemmas about the bounds of the settings
 
 left_false : (a b : Bool) → (a || b) ≡ false → a ≡ false
 left_false true b e = e
@@ -65,7 +65,7 @@ bounded_still s t setup longest going b = (
       (b.1 (left_false _ _ (right_false s.is_over (has_ended_at (standing s.progress)) going))),
 )
 
--- Before the first token
+-- Lemmas about the state before the first token
 
 none_told : (full : Option Setting) (names : FileNames) (warns : Bool)
     → (with_full names first_place full (none_reported warns)).counts.is_over ≡ false → full ≡ None

@@ -16,7 +16,7 @@ use Rattle.inf_session.specs.Session.{is_resting, left, left_by, none_included, 
 use Rattle.inf_ending.specs.Delivered.{IsFront}
 use Rattle.inf_ending.proofs.Delivering.{takes_none, takes_then}
 
--- Fronts
+-- Lemmas about fronts
 
 pub front_same : (xs : List ℕ) → IsFront xs xs
 front_same xs = record { rest = []; is_cut = sym (append-nil xs) }
@@ -33,7 +33,7 @@ front_then xs ys zs a b = record {
 pub front_cut : (xs ys zs : List ℕ) → IsFront (xs ++ ys) zs → IsFront xs zs
 front_cut xs ys zs f = front_then xs (xs ++ ys) zs (front_more xs ys) f
 
--- The lines that were written, behind a turn
+-- Lemmas about the lines that were written, behind a turn
 
 abbrev SameTold : State → State → Type 0
 SameTold s t = t.told ≡ s.told
@@ -84,7 +84,7 @@ pub turn_begins : (limits : Limits) (sources : Sources) (o : Choices) (s : State
 turn_begins limits sources o s =
     record { rest = (followed sources o (stepped limits o s)).work.report.lines; is_cut = turn_adds limits sources o s }
 
--- Runs
+-- Lemmas about runs
 
 pub run_going : (limits : Limits) (sources : Sources) (o : Choices) (n : ℕ) (s : State) → has_ended s ≡ false →
     run limits sources o (suc n) s ≡ run limits sources o n (turn limits sources o s)
@@ -170,7 +170,7 @@ same_end limits sources o (suc m) zero s e f = run_ended limits sources o (suc m
 same_end limits sources o (suc m) (suc n) s e f =
     same_by limits sources o m n s (has_ended s) refl (λ x y. same_end limits sources o m n (turn limits sources o s) x y) e f
 
--- The lines that a sink took
+-- Lemmas about the lines that a sink took
 
 -- no turns write nothing
 pub writes_none : (limits : Limits) (sources : Sources) (o : Choices) (s : List ℕ → State) (old : Option (List ℕ)) →
@@ -230,7 +230,7 @@ cut_none limits sources o was old told_is = record {
   begins = λ told. record { rest = []; is_cut = told_is told ∙ sym (append-nil told) ∙ sym (append-nil (told ++ [])) };
 }
 
--- One step of reading behind another
+-- Lemmas about one step of reading behind another
 
 pub writes_on : (f g step : State → State) (was mid now : List ℕ → State) (old between new : Option (List ℕ)) →
     ((told : List ℕ) → g (was told) ≡ step (f (was told)))
@@ -271,7 +271,7 @@ run_sum limits sources o (suc a) b s =
     ap (λ n. run limits sources o n s) next
     ∙ sum_by limits sources o a b s (has_ended s) refl (run_sum limits sources o a b (turn limits sources o s))
 
--- Parts
+-- Lemmas about parts
 
 same_both : (b : Bool) (s : State) → cond b s s ≡ s
 same_both true s = refl
@@ -366,7 +366,7 @@ part_then limits sources o n was mid now old between new going open_still a b = 
       ∙ sym (part_more limits sources o n (was told) (going told) (ap is_parted (sym (a.same told)) ∙ open_still (told ++ a.lines)));
 }
 
--- Where reading was given up for a file
+-- Lemmas for the case that reading was given up for a file
 
 -- all lines were written that some turns write
 pub wrote_all : (f : State → State) (was mid : List ℕ → State) (old between new : Option (List ℕ)) →
@@ -392,7 +392,7 @@ wrote_on limits sources o a b was mid old between new w all = record {
       ∙ all.same (told ++ w.lines) ∙ append_assoc told w.lines all.lines;
 }
 
--- The sources that have been opened where reading was given up
+-- Lemmas about the sources that have been opened where reading was given up
 
 -- the sources that a turn opens, behind others
 pub opened_then : (limits : Limits) (sources : Sources) (o : Choices) (n : ℕ) (was mid : List ℕ → State) (old between : Option (List ℕ))
@@ -427,7 +427,7 @@ pub opened_behind : (limits : Limits) (sources : Sources) (o : Choices) (n : ℕ
 opened_behind limits sources o n was now old new openings w h =
     λ told. h (told ++ w.lines) ∙ ap (λ (s : State). s.nesting.openings) (w.same told)
 
--- Reading that was given up for a file
+-- Lemmas about reading that was given up for a file
 
 not_tried_more : (failed more : Type 0) (sources : Sources) (directories : List (List ℕ)) (text : List ℕ) (n : Nesting)
     (openings : List (List ℕ)) → (failed → more)

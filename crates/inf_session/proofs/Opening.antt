@@ -16,7 +16,7 @@ use Rattle.inf_session.specs.{Choices.Choices, Leading.OpensWithin, Standing.sta
 use Rattle.inf_session.specs.Session.{State, answered, asked_nothing, followed, has_ended, carried_out, included, included_by, is_resting}
 use Rattle.inf_session.specs.Session.{left, none_included, piece_closed, rested, stepped, turn}
 
--- An inclusion
+-- Lemmas about an inclusion
 
 none_opened : (unit : Place) (text : List ℕ) (why : Included) (s : State) → (none_included unit text why s).nesting ≡ s.nesting
 none_opened unit text Included.Entered s = refl
@@ -45,7 +45,7 @@ tried sources o unit text set limit conditionals is_system start old new before 
     (inclusion sources o.directories text (nesting sources start old before.open_files))
     (state sources start old before told))
 
--- what holds of a result that is known
+-- Lemmas about what holds of a result that is known
 
 pub at_ok : (T E : Type 0) (r : Result T E) (P : T → Type 0) (x : T) → r ≡ Ok x → IfOk r P → P x
 at_ok T E r P x is holds = subst (λ (y : Result T E). IfOk y P) is holds
@@ -105,7 +105,7 @@ in_vain sources o unit text start old before openings (inr t) =
     inr (λ told. t.openings_are ∙ sym (ap (λ (i : Inclusion). (included_by sources o unit text i
     (state sources start old before told)).nesting.openings) t.is_opened))
 
--- The request of a directive
+-- Lemmas about the request of a directive
 
 pub not_ended : (m : Recovery) → (m ≡ Recovery.Ended → ⊥) → is_mode_ended m ≡ false
 not_ended Recovery.Reads h = refl
@@ -141,7 +141,7 @@ carried_out_within sources o unit text was mid openings going reads asks same (i
     inr (λ told. h told ∙ ap (λ (s : State). (included sources o unit text s).nesting.openings) (same told)
     ∙ ap (λ (s : State). s.nesting.openings) (heeds sources o unit text (was told) (going told) (reads told) (asks told)))
 
--- Behind the request
+-- Lemmas about the state behind the request
 
 rested_nesting : (s : State) → (rested s).nesting ≡ s.nesting
 rested_nesting s =
@@ -154,7 +154,7 @@ followed_within sources o was openings (inl h) = inl h
 followed_within sources o was openings (inr h) =
     inr (λ told. h told ∙ ap (λ (n : Nesting). n.openings) (sym (rested_nesting (carried_out sources o (was told)))))
 
--- A turn
+-- Lemmas about a turn
 
 -- the sources that are opened behind the token of a turn
 pub turned_within : (limits : Limits) (sources : Sources) (o : Choices) (was mid : List ℕ → State) (openings : List (List ℕ)) →

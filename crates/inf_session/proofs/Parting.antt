@@ -5,7 +5,7 @@ use Rattle.inf_session.specs.{Choices.chosen, Choices.most_quoted, Veneer.most_t
 use Rattle.inf_session.specs.{declared.session.Session.Session, declared.session.Step.Step, declared.setup.Setup.Setup}
 use Rattle.inf_session.specs.Standing.{HasObjects, IsBounded, came_to, ended, is_done, is_fatal, next_of}
 
--- Whether something is left
+-- Lemmas about whether something is left
 
 pub done_is : {B : Type 0} (s : Session B) → ended s ≡ true → is_done s ≡ is_none (next_of s)
 done_is s e = ap (λ b. b && is_none (next_of s)) e
@@ -32,7 +32,7 @@ pub if_ok_two : {T E : Type 0} (r : Result T E) (P Q R : T → Type 0) → ((x :
 if_ok_two (Ok x) P Q R h p q = h x p q
 if_ok_two (Err f) P Q R h p q = tt
 
--- The number of steps that are left
+-- Lemmas about the number of steps that are left
 
 left_ended : {B : Type 0} (s : Session B) → ended s ≡ true → steps_left s ≡ most_texts - s.passed
 left_ended s e = ap (λ b. cond b (most_texts - s.passed) (suc most_texts + weight s.open_files)) e
@@ -56,7 +56,7 @@ pub part_falls : {B : Type 0} (s t : Session B) → ended s ≡ false
     → (ended t ≡ true) ⊎ (weight t.open_files < weight s.open_files) → (is_done t ≡ true) ⊎ (steps_left t < steps_left s)
 part_falls s t was falls = inr (falls_by s t (ended t) refl was falls)
 
--- The bounds of the settings
+-- Lemmas about the bounds of the settings
 
 still_by : {B : Type 0} (s t : Session B) (b : Bool) → is_fatal s ≡ b → (is_none (next_of s) ≡ true → t ≡ s) → is_fatal t ≡ false
     → is_fatal s ≡ false

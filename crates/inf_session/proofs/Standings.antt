@@ -14,7 +14,7 @@ use Rattle.inf_session.specs.{Choices.Choices, Leading.CutsShort, Leading.Writes
 use Rattle.inf_session.specs.Session.{State, file_closed, followed, left, left_by, stepped, told_out, turn}
 use Rattle.inf_ending.specs.{Faults.Caused, Faults.IfRead, Faults.fault_of, declared.faults.Fault.Fault, declared.faults.Halt.Halt}
 
--- Files that wait
+-- Lemmas about files that wait
 
 -- one file waits
 pub record OneWaits (waiting : List Waiting) (f : OpenFile) : Type 0 where
@@ -39,7 +39,7 @@ one_waits s start now o outer f n e =
           ∙ ap (λ (fs : List OpenFile). waiting_at s now.all (inner.place ∷ inner.rest) fs) around;
     }
 
--- no file waits
+-- where no file waits, no bytes of waiting files are to come
 none_at : (s : Sources) (now : Openings) (places : List ℕ) → waiting_at s now.all places [] ≡ []
 none_at s now [] = refl
 none_at s now (p ∷ places) = refl
@@ -94,7 +94,7 @@ stays s n c r ended told e none =
     ∙ ap (λ (m : Nesting). record (file_closed s) { nesting = m }) e
     ∙ sym (ap (λ (waiting : List Waiting). left_by waiting (file_closed s)) none)
 
--- Faults
+-- Lemmas about faults
 
 pub caused_more : (f : Fault) (P Q : List ℕ → Type 0) (A B : Type 0) → ((name : List ℕ) → P name → Q name) → (A → B) → Caused f P A →
     Caused f Q B
@@ -120,7 +120,7 @@ pub if_read_more : {T : Type 0} (r : Result T Fault) (P Q : List ℕ → Type 0)
 if_read_more (Ok x) P Q h p = tt
 if_read_more (Err f) P Q h p = read_more f P Q h p
 
--- the fault that is told for a turn that was given up
+-- Lemmas about the fault that is told for a turn that was given up
 
 pub if_halt_caused : {T : Type 0} (r : Result T Halt) (lost : Option Fault) (P Q : List ℕ → Type 0) (A B : Type 0)
     → ((name : List ℕ) → P name → Q name) → (A → B)
@@ -140,7 +140,7 @@ read_both (Fault.Read name) A P Q h a p = h _ a p
 read_both Fault.Messages A P Q h a p = tt
 read_both (Fault.Story n) A P Q h a p = tt
 
--- A turn, with its messages
+-- Lemmas about a turn, with its messages
 
 -- the state with no message that is not written
 abbrev pub emptied : State → State

@@ -55,7 +55,7 @@ pub text_few : (n : ℕ) → length (veneer_text n) ≤ 1000
 text_few n = few_by (text_of n)
     (λ x e. leb-true (length x) 1000 (numbered_all (λ (x : List ℕ). nat_le (length x) 1000) all_texts n x texts_few e))
 
--- The routine that is read
+-- Lemmas about the routine that is read
 
 none_then : (b : Bool) (n : ℕ) (others : Option ℕ) → cond b (Some n) others ≡ None → (b ≡ false) × (others ≡ None)
 none_then true n others e = let never : Some n ≡ None = e in cc
@@ -202,7 +202,7 @@ by_begins limits o (suc k) n s =
 pub supplied_begins : (limits : Limits) (o : Choices) (s : State) → IsFront s.told (supplied limits o s).told
 supplied_begins limits o s = by_begins limits o (most_texts - s.passed) s.passed s
 
--- A step by another name
+-- Lemmas about a step by another name
 
 pub writes_as : (f g : State → State) (was now : List ℕ → State) (old new : Option (List ℕ)) → ((told : List ℕ) → f (was told)
     ≡ g (was told))
@@ -232,7 +232,7 @@ cut_nothing f was old told_is begins = record {
   begins = λ told. subst (λ l. IsFront l (f (was told)).told) (told_is told ∙ sym (append-nil told)) (begins (was told));
 }
 
--- A text
+-- Lemmas about a text
 
 -- the lexer at the front of a text
 pub text_front_is : {B : Type 0} (o : Choices) (s : Session B) (sources : Sources) (start now : Openings) (told : List ℕ) (l : TextReader)
@@ -289,7 +289,7 @@ text_cut limits o n was after old new lines front rest leads out cut takes = rec
   };
 }
 
--- One routine behind another
+-- Lemmas about one routine behind another
 
 -- The rest of the veneer leads from here to the state to which the whole led from the start, whatever was written before.
 pub record LeadsOn (step : State → State) (was now : List ℕ → State) (old new : Option (List ℕ)) : Type 0 where

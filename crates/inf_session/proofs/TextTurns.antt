@@ -18,7 +18,7 @@ use Rattle.inf_session.specs.{Veneer.text_turns}
 use Rattle.inf_session.specs.Session.{State, context_of, has_ended, is_resting, piece_closed, rested, stand_of, stepped}
 use Rattle.inf_session.proofs.Taking.{step_is, token_is, with_taken}
 
--- The bytes that are kept of a token
+-- Lemmas about the bytes that are kept of a token
 
 short_by : (k : TokenKind) (bytes : List ℕ) → (is_run k ≡ true → length bytes ≤ 32) → is_short k bytes ≡ true
 short_by TokenKind.Name bytes few = le-leb (length bytes) 32 (few refl)
@@ -82,7 +82,7 @@ text_few before after token is on quoted =
     subst (λ (l : TextReader). length l.kept.bytes ≤ before.limit) (sym on)
     (next_few before.set before.limit before.lines before.rest (ap (λ (t : Token). is_quoted_kind t.kind) (sym is) ∙ quoted))
 
--- A turn
+-- Lemmas about a turn
 
 in_cond : (l : TextReader) (b : Bool) (s t : State) → in_text l (cond b s t) ≡ cond b (in_text l s) (in_text l t)
 in_cond l true s t = refl
@@ -114,7 +114,7 @@ text_turned limits o s mid now before after token context bytes x is on spelled 
     taken in
     ap (in_text after) last ∙ in_rested after mid ∙ ap (λ (m : State). rested (in_text after m)) goes ∙ ap rested step
 
--- The turns of a text
+-- Lemmas about the turns of a text
 
 pub text_next : (limits : Limits) (o : Choices) (n : ℕ) (s t : State) → 0 < n → has_ended s ≡ false → t ≡ rested (stepped limits o s)
     → text_turns limits o (n - 1) t ≡ text_turns limits o n s

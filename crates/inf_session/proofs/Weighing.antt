@@ -50,7 +50,7 @@ lexers_length : (files : List OpenFile) → length (lexers_of files) ≡ length 
 lexers_length [] = refl
 lexers_length (f ∷ files) = ap suc (lexers_length files)
 
--- The fall of the weight in one turn
+-- Lemmas about the fall of the weight in one turn
 
 abbrev pub Falls : Open → Open → Type 0
 Falls before after = weight after < weight before

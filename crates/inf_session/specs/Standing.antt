@@ -34,7 +34,7 @@ ended s = s.is_over || has_ended_at (standing s.progress)
 abbrev pub IsSet : {B : Type 0} → Session B → Type 0
 IsSet s = s.open_files.nest.limit ≡ most_quoted (chosen s.setup)
 
--- there is room for the name of the innermost file
+-- a buffer has room for the name of the innermost file
 abbrev pub HasRoom : String Global → Open → Type 0
 HasRoom room files = length (innermost_name files.nest) ≤ string_capacity room
 

@@ -45,7 +45,7 @@ pub struct Session<'a, B: Bounds> {
     pub open_files: OpenFiles,
     pub(crate) conditionals: Conditionals,
     pub progress: Progress<B>,
-    /// Whether all reading has ended but for the veneer's.
+    /// Tells whether all reading has ended but for that of the veneer.
     pub(crate) is_over: bool,
     /// The bytes between the quotes of the longest quoted token so far.
     pub(crate) quoted: usize,
@@ -116,7 +116,7 @@ impl<'a, B: Bounds> Session<'a, B> {
         requires goes { self.old.open_files.lexer.has_failed ≡ false }
         requires set { IsSet self.old }
 
-        // With an honest reader.
+        // The clauses below hold with an honest reader.
         ensures read { Honestly F.Files files.old self.old.open_files (λ start.
             OnOk result ((turns : ℕ) × Writes (run B.most (F.sources files.old) (chosen self.old.setup) turns)
             (state (F.sources files.old) start (F.openings files.old) self.old)
@@ -129,7 +129,7 @@ impl<'a, B: Bounds> Session<'a, B> {
             OnErr result ((turns : ℕ) × OpensAll (run B.most (F.sources files.old) (chosen self.old.setup) turns)
             (state (F.sources files.old) start (F.openings files.old) self.old) (opened_since start (F.openings files.new)))) }
 
-        // With any reader.
+        // The clauses below hold with any reader.
         ensures went { Went F.Files files.old files.new self.old.open_files self.new.open_files }
         ensures ended { OnOk result (ended self.new ≡ true) }
         ensures is_open { length self.new.open_files.outer < F.depth files.new }
@@ -165,7 +165,7 @@ impl<'a, B: Bounds> Session<'a, B> {
         requires goes { self.old.open_files.lexer.has_failed ≡ false }
         requires set { IsSet self.old }
 
-        // With an honest reader.
+        // The clauses below hold with an honest reader.
         ensures part { Honestly F.Files files.old self.old.open_files (λ start.
             OnOk result ((turns : ℕ) × (Writes (part B.most (F.sources files.old) (chosen self.old.setup) turns)
             (state (F.sources files.old) start (F.openings files.old) self.old)
@@ -182,7 +182,7 @@ impl<'a, B: Bounds> Session<'a, B> {
             OnErr result ((turns : ℕ) × OpensAll (run B.most (F.sources files.old) (chosen self.old.setup) turns)
             (state (F.sources files.old) start (F.openings files.old) self.old) (opened_since start (F.openings files.new)))) }
 
-        // With any reader.
+        // The clauses below hold with any reader.
         ensures went { Went F.Files files.old files.new self.old.open_files self.new.open_files }
         ensures parted { OnOk result (parted self.new ≡ true) }
         ensures came { IfOk result (λ step. step ≡ came_to (ended self.old) self.new) }

@@ -21,7 +21,7 @@ reverse_each f (x ∷ xs) =
     reverse_onto (map f xs) (f x) [] ∙ ap (λ ys. ys ++ f x ∷ []) (reverse_each f xs)
     ∙ sym (ap (map f) (reverse_onto xs x []) ∙ map_last f (reverse xs) x)
 
--- The lexers that read by another set
+-- Lemmas about the lexers that read by another set
 
 readers_with : (set : CharSet) (files : List OpenFile) → lexers_of (map (file_with set) files) ≡ map (reader_with set) (lexers_of files)
 readers_with set [] = refl
@@ -62,7 +62,7 @@ pub given_each_with : (set : CharSet) (o : Open) → given_each (open_with set o
 given_each_with set o =
     ap (λ (readers : List Reader). map (λ (r : Reader). r.window.given) readers) (lexers_with set o) ∙ given_with set (lexers o)
 
--- The rest of each file
+-- Lemmas about the rest of each file
 
 waiting_each : (set : CharSet) (s : Sources) (all : List Opening) (places : List ℕ) (files : List OpenFile)
     → waiting_at s all places (map (file_with set) files) ≡ map (waiting_with set) (waiting_at s all places files)
@@ -109,7 +109,7 @@ all_given_with set s n now o all = record {
       (tracked_each set s n o.nest.names now.all (reverse now.open_places) (lexers o) all.tracked);
 }
 
--- The innermost file alone
+-- Lemmas about the innermost file alone
 
 pub is_nested_chosen : (set : CharSet) (limit : ℕ) (start now : Openings) (o : Open) → IsNested start now o
     → IsNested start now (chosen set limit o)

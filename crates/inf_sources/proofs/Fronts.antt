@@ -52,7 +52,7 @@ tracked_same s n known names old new bound (p ∷ places) (r ∷ readers) stay h
       tracked_same s n known names old new p places readers stay h.1 (λ i less. same i (omega (arith, less, h.0))) t.1,
     )
 
--- The innermost file gave some bytes
+-- Lemmas for the case that the innermost file gave some bytes
 
 -- a statement holds of each opening where it held of each before, and holds of the innermost one now
 read_each : (P : Opening → Type 0) (s : Sources) (n : ℕ) (old new : Openings) (bytes : List ℕ) → Gave s old new bytes → P (innermost new) →
@@ -67,7 +67,7 @@ read_each P s n old new bytes gave here each = λ i le lt. at i le lt (same_plac
     at i le lt (inr other) =
         subst (λ (o : Opening). P o) (sym (or_same old.all new.all i (gave.others i other))) (each i le (omega (arith, lt, gave.count)))
 
--- the innermost file is tracked behind it
+-- behind a token that was read, the innermost file is still tracked
 read_first : (s : Sources) (start old new : Openings) (before after : Open) → IsNested start old before →
     after.nest.names ≡ before.nest.names
     → after.lexer.file ≡ before.lexer.file → Along s old new before.lexer.window.given after.lexer.window.given → length
@@ -150,7 +150,7 @@ read_fit s start old new before after nested names file along few window ends st
     read_each Fits s (length start.all) old new along.bytes gave
     (subst (λ (k : ℕ). Fits (get_or new.all k (opened []))) (sym now) (omega (arith, first.counted.count, few))) fit
 
--- One more opening
+-- Lemmas about one more opening
 
 each_more : (P : Opening → Type 0) (n : ℕ) (all : List Opening) (name : List ℕ) → P (opened name) → Each P n all →
     Each P n (all ++ opened name ∷ [])

@@ -12,7 +12,7 @@ use Rattle.inf_sources.specs.Open.{AreNested, IsNested, Open, Reads, closed_to, 
 use Rattle.inf_sources.specs.Open.{rest_of, waiting_as, waiting_at}
 use Rattle.inf_sources.proofs.Places.{innermost_of, last_of, names_of, names_same, nested_as, nested_more, reverse_last, waiting_same}
 
--- the same files are open
+-- where the same files stay open, they are nested as before
 pub nested_on : (start old new : Openings) (before after : Open) → IsNested start old before → new.open_places ≡ old.open_places
     → length new.all ≡ length old.all → after.outer ≡ before.outer → IsNested start new after
 nested_on start old new before after n places count outer = record {
@@ -56,7 +56,7 @@ cursor_moved before after rest was lines on passed file set limit =
     ∙ ap (λ x. record { rest = was; lines = lines; file = before.file; set = x; limit = after.limit }) set
     ∙ ap (λ x. record { rest = was; lines = lines; file = before.file; set = before.set; limit = x }) limit
 
--- the innermost file was read on, up to this cursor
+-- where the innermost file was read on up to the cursor `c`, the nesting has this cursor and is otherwise the one before
 nesting_on : (s : Sources) (start old new : Openings) (before after : Open) (bytes : List ℕ) (c : Cursor) → IsNested start old before
     → Gave s old new bytes → after.nest ≡ before.nest → after.outer ≡ before.outer
     → cursor_of after.lexer (to_come s new after.lexer.window) ≡ c

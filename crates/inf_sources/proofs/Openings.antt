@@ -91,7 +91,7 @@ main_nested old name nest lexer =
       others = ap (λ ps. drop 1 ps) places;
     }
 
--- One more file
+-- Lemmas about one more file
 
 pub entered_nested : (start old : Openings) (before : Open) (name : List ℕ) (nest : Nest) (lexer : Reader) (f : OpenFile) →
     f.lexer ≡ before.lexer → IsNested start old before
@@ -154,7 +154,7 @@ entered_nesting s start old before name set limit conditionals is_system n =
     (front_is s old name set limit number)
     ∙ ap (λ x. made (names_of (drop (length start.all) old.all) ++ name ∷ []) (front set limit number (unwrap_or (s name) [])) x) all_wait
 
--- A file that was closed at once
+-- Lemmas about a file that was closed at once
 
 closed_nested : (start old : Openings) (before : Open) (name : List ℕ) → IsNested start old before →
     IsNested start (with_closed name old) before
@@ -177,7 +177,7 @@ pub opened_and_closed : (start old new : Openings) (name : List ℕ) → length 
 opened_and_closed start old new name more closes =
     ap (λ (o : Openings). opened_since start o) closes ∙ drop_more (length start.all) old.all (opened name) more
 
--- The open files behind a call
+-- Lemmas about the open files behind a call
 
 pub only_name : (name x : List ℕ) (place : ℕ) → slice_get (name ∷ []) place ≡ Some x → x ≡ name
 only_name name x zero e = cc

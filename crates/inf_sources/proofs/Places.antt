@@ -48,7 +48,7 @@ nested_more bound more (p ∷ places) [] le h = h
 nested_more bound more [] (r ∷ readers) le h = absurd h
 nested_more bound more (p ∷ places) (r ∷ readers) le h = (omega (arith, le, h.0), h.1)
 
--- Openings at places
+-- Lemmas about openings at places
 
 or_of : (all : List Opening) (i : ℕ) → get_or all i (opened []) ≡ unwrap_or (slice_get all i) (opened [])
 or_of [] zero = refl
@@ -97,7 +97,7 @@ files_are s start now files n =
     (cursors_of (waiting_at s now.all (drop 1 ps) (reverse files.outer)))) at.is
     ∙ ap (λ (fs : List ℕ). files.lexer.file ∷ fs) (waiting_files s now.all at.place at.rest (reverse files.outer) at.inner)
 
--- Names of openings
+-- Lemmas about names of openings
 
 some_same : (x y : Opening) → Some x ≡ Some y → x ≡ y
 some_same x y e = cc

@@ -290,7 +290,7 @@ impl OpenFiles {
             (opened_since start (F.openings files.new)))) }
         ensures fits { StaysFit F.Files files.old files.new self.old }
 
-        // These hold with any reader.
+        // The clauses below hold with any reader.
         ensures went { Went F.Files files.old files.new self.old self.new }
         ensures entered { IfOk result (λ included. included ≡ Included.Entered →
             ((self.new.lexer.window.given ≡ 0) × (self.new.lexer.window.left ≡ []))

@@ -19,7 +19,7 @@ use Rattle.inf_constructs.specs.Labels.{NamedLabel, given, label_of, wanted}
 use Rattle.inf_operands.specs.{Operands.is_stack, Operands.looked_name, Texts.text_at}
 use Rattle.inf_statements.specs.{Statements.printed, declared.assembly.Ends.Ends}
 
--- Named labels
+-- Definitions of named labels
 
 -- the label of a name that is used, and all labels then
 abbrev pub labelled : List ℕ → List NamedLabel → Laying (Label × List NamedLabel)
@@ -31,7 +31,7 @@ abbrev pub placed : List ℕ → List NamedLabel → Laying (Label × List Named
 placed name labels o =
     ((label_of name (next_label o) labels, given name (next_label o) labels), record o { next = behind o.next })
 
--- The ends of a line: all in it that is no operand
+-- Definitions of the ends of a line: all in it that is no operand
 
 abbrev pub no_ends : Ends
 no_ends = record { store = None; branch = None; text = None; jump = None }
@@ -50,7 +50,7 @@ ends_from (i ∷ items) e = ends_from items (with_end i e)
 abbrev pub ends_of : List Item → Ends
 ends_of items = ends_from items no_ends
 
--- The operands and ends that an opcode takes
+-- Definitions of the operands and ends that an opcode takes
 
 abbrev pub same : Bool → Bool → Bool
 same true b = b
@@ -117,7 +117,7 @@ line_finding limits locals names tokens begun e trees =
     if fits_some limits (opcode_of (bytes_at tokens (next_place begun))) trees e then stores else least_of_both stores
     (Some (wrong_opcode (order (next_place begun))))
 
--- The code of a line
+-- Definitions of the code of a line
 
 abbrev pub operands_in : Limits → List Tree → List Simple
 operands_in limits [] = []

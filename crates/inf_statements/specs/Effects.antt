@@ -31,7 +31,7 @@ pub record Site : Type 0 where
 abbrev pub name_behind : Site → List ℕ
 name_behind s = bytes_at s.tokens (next_place s.begun)
 
--- The findings
+-- Definitions of the findings
 
 -- a label is given again; there is nothing to leave or continue; a default does not come once and last
 abbrev pub given_twice : ℕ → Finding
@@ -67,7 +67,7 @@ abbrev pub wanted_by : Statement → Wanted
 wanted_by Statement.Assembly = Wanted.Operand
 wanted_by _ = Wanted.Value
 
--- The effects
+-- Definitions of the effects
 
 -- the text that a statement has beside its expressions
 abbrev pub text_in : CharSet → List SourceToken → List Item → Option (List TextItem)

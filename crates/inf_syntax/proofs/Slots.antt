@@ -7,7 +7,7 @@ use Rattle.std.proofs.lemmas.Bool.{and_parts, cond-true, cond-false, false_from_
 use Rattle.std.specs.{Char.to_ascii_lowercase, Str.str_eq_ignore_ascii_case}
 use Rattle.inf_syntax.specs.{Atoms.place_in, Slots.all_slots, Slots.letter, Slots.place_of, Slots.slot, Slots.word_slots, Words.words}
 
--- The slot of a name in any case
+-- Lemmas about the slot of a name in any case
 
 same_letter : (byte : ℕ) → letter (to_ascii_lowercase byte) ≡ letter byte
 same_letter byte = by_tests _ _
@@ -40,7 +40,7 @@ differs s w n = false_from_ne_true (str_eq_ignore_ascii_case s w) (λ e. both_wa
         let letters = bytes_eq-Decides (map to_ascii_lowercase s) (map to_ascii_lowercase w) in
         eq-eqb (slot w) (slot s) (slot_same s w (letters.0 e))
 
--- Looking for a name
+-- Lemmas about looking for a name
 
 -- the word with its slot is it
 found : (s : List ℕ) (ws : List (List ℕ)) (d : List ℕ) → place_of (slot s) (map slot ws) < length ws →
@@ -106,7 +106,7 @@ absent s (w ∷ ws) d a o = by_slot (nat_eq (slot w) (slot s)) refl o (λ m. abs
     by_slot false q (inl e) rest = behind (differs s w q) (rest (inl e))
     by_slot false q (inr l) rest = behind (differs s w q) (rest (inr (omega (arith, l))))
 
--- Among the words
+-- Lemmas about the slots of words
 
 distinct : are_distinct word_slots ≡ true
 distinct = refl

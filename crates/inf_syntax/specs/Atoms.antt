@@ -62,7 +62,7 @@ names = 73
 abbrev pub first_literal : ℕ
 first_literal = 186
 
--- The atom of a token
+-- Definitions of the atom of a token
 
 abbrev pub atom_of : Seen → ℕ
 atom_of (Seen.Mark m) = mark_atom m
@@ -74,7 +74,7 @@ atom_of Seen.Text = first_literal + 3
 atom_of Seen.Bad = first_literal + 4
 atom_of Seen.End = first_literal + 5
 
--- Words
+-- Definitions of words
 
 -- the word of the grammar that a name is, in any case, if it is one
 unfoldable pub keyword_of : List ℕ → Option Keyword
@@ -89,7 +89,7 @@ name_at atom =
 unfoldable pub keyword_at : ℕ → Option Keyword
 keyword_at atom = slice_get keywords (name_at atom)
 
--- Sets of atoms
+-- Definitions of sets of atoms
 
 abbrev pub of_mark : Mark → ℕ
 of_mark m = 2 ^ mark_atom m

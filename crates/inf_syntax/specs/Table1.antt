@@ -7,16 +7,16 @@ use Rattle.inf_syntax.specs.Parts.{ !and, !arrow, !assign, !bit_not, !comma, !co
 
 abbrev pub rules_1 : List (List (Row Action))
 rules_1 =
-    -- file
+    -- the rows of rule `file`
     (row (piece ∷ file ∷ [])
     ∷ row []
     ∷ [])
-    -- piece
+    -- the rows of rule `piece`
     ∷ (row ('semicolon' ∷ [])
     ∷ row ('hash' ∷ directive ∷ [])
     ∷ row (directive ∷ [])
     ∷ [])
-    -- directive
+    -- the rows of rule `directive`
     ∷ (row (!routine ∷ 'open_bracket' ∷ NAME ∷ directive_1 ∷ !end_locals ∷ 'semicolon' ∷ directive_2 ∷ !end_routine ∷ 'close_bracket' ∷ 'semicolon' ∷ [])
     ∷ row ('abbreviate' ∷ !end_header ∷ TEXT ∷ !end_text ∷ directive_3 ∷ 'semicolon' ∷ [])
     ∷ row ('array' ∷ NAME ∷ directive_4 ∷ !end_header ∷ directive_5 ∷ 'semicolon' ∷ [])
@@ -28,63 +28,63 @@ rules_1 =
     ∷ row ('verb' ∷ directive_10 ∷ WORD ∷ directive_11 ∷ directive_12 ∷ 'semicolon' ∷ [])
     ∷ row (whole_directive ∷ !end_directive ∷ 'semicolon' ∷ [])
     ∷ [])
-    -- directive_1
+    -- the rows of rule `directive_1`
     ∷ (row (NAME ∷ !local ∷ directive_1 ∷ [])
     ∷ row []
     ∷ [])
-    -- directive_2
+    -- the rows of rule `directive_2`
     ∷ (row (top_item ∷ directive_2 ∷ [])
     ∷ row []
     ∷ [])
-    -- directive_3
+    -- the rows of rule `directive_3`
     ∷ (row (TEXT ∷ !end_text ∷ directive_3 ∷ [])
     ∷ row []
     ∷ [])
-    -- directive_4
+    -- the rows of rule `directive_4`
     ∷ (row ('arrow' ∷ [])
     ∷ row ('long_arrow' ∷ [])
     ∷ row ('string' ∷ [])
     ∷ row ('table' ∷ [])
     ∷ [])
-    -- directive_5
+    -- the rows of rule `directive_5`
     ∷ (row (plain_entries ∷ [])
     ∷ row ('open_bracket' ∷ listed_entries ∷ 'close_bracket' ∷ [])
     ∷ [])
-    -- directive_6
+    -- the rows of rule `directive_6`
     ∷ (row ('arrow' ∷ !arrow ∷ directive_6 ∷ [])
     ∷ row []
     ∷ [])
-    -- directive_7
+    -- the rows of rule `directive_7`
     ∷ (row ('arrow' ∷ !arrow ∷ directive_7 ∷ [])
     ∷ row []
     ∷ [])
-    -- directive_8
+    -- the rows of rule `directive_8`
     ∷ (row ('first' ∷ [])
     ∷ row ('last' ∷ [])
     ∷ row ('replace' ∷ [])
     ∷ row []
     ∷ [])
-    -- directive_9
+    -- the rows of rule `directive_9`
     ∷ (row (line ∷ directive_9 ∷ [])
     ∷ row []
     ∷ [])
-    -- directive_10
+    -- the rows of rule `directive_10`
     ∷ (row ('meta' ∷ [])
     ∷ row []
     ∷ [])
-    -- directive_11
+    -- the rows of rule `directive_11`
     ∷ (row (WORD ∷ !verb_word ∷ directive_11 ∷ [])
     ∷ row []
     ∷ [])
-    -- directive_12
+    -- the rows of rule `directive_12`
     ∷ (row (!end_header ∷ line ∷ directive_13 ∷ [])
     ∷ row ('assign' ∷ WORD ∷ !end_header ∷ [])
     ∷ [])
-    -- directive_13
+    -- the rows of rule `directive_13`
     ∷ (row (line ∷ directive_13 ∷ [])
     ∷ row []
     ∷ [])
-    -- whole_directive
+    -- the rows of rule `whole_directive`
     ∷ (row ('attribute' ∷ NAME ∷ whole_directive_1 ∷ [])
     ∷ row (whole_directive_2 ∷ NAME ∷ whole_directive_3 ∷ [])
     ∷ row ('property' ∷ whole_directive_4 ∷ whole_directive_5 ∷ [])
@@ -102,233 +102,233 @@ rules_1 =
     ∷ row ('stub' ∷ NAME ∷ NUMBER ∷ [])
     ∷ row ('switches' ∷ NAME ∷ [])
     ∷ [])
-    -- whole_directive_1
+    -- the rows of rule `whole_directive_1`
     ∷ (row ('alias' ∷ NAME ∷ [])
     ∷ row []
     ∷ [])
-    -- whole_directive_2
+    -- the rows of rule `whole_directive_2`
     ∷ (row ('constant' ∷ [])
     ∷ row ('default' ∷ [])
     ∷ row ('global' ∷ [])
     ∷ [])
-    -- whole_directive_3
+    -- the rows of rule `whole_directive_3`
     ∷ (row ('assign' ∷ !outer ∷ assign ∷ [])
     ∷ row (!outer ∷ assign ∷ [])
     ∷ row []
     ∷ [])
-    -- whole_directive_4
+    -- the rows of rule `whole_directive_4`
     ∷ (row ('additive' ∷ NAME ∷ [])
     ∷ row (NOTADDITIVE ∷ [])
     ∷ [])
-    -- whole_directive_5
+    -- the rows of rule `whole_directive_5`
     ∷ (row ('alias' ∷ NAME ∷ [])
     ∷ row (initial ∷ [])
     ∷ row []
     ∷ [])
-    -- whole_directive_6
+    -- the rows of rule `whole_directive_6`
     ∷ (row ('error' ∷ [])
     ∷ row ('warning' ∷ [])
     ∷ row ('fatalerror' ∷ [])
     ∷ row []
     ∷ [])
-    -- initial
+    -- the rows of rule `initial`
     ∷ (row (!outer ∷ initial_1 ∷ [])
     ∷ [])
-    -- initial_1
+    -- the rows of rule `initial_1`
     ∷ (row (NOTALIAS ∷ !name ∷ after_prim ∷ [])
     ∷ row (other_assign ∷ [])
     ∷ [])
-    -- plain_entries
+    -- the rows of rule `plain_entries`
     ∷ (row (!outer ∷ entry ∷ plain_entries_1 ∷ [])
     ∷ [])
-    -- plain_entries_1
+    -- the rows of rule `plain_entries_1`
     ∷ (row (!end_entry ∷ array_entry ∷ plain_entries_2 ∷ [])
     ∷ row (!end_alone ∷ [])
     ∷ [])
-    -- plain_entries_2
+    -- the rows of rule `plain_entries_2`
     ∷ (row (array_entry ∷ plain_entries_2 ∷ [])
     ∷ row []
     ∷ [])
-    -- listed_entries
+    -- the rows of rule `listed_entries`
     ∷ (row ('semicolon' ∷ !semicolon ∷ listed_entries ∷ [])
     ∷ row (!outer ∷ entry ∷ first_listed ∷ [])
     ∷ row []
     ∷ [])
-    -- first_listed
+    -- the rows of rule `first_listed`
     ∷ (row (!end_entry ∷ array_entry ∷ more_listed ∷ [])
     ∷ row (!end_alone ∷ [])
     ∷ row (!hold ∷ 'semicolon' ∷ !semicolon ∷ held ∷ [])
     ∷ [])
-    -- held
+    -- the rows of rule `held`
     ∷ (row ('semicolon' ∷ !semicolon ∷ held ∷ [])
     ∷ row (!end_entry ∷ array_entry ∷ more_listed ∷ [])
     ∷ row (!end_alone ∷ [])
     ∷ [])
-    -- more_listed
+    -- the rows of rule `more_listed`
     ∷ (row (array_entry ∷ more_listed ∷ [])
     ∷ row ('semicolon' ∷ !semicolon ∷ more_listed ∷ [])
     ∷ row []
     ∷ [])
-    -- array_entry
+    -- the rows of rule `array_entry`
     ∷ (row (!outer ∷ entry ∷ !end_entry ∷ [])
     ∷ [])
-    -- object
+    -- the rows of rule `object`
     ∷ (row (object_1 ∷ !end_header ∷ body ∷ !end_body ∷ 'semicolon' ∷ [])
     ∷ [])
-    -- object_1
+    -- the rows of rule `object_1`
     ∷ (row (BODYNAME ∷ object_2 ∷ object_3 ∷ [])
     ∷ row (TEXT ∷ object_4 ∷ [])
     ∷ row []
     ∷ [])
-    -- object_2
+    -- the rows of rule `object_2`
     ∷ (row (TEXT ∷ [])
     ∷ row []
     ∷ [])
-    -- object_3
+    -- the rows of rule `object_3`
     ∷ (row (BODYNAME ∷ [])
     ∷ row []
     ∷ [])
-    -- object_4
+    -- the rows of rule `object_4`
     ∷ (row (BODYNAME ∷ [])
     ∷ row []
     ∷ [])
-    -- body
+    -- the rows of rule `body`
     ∷ (row ('comma' ∷ part ∷ [])
     ∷ row (part ∷ [])
     ∷ row []
     ∷ [])
-    -- part
+    -- the rows of rule `part`
     ∷ (row ('with' ∷ property ∷ properties ∷ [])
     ∷ row ('has' ∷ part_1 ∷ body ∷ [])
     ∷ row ('class' ∷ BODYNAME ∷ !end_class ∷ part_2 ∷ body ∷ [])
     ∷ [])
-    -- part_1
+    -- the rows of rule `part_1`
     ∷ (row (attribute ∷ part_1 ∷ [])
     ∷ row []
     ∷ [])
-    -- part_2
+    -- the rows of rule `part_2`
     ∷ (row (BODYNAME ∷ !end_class ∷ part_2 ∷ [])
     ∷ row []
     ∷ [])
-    -- properties
+    -- the rows of rule `properties`
     ∷ (row ('comma' ∷ properties_1 ∷ [])
     ∷ row (part ∷ [])
     ∷ row []
     ∷ [])
-    -- properties_1
+    -- the rows of rule `properties_1`
     ∷ (row (property ∷ properties ∷ [])
     ∷ row (part ∷ [])
     ∷ [])
-    -- property
+    -- the rows of rule `property`
     ∷ (row (BODYNAME ∷ property_1 ∷ [])
     ∷ [])
-    -- property_1
+    -- the rows of rule `property_1`
     ∷ (row (value ∷ property_2 ∷ [])
     ∷ row (!end_property ∷ [])
     ∷ [])
-    -- property_2
+    -- the rows of rule `property_2`
     ∷ (row (value ∷ property_2 ∷ [])
     ∷ row []
     ∷ [])
-    -- value
+    -- the rows of rule `value`
     ∷ (row (!outer ∷ value_1 ∷ !end_value ∷ [])
     ∷ row (!routine ∷ 'open_bracket' ∷ value_2 ∷ !end_embedded ∷ 'semicolon' ∷ value_3 ∷ !end_routine ∷ 'close_bracket' ∷ [])
     ∷ [])
-    -- value_1
+    -- the rows of rule `value_1`
     ∷ (row ('minus' ∷ bare_prim ∷ !negate ∷ [])
     ∷ row (bare_prim ∷ [])
     ∷ [])
-    -- value_2
+    -- the rows of rule `value_2`
     ∷ (row (NAME ∷ !local ∷ value_2 ∷ [])
     ∷ row []
     ∷ [])
-    -- value_3
+    -- the rows of rule `value_3`
     ∷ (row (top_item ∷ value_3 ∷ [])
     ∷ row []
     ∷ [])
-    -- bare_prim
+    -- the rows of rule `bare_prim`
     ∷ (row (BARENAME ∷ !name ∷ [])
     ∷ row (other_prim ∷ [])
     ∷ [])
-    -- attribute
+    -- the rows of rule `attribute`
     ∷ (row (attribute_1 ∷ !end_attribute ∷ [])
     ∷ [])
-    -- attribute_1
+    -- the rows of rule `attribute_1`
     ∷ (row ('bit_not' ∷ BODYNAME ∷ [])
     ∷ row (BODYNAME ∷ [])
     ∷ [])
-    -- line
+    -- the rows of rule `line`
     ∷ (row ('times' ∷ line_1 ∷ 'arrow' ∷ NAME ∷ line_4 ∷ !end_line ∷ [])
     ∷ [])
-    -- line_1
+    -- the rows of rule `line_1`
     ∷ (row (NAME ∷ line_2 ∷ !token ∷ line_1 ∷ [])
     ∷ row (WORD ∷ !token ∷ line_3 ∷ line_1 ∷ [])
     ∷ row []
     ∷ [])
-    -- line_2
+    -- the rows of rule `line_2`
     ∷ (row ('assign' ∷ NAME ∷ [])
     ∷ row []
     ∷ [])
-    -- line_3
+    -- the rows of rule `line_3`
     ∷ (row ('divide' ∷ WORD ∷ !token ∷ line_3 ∷ [])
     ∷ row []
     ∷ [])
-    -- line_4
+    -- the rows of rule `line_4`
     ∷ (row ('reverse' ∷ [])
     ∷ row []
     ∷ [])
-    -- expression
+    -- the rows of rule `expression`
     ∷ (row (assign ∷ expression_tail ∷ [])
     ∷ [])
-    -- expression_tail
+    -- the rows of rule `expression_tail`
     ∷ (row ('comma' ∷ assign ∷ !comma ∷ expression_tail ∷ [])
     ∷ row []
     ∷ [])
-    -- assign
+    -- the rows of rule `assign`
     ∷ (row (prim ∷ after_prim ∷ [])
     ∷ row (prefixed ∷ [])
     ∷ row ('minus' ∷ neg ∷ !negate ∷ after_unary ∷ [])
     ∷ [])
-    -- other_assign
+    -- the rows of rule `other_assign`
     ∷ (row (other_prim ∷ after_prim ∷ [])
     ∷ row (prefixed ∷ [])
     ∷ row ('minus' ∷ neg ∷ !negate ∷ after_unary ∷ [])
     ∷ [])
-    -- prefixed
+    -- the rows of rule `prefixed`
     ∷ (row ('logical_not' ∷ negated ∷ !not ∷ logic_tail ∷ assign_tail ∷ [])
     ∷ row ('bit_not' ∷ bit ∷ !bit_not ∷ term_tail ∷ sum_tail ∷ test_tail ∷ logic_tail ∷ assign_tail ∷ [])
     ∷ row (step_prefix ∷ after_unary ∷ [])
     ∷ [])
-    -- assign_tail
+    -- the rows of rule `assign_tail`
     ∷ (row (assign_tail_1 ∷ [])
     ∷ [])
-    -- assign_tail_1
+    -- the rows of rule `assign_tail_1`
     ∷ (row ('assign' ∷ assign ∷ !assign ∷ [])
     ∷ row []
     ∷ [])
-    -- logic
+    -- the rows of rule `logic`
     ∷ (row (negated ∷ logic_tail ∷ [])
     ∷ [])
-    -- logic_tail
+    -- the rows of rule `logic_tail`
     ∷ (row (logic_operator ∷ logic_tail ∷ [])
     ∷ row []
     ∷ [])
-    -- logic_operator
+    -- the rows of rule `logic_operator`
     ∷ (row ('logical_and' ∷ negated ∷ !and ∷ [])
     ∷ row ('logical_or' ∷ negated ∷ !or ∷ [])
     ∷ [])
-    -- negated
+    -- the rows of rule `negated`
     ∷ (row ('logical_not' ∷ negated ∷ !not ∷ [])
     ∷ row (sum ∷ test_tail ∷ [])
     ∷ [])
-    -- test_tail
+    -- the rows of rule `test_tail`
     ∷ (row (test_tail_1 ∷ [])
     ∷ [])
-    -- test_tail_1
+    -- the rows of rule `test_tail_1`
     ∷ (row (test ∷ [])
     ∷ row []
     ∷ [])
-    -- test
+    -- the rows of rule `test`
     ∷ (row ('equal' ∷ tested ∷ !equal ∷ [])
     ∷ row ('not_equal' ∷ tested ∷ !unequal ∷ [])
     ∷ row ('less' ∷ tested ∷ !less ∷ [])
@@ -342,28 +342,28 @@ rules_1 =
     ∷ row ('ofclass' ∷ tested ∷ !of_class ∷ [])
     ∷ row ('provides' ∷ tested ∷ !provides ∷ [])
     ∷ [])
-    -- tested
+    -- the rows of rule `tested`
     ∷ (row (!count ∷ sum ∷ !part ∷ tested_1 ∷ [])
     ∷ [])
-    -- tested_1
+    -- the rows of rule `tested_1`
     ∷ (row ('or' ∷ sum ∷ !part ∷ tested_1 ∷ [])
     ∷ row []
     ∷ [])
-    -- sum
+    -- the rows of rule `sum`
     ∷ (row (term ∷ sum_tail ∷ [])
     ∷ [])
-    -- sum_tail
+    -- the rows of rule `sum_tail`
     ∷ (row (sum_operator ∷ sum_tail ∷ [])
     ∷ row []
     ∷ [])
-    -- sum_operator
+    -- the rows of rule `sum_operator`
     ∷ (row ('plus' ∷ term ∷ !plus ∷ [])
     ∷ row ('minus' ∷ term ∷ !minus ∷ [])
     ∷ [])
-    -- term
+    -- the rows of rule `term`
     ∷ (row (bit ∷ term_tail ∷ [])
     ∷ [])
-    -- term_tail
+    -- the rows of rule `term_tail`
     ∷ (row (term_operator ∷ term_tail ∷ [])
     ∷ row []
     ∷ [])

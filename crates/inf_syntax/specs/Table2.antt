@@ -7,119 +7,119 @@ use Rattle.inf_syntax.specs.Parts.{ !action, !asm_text, !assign, !begin, !bit_an
 
 abbrev pub rules_2 : List (List (Row Action))
 rules_2 =
-    -- term_operator
+    -- the rows of rule `term_operator`
     (row ('times' ∷ bit ∷ !times ∷ [])
     ∷ row ('divide' ∷ bit ∷ !divide ∷ [])
     ∷ row ('remainder' ∷ bit ∷ !remainder ∷ [])
     ∷ row ('bit_and' ∷ bit ∷ !bit_and ∷ [])
     ∷ row ('bit_or' ∷ bit ∷ !bit_or ∷ [])
     ∷ [])
-    -- bit
+    -- the rows of rule `bit`
     ∷ (row ('bit_not' ∷ bit ∷ !bit_not ∷ [])
     ∷ row (neg ∷ array_tail ∷ [])
     ∷ [])
-    -- array_tail
+    -- the rows of rule `array_tail`
     ∷ (row (array_operator ∷ array_tail ∷ [])
     ∷ row []
     ∷ [])
-    -- array_operator
+    -- the rows of rule `array_operator`
     ∷ (row ('arrow' ∷ neg ∷ !byte_entry ∷ [])
     ∷ row ('long_arrow' ∷ neg ∷ !word_entry ∷ [])
     ∷ [])
-    -- neg
+    -- the rows of rule `neg`
     ∷ (row ('minus' ∷ neg ∷ !negate ∷ [])
     ∷ row (inc ∷ [])
     ∷ [])
-    -- inc
+    -- the rows of rule `inc`
     ∷ (row (step_prefix ∷ [])
     ∷ row (post ∷ address_tail ∷ step_tail ∷ [])
     ∷ [])
-    -- step_prefix
+    -- the rows of rule `step_prefix`
     ∷ (row ('increment' ∷ inc ∷ !increment_before ∷ [])
     ∷ row ('decrement' ∷ inc ∷ !decrement_before ∷ [])
     ∷ [])
-    -- step_tail
+    -- the rows of rule `step_tail`
     ∷ (row (step_operator ∷ step_tail ∷ [])
     ∷ row []
     ∷ [])
-    -- step_operator
+    -- the rows of rule `step_operator`
     ∷ (row ('increment' ∷ !increment_after ∷ [])
     ∷ row ('decrement' ∷ !decrement_after ∷ [])
     ∷ [])
-    -- address_tail
+    -- the rows of rule `address_tail`
     ∷ (row (address_operator ∷ address_tail ∷ [])
     ∷ row []
     ∷ [])
-    -- address_operator
+    -- the rows of rule `address_operator`
     ∷ (row ('dot_and' ∷ post ∷ !member_address ∷ [])
     ∷ row ('dot_hash' ∷ post ∷ !member_length ∷ [])
     ∷ [])
-    -- post
+    -- the rows of rule `post`
     ∷ (row (prim ∷ post_tail ∷ [])
     ∷ [])
-    -- post_tail
+    -- the rows of rule `post_tail`
     ∷ (row ('dot' ∷ prim ∷ !member ∷ post_tail ∷ [])
     ∷ row (call ∷ post_tail ∷ [])
     ∷ row_unless 83 []
     ∷ [])
-    -- call
+    -- the rows of rule `call`
     ∷ (row ('open_parenthesis' ∷ !count ∷ call_1 ∷ 'close_parenthesis' ∷ !call ∷ [])
     ∷ [])
-    -- call_1
+    -- the rows of rule `call_1`
     ∷ (row (assign ∷ !part ∷ call_2 ∷ [])
     ∷ row []
     ∷ [])
-    -- call_2
+    -- the rows of rule `call_2`
     ∷ (row ('comma' ∷ assign ∷ !part ∷ call_2 ∷ [])
     ∷ row []
     ∷ [])
-    -- prim
+    -- the rows of rule `prim`
     ∷ (row (OPERAND ∷ !name ∷ [])
     ∷ row (other_prim ∷ [])
     ∷ [])
-    -- other_prim
+    -- the rows of rule `other_prim`
     ∷ (row (plain_prim ∷ [])
     ∷ row (TEXT ∷ !text ∷ [])
     ∷ row (bracketed ∷ [])
     ∷ [])
-    -- bracketed
+    -- the rows of rule `bracketed`
     ∷ (row ('open_parenthesis' ∷ !bracket ∷ expression ∷ !bracketed ∷ 'close_parenthesis' ∷ [])
     ∷ [])
-    -- plain_prim
+    -- the rows of rule `plain_prim`
     ∷ (row (NUMBER ∷ !number ∷ [])
     ∷ row (CHAR ∷ !char ∷ [])
     ∷ row (WORD ∷ !word ∷ [])
     ∷ row ('double_hash' ∷ OPERAND ∷ !action ∷ [])
     ∷ row ('hash' ∷ OPERAND ∷ !system ∷ [])
     ∷ [])
-    -- entry
+    -- the rows of rule `entry`
     ∷ (row ('minus' ∷ prim ∷ !negate ∷ [])
     ∷ row (prim ∷ [])
     ∷ [])
-    -- after_prim
+    -- the rows of rule `after_prim`
     ∷ (row (post_tail ∷ address_tail ∷ step_tail ∷ after_unary ∷ [])
     ∷ [])
-    -- after_unary
+    -- the rows of rule `after_unary`
     ∷ (row (array_tail ∷ term_tail ∷ sum_tail ∷ test_tail ∷ logic_tail ∷ assign_tail ∷ [])
     ∷ [])
-    -- operator
+    -- the rows of rule `operator`
     ∷ (row (call ∷ post_tail ∷ address_tail ∷ step_tail ∷ after_unary ∷ [])
     ∷ row (other_operator ∷ [])
     ∷ [])
-    -- other_operator
+    -- the rows of rule `other_operator`
     ∷ (row (member_operator ∷ after_unary ∷ [])
     ∷ row (outer_operator ∷ [])
     ∷ [])
-    -- inner_operator
+    -- the rows of rule `inner_operator`
     ∷ (row (call ∷ post_tail ∷ address_tail ∷ step_tail ∷ [])
     ∷ row (member_operator ∷ [])
     ∷ [])
-    -- member_operator
+    -- the rows of rule `member_operator`
     ∷ (row ('dot' ∷ prim ∷ !member ∷ post_tail ∷ address_tail ∷ step_tail ∷ [])
     ∷ row (address_operator ∷ address_tail ∷ step_tail ∷ [])
     ∷ row (step_operator ∷ step_tail ∷ [])
     ∷ [])
-    -- outer_operator
+    -- the rows of rule `outer_operator`
     ∷ (row (array_operator ∷ after_unary ∷ [])
     ∷ row (term_operator ∷ term_tail ∷ sum_tail ∷ test_tail ∷ logic_tail ∷ assign_tail ∷ [])
     ∷ row (sum_operator ∷ sum_tail ∷ test_tail ∷ logic_tail ∷ assign_tail ∷ [])
@@ -127,7 +127,7 @@ rules_2 =
     ∷ row (logic_operator ∷ logic_tail ∷ assign_tail ∷ [])
     ∷ row ('assign' ∷ assign ∷ !assign ∷ [])
     ∷ [])
-    -- statement
+    -- the rows of rule `statement`
     ∷ (row (mark_statement ∷ [])
     ∷ row (!begin ∷ text_statement ∷ [])
     ∷ row (!begin ∷ !outer ∷ BEGINNAME ∷ !name ∷ after_prim ∷ statement_end ∷ [])
@@ -144,15 +144,15 @@ rules_2 =
     ∷ row (!begin ∷ 'string' ∷ string_rest ∷ [])
     ∷ row (!begin ∷ 'style' ∷ style_rest ∷ [])
     ∷ [])
-    -- statement_1
+    -- the rows of rule `statement_1`
     ∷ (row (plain_prim ∷ [])
     ∷ row (bracketed ∷ [])
     ∷ [])
-    -- statement_2
+    -- the rows of rule `statement_2`
     ∷ (row (prefixed ∷ [])
     ∷ row ('minus' ∷ neg ∷ !negate ∷ after_unary ∷ [])
     ∷ [])
-    -- statement_3
+    -- the rows of rule `statement_3`
     ∷ (row ('if' ∷ if_rest ∷ [])
     ∷ row ('while' ∷ while_rest ∷ [])
     ∷ row ('do' ∷ do_rest ∷ [])
@@ -160,15 +160,15 @@ rules_2 =
     ∷ row ('objectloop' ∷ objectloop_rest ∷ [])
     ∷ row ('switch' ∷ switch_rest ∷ [])
     ∷ [])
-    -- statement_4
+    -- the rows of rule `statement_4`
     ∷ (row ('print' ∷ [])
     ∷ row ('print_ret' ∷ [])
     ∷ [])
-    -- statement_5
+    -- the rows of rule `statement_5`
     ∷ (row ('remove' ∷ [])
     ∷ row ('spaces' ∷ [])
     ∷ [])
-    -- plain_word
+    -- the rows of rule `plain_word`
     ∷ (row ('break' ∷ [])
     ∷ row ('continue' ∷ [])
     ∷ row ('quit' ∷ [])
@@ -176,13 +176,13 @@ rules_2 =
     ∷ row ('rfalse' ∷ [])
     ∷ row ('new_line' ∷ [])
     ∷ [])
-    -- end
+    -- the rows of rule `end`
     ∷ (row (!end_statement ∷ 'semicolon' ∷ [])
     ∷ [])
-    -- statement_end
+    -- the rows of rule `statement_end`
     ∷ (row (expression_tail ∷ end ∷ [])
     ∷ [])
-    -- mark_statement
+    -- the rows of rule `mark_statement`
     ∷ (row (!begin ∷ end ∷ [])
     ∷ row ('open_brace' ∷ mark_statement_1 ∷ 'close_brace' ∷ [])
     ∷ row (!begin ∷ 'dot' ∷ NAME ∷ end ∷ [])
@@ -190,158 +190,158 @@ rules_2 =
     ∷ row (!begin ∷ 'double_less' ∷ act ∷ 'double_greater' ∷ end ∷ [])
     ∷ row (!begin ∷ 'at' ∷ NAME ∷ assembly ∷ end ∷ [])
     ∷ [])
-    -- mark_statement_1
+    -- the rows of rule `mark_statement_1`
     ∷ (row (statement ∷ mark_statement_1 ∷ [])
     ∷ row []
     ∷ [])
-    -- text_statement
+    -- the rows of rule `text_statement`
     ∷ (row (!outer_maybe ∷ TEXT ∷ text_statement_1 ∷ [])
     ∷ [])
-    -- text_statement_1
+    -- the rows of rule `text_statement_1`
     ∷ (row (!print_text ∷ end ∷ [])
     ∷ row (!outer_sure ∷ !text ∷ text_more ∷ [])
     ∷ [])
-    -- text_more
+    -- the rows of rule `text_more`
     ∷ (row (operator ∷ statement_end ∷ [])
     ∷ row ('comma' ∷ assign ∷ !comma ∷ statement_end ∷ [])
     ∷ [])
-    -- if_rest
+    -- the rows of rule `if_rest`
     ∷ (row (!open_if ∷ 'open_parenthesis' ∷ !begin ∷ !outer ∷ expression ∷ !end_if ∷ 'close_parenthesis' ∷ statement ∷ else_part ∷ [])
     ∷ [])
-    -- else_part
+    -- the rows of rule `else_part`
     ∷ (row (!else ∷ 'else' ∷ statement ∷ !close ∷ [])
     ∷ row_unless 115 (!close ∷ [])
     ∷ [])
-    -- while_rest
+    -- the rows of rule `while_rest`
     ∷ (row (!open_while ∷ 'open_parenthesis' ∷ !begin ∷ !outer ∷ expression ∷ !end_while ∷ 'close_parenthesis' ∷ statement ∷ !close ∷ [])
     ∷ [])
-    -- do_rest
+    -- the rows of rule `do_rest`
     ∷ (row (!open_do ∷ statement ∷ 'until' ∷ !until ∷ 'open_parenthesis' ∷ !begin ∷ !outer ∷ expression ∷ !end_until ∷ 'close_parenthesis' ∷ 'semicolon' ∷ !close ∷ [])
     ∷ [])
-    -- for_rest
+    -- the rows of rule `for_rest`
     ∷ (row (!open_for ∷ 'open_parenthesis' ∷ for_rest_1 ∷ !for_top ∷ 'colon' ∷ for_rest_2 ∷ 'colon' ∷ for_rest_3 ∷ 'close_parenthesis' ∷ statement ∷ !close ∷ [])
     ∷ [])
-    -- for_rest_1
+    -- the rows of rule `for_rest_1`
     ∷ (row (!begin ∷ !outer ∷ expression ∷ !end_for_start ∷ [])
     ∷ row []
     ∷ [])
-    -- for_rest_2
+    -- the rows of rule `for_rest_2`
     ∷ (row (!begin ∷ !outer ∷ expression ∷ !end_for_test ∷ [])
     ∷ row []
     ∷ [])
-    -- for_rest_3
+    -- the rows of rule `for_rest_3`
     ∷ (row (!begin ∷ !outer ∷ expression ∷ !end_for_step ∷ [])
     ∷ row []
     ∷ [])
-    -- objectloop_rest
+    -- the rows of rule `objectloop_rest`
     ∷ (row (!open_objectloop ∷ 'open_parenthesis' ∷ !begin ∷ !outer ∷ expression ∷ !end_objectloop ∷ !loop ∷ 'close_parenthesis' ∷ statement ∷ !close ∷ [])
     ∷ [])
-    -- switch_rest
+    -- the rows of rule `switch_rest`
     ∷ (row (!open_switch ∷ 'open_parenthesis' ∷ !begin ∷ !outer ∷ expression ∷ !end_switch ∷ 'close_parenthesis' ∷ 'open_brace' ∷ switch_rest_1 ∷ 'close_brace' ∷ !close ∷ [])
     ∷ [])
-    -- switch_rest_1
+    -- the rows of rule `switch_rest_1`
     ∷ (row (first_case ∷ switch_rest_2 ∷ [])
     ∷ row []
     ∷ [])
-    -- switch_rest_2
+    -- the rows of rule `switch_rest_2`
     ∷ (row (switch_item ∷ switch_rest_2 ∷ [])
     ∷ row []
     ∷ [])
-    -- print_rest
+    -- the rows of rule `print_rest`
     ∷ (row (item ∷ print_rest_1 ∷ end ∷ [])
     ∷ [])
-    -- print_rest_1
+    -- the rows of rule `print_rest_1`
     ∷ (row ('comma' ∷ item ∷ print_rest_1 ∷ [])
     ∷ row []
     ∷ [])
-    -- return_rest
+    -- the rows of rule `return_rest`
     ∷ (row (return_rest_1 ∷ end ∷ [])
     ∷ [])
-    -- return_rest_1
+    -- the rows of rule `return_rest_1`
     ∷ (row (!outer ∷ expression ∷ [])
     ∷ row []
     ∷ [])
-    -- jump_rest
+    -- the rows of rule `jump_rest`
     ∷ (row (NAME ∷ end ∷ [])
     ∷ [])
-    -- give_rest
+    -- the rows of rule `give_rest`
     ∷ (row (!outer ∷ post ∷ !outer_end ∷ give_rest_1 ∷ end ∷ [])
     ∷ [])
-    -- give_rest_1
+    -- the rows of rule `give_rest_1`
     ∷ (row (!outer ∷ prim ∷ !outer_end ∷ !set ∷ give_rest_1 ∷ [])
     ∷ row ('bit_not' ∷ !outer ∷ prim ∷ !outer_end ∷ !clear ∷ give_rest_1 ∷ [])
     ∷ row []
     ∷ [])
-    -- move_rest
+    -- the rows of rule `move_rest`
     ∷ (row (!outer ∷ post ∷ !outer_end ∷ 'to' ∷ !outer ∷ post ∷ end ∷ [])
     ∷ [])
-    -- of_expression
+    -- the rows of rule `of_expression`
     ∷ (row (!outer ∷ expression ∷ end ∷ [])
     ∷ [])
-    -- string_rest
+    -- the rows of rule `string_rest`
     ∷ (row (!outer ∷ assign ∷ !outer_end ∷ TEXT ∷ !print_text ∷ end ∷ [])
     ∷ [])
-    -- style_rest
+    -- the rows of rule `style_rest`
     ∷ (row (NAME ∷ end ∷ [])
     ∷ [])
-    -- act
+    -- the rows of rule `act`
     ∷ (row (act_1 ∷ act_2 ∷ [])
     ∷ [])
-    -- act_1
+    -- the rows of rule `act_1`
     ∷ (row (NAME ∷ !action ∷ [])
     ∷ row ('open_parenthesis' ∷ !outer ∷ expression ∷ !outer_end ∷ 'close_parenthesis' ∷ [])
     ∷ [])
-    -- act_2
+    -- the rows of rule `act_2`
     ∷ (row (!outer ∷ post ∷ !outer_end ∷ act_3 ∷ [])
     ∷ row []
     ∷ [])
-    -- act_3
+    -- the rows of rule `act_3`
     ∷ (row (!outer ∷ post ∷ !outer_end ∷ [])
     ∷ row []
     ∷ [])
-    -- assembly
+    -- the rows of rule `assembly`
     ∷ (row (!outer_maybe ∷ TEXT ∷ assembly_1 ∷ [])
     ∷ row (!outer ∷ assembly_3 ∷ !outer_end ∷ operands ∷ [])
     ∷ row (store_or_branch ∷ [])
     ∷ row []
     ∷ [])
-    -- assembly_1
+    -- the rows of rule `assembly_1`
     ∷ (row (!asm_text ∷ [])
     ∷ row (!outer_sure ∷ !text ∷ !outer_end ∷ assembly_2 ∷ [])
     ∷ [])
-    -- assembly_2
+    -- the rows of rule `assembly_2`
     ∷ (row (!outer ∷ entry ∷ !outer_end ∷ operands ∷ [])
     ∷ row (store_or_branch ∷ [])
     ∷ [])
-    -- assembly_3
+    -- the rows of rule `assembly_3`
     ∷ (row (OPERAND ∷ !name ∷ [])
     ∷ row (plain_prim ∷ [])
     ∷ row (bracketed ∷ [])
     ∷ row ('minus' ∷ prim ∷ !negate ∷ [])
     ∷ [])
-    -- operands
+    -- the rows of rule `operands`
     ∷ (row (operands_1 ∷ operands_2 ∷ [])
     ∷ [])
-    -- operands_1
+    -- the rows of rule `operands_1`
     ∷ (row (!outer ∷ entry ∷ !outer_end ∷ operands_1 ∷ [])
     ∷ row []
     ∷ [])
-    -- operands_2
+    -- the rows of rule `operands_2`
     ∷ (row (store_or_branch ∷ [])
     ∷ row []
     ∷ [])
-    -- store_or_branch
+    -- the rows of rule `store_or_branch`
     ∷ (row ('arrow' ∷ NAME ∷ !store ∷ store_or_branch_1 ∷ [])
     ∷ row (branch ∷ [])
     ∷ [])
-    -- store_or_branch_1
+    -- the rows of rule `store_or_branch_1`
     ∷ (row (branch ∷ [])
     ∷ row []
     ∷ [])
-    -- branch
+    -- the rows of rule `branch`
     ∷ (row ('question' ∷ branch_1 ∷ [])
     ∷ [])
-    -- branch_1
+    -- the rows of rule `branch_1`
     ∷ (row (NAME ∷ !branch ∷ [])
     ∷ row ('bit_not' ∷ NAME ∷ !branch_not ∷ [])
     ∷ [])

@@ -7,43 +7,43 @@ use Rattle.inf_syntax.specs.Parts.{ !begin, !bracket, !bracketed, !comma, !defau
 
 abbrev pub rules_3 : List (List (Row Action))
 rules_3 =
-    -- item
+    -- the rows of rule `item`
     (row (!outer_maybe ∷ TEXT ∷ item_1 ∷ [])
     ∷ row (!outer_maybe ∷ 'open_parenthesis' ∷ !bracket ∷ bracket_item ∷ [])
     ∷ row (!outer ∷ item_2 ∷ !print_value ∷ [])
     ∷ [])
-    -- item_1
+    -- the rows of rule `item_1`
     ∷ (row (!outer_sure ∷ !text ∷ operator ∷ !print_value ∷ [])
     ∷ row (!print_text ∷ [])
     ∷ [])
-    -- item_2
+    -- the rows of rule `item_2`
     ∷ (row (OPERAND ∷ !name ∷ after_prim ∷ [])
     ∷ row (plain_prim ∷ after_prim ∷ [])
     ∷ row (prefixed ∷ [])
     ∷ row ('minus' ∷ neg ∷ !negate ∷ after_unary ∷ [])
     ∷ [])
-    -- bracket_item
+    -- the rows of rule `bracket_item`
     ∷ (row (!outer_end ∷ RESERVED ∷ !name ∷ 'close_parenthesis' ∷ ruled ∷ [])
     ∷ row (OPERAND ∷ !name ∷ bracket_name ∷ [])
     ∷ row (!outer_sure ∷ other_assign ∷ expression_tail ∷ !bracketed ∷ 'close_parenthesis' ∷ after_prim ∷ !print_value ∷ [])
     ∷ [])
-    -- bracket_name
+    -- the rows of rule `bracket_name`
     ∷ (row ('close_parenthesis' ∷ bracket_name_1 ∷ [])
     ∷ row (!outer_sure ∷ bracket_name_2 ∷ !bracketed ∷ 'close_parenthesis' ∷ after_prim ∷ !print_value ∷ [])
     ∷ [])
-    -- bracket_name_1
+    -- the rows of rule `bracket_name_1`
     ∷ (row (ruled ∷ [])
     ∷ row (!outer_sure ∷ !bracketed ∷ other_operator ∷ !print_value ∷ [])
     ∷ row (!outer_sure ∷ !bracketed ∷ !print_value ∷ [])
     ∷ [])
-    -- bracket_name_2
+    -- the rows of rule `bracket_name_2`
     ∷ (row (operator ∷ expression_tail ∷ [])
     ∷ row ('comma' ∷ assign ∷ !comma ∷ expression_tail ∷ [])
     ∷ [])
-    -- ruled
+    -- the rows of rule `ruled`
     ∷ (row (!rule ∷ !outer ∷ prim ∷ after_prim ∷ !print_rule ∷ [])
     ∷ [])
-    -- top_item
+    -- the rows of rule `top_item`
     ∷ (row (mark_statement ∷ [])
     ∷ row (!begin ∷ text_statement ∷ [])
     ∷ row (!begin ∷ !outer ∷ CASENAME ∷ !name ∷ top_item_1 ∷ [])
@@ -67,173 +67,173 @@ rules_3 =
     ∷ row (!begin ∷ 'style' ∷ top_item_21 ∷ [])
     ∷ row (!outer ∷ 'else' ∷ top_word ∷ [])
     ∷ [])
-    -- top_item_1
+    -- the rows of rule `top_item_1`
     ∷ (row (case_end ∷ [])
     ∷ row (top_more ∷ [])
     ∷ [])
-    -- top_item_2
+    -- the rows of rule `top_item_2`
     ∷ (row (!default ∷ case_end ∷ [])
     ∷ row (!name ∷ top_more ∷ [])
     ∷ [])
-    -- top_item_3
+    -- the rows of rule `top_item_3`
     ∷ (row (plain_prim ∷ [])
     ∷ row (bracketed ∷ [])
     ∷ [])
-    -- top_item_4
+    -- the rows of rule `top_item_4`
     ∷ (row (prefixed ∷ [])
     ∷ row ('minus' ∷ neg ∷ !negate ∷ after_unary ∷ [])
     ∷ [])
-    -- top_item_5
+    -- the rows of rule `top_item_5`
     ∷ (row (if_rest ∷ [])
     ∷ row (top_word ∷ [])
     ∷ [])
-    -- top_item_6
+    -- the rows of rule `top_item_6`
     ∷ (row (while_rest ∷ [])
     ∷ row (top_word ∷ [])
     ∷ [])
-    -- top_item_7
+    -- the rows of rule `top_item_7`
     ∷ (row (do_rest ∷ [])
     ∷ row (top_word ∷ [])
     ∷ [])
-    -- top_item_8
+    -- the rows of rule `top_item_8`
     ∷ (row (for_rest ∷ [])
     ∷ row (top_word ∷ [])
     ∷ [])
-    -- top_item_9
+    -- the rows of rule `top_item_9`
     ∷ (row (objectloop_rest ∷ [])
     ∷ row (top_word ∷ [])
     ∷ [])
-    -- top_item_10
+    -- the rows of rule `top_item_10`
     ∷ (row (switch_rest ∷ [])
     ∷ row (top_word ∷ [])
     ∷ [])
-    -- top_item_11
+    -- the rows of rule `top_item_11`
     ∷ (row ('print' ∷ [])
     ∷ row ('print_ret' ∷ [])
     ∷ [])
-    -- top_item_12
+    -- the rows of rule `top_item_12`
     ∷ (row (print_rest ∷ [])
     ∷ row (top_word ∷ [])
     ∷ [])
-    -- top_item_13
+    -- the rows of rule `top_item_13`
     ∷ (row (return_rest ∷ [])
     ∷ row (top_word ∷ [])
     ∷ [])
-    -- top_item_14
+    -- the rows of rule `top_item_14`
     ∷ (row (end ∷ [])
     ∷ row (top_word ∷ [])
     ∷ [])
-    -- top_item_15
+    -- the rows of rule `top_item_15`
     ∷ (row (jump_rest ∷ [])
     ∷ row (!outer_word ∷ !name ∷ top_values ∷ [])
     ∷ [])
-    -- top_item_16
+    -- the rows of rule `top_item_16`
     ∷ (row (give_rest ∷ [])
     ∷ row (top_word ∷ [])
     ∷ [])
-    -- top_item_17
+    -- the rows of rule `top_item_17`
     ∷ (row (move_rest ∷ [])
     ∷ row (top_word ∷ [])
     ∷ [])
-    -- top_item_18
+    -- the rows of rule `top_item_18`
     ∷ (row ('remove' ∷ [])
     ∷ row ('spaces' ∷ [])
     ∷ [])
-    -- top_item_19
+    -- the rows of rule `top_item_19`
     ∷ (row (of_expression ∷ [])
     ∷ row (top_word ∷ [])
     ∷ [])
-    -- top_item_20
+    -- the rows of rule `top_item_20`
     ∷ (row (string_rest ∷ [])
     ∷ row (top_word ∷ [])
     ∷ [])
-    -- top_item_21
+    -- the rows of rule `top_item_21`
     ∷ (row (NOTTO ∷ end ∷ [])
     ∷ row (top_word ∷ [])
     ∷ [])
-    -- case_end
+    -- the rows of rule `case_end`
     ∷ (row (!end_case ∷ 'colon' ∷ [])
     ∷ [])
-    -- top_word
+    -- the rows of rule `top_word`
     ∷ (row (!outer_word ∷ !name ∷ top_word_1 ∷ [])
     ∷ [])
-    -- top_word_1
+    -- the rows of rule `top_word_1`
     ∷ (row (top_range ∷ [])
     ∷ row (top_values ∷ [])
     ∷ [])
-    -- top_range
+    -- the rows of rule `top_range`
     ∷ (row ('to' ∷ OPERAND ∷ !name ∷ !to ∷ top_values ∷ [])
     ∷ [])
-    -- top_values
+    -- the rows of rule `top_values`
     ∷ (row (top_values_1 ∷ case_end ∷ [])
     ∷ [])
-    -- top_values_1
+    -- the rows of rule `top_values_1`
     ∷ (row ('comma' ∷ OPERAND ∷ !name ∷ top_values_2 ∷ !comma ∷ top_values_1 ∷ [])
     ∷ row []
     ∷ [])
-    -- top_values_2
+    -- the rows of rule `top_values_2`
     ∷ (row ('to' ∷ OPERAND ∷ !name ∷ !to ∷ [])
     ∷ row []
     ∷ [])
-    -- top_more
+    -- the rows of rule `top_more`
     ∷ (row (operator ∷ statement_end ∷ [])
     ∷ row (top_range ∷ [])
     ∷ row ('comma' ∷ top_next ∷ [])
     ∷ row (end ∷ [])
     ∷ [])
-    -- top_next
+    -- the rows of rule `top_next`
     ∷ (row (OPERAND ∷ !name ∷ top_following ∷ [])
     ∷ row (other_assign ∷ !comma ∷ statement_end ∷ [])
     ∷ [])
-    -- top_following
+    -- the rows of rule `top_following`
     ∷ (row (operator ∷ !comma ∷ statement_end ∷ [])
     ∷ row ('to' ∷ OPERAND ∷ !name ∷ !to ∷ !comma ∷ top_values ∷ [])
     ∷ row (!comma ∷ top_following_1 ∷ [])
     ∷ [])
-    -- top_following_1
+    -- the rows of rule `top_following_1`
     ∷ (row (case_end ∷ [])
     ∷ row ('comma' ∷ top_next ∷ [])
     ∷ row (end ∷ [])
     ∷ [])
-    -- first_case
+    -- the rows of rule `first_case`
     ∷ (row (!outer ∷ 'default' ∷ first_case_1 ∷ [])
     ∷ row (!outer ∷ first_case_3 ∷ first_case_4 ∷ [])
     ∷ [])
-    -- first_case_1
+    -- the rows of rule `first_case_1`
     ∷ (row (!default ∷ case_end ∷ [])
     ∷ row (!name ∷ first_case_2 ∷ [])
     ∷ [])
-    -- first_case_2
+    -- the rows of rule `first_case_2`
     ∷ (row (range ∷ values ∷ [])
     ∷ row ('comma' ∷ case_value ∷ !comma ∷ values ∷ [])
     ∷ [])
-    -- first_case_3
+    -- the rows of rule `first_case_3`
     ∷ (row (NOTDEFAULT ∷ !name ∷ [])
     ∷ row (other_prim ∷ [])
     ∷ row ('minus' ∷ prim ∷ !negate ∷ [])
     ∷ [])
-    -- first_case_4
+    -- the rows of rule `first_case_4`
     ∷ (row (range ∷ values ∷ [])
     ∷ row (values ∷ [])
     ∷ [])
-    -- values
+    -- the rows of rule `values`
     ∷ (row (values_1 ∷ case_end ∷ [])
     ∷ [])
-    -- values_1
+    -- the rows of rule `values_1`
     ∷ (row ('comma' ∷ case_value ∷ !comma ∷ values_1 ∷ [])
     ∷ row []
     ∷ [])
-    -- case_value
+    -- the rows of rule `case_value`
     ∷ (row (entry ∷ case_value_1 ∷ [])
     ∷ [])
-    -- case_value_1
+    -- the rows of rule `case_value_1`
     ∷ (row (range ∷ [])
     ∷ row []
     ∷ [])
-    -- range
+    -- the rows of rule `range`
     ∷ (row ('to' ∷ entry ∷ !to ∷ [])
     ∷ [])
-    -- switch_item
+    -- the rows of rule `switch_item`
     ∷ (row (mark_statement ∷ [])
     ∷ row (!begin ∷ !outer_maybe ∷ TEXT ∷ switch_item_1 ∷ [])
     ∷ row (!begin ∷ !outer ∷ CASENAME ∷ !name ∷ switch_item_3 ∷ [])
@@ -258,116 +258,116 @@ rules_3 =
     ∷ row (!begin ∷ 'style' ∷ switch_item_26 ∷ [])
     ∷ row (!outer ∷ 'else' ∷ switch_word ∷ [])
     ∷ [])
-    -- switch_item_1
+    -- the rows of rule `switch_item_1`
     ∷ (row (!print_text ∷ end ∷ [])
     ∷ row (!outer_sure ∷ !text ∷ switch_item_2 ∷ [])
     ∷ [])
-    -- switch_item_2
+    -- the rows of rule `switch_item_2`
     ∷ (row (case_end ∷ [])
     ∷ row (switch_more ∷ [])
     ∷ [])
-    -- switch_item_3
+    -- the rows of rule `switch_item_3`
     ∷ (row (case_end ∷ [])
     ∷ row (end ∷ [])
     ∷ row (switch_more ∷ [])
     ∷ [])
-    -- switch_item_4
+    -- the rows of rule `switch_item_4`
     ∷ (row (!default ∷ case_end ∷ [])
     ∷ row (!name ∷ switch_item_5 ∷ [])
     ∷ [])
-    -- switch_item_5
+    -- the rows of rule `switch_item_5`
     ∷ (row (end ∷ [])
     ∷ row (switch_more ∷ [])
     ∷ [])
-    -- switch_item_6
+    -- the rows of rule `switch_item_6`
     ∷ (row (plain_prim ∷ [])
     ∷ row (bracketed ∷ [])
     ∷ [])
-    -- switch_item_7
+    -- the rows of rule `switch_item_7`
     ∷ (row (case_end ∷ [])
     ∷ row (end ∷ [])
     ∷ row (switch_more ∷ [])
     ∷ [])
-    -- switch_item_8
+    -- the rows of rule `switch_item_8`
     ∷ (row (prim ∷ minus_more ∷ [])
     ∷ row (switch_item_9 ∷ !negate ∷ after_unary ∷ statement_end ∷ [])
     ∷ [])
-    -- switch_item_9
+    -- the rows of rule `switch_item_9`
     ∷ (row ('minus' ∷ neg ∷ !negate ∷ [])
     ∷ row (step_prefix ∷ [])
     ∷ [])
-    -- switch_item_10
+    -- the rows of rule `switch_item_10`
     ∷ (row (if_rest ∷ [])
     ∷ row (switch_word ∷ [])
     ∷ [])
-    -- switch_item_11
+    -- the rows of rule `switch_item_11`
     ∷ (row (while_rest ∷ [])
     ∷ row (switch_word ∷ [])
     ∷ [])
-    -- switch_item_12
+    -- the rows of rule `switch_item_12`
     ∷ (row (do_rest ∷ [])
     ∷ row (switch_word ∷ [])
     ∷ [])
-    -- switch_item_13
+    -- the rows of rule `switch_item_13`
     ∷ (row (for_rest ∷ [])
     ∷ row (switch_word ∷ [])
     ∷ [])
-    -- switch_item_14
+    -- the rows of rule `switch_item_14`
     ∷ (row (objectloop_rest ∷ [])
     ∷ row (switch_word ∷ [])
     ∷ [])
-    -- switch_item_15
+    -- the rows of rule `switch_item_15`
     ∷ (row (switch_rest ∷ [])
     ∷ row (switch_word ∷ [])
     ∷ [])
-    -- switch_item_16
+    -- the rows of rule `switch_item_16`
     ∷ (row ('print' ∷ [])
     ∷ row ('print_ret' ∷ [])
     ∷ [])
-    -- switch_item_17
+    -- the rows of rule `switch_item_17`
     ∷ (row (print_rest ∷ [])
     ∷ row (switch_word ∷ [])
     ∷ [])
-    -- switch_item_18
+    -- the rows of rule `switch_item_18`
     ∷ (row (return_rest ∷ [])
     ∷ row (switch_word ∷ [])
     ∷ [])
-    -- switch_item_19
+    -- the rows of rule `switch_item_19`
     ∷ (row (end ∷ [])
     ∷ row (switch_word ∷ [])
     ∷ [])
-    -- switch_item_20
+    -- the rows of rule `switch_item_20`
     ∷ (row (jump_rest ∷ [])
     ∷ row (!outer_word ∷ !name ∷ values ∷ [])
     ∷ [])
-    -- switch_item_21
+    -- the rows of rule `switch_item_21`
     ∷ (row (give_rest ∷ [])
     ∷ row (switch_word ∷ [])
     ∷ [])
-    -- switch_item_22
+    -- the rows of rule `switch_item_22`
     ∷ (row (move_rest ∷ [])
     ∷ row (switch_word ∷ [])
     ∷ [])
-    -- switch_item_23
+    -- the rows of rule `switch_item_23`
     ∷ (row ('remove' ∷ [])
     ∷ row ('spaces' ∷ [])
     ∷ [])
-    -- switch_item_24
+    -- the rows of rule `switch_item_24`
     ∷ (row (of_expression ∷ [])
     ∷ row (switch_word ∷ [])
     ∷ [])
-    -- switch_item_25
+    -- the rows of rule `switch_item_25`
     ∷ (row (string_rest ∷ [])
     ∷ row (switch_word ∷ [])
     ∷ [])
-    -- switch_item_26
+    -- the rows of rule `switch_item_26`
     ∷ (row (NOTTO ∷ end ∷ [])
     ∷ row (switch_word ∷ [])
     ∷ [])
-    -- switch_word
+    -- the rows of rule `switch_word`
     ∷ (row (!outer_word ∷ !name ∷ switch_word_1 ∷ [])
     ∷ [])
-    -- switch_word_1
+    -- the rows of rule `switch_word_1`
     ∷ (row (range ∷ values ∷ [])
     ∷ row (values ∷ [])
     ∷ [])

@@ -79,7 +79,7 @@ words =
     ∷ codes "with"
     ∷ []
 
--- the same words as keywords, in the same order
+-- the words of the grammar as keywords, in the order of `words`
 unfoldable pub keywords : List Keyword
 keywords =
     keyword.Abbreviate

@@ -39,7 +39,7 @@ entries-append links part (x ∷ xs) ys =
     (λ n. entries_by links (part + 1) xs ++ entries_by links n ys) there)
     ∙ sym (append_assoc (object_by links part x) (entries_by links (part + 1) xs) (entries_by links (part + length (x ∷ xs)) ys))
 
--- the first four objects
+-- the objects that each story has are four
 first_count : length first_objects ≡ 4
 unfolding first_names
 first_count = refl
@@ -91,7 +91,7 @@ first_bytes : length (bytes_of (tables_from 0 first_objects)) ≡ 30
 unfolding first_names all_falling
 first_bytes = refl
 
--- the tree
+-- where all objects hang within `most`, so do the parents in their list
 pub hung_within : (most : ℕ) (objects : List Object) → AreHung most objects → AreWithin most (parents_of objects)
 hung_within most [] h = tt
 hung_within most (o ∷ objects) h = (h.0, hung_within most objects h.2)

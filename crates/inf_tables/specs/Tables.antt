@@ -44,6 +44,6 @@ references t =
     (more (more (verbs_laters t.verbs.list) (more (length t.actions.routines) (length t.parsing)))
     (length t.low_strings.abbreviations))
 
--- those references with `others` more
+-- the references of all tables, with `others` more
 abbrev pub references_with : ℕ → AllTables → ℕ
 references_with others t = more others (references t)

@@ -27,7 +27,7 @@ abbrev pub no_world : WorldOf
 no_world =
     record { attributes = 0; declared = []; individuals = 0; objects = []; is_open = false; body = nothing_read }
 
--- Counts
+-- Definitions of counts
 
 -- the open body's object counts, if its header was not in error
 abbrev pub open_count : Owner → ℕ
@@ -66,7 +66,7 @@ ended_fixups objects = 4 + sum_by object_fixups objects
 abbrev pub fixups_now : WorldOf → ℕ
 fixups_now w = ended_fixups w.objects + object_fixups (ended w.body) + later_defaults w.declared
 
--- Declarations
+-- Definitions of declarations
 
 abbrev pub with_attribute : WorldOf → WorldOf
 with_attribute w = record w { attributes = w.attributes + 1 }
@@ -86,7 +86,7 @@ with_individual w = record w { individuals = w.individuals + 1 }
 abbrev pub individual_fault : WorldOf → Option WorldFault
 individual_fault w = if nat_le 4294967295 w.individuals then Some (WorldFault.Limit Limit.IndividualProperties) else None
 
--- Headers
+-- Definitions of headers
 
 abbrev pub with_body : Body → WorldOf → WorldOf
 with_body body w = record w { is_open = true; body = body }
@@ -129,7 +129,7 @@ with_lost_header w = with_body (begun Owner.Nothing 0 0 []) w
 abbrev pub lost_header_fault : WorldOf → Option WorldFault
 lost_header_fault w = if w.is_open then Some (WorldFault.Misfit Misfit.BodyIsOpen) else None
 
--- Bodies
+-- Definitions of bodies
 
 -- the room for the properties of the open body, beside all else
 abbrev pub room_of : SettingLimits → WorldOf → Room

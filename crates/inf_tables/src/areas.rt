@@ -22,7 +22,7 @@ const SYSTEM: usize = 3;
 /// No attributes.
 const NO_ATTRIBUTES: [bool; 48] = [false; 48];
 
-// Property defaults
+// Functions for property defaults
 
 /// Appends `count` zeros to `cells`.
 fn add_zeros(alloc: Global, cells: &mut Cells, count: usize) -> Result<(), AllocError>
@@ -58,7 +58,7 @@ pub(crate) fn default_cells(
     Ok(cells)
 }
 
-// Objects
+// Functions for objects
 
 /// Returns the parents of all objects, the first four objects before those of the source.
 #[tactic(auto, using(crate::proofs::Joining::first_parents))]
@@ -147,7 +147,7 @@ pub(crate) fn object_cells(alloc: Global, objects: &[Object]) -> Result<Cells, A
     Ok(cells)
 }
 
-// Property tables
+// Functions for property tables
 
 /// Appends a property table that has the short name `name` alone to `cells`.
 fn add_bare_table(cells: &mut Cells, name: &[u8]) -> Result<(), AllocError>

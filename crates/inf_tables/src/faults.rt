@@ -1,4 +1,4 @@
-//! Why something was not added to the world.
+//! The reason why something was not added to the world.
 
 ghost use Rattle.std.specs.Prelude.{◌≡◌, option_map};
 ghost use Rattle.inf_tables.specs.Faults.{given_fault};
@@ -55,7 +55,7 @@ pub enum WorldSetting {
 pub enum WorldFault {
     Limit(Limit),
     Misfit(Misfit),
-    /// There would be more than a setting allows.
+    /// A table would have more entries than a setting allows.
     Full(WorldSetting),
     /// No memory was left.
     Memory,

@@ -107,7 +107,7 @@ impl<B: Bounds> World<B> {
         }
     }
 
-    // Declarations
+    // Functions for declarations
 
     /// Returns the number of attributes that were declared, which is also the number of the next one.
     pub fn attribute_count(&self) -> usize
@@ -179,7 +179,7 @@ impl<B: Bounds> World<B> {
         Ok(number)
     }
 
-    // Headers
+    // Functions for headers
 
     /// Begins a class with the short name `name`, whose body follows, and returns its number.
     ///
@@ -285,7 +285,7 @@ impl<B: Bounds> World<B> {
         Ok(number)
     }
 
-    // Bodies
+    // Functions for bodies
 
     /// Returns whether the open body gave the property `number`.
     pub fn is_given(&self, number: usize) -> bool
@@ -539,7 +539,7 @@ impl<B: Bounds> World<B> {
         Ok(())
     }
 
-    // Parts of the world
+    // Functions for parts of the world
 
     // Returns the allocator from which memory comes.
     pub(crate) fn alloc(&self) -> Global {
@@ -564,7 +564,7 @@ impl<B: Bounds> World<B> {
         self.objects.as_slice()
     }
 
-    // Counts
+    // Functions for counts
 
     /// Returns the number of objects, the first four, classes and the object of the open body counted in. It is also the number of
     /// the last object.

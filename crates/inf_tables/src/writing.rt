@@ -1,4 +1,4 @@
-//! How a world is written.
+//! The way in which a world is written.
 ghost use Rattle.std.specs.Prelude.{◌≡◌, ◌+◌, ◌<◌, ◌≤◌, ◌++◌, IfOk, IfErr, OnOk, OnErr, length};
 ghost use Rattle.inf_area.specs.{Fixups.with_fixups, declared.cells.WriteFault.WriteFault};
 ghost use Rattle.inf_area.specs.Cells.{bytes_of, fixups_of, later_count};

@@ -133,7 +133,7 @@ pub kept_value : bytes 1 (with_label (λ over. (meaning limits (Two (Binary.Test
 unfolding laid instruction marked behind test_branch tests triple_tests
 kept_value = refl
 
--- x = x > y && ~~y; is 1 or 0
+-- the code of `x = x > y && ~~y;`, by which x is 1 or 0
 pub condition_as_value : bytes 2 (meaning limits (Two Binary.Assign x (Two Binary.And (Two (Binary.Test Test.Greater) x y)
     (One Unary.Not y)))).alone
     ≡ 0x02 ∷ 0x63 ∷ 0x01 ∷ 0x02 ∷ 0x4B ∷ 0xA0 ∷ 0x02 ∷ 0x48 ∷ 0x0D ∷ 0x01 ∷ 0x01 ∷ 0x8C ∷ 0x00 ∷ 0x05 ∷ 0x0D ∷ 0x01 ∷ 0x00 ∷ 0xB0 ∷ 0 ∷ 0 ∷

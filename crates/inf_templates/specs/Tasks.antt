@@ -4,12 +4,12 @@ use Rattle.inf_settings.specs.Bounds.{Limits}
 use Rattle.inf_opcode.specs.declared.opcodes.Opcode.{Opcode}
 use Rattle.inf_expressions.specs.{Nodes.tree_at, Trees.Tree, declared.operators.Test.Test}
 use Rattle.inf_output.specs.{declared.operands.Simple.Simple, declared.veneer.Veneer.Veneer}
-use Rattle.inf_output.specs.Output.{Code, Out, instruction, jumped, marked, nothing, to, ◌▸◌}
+use Rattle.inf_output.specs.Output.{Code, Out, instruction, marked, nothing, to, ◌▸◌}
 use Rattle.inf_templates.specs.declared.{reading.Goal.Goal, tasks.Argument.Argument, tasks.Few.Few, tasks.Task.Task, tasks.Worked.Worked}
-use Rattle.inf_templates.specs.Parts.{Part, calling, calling_routine, evaluated, is, jump_zero, load, operand_of, operands, put, worked_out}
+use Rattle.inf_templates.specs.Parts.{Part, calling, calling_routine, is, jump_zero, load, operand_of, operands}
 use Rattle.inf_templates.specs.Meaning.{Meaning, Target, Nowhere, InVariable, InMemory, by, compared, leaves_new, meaning, most_compared}
-use Rattle.inf_templates.specs.Meaning.{operation_opcode, part, parts, related_opcode, single_opcode, single_tests, stepper, stepping}
-use Rattle.inf_templates.specs.Meaning.{stored, triple_tests}
+use Rattle.inf_templates.specs.Meaning.{operation_opcode, part, parts, related_opcode, single_opcode, single_tests, stepper, stored}
+use Rattle.inf_templates.specs.Meaning.{triple_tests, truth_behind}
 
 -- the meaning of the tree at a place
 abbrev pub at : Limits → List Tree → ℕ → Meaning
@@ -61,15 +61,11 @@ abbrev pub task_code : Limits → List Tree → Task → Code
 task_code limits trees (Task.Value place d) = (at limits trees place).value d
 task_code limits trees (Task.Alone place) = (at limits trees place).alone
 task_code limits trees (Task.Branch place sense label) = (at limits trees place).branch sense label
-task_code limits trees (Task.Evaluate argument) = worked_out (part_of limits trees argument)
-task_code limits trees (Task.List place) = evaluated (parts (at limits trees place))
 task_code limits trees (Task.Triples x list sense label there) = triple_tests limits x (parts (at limits trees list)) sense label there
 task_code limits trees (Task.Singles t x list sense label there) = single_tests limits t x (parts (at limits trees list)) sense label there
-task_code limits trees (Task.Put operand d) = put limits operand d
-task_code limits trees (Task.Jump label) = jumped limits label
+task_code limits trees (Task.Truth d fails last) = truth_behind limits fails last d
 task_code limits trees (Task.Mark label) = marked limits label
 task_code limits trees (Task.Load v d) = load limits v d
-task_code limits trees (Task.Step s v) = stepping limits s v
 task_code limits trees (Task.JumpZero operand sense label) = jump_zero limits operand sense label
 task_code limits trees (Task.Instruct w) = worked_code limits trees w
 

@@ -1,310 +1,28 @@
 //! Tasks, one by one.
-ghost use Rattle.inf_settings.specs.Bounds.{Limits};
-ghost use Rattle.std.specs.Prelude.{◌≡◌, ◌≤◌, ◌<◌, ◌+◌, [], ◌∷◌, ◌++◌, List, OnOk, Option, length, take};
-ghost use Rattle.inf_expressions.specs.Trees.{Tree};
-ghost use Rattle.inf_output.specs.Output.{Out};
-ghost use Rattle.inf_templates.specs.{Meaning.part, Meaning.parts, Parts.operand_of, Parts.operands, Parts.worked_out, Weights.WeighsUnder};
-ghost use Rattle.inf_templates.specs.{Weights.weight, declared.tasks.Task.Task, declared.tasks.Worked.Worked};
-ghost use Rattle.inf_templates.specs.Tasks.{Leads, at, few_parts, task_code, tasks_code, worked_code};
+ghost use Rattle.std.specs.Prelude.{◌≡◌, [], OnOk};
+ghost use Rattle.inf_templates.specs.{Parts.put, Weights.WeighsUnder, Weights.weight, declared.tasks.Task.Task};
+ghost use Rattle.inf_templates.specs.{Meaning.truth_behind, Tasks.Leads, Tasks.task_code, Tasks.tasks_code};
 
-use crate::placing::{
-    MOST_ARGUMENTS, by, calling, calling_routine, compared, jump_zero, leaves_new, load,
-    operation_opcode, put, related_opcode, single_opcode, stepper, stepping, stored, to,
-};
-use crate::reading::{STACK, argument_of, most_compared, operand_of, split};
+use crate::placing::{jump_zero, load, put};
 use crate::rows::{alone, branch, value};
-use crate::tasks::{Argument, Few, Memory, Task, Tasks, Worked};
+use crate::tasks::{Task, Tasks};
 use crate::testing::{single_tests, triple_tests};
-use arrayvec::ArrayVec;
-use inf_expressions::{Direction, Node, Nodes, Operation, Relative, Single, Test};
-use inf_opcode::{Label, MOST_OPERANDS, Opcode};
-use inf_output::{Output, Simple, Veneer};
+use crate::working::work;
+use inf_expressions::Nodes;
+use inf_opcode::Label;
+use inf_output::{Output, Simple};
 use inf_settings::bounds::Bounds;
 use std::alloc::AllocError;
 
-/// Lays an operand into the stack, unless it is simple.
-fn evaluate<B: Bounds>(
-    nodes: &Nodes,
-    argument: Argument,
-    tasks: &mut Tasks,
-    out: &mut Output<B>,
-) -> Result<(), AllocError>
-    ensures code { OnOk result (Leads B.most nodes.now (task_code B.most nodes.now (Task.Evaluate argument)) tasks.old tasks.new out.old
-        out.new) }
-    ensures less { OnOk result (WeighsUnder nodes.now (weight nodes.now (Task.Evaluate argument)) tasks.old tasks.new) }
+/// Lays the end of a condition whose value goes to variable `d`: 1 where its branch to `fails` was not taken, otherwise 0.
+fn truth<B: Bounds>(d: u8, fails: Label, last: Label, out: &mut Output<B>) -> Result<(), AllocError>
+    ensures { OnOk result (out.new ≡ truth_behind B.most fails last d out.old) }
 {
-    match argument {
-        Argument::Is(_) => Ok(()),
-        Argument::Of(place) => match nodes.node(place) {
-            Node::Leaf(_) => Ok(()),
-            Node::One(..) | Node::Two(..) => value(nodes, place, STACK, tasks, out),
-        },
-    }
-}
-
-/// Puts first the tasks for the members of the list at `place`, which are worked out from the last to the first.
-fn list(nodes: &Nodes, place: usize, tasks: &mut Tasks) -> Result<(), AllocError>
-    ensures code { OnOk result ((limits : Limits) → (o : Out) → tasks_code limits nodes.now tasks.new o ≡ tasks_code limits nodes.now
-        (Task.List place ∷ tasks.old) o) }
-    ensures less { OnOk result (WeighsUnder nodes.now (weight nodes.now (Task.List place)) tasks.old tasks.new) }
-{
-    match split(nodes, place) {
-        Some((a, others)) => tasks.first(&[Task::List(others), Task::Evaluate(Argument::Of(a))]),
-        None => tasks.first(&[Task::Evaluate(Argument::Of(place))]),
-    }
-}
-
-/// Appends the operands of the members of `list` to `front`, up to `most` operands in all.
-fn with_list(
-    nodes: &Nodes,
-    front: ArrayVec<Simple, MOST_OPERANDS>,
-    list: usize,
-    most: usize,
-) -> ArrayVec<Simple, MOST_OPERANDS>
-    requires front { length front.items ≤ most }
-    requires few { most ≤ 8 }
-    ensures value { (limits : Limits) → result.items ≡ take most (front.items ++ operands (parts (at limits nodes.now list))) }
-    ensures few { length result.items ≤ most }
-    ensures more { length front.items < most → length front.items < length result.items }
-{
-    let mut operands = front;
-    let mut left = list;
-    for _ in operands.len()..most {
-        match split(nodes, left) {
-            Some((a, others)) => {
-                operands.push(operand_of(nodes, a));
-                left = others;
-            }
-            None => {
-                operands.push(operand_of(nodes, left));
-                return operands;
-            }
-        }
-    }
-    operands
-}
-
-/// Returns the operands of one to three trees.
-fn few_operands(nodes: &Nodes, few: Few) -> ArrayVec<Simple, MOST_OPERANDS>
-    ensures { (limits : Limits) → result.items ≡ operands (few_parts limits nodes.now few) }
-{
-    let mut operands = ArrayVec::new();
-    match few {
-        Few::One(a) => operands.push(operand_of(nodes, a)),
-        Few::Two(a, b) => {
-            operands.push(operand_of(nodes, a));
-            operands.push(operand_of(nodes, b));
-        }
-        Few::Three(a, b, c) => {
-            operands.push(operand_of(nodes, a));
-            operands.push(operand_of(nodes, b));
-            operands.push(operand_of(nodes, c));
-        }
-    }
-    operands
-}
-
-/// Lays the instruction of an operation.
-fn compute<B: Bounds>(
-    nodes: &Nodes,
-    operation: Operation,
-    a: usize,
-    b: usize,
-    d: u8,
-    out: &mut Output<B>,
-) -> Result<(), AllocError>
-    ensures { OnOk result (out.new ≡ worked_code B.most nodes.now (Worked.Compute operation a b d) out.old) }
-{
-    let operands = [operand_of(nodes, a), operand_of(nodes, b)];
-    out.instruct(operation_opcode(operation), &operands, Some(d), None)
-}
-
-/// Lays the instruction that finds an object, and branches where there is one.
-fn find<B: Bounds>(
-    nodes: &Nodes,
-    relative: Relative,
-    a: usize,
-    d: u8,
-    label: Label,
-    out: &mut Output<B>,
-) -> Result<(), AllocError>
-    ensures { OnOk result (out.new ≡ worked_code B.most nodes.now (Worked.Find relative a d label) out.old) }
-{
-    let operands = [operand_of(nodes, a)];
-    out.instruct(
-        related_opcode(relative),
-        &operands,
-        Some(d),
-        to(true, label),
-    )
-}
-
-/// Lays a test for equality with three alternatives.
-fn three<B: Bounds>(
-    nodes: &Nodes,
-    x: Simple,
-    b: usize,
-    c: usize,
-    d: usize,
-    label: Label,
-    out: &mut Output<B>,
-) -> Result<(), AllocError>
-    ensures { OnOk result (out.new ≡ worked_code B.most nodes.now (Worked.Three x b c d label) out.old) }
-{
-    let operands = [
-        x,
-        operand_of(nodes, b),
-        operand_of(nodes, c),
-        operand_of(nodes, d),
-    ];
-    compared(Test::Equal, &operands, true, label, out)
-}
-
-/// Lays the storing of a value in memory.
-fn store<B: Bounds>(
-    nodes: &Nodes,
-    memory: Memory,
-    a: usize,
-    b: usize,
-    c: usize,
-    out: &mut Output<B>,
-) -> Result<(), AllocError>
-    ensures { OnOk result (out.new ≡ worked_code B.most nodes.now (Worked.Store memory a b c) out.old) }
-{
-    let operands = [
-        operand_of(nodes, a),
-        operand_of(nodes, b),
-        operand_of(nodes, c),
-    ];
-    stored(memory, &operands, out)
-}
-
-/// Lays a step of a value in memory.
-fn step_in_memory<B: Bounds>(
-    nodes: &Nodes,
-    before: bool,
-    step: Direction,
-    memory: Memory,
-    a: usize,
-    b: usize,
-    store: Option<u8>,
-    out: &mut Output<B>,
-) -> Result<(), AllocError>
-    ensures { OnOk result (out.new ≡ worked_code B.most nodes.now (Worked.StepInMemory before step memory a b store) out.old) }
-{
-    let operands = [
-        operand_of(nodes, a),
-        operand_of(nodes, b),
-        by(step),
-        leaves_new(before),
-    ];
-    calling_routine(stepper(memory), &operands, store, out)
-}
-
-/// Lays a test with any member of a list, of which the instruction takes the first members.
-fn any<B: Bounds>(
-    nodes: &Nodes,
-    test: Test,
-    a: Argument,
-    list: usize,
-    sense: bool,
-    label: Label,
-    out: &mut Output<B>,
-) -> Result<(), AllocError>
-    ensures { OnOk result (out.new ≡ worked_code B.most nodes.now (Worked.Any test a list sense label) out.old) }
-{
-    let mut front = ArrayVec::new();
-    front.push(argument_of::<B>(nodes, a));
-    let operands = with_list(nodes, front, list, most_compared(test));
-    compared(test, &operands, sense, label, out)
-}
-
-/// Lays a call with a list of arguments.
-#[tactic(auto, using(crate::proofs::Cuts::calling_given))]
-fn call<B: Bounds>(
-    nodes: &Nodes,
-    f: usize,
-    list: usize,
-    store: Option<u8>,
-    out: &mut Output<B>,
-) -> Result<(), AllocError>
-    ensures { OnOk result (out.new ≡ worked_code B.most nodes.now (Worked.Call f list store) out.old) }
-{
-    let arguments = with_list(nodes, ArrayVec::new(), list, MOST_ARGUMENTS);
-    calling(operand_of(nodes, f), &arguments, store, out)
-}
-
-/// Lays a call of a property of an object.
-#[tactic(auto, using(crate::proofs::Cuts::calling_routine_given))]
-fn message<B: Bounds>(
-    nodes: &Nodes,
-    a: usize,
-    b: usize,
-    list: usize,
-    store: Option<u8>,
-    out: &mut Output<B>,
-) -> Result<(), AllocError>
-    ensures { OnOk result (out.new ≡ worked_code B.most nodes.now (Worked.Message a b list store) out.old) }
-{
-    let mut front = ArrayVec::new();
-    front.push(operand_of(nodes, a));
-    front.push(operand_of(nodes, b));
-    let arguments = with_list(nodes, front, list, MOST_ARGUMENTS);
-    calling_routine(Veneer::CallProperty, &arguments, store, out)
-}
-
-/// Lays a call of the first member of a list, with the others as arguments.
-fn indirect<B: Bounds>(
-    nodes: &Nodes,
-    list: usize,
-    store: Option<u8>,
-    out: &mut Output<B>,
-) -> Result<(), AllocError>
-    ensures { OnOk result (out.new ≡ worked_code B.most nodes.now (Worked.Indirect list store) out.old) }
-{
-    match split(nodes, list) {
-        Some((f, others)) => call(nodes, f, others, store, out),
-        None => calling(operand_of(nodes, list), &[], store, out),
-    }
-}
-
-/// Lays an instruction whose parts are worked out.
-fn work<B: Bounds>(
-    nodes: &Nodes,
-    instruction: Worked,
-    out: &mut Output<B>,
-) -> Result<(), AllocError>
-    ensures { OnOk result (out.new ≡ worked_code B.most nodes.now instruction out.old) }
-{
-    match instruction {
-        Worked::Compute(operation, a, b, d) => compute(nodes, operation, a, b, d, out),
-        Worked::Negate(a, d) => {
-            let operands = [Simple::Known(0), operand_of(nodes, a)];
-            out.instruct(Opcode::Sub, &operands, Some(d), None)
-        }
-        Worked::Single(single, a, d) => {
-            let operands = [operand_of(nodes, a)];
-            out.instruct(single_opcode(single), &operands, Some(d), None)
-        }
-        Worked::Find(relative, a, d, label) => find(nodes, relative, a, d, label, out),
-        Worked::Three(x, b, c, d, label) => three(nodes, x, b, c, d, label, out),
-        Worked::Compare(test, x, b, sense, label) => {
-            let operands = [x, operand_of(nodes, b)];
-            compared(test, &operands, sense, label, out)
-        }
-        Worked::Any(test, a, list, sense, label) => any(nodes, test, a, list, sense, label, out),
-        Worked::Store(memory, a, b, c) => store(nodes, memory, a, b, c, out),
-        Worked::Routine(veneer, few, store) => {
-            calling_routine(veneer, &few_operands(nodes, few), store, out)
-        }
-        Worked::StepInMemory(before, step, memory, a, b, store) => step_in_memory(
-            nodes, before, step, memory, a, b, store, out,
-        ),
-        Worked::BareCall(f, store) => calling(operand_of(nodes, f), &[], store, out),
-        Worked::Call(f, list, store) => call(nodes, f, list, store, out),
-        Worked::Message(a, b, list, store) => message(nodes, a, b, list, store, out),
-        Worked::Indirect(list, store) => indirect(nodes, list, store, out),
-    }
+    put(Simple::Known(1), d, out)?;
+    out.jump(last)?;
+    out.mark(fails)?;
+    put(Simple::Known(0), d, out)?;
+    out.mark(last)
 }
 
 /// Does one task, or puts others in its place.
@@ -321,19 +39,15 @@ fn step<B: Bounds>(
         Task::Value(place, d) => value(nodes, place, d, tasks, out),
         Task::Alone(place) => alone(nodes, place, tasks, out),
         Task::Branch(place, sense, label) => branch(nodes, place, sense, label, tasks, out),
-        Task::Evaluate(argument) => evaluate(nodes, argument, tasks, out),
-        Task::List(place) => list(nodes, place, tasks),
         Task::Triples(x, list, sense, label, there) => {
             triple_tests(nodes, x, list, sense, label, there, tasks)
         }
         Task::Singles(test, x, list, sense, label, there) => {
             single_tests(nodes, test, x, list, sense, label, there, tasks)
         }
-        Task::Put(operand, d) => put(operand, d, out),
-        Task::Jump(label) => out.jump(label),
+        Task::Truth(d, fails, last) => truth(d, fails, last, out),
         Task::Mark(label) => out.mark(label),
         Task::Load(variable, d) => load(variable, d, out),
-        Task::Step(step, variable) => stepping(step, variable, out),
         Task::JumpZero(operand, sense, label) => jump_zero(operand, sense, label, out),
         Task::Instruct(instruction) => work(nodes, instruction, out),
     }

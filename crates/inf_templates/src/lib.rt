@@ -9,12 +9,14 @@
 #![tactic(auto)]
 
 mod laying;
+mod parts;
 mod placing;
 mod reading;
 mod rows;
 mod tasks;
 mod templates;
 mod testing;
+mod working;
 
 pub use reading::simple_of;
 pub use tasks::{Argument, Few, Memory, Task, Tasks, Worked};

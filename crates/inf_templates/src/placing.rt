@@ -3,12 +3,12 @@ ghost use Rattle.std.specs.Prelude.{◌≡◌, ◌≤◌, ◌+◌, [], ◌∷◌
 ghost use Rattle.inf_output.specs.Output.{Takes, to};
 ghost use Rattle.inf_templates.specs.Parts.{call_opcode, calling, calling_routine, jump_zero, load, put};
 ghost use Rattle.inf_templates.specs.Meaning.{branching, asking, by, compared, leaves_new, most_compared, operation_opcode, related_opcode};
-ghost use Rattle.inf_templates.specs.Meaning.{setter, single_opcode, stepper, stepping, stored};
+ghost use Rattle.inf_templates.specs.Meaning.{reader, setter, single_opcode, stepper, stepping, stored};
 
 use crate::reading::STACK;
 use crate::tasks::Memory;
 use arrayvec::ArrayVec;
-use inf_expressions::{Direction, Operation, Relative, Single, Test};
+use inf_expressions::{Direction, Operation, PropertyPart, Relative, Single, Test};
 use inf_opcode::{Branch, Destination, Label, MOST_OPERANDS, Opcode};
 use inf_output::{Output, Simple, Veneer};
 use inf_settings::bounds::Bounds;
@@ -189,6 +189,17 @@ pub(crate) fn stepper(memory: Memory) -> Veneer
         Memory::Byte => Veneer::StepByte,
         Memory::Word => Veneer::StepWord,
         Memory::Property => Veneer::StepProperty,
+    }
+}
+
+/// Returns the routine of the veneer that answers a question about a property.
+pub(crate) fn reader(asked: PropertyPart) -> Veneer
+    ensures { result ≡ reader asked }
+{
+    match asked {
+        PropertyPart::Value => Veneer::ReadProperty,
+        PropertyPart::Address => Veneer::PropertyAddress,
+        PropertyPart::Length => Veneer::PropertyLength,
     }
 }
 

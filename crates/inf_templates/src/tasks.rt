@@ -41,22 +41,16 @@ pub enum Task {
     Alone(usize),
     /// A tree as a branch to a label where its truth is the given one.
     Branch(usize, bool, Label),
-    /// An operand that goes to the stack, unless it is simple.
-    Evaluate(Argument),
-    /// The members of a list, worked out from the last to the first.
-    List(usize),
     /// A test for equality with any member of a list, in groups of three: the sense and the label of the last group, and
     /// the label of the others.
     Triples(Simple, usize, bool, Label, Label),
     /// Another test with any member of a list, one by one.
     Singles(Test, Simple, usize, bool, Label, Label),
-    /// A simple value that goes to a variable, or to the stack.
-    Put(Simple, u8),
-    Jump(Label),
+    /// The end of a condition whose value goes to a variable, or to the stack: the label where it fails, and the one behind it.
+    Truth(u8, Label, Label),
     Mark(Label),
     /// The value of a variable that goes to another one, or to the stack.
     Load(u8, u8),
-    Step(Direction, u8),
     /// A branch where the truth of an operand is the given one.
     JumpZero(Simple, bool, Label),
     Instruct(Worked),
@@ -130,15 +124,11 @@ impl Tasks {
         self.tasks.pop()
     }
 
-    /// Puts tasks before the others. It fails for want of memory alone.
-    pub(crate) fn first(&mut self, tasks: &[Task]) -> Result<(), AllocError>
-        ensures { OnOk result (self.new ≡ tasks.now ++ self.old) }
+    /// Puts `task` before the others. It fails for want of memory alone.
+    pub(crate) fn first(&mut self, task: Task) -> Result<(), AllocError>
+        ensures { OnOk result (self.new ≡ task ∷ self.old) }
     {
-        let mut left = tasks;
-        while let Some((last, others)) = left.split_last() {
-            self.tasks.push(*last)?;
-            left = others;
-        }
+        self.tasks.push(task)?;
         Ok(())
     }
 }

@@ -2,14 +2,14 @@
 ghost use Rattle.std.specs.Prelude.{◌≡◌, ◌≤◌, [], ◌∷◌, List, OnOk, Option, is_some, length, take};
 ghost use Rattle.inf_output.specs.Output.{Takes};
 ghost use Rattle.inf_templates.specs.{Tasks.at, Tasks.part_of, Tasks.parts_of, Tasks.tasks_code, declared.tasks.Task.Task};
-ghost use Rattle.inf_templates.specs.Parts.{call, call_routine, evaluated, operands, worked};
+ghost use Rattle.inf_templates.specs.Parts.{call, call_routine, evaluated, operands, worked, worked_out};
 
 use crate::laying::lay_first;
 use crate::placing::{MOST_ARGUMENTS, calling, calling_routine, cut};
-use crate::reading::argument_of;
+use crate::reading::{STACK, argument_of};
 use crate::tasks::{Argument, Task, Tasks};
 use arrayvec::ArrayVec;
-use inf_expressions::Nodes;
+use inf_expressions::{Node, Nodes};
 use inf_opcode::{Branch, Label, MOST_OPERANDS, Opcode};
 use inf_output::{Output, Simple, Veneer};
 use inf_settings::bounds::Bounds;
@@ -89,7 +89,7 @@ pub fn lay_call<B: Bounds>(
         store out.old) }
 {
     evaluate_all(tasks, nodes, arguments, out)?;
-    lay(tasks, nodes, Task::Evaluate(routine), out)?;
+    work_out(tasks, nodes, routine, out)?;
     let operands = operands::<B>(nodes, arguments, MOST_ARGUMENTS);
     calling(argument_of::<B>(nodes, routine), &operands, store, out)
 }
@@ -125,6 +125,24 @@ fn lay<B: Bounds>(
     lay_first(nodes, task, tasks, out)
 }
 
+/// Lays a part into the stack, unless it is simple.
+fn work_out<B: Bounds>(
+    tasks: &mut Tasks,
+    nodes: &Nodes,
+    argument: Argument,
+    out: &mut Output<B>,
+) -> Result<(), AllocError>
+    ensures { OnOk result (out.new ≡ worked_out (part_of B.most nodes.now argument) out.old) }
+{
+    match argument {
+        Argument::Is(_) => Ok(()),
+        Argument::Of(place) => match nodes.node(place) {
+            Node::Leaf(_) => Ok(()),
+            Node::One(..) | Node::Two(..) => lay(tasks, nodes, Task::Value(place, STACK), out),
+        },
+    }
+}
+
 /// Lays parts that are not simple into the stack, from the last to the first.
 #[tactic(auto, using(crate::proofs::Given::evaluated_last))]
 fn evaluate_all<B: Bounds>(
@@ -137,7 +155,7 @@ fn evaluate_all<B: Bounds>(
 {
     let mut left = arguments;
     while let Some((last, others)) = left.split_last() {
-        lay(tasks, nodes, Task::Evaluate(*last), out)?;
+        work_out(tasks, nodes, *last, out)?;
         left = others;
     }
     Ok(())

@@ -1,14 +1,18 @@
 //! Tests of a value against a list, where one of its members has to pass.
 ghost use Rattle.inf_settings.specs.Bounds.{Limits};
-ghost use Rattle.std.specs.Prelude.{◌≡◌, ◌≤◌, ◌<◌, ◌+◌, [], ◌∷◌, List, OnOk, if◌then◌else◌};
-ghost use Rattle.inf_expressions.specs.Trees.{Tree};
-ghost use Rattle.inf_output.specs.Output.{Out};
-ghost use Rattle.inf_templates.specs.{Weights.WeighsUnder, Weights.load_at, Weights.weight, declared.tasks.Task.Task};
+ghost use Rattle.std.specs.Prelude.{◌≡◌, ◌+◌, Bool, List, OnOk, if◌then◌else◌, true};
+ghost use Rattle.inf_expressions.specs.{Trees.Tree, declared.operators.Test.Test};
+ghost use Rattle.inf_opcode.specs.declared.instructions.Label.{Label};
+ghost use Rattle.inf_output.specs.{Output.Out, Output.◌▸◌, declared.operands.Simple.Simple};
+ghost use Rattle.inf_templates.specs.{Parts.evaluated, Weights.WeighsUnder, Weights.load_at, Weights.weight};
+ghost use Rattle.inf_templates.specs.{declared.tasks.Argument.Argument, declared.tasks.Task.Task, declared.tasks.Worked.Worked};
 ghost use Rattle.inf_templates.specs.Meaning.{group, parts, takes_three, test_branch, tests};
-ghost use Rattle.inf_templates.specs.Tasks.{Leads, Puts, at, task_code};
+ghost use Rattle.inf_templates.specs.Tasks.{Leads, Puts, at, task_code, worked_code};
 
+use crate::parts::{are_simple, before, members};
 use crate::reading::{TEMP, group, has_more, simple_of, split, takes_three};
 use crate::tasks::{Argument, Task, Tasks, Worked};
+use crate::working::any;
 use inf_expressions::{Nodes, Test};
 use inf_opcode::Label;
 use inf_output::{Output, Simple};
@@ -34,25 +38,39 @@ pub(crate) fn test_branch<B: Bounds>(
     let over = out.label();
     let there = chosen(sense, label, over);
     match simple_of::<B>(nodes, a) {
-        Some(x) => tasks.first(&[tests(test, x, list, sense, label, there), Task::Mark(over)]),
+        Some(x) if is_at_once(nodes, test, list) => {
+            any(nodes, test, Argument::Is(x), list, sense, label, out)?;
+            out.mark(over)
+        }
+        Some(x) => {
+            tasks.first(Task::Mark(over))?;
+            tasks.first(tests(test, x, list, sense, label, there))
+        }
         None if has_more(nodes, list, group(test)) => {
-            let kept = Simple::Variable(TEMP);
-            tasks.first(&[
-                Task::Value(a, TEMP),
-                tests(test, kept, list, sense, label, there),
-                Task::Mark(over),
-            ])
+            tasks.first(Task::Mark(over))?;
+            tasks.first(tests(test, Simple::Variable(TEMP), list, sense, label, there))?;
+            tasks.first(Task::Value(a, TEMP))
         }
         None => {
-            let a = Argument::Of(a);
-            tasks.first(&[
-                Task::List(list),
-                Task::Evaluate(a),
-                Task::Instruct(Worked::Any(test, a, list, sense, label)),
-                Task::Mark(over),
-            ])
+            tasks.first(Task::Mark(over))?;
+            tasks.first(Task::Instruct(Worked::Any(test, Argument::Of(a), list, sense, label)))?;
+            before(nodes, a, tasks)?;
+            members(nodes, list, tasks)
         }
     }
+}
+
+/// Returns whether one instruction tests a simple value against all of `list`, whose members are simple.
+#[tactic(auto, using(crate::proofs::Groups::at_once))]
+fn is_at_once(nodes: &Nodes, test: Test, list: usize) -> bool
+    ensures { result ≡ true → (limits : Limits) (x : Simple) (sense : Bool) (label there : Label) (o : Out) →
+        tests limits test x (parts (at limits nodes.now list)) sense label there o
+        ≡ worked_code limits nodes.now (Worked.Any test (Argument.Is x) list sense label) o }
+{
+    if has_more(nodes, list, group(test)) {
+        return false;
+    }
+    are_simple(nodes, list)
 }
 
 /// Returns `label` where `sense` holds, otherwise `over`.
@@ -91,23 +109,39 @@ pub(crate) fn triple_tests(
         (Task.Triples x list sense label there)) tasks.old tasks.new) }
     ensures less { OnOk result (WeighsUnder nodes.now (weight nodes.now (Task.Triples x list sense label there)) tasks.old tasks.new) }
 {
-    let last = Worked::Any(Test::Equal, Argument::Is(x), list, sense, label);
     let Some((b, others)) = split(nodes, list) else {
-        return tasks.first(&[Task::List(list), Task::Instruct(last)]);
+        return last_tests(nodes, x, list, sense, label, tasks);
     };
     let Some((c, others_2)) = split(nodes, others) else {
-        return tasks.first(&[Task::List(list), Task::Instruct(last)]);
+        return last_tests(nodes, x, list, sense, label, tasks);
     };
     let Some((d, others_3)) = split(nodes, others_2) else {
-        return tasks.first(&[Task::List(list), Task::Instruct(last)]);
+        return last_tests(nodes, x, list, sense, label, tasks);
     };
-    tasks.first(&[
-        Task::Evaluate(Argument::Of(d)),
-        Task::Evaluate(Argument::Of(c)),
-        Task::Evaluate(Argument::Of(b)),
-        Task::Instruct(Worked::Three(x, b, c, d, there)),
-        Task::Triples(x, others_3, sense, label, there),
-    ])
+    tasks.first(Task::Triples(x, others_3, sense, label, there))?;
+    tasks.first(Task::Instruct(Worked::Three(x, b, c, d, there)))?;
+    before(nodes, b, tasks)?;
+    before(nodes, c, tasks)?;
+    before(nodes, d, tasks)
+}
+
+/// Puts first the tasks of a test for equality with any member of a list of at most three.
+fn last_tests(
+    nodes: &Nodes,
+    x: Simple,
+    list: usize,
+    sense: bool,
+    label: Label,
+    tasks: &mut Tasks,
+) -> Result<(), AllocError>
+    ensures code { let instruction = Worked.Any Test.Equal (Argument.Is x) list sense label in
+        OnOk result ((limits : Limits) → Puts limits nodes.now (evaluated (parts (at limits nodes.now list))
+        ▸ worked_code limits nodes.now instruction) tasks.old tasks.new) }
+    ensures less { OnOk result (WeighsUnder nodes.now (5 + load_at nodes.now list) tasks.old tasks.new) }
+{
+    let last = Worked::Any(Test::Equal, Argument::Is(x), list, sense, label);
+    tasks.first(Task::Instruct(last))?;
+    members(nodes, list, tasks)
 }
 
 /// Puts first the tasks of another test with any member of a list, one by one.
@@ -128,14 +162,14 @@ pub(crate) fn single_tests(
         OnOk result (WeighsUnder nodes.now most tasks.old tasks.new) }
 {
     match split(nodes, list) {
-        None => tasks.first(&[
-            Task::Evaluate(Argument::Of(list)),
-            Task::Instruct(Worked::Compare(test, x, list, sense, label)),
-        ]),
-        Some((b, others)) => tasks.first(&[
-            Task::Evaluate(Argument::Of(b)),
-            Task::Instruct(Worked::Compare(test, x, b, true, there)),
-            Task::Singles(test, x, others, sense, label, there),
-        ]),
+        None => {
+            tasks.first(Task::Instruct(Worked::Compare(test, x, list, sense, label)))?;
+            before(nodes, list, tasks)
+        }
+        Some((b, others)) => {
+            tasks.first(Task::Singles(test, x, others, sense, label, there))?;
+            tasks.first(Task::Instruct(Worked::Compare(test, x, b, true, there)))?;
+            before(nodes, b, tasks)
+        }
     }
 }

@@ -7,4 +7,5 @@ pub mod Marked
 pub mod Ranging
 pub mod Searching
 pub mod Stepping
+pub mod Taking
 pub mod Unpacks

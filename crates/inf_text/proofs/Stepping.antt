@@ -1,9 +1,9 @@
 -- One step through a text.
-use Rattle.std.proofs.Common.{◌≡◌, ◌-◌, ℕ, zero, suc, Option, Some, List, [], ◌∷◌, ◌++◌, drop, refl, ap, ◌∙◌, arith}
+use Rattle.std.proofs.Common.{◌≡◌, ◌-◌, ℕ, zero, suc, Option, Some, List, [], ◌∷◌, ◌++◌, drop, refl, ap, sym, ◌∙◌, arith}
 use Rattle.std.proofs.lemmas.List.{length-drop}
 use Rattle.inf_characters.specs.{Items.IsText, declared.texts.TextItem.TextItem}
-use Rattle.inf_text.specs.Packing.{zs_from, abbreviation_zs, front_zs, front_behind, longest, AreZs}
-use Rattle.inf_text.specs.Step.{Steps}
+use Rattle.inf_text.specs.Packing.{zs_from, abbreviation_zs, front_zs, front_behind, item_zs, longest, words, AreZs}
+use Rattle.inf_text.specs.{Packer.Takes, Packer.completed, Step.Steps}
 
 -- items that are passed over are dropped
 pub zs_from-passed : (declared : List (List TextItem)) (k : ℕ) (items : List TextItem) →
@@ -34,3 +34,14 @@ Steps-found declared items x rest n len k zs tail split found behind is small te
       text = IsText-drop k rest text'.1;
       shorter = omega (arith, length-drop k rest);
     })
+
+-- without abbreviations an item stands for itself
+pub plain-more : (old new : List ℕ × List ℕ) (zs : List ℕ) (items rest whole : List TextItem) (x : TextItem) → items ≡ x ∷ rest →
+    zs ≡ item_zs x → Takes old zs new → completed old (zs_from [] 0 items) ≡ words (zs_from [] 0 whole) →
+    completed new (zs_from [] 0 rest) ≡ words (zs_from [] 0 whole)
+unfolding longest
+plain-more old new zs items rest whole x split is takes h =
+    takes (zs_from [] 0 rest)
+    ∙ ap (λ ys. completed old (ys ++ zs_from [] 0 rest)) is
+    ∙ ap (λ xs. completed old (zs_from [] 0 xs)) (sym split)
+    ∙ h

@@ -1,13 +1,23 @@
 -- Where the packing of Z-characters stands. Only the crate's private clauses cite it.
-use Rattle.std.specs.Prelude.{◌≡◌, ℕ, List, [], ◌∷◌, ◌++◌}
-use Rattle.inf_text.specs.{Packing.words, declared.packer.Waiting.Waiting}
+use Rattle.std.specs.Prelude.{◌≡◌, ℕ, ◌<◌, ◌≤◌, zero, suc, ◌/◌, ◌%◌, List, [], ◌∷◌, ◌++◌}
+use Rattle.inf_text.specs.{Packing.words}
 
--- the Z-characters that wait for their word to be written
-abbrev pub waiting_zs : Waiting → List ℕ
-waiting_zs Waiting.Nothing = []
-waiting_zs (Waiting.One a) = a ∷ []
-waiting_zs (Waiting.Two a b) = a ∷ b ∷ []
-waiting_zs (Waiting.Three a b c) = a ∷ b ∷ c ∷ []
+-- the Z-characters of a number, which has five bits for each
+abbrev pub digits : ℕ → ℕ → List ℕ
+digits zero number = []
+digits (suc count) number = digits count (number / 32) ++ (number % 32) ∷ []
+
+-- the first number that is too large for `count` Z-characters, which are at most three
+abbrev pub room : ℕ → ℕ
+room zero = 1
+room (suc zero) = 32
+room (suc (suc zero)) = 1024
+room (suc (suc (suc count))) = 32768
+
+-- a number is that of at most three Z-characters
+pub record IsWaiting (count number : ℕ) : Type 0 where
+  pub few : count ≤ 3
+  pub fits : number < room count
 
 -- the bytes that come of the words written, the Z-characters that wait and those that follow
 abbrev pub completed : List ℕ × List ℕ → List ℕ → List ℕ

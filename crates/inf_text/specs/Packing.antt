@@ -1,4 +1,4 @@
--- How a text is packed (Z-Machine Standard 1.1, sections 3.2 to 3.7).
+-- The way in which a text is packed (Z-Machine Standard 1.1, sections 3.2 to 3.7).
 use Rattle.std.specs.Prelude.{ℕ, ◌<◌, zero, suc, ◌+◌, ◌-◌, ◌*◌, ◌/◌, ◌%◌, ◌==◌, nat_lt, nat_le, Bool, true, false, ◌&&◌, Option, Some, None}
 use Rattle.std.specs.Prelude.{List, [], ◌∷◌, ◌++◌, length, take, replicate, codes, if◌then◌else◌}
 use Rattle.std.specs.List.{flat_map, position_from}

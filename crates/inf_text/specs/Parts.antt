@@ -1,4 +1,4 @@
--- How a text is cut where abbreviations are taken (Z-Machine Standard 1.1, section 3.3).
+-- The way in which a text is cut where abbreviations are taken (Z-Machine Standard 1.1, section 3.3).
 use Rattle.std.specs.Prelude.{◌≡◌, ℕ, ◌≤◌, true, false, Some, List, [], ◌∷◌, ◌++◌, length, slice_get, flat_map}
 use Rattle.inf_characters.specs.{Items.IsText, declared.texts.TextItem.TextItem}
 use Rattle.inf_text.specs.Packing.{abbreviation_zs, begins_with, item_zs, zs_from}

@@ -84,7 +84,7 @@ impl Front {
         }
     }
 
-    /// Returns the words, filled with 5.
+    /// Returns the six bytes of the Z-characters so far, filled up with 5 to nine.
     fn bytes(&self) -> [u8; 6]
         ensures { result ≡ words (take 9 (self.now ++ replicate 9 5)) }
     {

@@ -1,108 +1,119 @@
 //! Z-characters written as words.
-ghost use Rattle.std.specs.Prelude.{◌≡◌, ◌<◌, OnOk, IfOk, [], ◌∷◌};
-ghost use Rattle.inf_text.specs.{Packer.Takes, Packer.completed, Packing.AreZs, Packing.zs_list};
+ghost use Rattle.std.specs.Prelude.{◌≡◌, ◌<◌, ◌+◌, ◌++◌, ◌∷◌, ◌/◌, ◌%◌, [], IfOk, OnOk};
+ghost use Rattle.inf_text.specs.Packer.{IsWaiting, Takes, completed, digits};
+ghost use Rattle.inf_text.specs.Packing.{AreZs, words, zs_list};
 
-use crate::zchars::{ZChars, word};
-use std::alloc::{AllocError, Global};
+use crate::zchars::ZChars;
+use std::alloc::AllocError;
 use std::marker::Model;
 
-/// Z-characters that wait: a word is written once it is known whether it is the last.
-#[derive(Clone, Copy)]
-enum Waiting {
-    Nothing,
-    One(u8),
-    Two(u8, u8),
-    Three(u8, u8, u8),
-}
+/// The mark of the last word of a text.
+const LAST: u16 = 32768;
 
-/// The bytes of a text that is being packed. Contracts see the words written and the Z-characters
-/// that wait.
+/// At most three Z-characters that wait, since a word is written once it is known whether it is the last: a number with
+/// five bits for each of them. Contracts see the Z-characters.
 #[derive(Drop)]
-pub(crate) struct Packer {
-    bytes: Vec<u8>,
-    waiting: Waiting,
+pub(crate) struct Waiting {
+    number: u16,
+    count: u8,
 }
 
-impl Model for Packer {
+impl Model for Waiting {
     ghost use Rattle.std.specs.Prelude.{ℕ, List};
+    ghost use Rattle.inf_text.specs.Packer.{IsWaiting, digits};
 
-    ghost Value = { List ℕ × List ℕ };
+    ghost Value = { List ℕ };
 
-    ghost use Rattle.inf_text.specs.{Packer.waiting_zs, Packing.AreZs};
+    ghost view = { λ w. digits w.count w.number };
 
-    ghost view = { λ p. (p.bytes.items, waiting_zs p.waiting) };
-
-    ghost invariant = { λ p. AreZs (waiting_zs p.waiting) };
+    ghost invariant = { λ w. IsWaiting w.count w.number };
 }
 
-impl Packer {
-    /// Returns a packer that has taken no Z-character yet, with room for `room` bytes where there is memory for them.
-    pub(crate) fn new(alloc: Global, room: usize) -> Packer
-        ensures { result ≡ ([], []) }
+impl Waiting {
+    /// Returns that no Z-character waits.
+    pub(crate) fn new() -> Waiting
+        ensures { result ≡ [] }
     {
-        let mut bytes = Vec::new(alloc);
-        // The reservation may fail: there may still be memory for the bytes that come.
-        let _ = bytes.reserve(room);
-        Packer {
-            bytes,
-            waiting: Waiting::Nothing,
+        Waiting {
+            number: 0,
+            count: 0,
         }
     }
 
-    /// Takes one to four Z-characters.
-    #[inline]
-    pub(crate) fn push_all(&mut self, zs: ZChars) -> Result<(), AllocError>
+    /// Takes one to four Z-characters behind those that wait, and appends the words to `bytes` that are known not to be the last.
+    #[inline(always)]
+    pub(crate) fn push_all(self, bytes: &mut Vec<u8>, zs: ZChars) -> Result<Waiting, AllocError>
         requires { AreZs (zs_list zs) }
-        ensures { OnOk result (Takes self.old (zs_list zs) self.new) }
+        ensures { IfOk result (λ new. Takes (bytes.old.items, self) (zs_list zs) (bytes.new.items, new)) }
     {
         match zs {
-            ZChars::One(a) => self.push(a),
-            ZChars::Two(a, b) => {
-                self.push(a)?;
-                self.push(b)
-            }
-            ZChars::Four(a, b, c, d) => {
-                self.push(a)?;
-                self.push(b)?;
-                self.push(c)?;
-                self.push(d)
-            }
+            ZChars::One(a) => self.push(bytes, a),
+            ZChars::Two(a, b) => self.push_two(bytes, a, b),
+            ZChars::Four(a, b, c, d) => self.push_two(bytes, a, b)?.push_two(bytes, c, d),
         }
     }
 
-    /// Takes a Z-character.
+    /// Takes two Z-characters behind those that wait. It stands apart, so that what `push_all` inlines stays small.
+    #[inline(never)]
+    fn push_two(self, bytes: &mut Vec<u8>, a: u8, b: u8) -> Result<Waiting, AllocError>
+        requires { (a < 32) × (b < 32) }
+        ensures { IfOk result (λ new. Takes (bytes.old.items, self) (a ∷ b ∷ []) (bytes.new.items, new)) }
+    {
+        self.push(bytes, a)?.push(bytes, b)
+    }
+
+    /// Takes a Z-character behind those that wait. Where these are three, appends their word to `bytes`.
     #[inline]
-    fn push(&mut self, z: u8) -> Result<(), AllocError>
+    fn push(self, bytes: &mut Vec<u8>, z: u8) -> Result<Waiting, AllocError>
         requires { z < 32 }
-        ensures { OnOk result (Takes self.old (z ∷ []) self.new) }
+        ensures { IfOk result (λ new. Takes (bytes.old.items, self) (z ∷ []) (bytes.new.items, new)) }
     {
-        match self.waiting {
-            Waiting::Nothing => self.waiting = Waiting::One(z),
-            Waiting::One(a) => self.waiting = Waiting::Two(a, z),
-            Waiting::Two(a, b) => self.waiting = Waiting::Three(a, b, z),
-            Waiting::Three(a, b, c) => {
-                self.bytes.extend_from_slice(&word(false, a, b, c))?;
-                self.waiting = Waiting::One(z);
-            }
+        let Waiting { number, count } = self;
+        if count < 3 {
+            return Ok(Waiting {
+                number: number * 32 + u16::from(z),
+                count: count + 1,
+            });
         }
-        Ok(())
+        push_word(bytes, number)?;
+        Ok(Waiting {
+            number: u16::from(z),
+            count: 1,
+        })
     }
 
-    /// Returns the packed bytes, the last word filled with 5.
-    pub(crate) fn finish(self) -> Result<Vec<u8>, AllocError>
-        ensures { IfOk result (λ bytes. bytes.items ≡ completed self []) }
+    /// Returns `bytes` with the last word behind them, which is filled with 5.
+    pub(crate) fn finish(self, mut bytes: Vec<u8>) -> Result<Vec<u8>, AllocError>
+        ensures { IfOk result (λ all. all.items ≡ completed (bytes.items, self) []) }
     {
-        let last = match self.waiting {
-            Waiting::Nothing => word(true, 5, 5, 5),
-            Waiting::One(a) => word(true, a, 5, 5),
-            Waiting::Two(a, b) => word(true, a, b, 5),
-            Waiting::Three(a, b, c) => word(true, a, b, c),
-        };
-        let Packer {
-            mut bytes,
-            waiting: _,
-        } = self;
-        bytes.extend_from_slice(&last)?;
+        let word = LAST + filled(self.count, self.number);
+        push_word(&mut bytes, word)?;
         Ok(bytes)
     }
+}
+
+/// Returns the number of the last word, without its mark: that of `count` Z-characters, filled with 5.
+#[inline]
+fn filled(count: u8, number: u16) -> u16
+    requires { IsWaiting count number }
+    ensures value { words (digits count number) ≡ ((32768 + result) / 256) ∷ ((32768 + result) % 256) ∷ [] }
+    ensures fits { result < 32768 }
+{
+    match count {
+        0 => 5 * 1024 + 5 * 32 + 5,
+        1 => number * 1024 + 5 * 32 + 5,
+        2 => number * 32 + 5,
+        _ => number,
+    }
+}
+
+/// Appends the two bytes of a word, the high one first.
+#[inline]
+fn push_word(bytes: &mut Vec<u8>, word: u16) -> Result<(), AllocError>
+    ensures { OnOk result (bytes.new.items ≡ bytes.old.items ++ (word / 256) ∷ (word % 256) ∷ []) }
+{
+    bytes.reserve(2)?;
+    bytes.push_reserved((word / 256) as u8);
+    bytes.push_reserved((word % 256) as u8);
+    Ok(())
 }

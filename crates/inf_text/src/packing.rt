@@ -1,11 +1,11 @@
 //! Texts packed as a story has them.
-ghost use Rattle.std.specs.Prelude.{◌≡◌, ◌<◌, ◌≤◌, IfOk, IfSome, IsTrue, MatchOption, length, [], option_copied};
+ghost use Rattle.std.specs.Prelude.{◌≡◌, ◌<◌, ◌≤◌, true, IfOk, IfSome, IsTrue, MatchOption, length, [], option_copied};
 ghost use Rattle.inf_characters.specs.Items.{IsText};
 ghost use Rattle.inf_text.specs.{Parts.AreAbbreviations, Step.Steps, Unpacking.UnpacksTo, Words.are_words};
 ghost use Rattle.inf_text.specs.Packing.{in_use, longest, packed, zs_list};
 
 use crate::abbreviation::Abbreviations;
-use crate::packer::Packer;
+use crate::packer::Waiting;
 use crate::zchars::{ZChars, abbreviation_zs, item_zs};
 use inf_characters::{Text, TextItem};
 use std::alloc::{AllocError, Global};
@@ -24,14 +24,64 @@ pub fn pack(
     // The bytes are whole words, of which only the last is marked as the end.
     ensures words { IfOk result (λ bytes. IsTrue (are_words bytes.items)) }
 {
+    if has_none(abbreviations) {
+        pack_plain(alloc, text)
+    } else {
+        pack_short(alloc, text, abbreviations)
+    }
+}
+
+/// Returns whether there are no abbreviations.
+fn has_none(abbreviations: Option<&Abbreviations>) -> bool
+    ensures { result ≡ true → in_use (option_copied abbreviations.entry) ≡ [] }
+{
+    match abbreviations {
+        Some(declared) => declared.is_empty(),
+        None => true,
+    }
+}
+
+/// Returns no bytes yet, with room for those of `len` items, most of which are one Z-character each.
+fn with_room(alloc: Global, len: usize) -> Vec<u8>
+    ensures { result.items ≡ [] }
+{
+    let mut bytes = Vec::new(alloc);
+    // The reservation may fail: there may still be memory for the bytes that come.
+    let _ = bytes.reserve(len / 3 * 2 + 2);
+    bytes
+}
+
+/// Returns the bytes of a text, packed without abbreviations.
+fn pack_plain(alloc: Global, text: &Text) -> Result<Vec<u8>, AllocError>
+    ensures text { IsText text.now }
+    ensures bytes { IfOk result (λ bytes. bytes.items ≡ packed text.now []) }
+{
+    let mut bytes = with_room(alloc, text.len());
+    let mut waiting = Waiting::new();
+    for item in text.as_slice() {
+        waiting = waiting.push_all(&mut bytes, item_zs(*item))?;
+    }
+    waiting.finish(bytes)
+}
+
+/// Returns the bytes of a text, packed with the abbreviations that are given.
+fn pack_short(
+    alloc: Global,
+    text: &Text,
+    abbreviations: Option<&Abbreviations>,
+) -> Result<Vec<u8>, AllocError>
+    ensures text { IsText text.now }
+    ensures declared { AreAbbreviations (in_use (option_copied abbreviations.entry)) }
+    ensures bytes { IfOk result (λ bytes. bytes.items ≡ packed text.now (in_use (option_copied abbreviations.entry))) }
+{
     let mut items = text.as_slice();
-    // Most items are one Z-character each.
-    let mut packer = Packer::new(alloc, items.len() / 3 * 2 + 2);
+    let mut bytes = with_room(alloc, items.len());
+    let mut waiting = Waiting::new();
     while let Some((zs, rest)) = next_zs(abbreviations, items) {
-        packer.push_all(zs)?;
+        waiting = waiting.push_all(&mut bytes, zs)?;
         items = rest;
     }
-    packer.finish()
+    waiting.finish(bytes)
 }
 
 /// Returns the number of bytes that `pack` gives. Takes no memory.

@@ -44,14 +44,28 @@ pub(crate) fn item_zs(item: TextItem) -> ZChars
     }
 }
 
-/// Returns the Z-characters of a code.
-#[tactic(auto, unfolding(crate::specs::Packing::character_zs, crate::specs::Packing::punctuation))]
+/// Returns the Z-characters of a code. Most are small letters and spaces.
+#[tactic(auto, unfolding(crate::specs::Packing::character_zs))]
 #[inline]
 fn character_zs(code: Zscii) -> ZChars
     ensures value { zs_list result ≡ character_zs code }
     ensures small { AreZs (zs_list result) }
 {
     let code = code.code();
+    match code {
+        b'a'..=b'z' => ZChars::One(code - 91),
+        b' ' => ZChars::One(0),
+        _ => rarer_zs(code),
+    }
+}
+
+/// Returns the Z-characters of a code, like `character_zs`, but stands apart, so that what is inlined there stays small.
+#[tactic(auto, unfolding(crate::specs::Packing::character_zs, crate::specs::Packing::punctuation))]
+#[inline(never)]
+fn rarer_zs(code: u8) -> ZChars
+    ensures value { zs_list result ≡ character_zs code }
+    ensures small { AreZs (zs_list result) }
+{
     match code {
         b' ' => ZChars::One(0),
         b'a'..=b'z' => ZChars::One(code - 91),

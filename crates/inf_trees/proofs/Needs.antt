@@ -219,7 +219,7 @@ module _ (limits : Limits) (u : UnitAtHand) (parts : List Part) where
   note_room Note.OuterEnd little rest =
       let line = little.line (one_at_least (needs Places parts)) in
       and_from (not (is_full u)) (have_room limits (noted Note.OuterEnd u) parts)
-      (place_left (nat_lt 8 (length u.gathering.firsts)) (line_in_front u.tokens (tokens_of (all_seen parts)) u.begun line))
+      (place_left (nat_lt 64 (length u.gathering.firsts)) (line_in_front u.tokens (tokens_of (all_seen parts)) u.begun line))
       (rest (behind_note (noted Note.OuterEnd u) refl refl refl little.on (λ e. line) little.once little.first))
   note_room Note.PrintText little rest =
       and_from (has_room limits Note.PrintText u) (have_room limits (noted Note.PrintText u) parts)

@@ -1,5 +1,5 @@
 -- Room for what a unit prints, gives or takes. Where more is printed or given than code may have bytes for, and where an assembly line
--- has more operands than an instruction, the compiler keeps only those of its parts that matter.
+-- has more than 64 operands, the compiler keeps only those of its parts that matter.
 use Rattle.std.specs.Prelude.{List, [], ◌∷◌, ◌++◌, Bool, true, not, ◌&&◌, nat_lt}
 use Rattle.inf_settings.specs.{Bounds.Limits, declared.setting.Setting.Setting}
 use Rattle.inf_unit.specs.declared.roles.Note.{Note}
@@ -9,7 +9,7 @@ use Rattle.inf_trees.specs.Trees.{Doubtful, Further, Joined, Named, Noted, Part,
 use Rattle.inf_trees.specs.Trees.{with_value, with_word, without_outer}
 
 -- Tells whether there is room for what is noted of a unit: for what is printed or given, as long as the code of what it has so far may
--- have the bytes that it has at least; for an operand, unless an assembly line has more than eight.
+-- have the bytes that it has at least; for an operand, unless an assembly line has more than 64.
 abbrev pub has_room : Limits → Note → UnitAtHand → Bool
 has_room limits Note.PrintText u = not (nat_lt (limits Setting.Code) u.code)
 has_room limits Note.PrintValue u = not (nat_lt (limits Setting.Code) u.code)

@@ -1,4 +1,5 @@
-pub mod KeptOnes
+pub mod KeptTokens
+pub mod TokenLists
 pub mod Cases
 pub mod NameSteps
 pub mod OpcodeNames

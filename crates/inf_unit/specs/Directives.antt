@@ -47,13 +47,13 @@ directive_of (Some Keyword.Release) = Directive.Release
 directive_of (Some Keyword.Serial) = Directive.Serial
 directive_of _ = Directive.SystemFile
 
--- Weight of a message, by the word behind `Message`.
+-- the weight of a message by `word`, which comes behind `Message`
 abbrev pub weight_of_word : List ℕ → Kind
 weight_of_word word =
     if str_eq_ignore_ascii_case word (codes "error") then Kind.Error else
     if str_eq_ignore_ascii_case word (codes "warning") then Kind.Warning else Kind.Fatal
 
--- A message without such a word has no weight.
+-- the weight of a message: by the first of `names`, the word behind `Message`, or none without a word
 abbrev pub weight_of : List Name → Option Kind
 weight_of [] = None
 weight_of (n ∷ names) = Some (weight_of_word n.bytes)

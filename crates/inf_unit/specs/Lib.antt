@@ -4,7 +4,6 @@ pub mod Spelled
 pub mod Messages
 pub mod Diagnostics
 pub mod Names
-pub mod KeptBytes
 pub mod Kept
 pub mod Roles
 pub mod Steps

@@ -6,7 +6,7 @@ use Rattle.inf_names.specs.Symbols.{Table, Named, Standing, IsDeclared, IsUsed, 
 use Rattle.inf_report.specs.Messages.{Undeclared}
 use Rattle.inf_unit.specs.Messages.{FileNames, Reported, location, with_error}
 
--- No names.
+-- the table that has no names
 abbrev pub no_symbols : Table Place
 no_symbols = no_names false
 

@@ -75,7 +75,7 @@ behind_held (Some count) tokens = take 1 (drop count tokens)
 abbrev pub over : Bool → Unit → Unit
 over has_last u = record no_unit { tokens = behind_held u.held u.tokens; is_over = has_last; depth = u.depth }
 
--- Tokens
+-- Definitions of tokens
 
 abbrev pub opened_more : Mark → ℕ → ℕ
 opened_more Mark.OpenParenthesis depth = min (depth + 1) 4294967295
@@ -134,6 +134,11 @@ abbrev pub quoted_by : TokenKind → List ℕ → List ℕ → List ℕ
 quoted_by TokenKind.Text bytes others = bytes
 quoted_by _ bytes others = others
 
+-- those of a token, if it is a text, and else others
+abbrev pub text_by : Option SourceToken → List ℕ → List ℕ
+text_by None others = others
+text_by (Some t) others = quoted_by t.kind t.bytes others
+
 abbrev pub quoted_in : List SourceToken → List ℕ
 quoted_in [] = []
 quoted_in (t ∷ tokens) = quoted_by t.kind t.bytes (quoted_in tokens)
@@ -190,7 +195,7 @@ outer_count tokens is_sure (Some outer) = if is_sure then length tokens - outer 
 abbrev pub outer_tokens : Unit → ℕ
 outer_tokens u = outer_count u.tokens u.is_sure u.outer
 
--- Actions
+-- Definitions of actions
 
 -- Place of the last token among those of the unit.
 abbrev pub last_leaf : Unit → ℕ
@@ -324,10 +329,10 @@ is_again at tokens = is_some_mark Mark.Semicolon (kind_at tokens (at - 1)) && na
 abbrev pub semicolon_taken : Unit → Unit
 semicolon_taken u = if is_again (last_leaf u) u.tokens then last_passed u else u
 
--- Tells whether the unit is an assembly line with more operands than an instruction has. Whatever they are, the line then is wrong:
+-- Tells whether the unit is an assembly line with more than 64 operands. An instruction has eight, so the line is wrong, whatever they are:
 -- as many numbers stand for them as are too many, and the least finding of them is kept.
 abbrev pub is_full : Unit → Bool
-is_full u = nat_lt 8 (length u.gathering.firsts) && is_assembly u
+is_full u = nat_lt 64 (length u.gathering.firsts) && is_assembly u
 
 abbrev pub operands_passed : Option Finding → Unit → Unit
 operands_passed f u =
@@ -414,7 +419,7 @@ played Role.Nothing u = u
 abbrev pub acted : Action → Unit → Unit
 acted a u = played (role_of a) u
 
--- Whole units
+-- Definitions of whole units
 
 -- Opcode of an assembly line, by the name behind its first token.
 abbrev pub line_opcode : Unit → Option Opcode

@@ -34,11 +34,11 @@ pub enum Directive {
 #[derive(Debug, Drop)]
 pub enum Request {
     Nothing,
-    /// To read the file whose name is `text`, for the directive that begins at `unit`.
+    /// Asks to read the file whose name is `text`, for the directive that begins at `unit`.
     Include { text: Vec<u8>, unit: Place },
-    /// To end reading.
+    /// Asks to end all reading.
     End,
-    /// To read the sources by this character set from the next token on.
+    /// Asks to read the sources by another character set from the next token on.
     Characters(CharSet),
 }
 

@@ -1,87 +1,63 @@
 //! Tokens that are kept.
-ghost use Rattle.std.specs.Prelude.{◌≡◌, ◌≤◌, IfOk, IfSome, length, option_map, true};
-ghost use Rattle.inf_unit.specs.{Atoms.atom_of_kind, Atoms.is_short, KeptBytes.kept_bytes};
+ghost use Rattle.std.specs.Prelude.{◌≡◌};
 
-use crate::tokens::SourceToken;
-use arrayvec::ArrayVec;
 use inf_scanner::{Place, TokenKind};
-use std::alloc::{AllocError, Global};
 
-/// The most bytes of a token that take no memory of their own. Each token that is kept has room for as many, and a unit may have many
-/// tokens.
-const FEW: usize = 22;
+/// The number of numbers of 32 bits.
+const HALVES: usize = 4294967296;
 
-/// The bytes of a token that is kept. Those of most tokens are few, and take no memory of their own.
-#[derive(Drop)]
-pub enum KeptBytes {
-    Few(ArrayVec<u8, FEW>),
-    Many(Vec<u8>),
-}
-
-impl KeptBytes {
-    /// Returns a copy of `bytes`.
-    fn new(alloc: Global, bytes: &[u8]) -> Result<KeptBytes, AllocError>
-        ensures { IfOk result (λ kept. kept_bytes kept ≡ bytes.now) }
-    {
-        if bytes.len() <= FEW {
-            let mut few = ArrayVec::new();
-            let _fits = few.try_extend_from_slice(bytes);
-            return Ok(KeptBytes::Few(few));
-        }
-        let mut many = Vec::new(alloc);
-        many.extend_from_slice(bytes)?;
-        Ok(KeptBytes::Many(many))
-    }
-
-    pub(crate) fn as_slice(&self) -> &[u8]
-        ensures { result.now ≡ kept_bytes self.now }
-    {
-        match self {
-            KeptBytes::Few(few) => few.as_slice(),
-            KeptBytes::Many(many) => many.as_slice(),
-        }
-    }
-}
-
-/// A token that is kept.
+/// A token that is kept in a list. The list has the bytes of all its tokens: those of this one begin where those of the token before it
+/// end.
+///
+/// A unit may have many tokens, so this one takes 24 bytes: no part of it is aligned to more than four.
 #[derive(Drop)]
 pub struct Kept {
+    /// The halves of the place behind its bytes.
+    lower: u32,
+    upper: u32,
+    line: u32,
+    file: u16,
     pub(crate) kind: TokenKind,
-    pub(crate) bytes: KeptBytes,
-    pub(crate) place: Place,
     pub(crate) is_class: bool,
     pub(crate) atom: u8,
-    ghost is_seen: { atom ≡ atom_of_kind is_class kind (kept_bytes bytes) },
-    ghost is_short: { is_short kind (kept_bytes bytes) ≡ true },
 }
 
 impl Kept {
-    ghost use Rattle.inf_unit.specs.{Kept.as_spelled, Spelled.spelled};
+    ghost use Rattle.inf_unit.specs.Kept.{end_of, kept_of};
 
-    /// Returns a copy of `token`.
+    /// Returns the token with these parts as it is kept where its bytes end before `end`.
     #[inline(always)]
-    pub(crate) fn new(alloc: Global, token: &SourceToken<'_>) -> Result<Kept, AllocError>
-        ensures { IfOk result (λ kept. as_spelled kept ≡ spelled token.now) }
+    pub(crate) fn new(kind: &TokenKind, place: &Place, is_class: bool, atom: u8, end: usize) -> Kept
+        ensures { result ≡ kept_of kind.now place.now is_class atom end }
     {
-        Ok(Kept {
-            kind: token.kind,
-            bytes: KeptBytes::new(alloc, token.bytes)?,
-            place: token.place,
-            is_class: token.is_class,
-            atom: token.atom,
-        })
+        Kept {
+            lower: (end % HALVES) as u32,
+            upper: (end / HALVES) as u32,
+            line: place.line,
+            file: place.file,
+            kind: *kind,
+            is_class,
+            atom,
+        }
     }
 
-    /// Returns the token as units see it.
-    pub(crate) fn spelled(&self) -> SourceToken<'_>
-        ensures { spelled result ≡ as_spelled self.now }
+    /// Returns the place behind the bytes of this token.
+    #[inline(always)]
+    #[tactic(auto, unfolding(crate::specs::Kept::end_of))]
+    pub(crate) fn end(&self) -> usize
+        ensures { result ≡ end_of self.now }
     {
-        SourceToken {
-            kind: self.kind,
-            bytes: self.bytes.as_slice(),
-            place: self.place,
-            is_class: self.is_class,
-            atom: self.atom,
+        self.upper as usize * HALVES + self.lower as usize
+    }
+
+    /// Returns the place of this token in the source.
+    #[inline(always)]
+    pub(crate) fn place(&self) -> Place
+        ensures { result ≡ record { file = (self.now).file; line = (self.now).line } }
+    {
+        Place {
+            file: self.file,
+            line: self.line,
         }
     }
 }

@@ -21,10 +21,13 @@ use inf_gathering::gathering::{Gathering, Leaf};
 use inf_names::hashing::NameHashing;
 use inf_names::locals::Headed;
 use inf_names::spellings::Name;
-use inf_opcode::{MOST_OPERANDS, Opcode};
+use inf_opcode::Opcode;
 use inf_scanner::{Mark, Place, TokenKind};
 use inf_syntax::Action;
 use std::alloc::{AllocError, Global};
+
+/// The most operands of an assembly line that are kept until they are judged.
+const MOST_KEPT: usize = 64;
 
 /// The unit at hand.
 #[derive(Drop)]
@@ -287,11 +290,11 @@ impl Unit {
         self.tokens.truncate(self.tokens.len().saturating_sub(2));
     }
 
-    /// Returns whether the unit is an assembly line with more operands than an instruction has.
+    /// Returns whether the unit is an assembly line with more operands than are kept.
     pub fn is_full(&self) -> bool
         ensures { result ≡ is_full (unit self.now) }
     {
-        self.gathering.wholes() > MOST_OPERANDS && self.is_assembly()
+        self.gathering.wholes() > MOST_KEPT && self.is_assembly()
     }
 
     /// Replaces the operands of an assembly line by as many numbers as are too many, and keeps `finding`, the least that was found

@@ -27,7 +27,7 @@ use Rattle.inf_verbs.specs.Routines.{number_of, with_routine}
 use Rattle.inf_verbs.specs.Verbs.{AllVerbs, add_fault, line_fault_of, with_extended, with_line_of, with_verb}
 use Rattle.inf_verb_lines.specs.{declared.lines.Named.Named, declared.verbs.Opened.Opened, declared.verbs.VerbHead.VerbHead}
 
--- Tokens
+-- Definitions of tokens
 
 abbrev pub is_mark_at : List SourceToken → ℕ → Mark → Bool
 is_mark_at tokens at m = is_some_mark m (kind_at tokens at)
@@ -209,7 +209,7 @@ extend_header limits context first w =
     let at = name_order w.unit.tokens in
     extend_with limits context first at (verb_named w.unit.tokens at w.output) (place_named (bytes_at w.unit.tokens (at + 1))) w
 
--- Findings about a line
+-- Definitions of findings about a line
 
 abbrev pub noun_named : List ℕ → Option Noun
 noun_named name =
@@ -282,7 +282,7 @@ abbrev pub tokens_finding : ℕ → List SourceToken → Table Place → Option 
 tokens_finding zero tokens names = None
 tokens_finding (suc at) tokens names = least_of_both (tokens_finding at tokens names) (token_finding tokens at names)
 
--- The tokens of a line
+-- Definitions of the tokens of a line
 
 -- a word, which a mark before or behind it makes one of some alternatives
 abbrev pub preposition : List SourceToken → ℕ → DictionaryWord → LineToken
@@ -349,7 +349,7 @@ abbrev pub line_tokens : Limits → ℕ → List SourceToken → Out → Out × 
 line_tokens limits zero tokens o = (o, [])
 line_tokens limits (suc at) tokens o = let line = line_tokens limits at tokens o in with_next (line_token limits tokens at line.0) line.1
 
--- A line
+-- Definitions of a line
 
 -- the last arrow is the one before the action
 abbrev pub arrow_or : List SourceToken → ℕ → ℕ → ℕ
@@ -410,7 +410,7 @@ line_judged limits context first arrow w = line_found limits context first (toke
 abbrev pub line_ended : Limits → Context → Place → Compilation → Compilation
 line_ended limits context place w = line_judged limits context (first_place w.unit.tokens place) (arrow_in w.unit.tokens) w
 
--- A fake action
+-- Definitions of a fake action
 
 abbrev pub fake_findings : Option Again → Findings
 fake_findings again = record (found_alone (again_finding 1 again)) { again = again }

@@ -18,14 +18,14 @@ use std::marker::{Model, PhantomData};
 // The most verbs that a word can name.
 const MOST: usize = 255;
 
-/// Where further lines of a verb go.
+/// The place for further lines of a verb.
 #[derive(Clone, Copy, Debug, PartialEq, Eq)]
 pub enum LinePlace {
-    /// In front of the lines that there are, in their own order.
+    /// The further lines go in front of those that the verb has, in their own order.
     First,
-    /// Behind the lines that there are.
+    /// The further lines go behind those that the verb has.
     Last,
-    /// In place of the lines that there are.
+    /// The further lines replace those that the verb has.
     Replace,
 }
 

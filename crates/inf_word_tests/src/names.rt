@@ -19,7 +19,7 @@ enum Command {
     /// A use at a place.
     Refer(u32),
     Look,
-    /// Whether a name was declared before some declarations.
+    /// Asks whether a name was declared before some declarations.
     Before(usize),
     UseAt(usize),
     MeaningAt(usize),

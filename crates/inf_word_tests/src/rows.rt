@@ -5,7 +5,7 @@ use crate::{abbreviations, names};
 use inf_test_lines::word;
 use std::alloc::{AllocError, Global};
 
-/// A line.
+/// A line of the script.
 #[derive(Clone, Copy)]
 enum Row {
     Title,

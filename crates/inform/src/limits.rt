@@ -110,10 +110,10 @@ fn hashing_in_a_deep_frame(rt: &impl RandomSource) -> NameHashing {
 /// A device that is asked for no write behind the limit on the size of its file: the system would end the program there.
 #[derive(Drop)]
 pub struct Limited<S: Sink> {
-    /// The device.
+    /// The device to which all is written.
     pub sink: S,
     room: u64,
-    /// Whether a write was refused for the limit.
+    /// Tells whether a write was refused for the limit.
     pub is_full: bool,
     failures: Failures,
 }

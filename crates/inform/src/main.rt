@@ -18,7 +18,7 @@ use std::process::ExitCode;
 use std::random::RandomSource;
 use std::rt::{Clock, Env, Files};
 
-/// Why a run could not go on.
+/// The reason why a run could not go on.
 #[derive(Clone, Copy)]
 pub(crate) enum Failure {
     /// No memory was left.

@@ -1,4 +1,4 @@
-//! Why a device of the system failed, in words.
+//! The reason why a device of the system failed, in words.
 use inf_disk::disk::Trouble;
 use std::fmt::{self, Display, Formatter};
 use std::io::{self, ErrorKind};
