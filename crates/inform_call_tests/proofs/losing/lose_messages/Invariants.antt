@@ -1,6 +1,0 @@
--- The limits are those of the settings.
-use Rattle.inf_settings.specs.Bounds.{limits_of}
-use Rattle.inform_call_tests.proofs.losing.lose_messages.Given as goal
-
-abbrev pub ghosts-lose : goal.ghosts-lose
-ghosts-lose g a = record { most = limits_of a.settings.now }
