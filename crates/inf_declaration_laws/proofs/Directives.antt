@@ -26,7 +26,8 @@ use Rattle.inf_named_values.specs.Declarations.{property_found, property_meaning
 use Rattle.inf_named_values.specs.Values.{value_of}
 use Rattle.inf_declarations.specs.Attributes.{attribute, attribute_added, attribute_number, attribute_with, has_most_attributes}
 use Rattle.inf_declarations.specs.Attributes.{new_attribute_by}
-use Rattle.inf_declarations.specs.{Defaults.default, Globals.global_added, Globals.global_variable, Globals.has_most_globals}
+use Rattle.inf_declarations.specs.{Globals.global_added, Globals.global_variable, Globals.has_most_globals}
+use Rattle.inf_directives.specs.Defaults.{default}
 use Rattle.inf_declarations.specs.Globals.{with_variable}
 use Rattle.inf_declarations.specs.Properties.{has_most_properties, new_property_by, property_added, property_named}
 use Rattle.inf_declarations.specs.Properties.{property_names, property_number, property_order, property_with}

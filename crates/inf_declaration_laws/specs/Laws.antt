@@ -15,7 +15,8 @@ use Rattle.inf_compilation.specs.{Actions.is_declared, Actions.settled_of, Actio
 use Rattle.inf_expressions.specs.Findings.{least_of_both}
 use Rattle.inf_named_values.specs.Declarations.{alias_finding, is_additive, is_alias, last_meaning, name_known, valued}
 use Rattle.inf_declarations.specs.Attributes.{attribute, has_most_attributes}
-use Rattle.inf_declarations.specs.{Defaults.default, Globals.global_variable, Globals.has_most_globals}
+use Rattle.inf_declarations.specs.{Globals.global_variable, Globals.has_most_globals}
+use Rattle.inf_directives.specs.Defaults.{default}
 use Rattle.inf_declarations.specs.Properties.{has_most_properties, property, property_names, property_order}
 use Rattle.inf_verb_lines.specs.Verbs.{fake_action}
 use Rattle.inf_declaration_laws.specs.Declarations.{Attribute, AttributeAlias, Constant, Default, Directive, FakeAction, Global, Names}

@@ -12,7 +12,7 @@ use Rattle.inf_constructs.specs.declared.constructs.Construct.{Construct}
 use Rattle.inf_constructs.specs.Constructs.{Laying, begun, between, cases_begun, changed, ended, entered, looped_over}
 use Rattle.inf_compilation.specs.{Actions.Compilation, Actions.took, Context.Context, Context.longest}
 use Rattle.inf_compilation.specs.Nesting.{closed_ahead, construct_ended, construct_joined, constructs_laid}
-use Rattle.inf_declarations.specs.Abbreviations.{low_added, low_added_by}
+use Rattle.inf_directives.specs.Abbreviations.{low_added, low_added_by}
 use Rattle.inf_reader.specs.Acting.{act, cut_at}
 use Rattle.inf_step_walk.specs.Walking.{Abbreviates, Acts, After, Asks, Begins, Behind, Cases, Checks, Closes, Declares, Ends, Enters}
 use Rattle.inf_step_walk.specs.Walking.{Finishes, Follows, Gives, GivesUp, Grown, Inner, Joins, Leaves, Loops, LowTexts, Nests, Next}

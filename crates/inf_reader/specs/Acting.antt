@@ -12,7 +12,8 @@ use Rattle.inf_unit.specs.Units.{is_full, last_leaf, last_passed, noted as unit_
 use Rattle.inf_operands.specs.Operands.{leaves_named}
 use Rattle.inf_expressions.specs.declared.units.Wanted.{Wanted}
 use Rattle.inf_constructs.specs.{declared.constructs.Case.Case, declared.constructs.Kind.Kind, declared.constructs.Over.Over}
-use Rattle.inf_declarations.specs.{Abbreviations.abbreviation, Arrays.entry_ended}
+use Rattle.inf_declarations.specs.Arrays.{entry_ended}
+use Rattle.inf_directives.specs.Abbreviations.{abbreviation}
 use Rattle.inf_reader.specs.{Directives.directive_end, Headers.header_ended}
 use Rattle.inf_bodies.specs.{Bodies.attribute_read, Bodies.class_read, Bodies.property_read, Values.embedded_read, Values.value_read}
 use Rattle.inf_parts.specs.{Parts.part_ended, Parts.statement_at, declared.parts.Part.Part}

@@ -9,8 +9,10 @@ use Rattle.inf_unit.specs.Directives.{Include, End, directive_of, weight_of}
 use Rattle.inf_unit.specs.Units.{directive_word, first_place, names_in, quoted_in}
 use Rattle.inf_compilation.specs.{Context.Context, Findings.nothing_found}
 use Rattle.inf_compilation.specs.Actions.{Compilation, code_begun, constant, passed, replace, stub, unit_ended, words_of}
-use Rattle.inf_declarations.specs.{Abbreviations.low_string, Attributes.attribute, Defaults.default, Globals.global_variable}
-use Rattle.inf_declarations.specs.{Headers.release, Headers.serial, Properties.property, Switches.switches}
+use Rattle.inf_declarations.specs.{Attributes.attribute, Globals.global_variable}
+use Rattle.inf_directives.specs.{Abbreviations.low_string, Defaults.default}
+use Rattle.inf_declarations.specs.Properties.{property}
+use Rattle.inf_directives.specs.{Headers.release, Headers.serial, Switches.switches}
 use Rattle.inf_verb_lines.specs.Verbs.{fake_action}
 
 -- A directive with which nothing is wrong ends: the first setting that was passed is shown.

@@ -7,7 +7,8 @@ use Rattle.inf_compilation.specs.{Actions.Compilation, Actions.code_begun, Actio
 use Rattle.inf_syntax.specs.declared.words.Keyword.{Keyword}
 use Rattle.inf_unit.specs.Units.{directive_word, first_place, names_in}
 use Rattle.inf_bodies.specs.Objects.{class_header, object_header}
-use Rattle.inf_declarations.specs.{Abbreviations.abbreviate_header, Arrays.array_named}
+use Rattle.inf_declarations.specs.Arrays.{array_named}
+use Rattle.inf_directives.specs.Abbreviations.{abbreviate_header}
 use Rattle.inf_verb_lines.specs.Verbs.{extend_header, verb_header}
 use Rattle.inf_reader.specs.{Directives.limits_told, declared.headers.Heading.Heading}
 

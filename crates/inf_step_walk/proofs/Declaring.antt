@@ -30,19 +30,19 @@ use Rattle.inf_named_values.specs.Declarations.{alias_finding, alias_meaning, al
 use Rattle.inf_named_values.specs.Declarations.{declared_ended, declared_findings, is_additive, is_alias, last_meaning, name_declared}
 use Rattle.inf_named_values.specs.Declarations.{name_known, nothing_of, plainly_known, property_found, property_meaning, valued}
 use Rattle.inf_named_values.specs.Values.{value_in, value_of, value_or, variables_from}
-use Rattle.inf_declarations.specs.Abbreviations.{abbreviate_header, abbreviation, abbreviation_added, abbreviation_error}
-use Rattle.inf_declarations.specs.Abbreviations.{abbreviation_findings, abbreviation_with, low_named_by, low_string, low_string_added}
-use Rattle.inf_declarations.specs.Abbreviations.{low_unless, or_error, text_declared}
+use Rattle.inf_directives.specs.Abbreviations.{abbreviate_header, abbreviation, abbreviation_added, abbreviation_error}
+use Rattle.inf_directives.specs.Abbreviations.{abbreviation_findings, abbreviation_with, low_named_by, low_string, low_string_added}
+use Rattle.inf_directives.specs.Abbreviations.{low_unless, or_error, text_declared}
 use Rattle.inf_declarations.specs.Arrays.{added, adding, array_named, array_opened, array_opened_by, bare_text, codes_of, entry_added}
 use Rattle.inf_declarations.specs.Arrays.{entry_added_by, entry_ended, entry_finding, entry_with, is_alone, items_finding, kind_in, listed}
 use Rattle.inf_declarations.specs.Arrays.{one_more, own_finding, story_added, text_added, text_finding, value_added, with_arrays}
 use Rattle.inf_declarations.specs.Attributes.{attribute, attribute_added, attribute_number, attribute_with, has_most_attributes}
 use Rattle.inf_declarations.specs.Attributes.{new_attribute, new_attribute_by}
 use Rattle.inf_declarations.specs.Globals.{global_added, global_variable, global_with, has_most_globals, new_global, with_variable}
-use Rattle.inf_declarations.specs.Headers.{known_number, release, release_finding, release_told, serial, serial_by, serial_in}
+use Rattle.inf_directives.specs.Headers.{known_number, release, release_finding, release_told, serial, serial_by, serial_in}
 use Rattle.inf_declarations.specs.Properties.{has_most_properties, new_property, new_property_by, property, property_added, property_named}
 use Rattle.inf_declarations.specs.Properties.{property_names, property_number, property_order, property_with}
-use Rattle.inf_declarations.specs.Switches.{has_code, letters_behind, misplaced, switched, switches, switches_by}
+use Rattle.inf_directives.specs.Switches.{has_code, letters_behind, misplaced, switched, switches, switches_by}
 use Rattle.inf_code_walk.specs.Made.{TreeMeets, TreesMeet}
 use Rattle.inf_step_walk.specs.Standing.{ArraysStand, Before, MeaningStands, TargetStands, ValueStands}
 use Rattle.inf_step_walk.specs.Walking.{Abbreviates, After, Asks, Ends, Follows, Grown, Lies, LowTexts, Next, Passes, Premises, Puts, Rests}

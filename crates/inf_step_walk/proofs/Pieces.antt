@@ -12,7 +12,7 @@ use Rattle.inf_output.specs.Output.{Code, Out, behind, instruction, jumped, low_
 use Rattle.inf_output.specs.Output.{with_low_text, ◌▸◌}
 use Rattle.inf_templates.specs.Parts.{call_opcode, calling, calling_routine}
 use Rattle.inf_constructs.specs.Constructs.{Laying}
-use Rattle.inf_declarations.specs.Abbreviations.{low_added, low_added_by}
+use Rattle.inf_directives.specs.Abbreviations.{low_added, low_added_by}
 use Rattle.inf_code_walk.specs.Made.{As, Asks, Binds, By, Either, Handed, Instructs, Jumps, Laid, Lays, Lows, Made, Marks, Names, Nothing}
 use Rattle.inf_code_walk.specs.Made.{Packs, Prints, Takes, Then, Wide}
 use Rattle.inf_code_walk.proofs.Statements.{FixedMeet}

@@ -28,7 +28,7 @@ use Rattle.inf_compilation.specs.Findings.{Findings, again_by, found_alone, head
 use Rattle.inf_parts.specs.declared.parts.Part.{Part}
 use Rattle.inf_parts.specs.Parts.{actions_named, case_prepared, found_in, has_last, is_default, order_of, part_begun, part_carried}
 use Rattle.inf_parts.specs.Parts.{part_effect, part_ended, part_finished, part_prepared, place_of, site_of, wanted_of}
-use Rattle.inf_declarations.specs.Defaults.{default}
+use Rattle.inf_directives.specs.Defaults.{default}
 use Rattle.inf_code_walk.specs.Made.{Lays, Made}
 use Rattle.inf_code_walk.proofs.Statements.{alone_made, case_made, statement_is_laid, switched_made, tested_made}
 use Rattle.inf_step_walk.specs.Standing.{Before, MeaningStands, NamesStand}

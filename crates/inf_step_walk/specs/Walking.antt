@@ -23,7 +23,7 @@ use Rattle.inf_compilation.specs.{Context.Context, Findings.Findings}
 use Rattle.inf_compilation.specs.Actions.{Compilation, begun_at, body_ended, cases_ended, close_as, code_begun, given_up, nested, sized}
 use Rattle.inf_compilation.specs.Actions.{unit_ended}
 use Rattle.inf_compilation.specs.Nesting.{closed_ahead, construct_ended, construct_joined, constructs_laid}
-use Rattle.inf_declarations.specs.Abbreviations.{low_added}
+use Rattle.inf_directives.specs.Abbreviations.{low_added}
 use Rattle.inf_reader.specs.Directives.{limits_told}
 use Rattle.inf_code_walk.specs.Made.{Laid, TreeMeets, TreesMeet}
 use Rattle.inf_word_laws.specs.Standing.{AllOf}

@@ -18,11 +18,12 @@ use Rattle.inf_compilation.specs.Actions.{constant_findings, constant_meaning, c
 use Rattle.inf_compilation.specs.Actions.{operands_of, replace, routine_declared, stub, stub_code, stub_locals, stubbed, trees_at}
 use Rattle.inf_compilation.specs.Actions.{unit_ended}
 use Rattle.inf_named_values.specs.Declarations.{alias_told, is_additive, is_alias}
-use Rattle.inf_declarations.specs.{Abbreviations.low_string, Attributes.attribute, Attributes.attribute_with, Defaults.default}
-use Rattle.inf_declarations.specs.{Globals.global_variable}
-use Rattle.inf_declarations.specs.Headers.{known_number, release, release_finding, release_told, serial_by, serial_in}
+use Rattle.inf_declarations.specs.{Attributes.attribute, Attributes.attribute_with}
+use Rattle.inf_directives.specs.{Abbreviations.low_string, Defaults.default}
+use Rattle.inf_declarations.specs.Globals.{global_variable}
+use Rattle.inf_directives.specs.Headers.{known_number, release, release_finding, release_told, serial_by, serial_in}
 use Rattle.inf_declarations.specs.Properties.{property, property_named, property_names, property_order, property_with}
-use Rattle.inf_declarations.specs.Switches.{has_code, letters_behind, switches, switches_by}
+use Rattle.inf_directives.specs.Switches.{has_code, letters_behind, switches, switches_by}
 use Rattle.inf_verb_lines.specs.Verbs.{fake_action}
 use Rattle.inf_reader.specs.Directives.{carried_out, code_begun_by, directive_end, directive_of_names}
 

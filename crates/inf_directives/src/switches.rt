@@ -2,7 +2,7 @@
 ghost use Rattle.std.specs.Prelude.{OnOk, map, ◌≡◌};
 ghost use Rattle.inf_names.specs.Spellings.{as_name};
 ghost use Rattle.inf_compilation.specs.{Context.handed, Works.work};
-ghost use Rattle.inf_declarations.specs.Switches.{has_code, letters_behind, misplaced, switched, switches, switches_by};
+ghost use Rattle.inf_directives.specs.Switches.{has_code, letters_behind, misplaced, switched, switches, switches_by};
 
 use inf_compilation::compilation::Compilation;
 use inf_compilation::context::Context;

@@ -4,8 +4,8 @@ ghost use Rattle.std.specs.List.{list_all};
 ghost use Rattle.inf_expressions.specs.Forests.{trees_in as rooted_in};
 ghost use Rattle.inf_constructs.specs.Roots.{tree_in};
 ghost use Rattle.inf_compilation.specs.{Context.handed, Works.work};
-ghost use Rattle.inf_declarations.specs.Headers.{is_digit, known_number, release, release_ended, release_finding, release_told};
-ghost use Rattle.inf_declarations.specs.Headers.{release_with, serial, serial_by, serial_in};
+ghost use Rattle.inf_directives.specs.Headers.{is_digit, known_number, release, release_ended, release_finding, release_told};
+ghost use Rattle.inf_directives.specs.Headers.{release_with, serial, serial_by, serial_in};
 
 use inf_area::Value;
 use inf_compilation::compilation::Compilation;

@@ -11,7 +11,7 @@ ghost use Rattle.inf_constructs.specs.Roots.{tree_in};
 ghost use Rattle.inf_output.specs.Output.{referred};
 ghost use Rattle.inf_unit.specs.{Messages.location, Messages.with_words, Units.quoted_in};
 ghost use Rattle.inf_unit.specs.Directives.{Include, asked, weight_of};
-ghost use Rattle.inf_declarations.specs.Defaults.{default};
+ghost use Rattle.inf_directives.specs.Defaults.{default};
 
 use inf_area::Value;
 use inf_assembler::RoutineKind;

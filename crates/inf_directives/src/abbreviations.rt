@@ -4,11 +4,11 @@ ghost use Rattle.inf_characters.specs.Reading.{text_of as read_in};
 ghost use Rattle.inf_text.specs.{Declaring.declared_number, Packing.packed};
 ghost use Rattle.inf_names.specs.Spellings.{as_name};
 ghost use Rattle.inf_compilation.specs.{Context.handed, Meant.found_as, Works.work};
-ghost use Rattle.inf_declarations.specs.Abbreviations.{abbreviate_header, abbreviation, abbreviation_added, abbreviation_ended};
-ghost use Rattle.inf_declarations.specs.Abbreviations.{abbreviation_error, abbreviation_findings, abbreviation_with};
-ghost use Rattle.inf_declarations.specs.Abbreviations.{has_most_abbreviations, low_added, low_named, low_named_by, low_string};
-ghost use Rattle.inf_declarations.specs.Abbreviations.{low_string_added, low_string_with, named_nothing, or_error, refused_error};
-ghost use Rattle.inf_declarations.specs.Abbreviations.{low_unless, text_declared};
+ghost use Rattle.inf_directives.specs.Abbreviations.{abbreviate_header, abbreviation, abbreviation_added, abbreviation_ended};
+ghost use Rattle.inf_directives.specs.Abbreviations.{abbreviation_error, abbreviation_findings, abbreviation_with};
+ghost use Rattle.inf_directives.specs.Abbreviations.{has_most_abbreviations, low_added, low_named, low_named_by, low_string};
+ghost use Rattle.inf_directives.specs.Abbreviations.{low_string_added, low_string_with, named_nothing, or_error, refused_error};
+ghost use Rattle.inf_directives.specs.Abbreviations.{low_unless, text_declared};
 
 use inf_compilation::compilation::Compilation;
 use inf_compilation::context::Context;

@@ -1,0 +1,4 @@
+pub mod Defaults
+pub mod Switches
+pub mod Abbreviations
+pub mod Headers
