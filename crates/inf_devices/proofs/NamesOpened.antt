@@ -1,6 +1,7 @@
 -- The different names under which sources were opened.
 use Rattle.std.proofs.Common.{◌≡◌, ◌<◌, ◌||◌, ℕ, zero, suc, Bool, true, false, cond, List, [], ◌∷◌, ◌++◌, length, map, get_or, String}
 use Rattle.std.proofs.Common.{Result, Ok, Err, IsOk, OnOk, refl, ap, arith, bytes_eq, string_bytes, string_eq, slice_set}
+use Rattle.std.proofs.lemmas.List.{map-append}
 use Rattle.std.specs.{List.list_any, declared.alloc.Global.Global}
 use Rattle.indexmap.specs.IndexSet.{insert_key}
 use Rattle.inf_devices.specs.{MemoryFiles.given_more, MemoryFiles.opening_of, declared.memory_files.Opened.Opened}
@@ -12,11 +13,6 @@ pub any_in : (test : List ℕ → Bool) (keys : List (String Global)) →
 any_in test [] = refl
 any_in test (k ∷ keys) = ap (λ b. test (string_bytes k) || b) (any_in test keys)
 
-map_behind : (keys : List (String Global)) (name : String Global) →
-    map string_bytes (keys ++ name ∷ []) ≡ map string_bytes keys ++ string_bytes name ∷ []
-map_behind [] name = refl
-map_behind (k ∷ keys) name = ap (λ ns. string_bytes k ∷ ns) (map_behind keys name)
-
 -- a name that is added
 pub added_to : (keys : List (String Global)) (name : String Global) →
     map string_bytes (insert_key string_eq keys name) ≡ with_name (string_bytes name) (map string_bytes keys)
@@ -26,7 +22,7 @@ added_to keys name = by (list_any (string_eq name) keys) (list_any (bytes_eq (st
     by : (a b : Bool) → a ≡ b → map string_bytes (cond a keys (keys ++ name ∷ [])) ≡ cond b (map string_bytes keys)
         (map string_bytes keys ++ string_bytes name ∷ [])
     by true true e = refl
-    by false false e = map_behind keys name
+    by false false e = map-append string_bytes keys (name ∷ [])
     by true false e = cc
     by false true e = cc
 

@@ -64,6 +64,11 @@ too_long_given n (count ∷ outer) too_long =
 abbrev pub counts_given : ℕ → Counts → Counts
 counts_given n c = record { each = each_given n c.each; too_long = too_long_given n c.each c.too_long }
 
+-- the counts after a read of the innermost source, by its answer
+abbrev pub counts_read : Result ℕ ReadFault → Counts → Counts
+counts_read (Ok n) c = counts_given n c
+counts_read (Err _) c = c
+
 -- whether an attempt to open a source says that the device failed
 abbrev pub tells_failure : Result Unit OpenFault → Bool
 tells_failure (Err OpenFault.Device) = true

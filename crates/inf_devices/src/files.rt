@@ -1,7 +1,7 @@
-ghost use Rattle.std.specs.Prelude.{◌≡◌, ℕ, ◌+◌, ◌<◌, ◌≤◌, Bool, false, IsTrue, IsErr, IsOk, IfOk, IsErrOf, OnErr};
+ghost use Rattle.std.specs.Prelude.{◌≡◌, ℕ, ◌+◌, ◌<◌, ◌≤◌, Bool, false, IsTrue, IsErr, IsOk, IfOk, IsErrOf};
 ghost use Rattle.std.specs.Prelude.{is_ok, length, List, if◌then◌else◌};
 ghost use Rattle.inf_devices.specs.Files.{Sources, Openings, Opens, Reads, Closes, Rose, tells_failure, with_name};
-ghost use Rattle.inf_devices.specs.Files.{Counts, counts_closed, counts_given, counts_opened};
+ghost use Rattle.inf_devices.specs.Files.{Counts, counts_closed, counts_opened, counts_read};
 ghost use Rattle.inf_devices.specs.declared.files.OpenFault.TheVariants.{Memory};
 
 use std::alloc::{AllocError, AllocFailed};
@@ -76,8 +76,7 @@ pub trait Files {
         ensures cause { IsErrOf result OpenFault.Device → Rose (faults self.old) (faults self.new) }
         ensures faults { (faults self.old ≤ faults self.new) × (tells_failure result ≡ false → faults self.new ≡ faults self.old) }
         ensures counts { counts self.new ≡ (if is_ok result then counts_opened (counts self.old) else counts self.old) }
-        ensures sources { sources self.new ≡ sources self.old }
-        ensures honesty { is_honest self.new ≡ is_honest self.old };
+        ensures kept { (sources self.new ≡ sources self.old) × (is_honest self.new ≡ is_honest self.old) };
 
     /// Reads the next bytes of the innermost source into the front of `to`, and returns their
     /// number: none at the source's end.
@@ -87,14 +86,12 @@ pub trait Files {
         ensures reads { IsTrue (is_honest self.old) →
             Reads (sources self.old) (openings self.old) (openings self.new) to.new result }
         ensures count { IfOk result (λ n. n ≤ length to.new) }
-        ensures counts { IfOk result (λ n. counts self.new ≡ counts_given n (counts self.old)) }
-        ensures same { OnErr result (counts self.new ≡ counts self.old) }
+        ensures counts { counts self.new ≡ counts_read result (counts self.old) }
         ensures depth { depth self.new ≡ depth self.old }
         ensures opened { opened self.new ≡ opened self.old }
         ensures cause { IsErr result → Rose (faults self.old) (faults self.new) }
         ensures faults { (faults self.old ≤ faults self.new) × (IsOk result → faults self.new ≡ faults self.old) }
-        ensures sources { sources self.new ≡ sources self.old }
-        ensures honesty { is_honest self.new ≡ is_honest self.old };
+        ensures kept { (sources self.new ≡ sources self.old) × (is_honest self.new ≡ is_honest self.old) };
 
     /// Closes the innermost source.
     fn close(&mut self)
@@ -104,6 +101,5 @@ pub trait Files {
         ensures opened { opened self.new ≡ opened self.old }
         ensures faults { faults self.new ≡ faults self.old }
         ensures counts { counts self.new ≡ counts_closed (counts self.old) }
-        ensures sources { sources self.new ≡ sources self.old }
-        ensures honesty { is_honest self.new ≡ is_honest self.old };
+        ensures kept { (sources self.new ≡ sources self.old) × (is_honest self.new ≡ is_honest self.old) };
 }

@@ -1,8 +1,8 @@
 ghost use Rattle.std.specs.{Io.KnownBytes.ReadConsumes, Io.KnownBytes.WriteAppends, IoError.error_kind, IoError.raw_os_error};
 ghost use Rattle.std.specs.String.{string_bytes};
 ghost use Rattle.std.specs.Prelude.{◌≡◌, ◌==◌, ◌&&◌, IsTrue, ◌+◌, ◌<◌, ◌≤◌, [], ◌∷◌, ◌++◌, None, Some, Ok, Err, true, false, IsErr, IsOk};
-ghost use Rattle.std.specs.Prelude.{IsSome, IsErrOf, IfOk, IfSome, OnOk, OnErr, is_ok, length, min, if◌then◌else◌};
-ghost use Rattle.inf_devices.specs.Files.{Rose, counts_closed, counts_given, counts_opened, last_count, nothing_given, tells_failure};
+ghost use Rattle.std.specs.Prelude.{IsSome, IsErrOf, IfOk, IfSome, OnOk, is_ok, length, min, if◌then◌else◌};
+ghost use Rattle.inf_devices.specs.Files.{Rose, counts_closed, counts_opened, counts_read, last_count, nothing_given, tells_failure};
 ghost use Rattle.inf_devices.specs.Files.{with_name};
 ghost use Rattle.inf_disk.specs.Disk.{fault_of_kind, is_named_as_source, story_options, OpensFile, ReadsLast, WritesMade};
 
@@ -376,10 +376,9 @@ impl<R: rt::Files> Files for DiskFiles<'_, R> {
         ensures bytes { ReadsLast (R.File.remaining) self.old.open_files.items
             self.new.open_files.items result to.new }
         ensures count { IfOk result (λ n. n ≤ length to.new) }
-        ensures counts { IfOk result (λ n. self.new.given ≡ counts_given n self.old.given) }
+        ensures counts { self.new.given ≡ counts_read result self.old.given }
         ensures depth { length self.new.open_files.items ≡ length self.old.open_files.items }
         ensures opened { self.new.names ≡ self.old.names }
-        ensures same { OnErr result (self.new.given ≡ self.old.given) }
         ensures cause { IsErr result → Rose self.old.trouble.failures self.new.trouble.failures }
         ensures reason { IsErr result → IsSome self.new.trouble.reason }
         ensures patient { IsErr result → ¬ (self.new.trouble.reason ≡ Some ErrorKind.Interrupted) }

@@ -6,8 +6,8 @@ use Rattle.inf_devices.specs.Files.{Counts, counts_given, each_given, is_too_lon
 use Rattle.inf_lexer.specs.Counted.{CountsOn}
 
 -- nothing was read
-pub counts_same : (old new : Counts) (before after : ℕ) → new ≡ old → after ≡ before → CountsOn old new before after
-counts_same old new before after same none =
+pub counts_same : {old new : Counts} {before after : ℕ} → new ≡ old → after ≡ before → CountsOn old new before after
+counts_same {old = old} {before = before} {after = after} same none =
     subst (λ (c : Counts). CountsOn old c before after) (sym same)
     (subst (λ (n : ℕ). CountsOn old old before n) (sym none) (record { too_long = omega arith; stays = λ outer base counted. counted }))
 
@@ -31,9 +31,10 @@ found_long base too_long before now true false e d least long over = absurd (ome
 found_long base too_long before now false false e d least long over = absurd (omega (arith, over, ltb-false most_source_bytes now d))
 
 -- one reading gave `n` bytes
-pub counts_more : (old new : Counts) (before after n : ℕ) → new ≡ counts_given n old → after ≡ before + n → after ≤ last_count
+pub counts_more : {old new : Counts} {before after : ℕ} (n : ℕ) → new ≡ counts_given n old → after ≡ before + n → after ≤ last_count
     → CountsOn old new before after
-counts_more old new before after n is more few = subst (λ (c : Counts). CountsOn old c before after) (sym is) (record {
+counts_more {old = old} {before = before} {after = after} n is more few = subst (λ (c : Counts). CountsOn old c before after) (sym is)
+    (record {
   too_long = too_long_more n old.each (min old.too_long last_count) old.too_long (omega arith) (omega arith);
   stays = λ outer base counted.
       let count : ℕ = min (counted.count + n) last_count in
@@ -51,12 +52,8 @@ counts_more old new before after n is more few = subst (λ (c : Counts). CountsO
 })
 
 -- a reading behind another
-pub counts_then : (a b c : Counts) (x y z : ℕ) → CountsOn a b x y → CountsOn b c y z → CountsOn a c x z
-counts_then a b c x y z p q = record {
+pub counts_then : {a b c : Counts} {x y z : ℕ} → CountsOn a b x y → CountsOn b c y z → CountsOn a c x z
+counts_then p q = record {
   too_long = omega (arith, p.too_long, q.too_long);
   stays = λ outer base counted. q.stays outer base (p.stays outer base counted);
 }
-
--- a reading behind another, behind which as many bytes were given
-pub counts_then_as : (a b c : Counts) (x y z w : ℕ) → CountsOn a b x y → CountsOn b c y z → w ≡ z → CountsOn a c x w
-counts_then_as a b c x y z w p q same = subst (λ (n : ℕ). CountsOn a c x n) (sym same) (counts_then a b c x y z p q)

@@ -1,30 +1,24 @@
 -- The bytes that the innermost source gives, reading by reading.
-use Rattle.std.proofs.Common.{◌≡◌, ℕ, suc, ◌+◌, ◌-◌, ◌<◌, ◌≤◌, zero, List, [], ◌∷◌, ◌++◌, length, take, drop, get_or, Bool, true, false}
-use Rattle.std.proofs.Common.{IsTrue, Some, Result, Ok, Err, unwrap_or, refl, sym, ap, subst, ◌∙◌, arith, append-nil, append_assoc}
-use Rattle.std.proofs.Common.{length-append, IfOk, nat_eq, slice_get, slice_set}
+use Rattle.std.proofs.Common.{◌≡◌, ℕ, suc, ◌+◌, ◌-◌, ◌<◌, ◌≤◌, zero, List, [], ◌∷◌, ◌++◌, length, take, drop, get_or, true, false, Some, Ok}
+use Rattle.std.proofs.Common.{Err, Result, unwrap_or, refl, sym, ap, subst, ◌∙◌, arith, append-nil, append_assoc, length-append, IfOk}
+use Rattle.std.proofs.Common.{nat_eq, slice_get, slice_set}
 use Rattle.std.proofs.lemmas.List.{length-set, drop-take, drop-drop, take-append-le, with_items_is}
-use Rattle.std.proofs.Math.Seq.{get_or-append_seam}
+use Rattle.std.proofs.{Math.Seq.drop-append_seam, Math.Seq.get_or-append_seam, lemmas.Option.get_or_from_slice_get}
 use Rattle.std.specs.{Global.Vec, Vec.with_items}
 use Rattle.inf_devices.specs.Files.{Opening, Openings, Sources, GivesInnermost, Reads, opened, after_bytes}
 use Rattle.inf_devices.specs.declared.files.ReadFault.{ReadFault}
-use Rattle.inf_lexer.specs.Unread.{innermost_place, innermost, unread_of, unread, Gave, View, ReadsOn}
+use Rattle.inf_lexer.specs.Unread.{Gave, innermost, innermost_place, unread, unread_of}
 
 -- a source gave no bytes
-pub gave_nothing : (sources : Sources) (o : Openings) → Gave sources o o []
-gave_nothing sources o = record {
-  next = refl;
-  given = sym (append-nil _);
-  name = refl;
-  places = refl;
-  count = refl;
-  others = λ i other. refl;
-}
+pub gave_nothing : {s : Sources} {o : Openings} → Gave s o o []
+gave_nothing =
+    record { next = refl; given = sym (append-nil _); name = refl; places = refl; count = refl; others = λ i other. refl }
 
 -- a source gave some bytes, and then more
-pub gave_more : (sources : Sources) (old now new : Openings) (bytes more : List ℕ) → Gave sources old now bytes → Gave sources now new more
-    → Gave sources old new (bytes ++ more)
-gave_more sources old now new bytes more g h = record {
-  next = g.next ∙ ap (λ r. bytes ++ r) h.next ∙ sym (append_assoc bytes more (unread sources new));
+pub gave_more : {s : Sources} {old now new : Openings} {bytes more : List ℕ} → Gave s old now bytes → Gave s now new more
+    → Gave s old new (bytes ++ more)
+gave_more {s = s} {new = new} {bytes = bytes} {more = more} g h = record {
+  next = g.next ∙ ap (λ r. bytes ++ r) h.next ∙ sym (append_assoc bytes more (unread s new));
   given = h.given ∙ ap (λ r. r ++ more) g.given ∙ append_assoc _ bytes more;
   name = h.name ∙ g.name;
   places = h.places ∙ g.places;
@@ -33,16 +27,7 @@ gave_more sources old now new bytes more g h = record {
       λ i other. h.others i (λ e. other (e ∙ ap (λ (places : List ℕ). get_or places (length places - 1) 0) g.places)) ∙ g.others i other;
 }
 
--- the place behind others is the last one
-last_place : (outer : List ℕ) (place : ℕ) → get_or (outer ++ place ∷ []) (length (outer ++ place ∷ []) - 1) 0 ≡ place
-last_place outer place =
-    let last : length (outer ++ place ∷ []) - 1 ≡ length outer = omega (arith, length-append outer (place ∷ [])) in
-    ap (λ n. get_or (outer ++ place ∷ []) n 0) last ∙ get_or-append_seam outer place [] 0
-
-found_at : (os : List Opening) (place : ℕ) (o : Opening) → slice_get os place ≡ Some o → get_or os place (opened []) ≡ o
-found_at [] place o e = cc
-found_at (x ∷ os) zero o e = cc
-found_at (x ∷ os) (suc place) o e = found_at os place o e
+-- Lemmas about the opening that a reading changes
 
 set_at : (os : List Opening) (place : ℕ) (o new : Opening) → slice_get os place ≡ Some o →
     get_or (slice_set os place new) place (opened []) ≡ new
@@ -57,9 +42,6 @@ set_else (x ∷ os) zero new (suc i) other = refl
 set_else (x ∷ os) (suc place) new zero other = refl
 set_else (x ∷ os) (suc place) new (suc i) other = set_else os place new i (λ e. other (ap suc e))
 
-set_count : (os : List Opening) (place : ℕ) (new : Opening) → length (slice_set os place new) ≡ length os
-set_count os place new = length-set os place new
-
 after_given : (before : Opening) (bytes : List ℕ) → (after_bytes before bytes).given ≡ before.given ++ bytes
 after_given before [] = sym (append-nil _)
 after_given before (b ∷ bytes) = refl
@@ -68,84 +50,66 @@ after_name : (before : Opening) (bytes : List ℕ) → (after_bytes before bytes
 after_name before [] = refl
 after_name before (b ∷ bytes) = refl
 
-drop_front : (front back : List ℕ) → drop (length front) (front ++ back) ≡ back
-drop_front [] back = refl
-drop_front (x ∷ front) back = drop_front front back
+-- the innermost opening before a reading, and after it
+module _ {s : Sources} {old new : Openings} {bytes : List ℕ} (g : GivesInnermost s old new bytes) where
+  here : innermost_place old ≡ g.place
+  here =
+      let last : length (g.outer ++ g.place ∷ []) - 1 ≡ length g.outer = omega (arith, length-append g.outer (g.place ∷ [])) in
+      ap (λ (places : List ℕ). get_or places (length places - 1) 0) g.innermost
+      ∙ ap (λ n. get_or (g.outer ++ g.place ∷ []) n 0) last ∙ get_or-append_seam g.outer g.place [] 0
 
--- the bytes that a reading of the innermost source gives
-pub gave_of : (sources : Sources) (old new : Openings) (bytes : List ℕ) → GivesInnermost sources old new bytes → Gave sources old new bytes
-gave_of sources old new bytes g =
-    let here : innermost_place old ≡ g.place =
-    ap (λ (places : List ℕ). get_or places (length places - 1) 0) g.innermost ∙ last_place g.outer g.place in
-    let places : new.open_places ≡ old.open_places = ap (λ (o : Openings). o.open_places) g.after in
-    let all : new.all ≡ slice_set old.all g.place (after_bytes g.before bytes) = ap (λ (o : Openings). o.all) g.after in
-    let here_new : innermost_place new ≡ g.place = ap (λ (places : List ℕ). get_or places (length places - 1) 0) places ∙ here in
-    let was : innermost old ≡ g.before = ap (λ n. get_or old.all n (opened [])) here ∙ found_at old.all g.place g.before g.was_opened in
-    let is : innermost new ≡ after_bytes g.before bytes =
-    ap (λ n. get_or new.all n (opened [])) here_new ∙ ap (λ os. get_or os g.place (opened [])) all
-    ∙ set_at old.all g.place g.before (after_bytes g.before bytes) g.was_opened in
-    let whole : unwrap_or (sources g.before.name) [] ≡ g.gives.whole = ap (λ o. unwrap_or o []) g.gives.is_source in
-    let before : unread sources old ≡ bytes ++ g.gives.rest =
-    ap (λ o. unread_of sources o) was
-    ∙ ap (λ w. drop (length g.before.given) w) (whole ∙ g.gives.in_order ∙ append_assoc g.before.given bytes g.gives.rest)
-    ∙ drop_front g.before.given (bytes ++ g.gives.rest) in
-    let after : unread sources new ≡ g.gives.rest =
-    ap (λ o. unread_of sources o) is
-    ∙ ap (λ n. drop (length (after_bytes g.before bytes).given) (unwrap_or (sources n) [])) (after_name g.before bytes)
-    ∙ ap (λ given. drop (length given) (unwrap_or (sources g.before.name) [])) (after_given g.before bytes)
-    ∙ ap (λ w. drop (length (g.before.given ++ bytes)) w) (whole ∙ g.gives.in_order)
-    ∙ drop_front (g.before.given ++ bytes) g.gives.rest in
-    record {
-      next = before ∙ ap (λ r. bytes ++ r) (sym after);
-      given = ap (λ (o : Opening). o.given) is ∙ after_given g.before bytes ∙ ap (λ (o : Opening). o.given ++ bytes) (sym was);
-      name = ap (λ (o : Opening). o.name) is ∙ after_name g.before bytes ∙ ap (λ (o : Opening). o.name) (sym was);
-      places = places;
-      count = ap length all ∙ set_count old.all g.place _;
-      others = λ i other. ap (λ os. slice_get os i) all ∙ set_else old.all g.place _ i (λ e. other (e ∙ sym here));
-    }
+  all_are : new.all ≡ slice_set old.all g.place (after_bytes g.before bytes)
+  all_are = ap (λ (o : Openings). o.all) g.after
 
--- Where the innermost source gives nothing, it is at its end, and that was read.
-pub nothing_left : (sources : Sources) (old new : Openings) (bytes : List ℕ) → GivesInnermost sources old new bytes → bytes ≡ []
-    → (unread sources new ≡ []) × ((innermost new).is_read_out ≡ true)
-nothing_left sources old new bytes g none =
-    let places : new.open_places ≡ old.open_places = ap (λ (o : Openings). o.open_places) g.after in
-    let all : new.all ≡ slice_set old.all g.place (after_bytes g.before bytes) = ap (λ (o : Openings). o.all) g.after in
-    let here_new : innermost_place new ≡ g.place =
-    ap (λ (places : List ℕ). get_or places (length places - 1) 0) (places ∙ g.innermost) ∙ last_place g.outer g.place in
-    let is : innermost new ≡ after_bytes g.before bytes =
-    ap (λ n. get_or new.all n (opened [])) here_new ∙ ap (λ os. get_or os g.place (opened [])) all
-    ∙ set_at old.all g.place g.before (after_bytes g.before bytes) g.was_opened in (
-      ap (λ o. unread_of sources o) is
-          ∙ ap (λ n. drop (length (after_bytes g.before bytes).given) (unwrap_or (sources n) [])) (after_name g.before bytes)
-          ∙ ap (λ given. drop (length given) (unwrap_or (sources g.before.name) [])) (after_given g.before bytes)
-          ∙ ap (λ w. drop (length (g.before.given ++ bytes)) w) (ap (λ o. unwrap_or o []) g.gives.is_source ∙ g.gives.in_order)
-          ∙ drop_front (g.before.given ++ bytes) g.gives.rest
-          ∙ g.gives.end_only none,
-      ap (λ (o : Opening). o.is_read_out) is ∙ ap (λ bs. (after_bytes g.before bs).is_read_out) none,
-    )
+  places_are : new.open_places ≡ old.open_places
+  places_are = ap (λ (o : Openings). o.open_places) g.after
 
--- behind a reading that gave bytes nothing says that the source's end was read
-after_some : (before : Opening) (count : ℕ) (bytes : List ℕ) → count ≤ length bytes → nat_eq count 0 ≡ false
-    → (after_bytes before (take count bytes)).is_read_out ≡ before.is_read_out
-after_some before zero bytes few some = cc
-after_some before (suc n) [] few some = absurd (omega arith)
-after_some before (suc n) (b ∷ bytes) few some = refl
+  was : innermost old ≡ g.before
+  was = ap (λ n. get_or old.all n (opened [])) here ∙ get_or_from_slice_get old.all g.place g.before (opened []) g.was_opened
 
--- Where the innermost source gives bytes, its end was read only if it was before.
-pub still_open : (sources : Sources) (old new : Openings) (count : ℕ) (bytes : List ℕ) → GivesInnermost sources old new (take count bytes)
-    → count ≤ length bytes → nat_eq count 0 ≡ false → (innermost old).is_read_out ≡ false → (innermost new).is_read_out ≡ false
-still_open sources old new count bytes g few some before =
-    let here : innermost_place old ≡ g.place =
-    ap (λ (places : List ℕ). get_or places (length places - 1) 0) g.innermost ∙ last_place g.outer g.place in
-    let places : new.open_places ≡ old.open_places = ap (λ (o : Openings). o.open_places) g.after in
-    let all : new.all ≡ slice_set old.all g.place (after_bytes g.before (take count bytes)) = ap (λ (o : Openings). o.all) g.after in
-    let here_new : innermost_place new ≡ g.place = ap (λ (places : List ℕ). get_or places (length places - 1) 0) places ∙ here in
-    let was : innermost old ≡ g.before = ap (λ n. get_or old.all n (opened [])) here ∙ found_at old.all g.place g.before g.was_opened in
-    let is : innermost new ≡ after_bytes g.before (take count bytes) =
-    ap (λ n. get_or new.all n (opened [])) here_new ∙ ap (λ os. get_or os g.place (opened [])) all
-    ∙ set_at old.all g.place g.before (after_bytes g.before (take count bytes)) g.was_opened in
-    ap (λ (o : Opening). o.is_read_out) is ∙ after_some g.before count bytes few some
-    ∙ ap (λ (o : Opening). o.is_read_out) (sym was) ∙ before
+  now_is : innermost new ≡ after_bytes g.before bytes
+  now_is =
+      ap (λ n. get_or new.all n (opened [])) (ap (λ (places : List ℕ). get_or places (length places - 1) 0) places_are ∙ here)
+      ∙ ap (λ os. get_or os g.place (opened [])) all_are ∙ set_at old.all g.place g.before (after_bytes g.before bytes) g.was_opened
+
+  rest_is : unread s new ≡ g.gives.rest
+  rest_is =
+      ap (λ o. unread_of s o) now_is
+      ∙ ap (λ n. drop (length (after_bytes g.before bytes).given) (unwrap_or (s n) [])) (after_name g.before bytes)
+      ∙ ap (λ given. drop (length given) (unwrap_or (s g.before.name) [])) (after_given g.before bytes)
+      ∙ ap (λ w. drop (length (g.before.given ++ bytes)) w) (ap (λ o. unwrap_or o []) g.gives.is_source ∙ g.gives.in_order)
+      ∙ drop-append_seam (g.before.given ++ bytes) g.gives.rest
+
+  -- the bytes that a reading of the innermost source gives
+  pub gave_of : Gave s old new bytes
+  gave_of = record {
+    next =
+        ap (λ o. unread_of s o) was
+        ∙ ap (λ w. drop (length g.before.given) w)
+        (ap (λ o. unwrap_or o []) g.gives.is_source ∙ g.gives.in_order ∙ append_assoc g.before.given bytes g.gives.rest)
+        ∙ drop-append_seam g.before.given (bytes ++ g.gives.rest) ∙ ap (λ r. bytes ++ r) (sym rest_is);
+    given = ap (λ (o : Opening). o.given) now_is ∙ after_given g.before bytes ∙ ap (λ (o : Opening). o.given ++ bytes) (sym was);
+    name = ap (λ (o : Opening). o.name) now_is ∙ after_name g.before bytes ∙ ap (λ (o : Opening). o.name) (sym was);
+    places = places_are;
+    count = ap length all_are ∙ length-set old.all g.place _;
+    others = λ i other. ap (λ os. slice_get os i) all_are ∙ set_else old.all g.place _ i (λ e. other (e ∙ sym here));
+  }
+
+  -- Where the innermost source gives nothing, it is at its end, and that was read.
+  pub nothing_left : bytes ≡ [] → (unread s new ≡ []) × ((innermost new).is_read_out ≡ true)
+  nothing_left none = (
+    rest_is ∙ g.gives.end_only none,
+    ap (λ (o : Opening). o.is_read_out) now_is ∙ ap (λ bs. (after_bytes g.before bs).is_read_out) none,
+  )
+
+  -- Where it gives bytes, its end was read only if it was before.
+  pub still_open : 0 < length bytes → (innermost old).is_read_out ≡ false → (innermost new).is_read_out ≡ false
+  still_open some before =
+      ap (λ (o : Opening). o.is_read_out) now_is ∙ after_some bytes some ∙ ap (λ (o : Opening). o.is_read_out) (sym was) ∙ before
+    where
+      after_some : (xs : List ℕ) → 0 < length xs → (after_bytes g.before xs).is_read_out ≡ g.before.is_read_out
+      after_some [] less = absurd (omega arith)
+      after_some (x ∷ xs) less = refl
 
 -- the bytes in a window that has some taken
 pub window_behind : (n next end : ℕ) (buffer : List ℕ) → next + n ≤ end →
@@ -155,22 +119,6 @@ window_behind n next end buffer some =
     ap (λ xs. take (end - (next + n)) xs) (sym (drop-drop n next buffer))
     ∙ sym (drop-take n (end - (next + n)) (drop next buffer))
     ∙ ap (λ m. drop n (take m (drop next buffer))) (sym size)
-
--- the bytes that a reading into an empty window brings
-pub reads_first : (is_honest : Bool) (sources : Sources) (old new : Openings) (before after : View) (bytes : List ℕ) → before.left ≡ [] →
-    before.is_over ≡ false
-    → (IsTrue is_honest → Gave sources old new bytes) → after.left ≡ bytes → after.given ≡ before.given + length bytes → ReadsOn is_honest
-    sources old new before after
-reads_first is_honest sources old new before after bytes empty on gave left given = record {
-  bytes = bytes;
-  left = left ∙ ap (λ l. l ++ bytes) (sym empty);
-  given = given;
-  stops = λ over. cc;
-  gave = gave;
-}
-
-pub gave_same : (sources : Sources) (old new : Openings) → new ≡ old → Gave sources old new []
-gave_same sources old new e = subst (λ o. Gave sources old o []) (sym e) (gave_nothing sources old)
 
 -- the first bytes of those that a reading wrote to, in a window of which nothing was taken
 pub written_window : (count : ℕ) (bytes : Vec ℕ) (new : List ℕ) → length new ≡ bytes.len

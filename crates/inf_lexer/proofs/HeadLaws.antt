@@ -10,7 +10,7 @@ use Rattle.inf_lexer.specs.{declared.head.HeadPlace.HeadPlace, declared.head.Hea
 use Rattle.inf_lexer.specs.Heads.{HeadFound, comment_step, head_found, head_step, is_cut, line_step, place_behind, HeadRead, WholeHead}
 use Rattle.inf_lexer.specs.Heads.{goes_on_at, head_within, is_word, next_head_word, with_head_byte, with_head_word}
 use Rattle.inf_lexer.specs.HeadLaws.{HeadsHaveNoTokens, WholeHeadsHaveNoTokens, state_at}
-use Rattle.inf_lexer.proofs.Heading.{goes_on_is, words_take}
+use Rattle.inf_lexer.proofs.Heading.{after_step, goes_on_is, words_take}
 
 eq_of : (m n : ℕ) → (m == n) ≡ true → m ≡ n
 eq_of m n e = grind (arith, nat_tests)
@@ -20,19 +20,9 @@ free : (set : CharSet) (limit : ℕ) (p : HeadPlace) (first : ℕ) (lines : Line
     → find set limit (state_at p) (record { first = first; kept = (begun lines).kept; lines = lines }) bs
     ≡ find set limit (state_at p) (begun lines) bs
 free set limit HeadPlace.Line first lines [] = refl
+free set limit p first lines [] = refl
 free set limit HeadPlace.Line first lines (b ∷ bs) = refl
-free set limit HeadPlace.Return first lines [] = refl
-free set limit HeadPlace.Return first lines (b ∷ bs) = refl
-free set limit HeadPlace.Sign first lines [] = refl
-free set limit HeadPlace.Sign first lines (b ∷ bs) = refl
-free set limit HeadPlace.Gap first lines [] = refl
-free set limit HeadPlace.Gap first lines (b ∷ bs) = refl
-free set limit HeadPlace.Word first lines [] = refl
-free set limit HeadPlace.Word first lines (b ∷ bs) = refl
-free set limit HeadPlace.Comment first lines [] = refl
-free set limit HeadPlace.Comment first lines (b ∷ bs) = refl
-free set limit HeadPlace.Behind first lines [] = refl
-free set limit HeadPlace.Behind first lines (b ∷ bs) = refl
+free set limit p first lines (b ∷ bs) = refl
 
 -- the step of a byte of a head is the same among tokens: the byte is passed over, to where the head goes on; where the head stops,
 -- the byte does the same as behind the head
@@ -141,30 +131,15 @@ moved set limit p next lines b bs e =
 stopped : (set : CharSet) (limit : ℕ) (p : HeadPlace) (lines : Lines) (b : ℕ) (bs : List ℕ)
     → step_of set (state_at (place_behind p)) b ≡ step_of set (state_at p) b
     → find set limit (state_at (place_behind p)) (begun lines) (b ∷ bs) ≡ find set limit (state_at p) (begun lines) (b ∷ bs)
-stopped set limit HeadPlace.Line lines b bs e = refl
-stopped set limit HeadPlace.Return lines b bs e = refl
 stopped set limit HeadPlace.Sign lines b bs e = ap (λ x. turned set limit x b (begun lines) bs) e
 stopped set limit HeadPlace.Gap lines b bs e = ap (λ x. turned set limit x b (begun lines) bs) e
-stopped set limit HeadPlace.Word lines b bs e = refl
 stopped set limit HeadPlace.Comment lines b bs e = ap (λ x. turned set limit x b (begun lines) bs) e
-stopped set limit HeadPlace.Behind lines b bs e = refl
+stopped set limit p lines b bs e = refl
 
 ended : (set : CharSet) (limit : ℕ) (p : HeadPlace) (lines : Lines)
     → find set limit (state_at (place_behind p)) (begun lines) [] ≡ find set limit (state_at p) (begun lines) []
 ended set limit HeadPlace.Line lines = refl
-ended set limit HeadPlace.Return lines = refl
-ended set limit HeadPlace.Sign lines = refl
-ended set limit HeadPlace.Gap lines = refl
-ended set limit HeadPlace.Word lines = refl
-ended set limit HeadPlace.Comment lines = refl
-ended set limit HeadPlace.Behind lines = refl
-
-abbrev after_step : HeadStep → HeadPlace → List ℕ → Lines → ℕ → List ℕ → HeadFound
-after_step s p word lines b bs = elim s [
-  | HeadStep.Pass next ↦ head_found next word (past b lines) bs
-  | HeadStep.Keep ↦ head_found HeadPlace.Word (with_head_byte b word) (past b lines) bs
-  | HeadStep.Stop ↦ record { place = p; word = word; lines = lines; rest = b ∷ bs }
-]
+ended set limit p lines = refl
 
 abbrev token_behind : CharSet → ℕ → HeadFound → Found
 token_behind set limit f = find set limit (state_at (place_behind f.place)) (begun f.lines) f.rest

@@ -1,14 +1,14 @@
 -- The end of a head, and the bytes that it takes.
 use Rattle.std.proofs.Common.{◌≡◌, ℕ, ◌-◌, ◌≤◌, ◌<◌, ◌⊎◌, ◌||◌, ◌==◌, List, [], ◌∷◌, ◌++◌, length, Bool, true, false, cond, IsTrue}
 use Rattle.std.proofs.Common.{refl, sym, ap, subst, ◌∙◌, arith, append_assoc, length-append}
-use Rattle.inf_devices.specs.Files.{Sources, Openings}
+use Rattle.inf_devices.specs.declared.files.Files.{Ghosts as Files}
 use Rattle.inf_characters.specs.Characters.{is_line_end}
 use Rattle.inf_scanner.specs.{Lines.past, declared.lines.Lines.Lines}
 use Rattle.inf_lexer.specs.{Readers.StaysOpen, Readers.TookWord, declared.head.HeadPlace.HeadPlace, declared.head.HeadStep.HeadStep}
 use Rattle.inf_lexer.specs.Heads.{HeadFound, comment_step, gap_step, head_found, head_step, is_behind, is_cut, is_word, line_step}
-use Rattle.inf_lexer.specs.Heads.{goes_on_at, place_behind, with_head_byte}
-use Rattle.inf_lexer.specs.Unread.{Heard, ReadsOn, View, to_come, unread}
-use Rattle.inf_lexer.proofs.{Hearing.reads_by, Unfinished.going_still, Unfinished.past_of}
+use Rattle.inf_lexer.specs.Heads.{HeadRead, goes_on_at, head_read_of, next_head_word, place_behind, with_head_byte}
+use Rattle.inf_lexer.specs.{Reading.Fills, Reading.Heard, Unread.View, Unread.to_come, Unread.unread}
+use Rattle.inf_lexer.proofs.{Reading.heard_as, Reading.heard_same, Unfinished.stays_open}
 
 -- where nothing is left, the head ends there
 pub head_end : (p : HeadPlace) (word : List ℕ) (lines : Lines) (left rest : List ℕ) → left ≡ [] → rest ≡ []
@@ -55,17 +55,12 @@ passes_before p next b e = sym (ap leads_behind e) ∙ leads_on p b
 
 -- the place where the head goes on behind a call
 pub goes_on_is : (p : HeadPlace) → place_behind p ≡ goes_on_at (is_word p)
-goes_on_is HeadPlace.Line = refl
-goes_on_is HeadPlace.Return = refl
-goes_on_is HeadPlace.Sign = refl
-goes_on_is HeadPlace.Gap = refl
 goes_on_is HeadPlace.Word = refl
-goes_on_is HeadPlace.Comment = refl
-goes_on_is HeadPlace.Behind = refl
+goes_on_is p = refl
 
 -- Lemmas about the end that is found
 
-abbrev after_step : HeadStep → HeadPlace → List ℕ → Lines → ℕ → List ℕ → HeadFound
+abbrev pub after_step : HeadStep → HeadPlace → List ℕ → Lines → ℕ → List ℕ → HeadFound
 after_step s p word lines b bs = elim s [
   | HeadStep.Pass next ↦ head_found next word (past b lines) bs
   | HeadStep.Keep ↦ head_found HeadPlace.Word (with_head_byte b word) (past b lines) bs
@@ -112,54 +107,48 @@ pub words_take : (p : HeadPlace) (word : List ℕ) (lines : Lines) (bytes : List
 words_take p word lines [] none is = absurd (let never : true ≡ false = sym is ∙ none in cc)
 words_take p word lines (b ∷ bs) none is = word_by (head_step p b) p word lines b bs none is
 
+-- the word of a head, by the end that was heard
+pub heard_word : {S : Type 0} {f : Files S} {a b : S} {u v : View} {from at place : HeadPlace} {begun word : List ℕ} {was now : Lines}
+    {is : Bool} → Heard HeadFound f false a b u v (λ rest. record { place = at; word = word; lines = now; rest = rest })
+    (head_found from begun was) → begun ≡ [] → is ≡ is_word at → place ≡ place_behind at
+    → Heard HeadRead f false a b u v (λ rest. record { is_word = is; place = place; word = word; lines = now; rest = rest })
+    (next_head_word from was)
+heard_word {f = f} {a = a} {b = b} {u = u} {v = v} {from = from} {at = at} {place = place} {word = word} {was = was} {now = now} h cleared
+    tells goes =
+    heard_same (heard_as head_read_of
+    (subst (λ w. Heard HeadFound f false a b u v (λ rest. record { place = at; word = word; lines = now; rest = rest })
+    (head_found from w was)) cleared h))
+    (λ rest may.
+    ap (λ x. record { is_word = x; place = place; word = word; lines = now; rest = v.left ++ rest }) tells
+    ∙ ap (λ p. record { is_word = is_word at; place = p; word = word; lines = now; rest = v.left ++ rest }) goes)
+
 -- a word that was heard took its bytes
-pub took_word : (h : Bool) (s : Sources) (old new : Openings) (before after : View) (from at : HeadPlace) (begun word : List ℕ)
-    (was now : Lines)
-    → Heard HeadFound h s old new before after (λ rest. record { place = at; word = word; lines = now; rest = rest })
+pub took_word : {S : Type 0} {f : Files S} {a b : S} {before after : View} {from at : HeadPlace} {begun word : List ℕ} {was now : Lines}
+    → Heard HeadFound f false a b before after (λ rest. record { place = at; word = word; lines = now; rest = rest })
     (head_found from begun was)
     → TookWord (is_word at) from before after
-took_word h s old new before after from at begun word was now heard = λ there none.
-    let bytes : List ℕ = before.left ++ (heard.bytes ++ []) in
+took_word {before = before} {after = after} {from = from} {at = at} {begun = begun} {word = word} {was = was} {now = now} h = λ there none.
+    let bytes : List ℕ = before.left ++ (h.went.bytes ++ []) in
     let same : record { place = at; word = word; lines = now; rest = after.left ++ [] } ≡ head_found from begun was bytes =
-    heard.same [] (λ _. refl) in
+    h.same [] (λ _. refl) in
     let takes = words_take from begun was bytes none (sym (ap (λ (f : HeadFound). is_word f.place) same) ∙ there) in
     omega (
       arith,
       ap (λ (f : HeadFound). length f.rest) same,
       takes,
-      heard.given,
+      h.went.given,
       length-append after.left [],
-      length-append before.left (heard.bytes ++ []),
-      length-append heard.bytes [],
+      length-append before.left (h.went.bytes ++ []),
+      length-append h.went.bytes [],
     )
 
 -- Nothing was in view any more and nothing more was given.
-pub head_stays_open : (h g : Bool) (s t : Sources) (old mid new : Openings) (before between after : View) (from at : HeadPlace)
-    (word now : List ℕ) (was lines : Lines)
-    → Heard HeadFound h s old mid before between (head_found at now lines) (head_found from word was) → g ≡ h → t ≡ s
-    → ReadsOn g t mid new between after
-    → is_behind at ≡ false → (between.left ≡ []) × (between.is_over ≡ false) → between.given ≤ 16777216
-    → (after.given ≡ between.given) ⊎ ((between.given ≡ 16777216) × (after.given ≡ 16777217)) → IsTrue h
-    → StaysOpen (λ bytes. (head_found from word was bytes).rest) (to_come s old before) (after.given - 16777216) (unread s new)
-head_stays_open h g s t old mid new before between after from at word now was lines heard e f reads opens refused few last honest =
-    let r = reads_by g h t s mid new between after e f reads in
-    let going : before.is_over ≡ false = going_still before.is_over between.is_over heard.bytes heard.stops refused.1 in
-    let found : (behind : List ℕ) → head_found at now lines behind ≡ head_found from word was ((before.left ++ heard.bytes) ++ behind)
-    = λ behind.
-    ap (λ l. head_found at now lines (l ++ behind)) (sym refused.0)
-    ∙ heard.same behind (λ over. absurd (let never : true ≡ false = sym over ∙ refused.1 in cc))
-    ∙ ap (head_found from word was) (sym (append_assoc before.left heard.bytes behind)) in
+pub head_stays_open : {S : Type 0} {f : Files S} {a b c : S} {u v w : View} {from at : HeadPlace} {word now : List ℕ} {was lines : Lines}
+    → Heard HeadFound f false a b u v (head_found at now lines) (head_found from word was) → Fills f true b c v w
+    → is_behind at ≡ false → (v.left ≡ []) × (v.is_over ≡ false)
+    → (w.given ≡ v.given) ⊎ ((v.given ≡ 16777216) × (w.given ≡ 16777217)) → IsTrue (f.is_honest a)
+    → StaysOpen (λ bytes. (head_found from word was bytes).rest) (to_come (f.sources a) (f.openings a) u) (w.given - 16777216)
+    (unread (f.sources a) (f.openings c))
+head_stays_open {at = at} {now = now} {lines = lines} h r opens empty last honest =
     let more = found_more at now lines opens in
-    record {
-      bytes = before.left ++ heard.bytes;
-      beyond = r.bytes;
-      whole = ap (λ b. before.left ++ cond b [] (unread s old)) going
-          ∙ ap (λ l. before.left ++ l) ((heard.gave honest).next ∙ ap (λ l. heard.bytes ++ l) (r.gave honest).next)
-          ∙ sym (append_assoc before.left heard.bytes (r.bytes ++ unread s new));
-      are_past = past_of between.given after.given (length r.bytes) few r.given last;
-      ends_nothing = record {
-        all = λ behind. subst (λ (x : HeadFound). length x.rest ≤ length behind) (found behind) (found_within at now lines behind);
-        more = more.more;
-        takes = subst (λ (x : HeadFound). length x.rest < length more.more) (found more.more) more.takes;
-      };
-    }
+    stays_open (λ (x : HeadFound). x.rest) h r empty last (λ behind. found_within at now lines behind) more.more more.takes honest

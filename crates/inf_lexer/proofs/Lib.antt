@@ -1,6 +1,6 @@
 pub mod Giving
 pub mod Counting
-pub mod Hearing
+pub mod Reading
 pub mod Unfinished
 pub mod Taken
 pub mod Scanned
@@ -8,6 +8,7 @@ pub mod NameLists
 pub mod Opened
 pub mod FileNames
 pub mod Candidates
+pub mod Attempts
 pub mod AnswerLaws
 pub mod Heading
 pub mod HeadLaws

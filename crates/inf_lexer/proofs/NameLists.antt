@@ -1,24 +1,16 @@
 -- The names that are kept, as lists of bytes.
-use Rattle.std.proofs.Common.{◌≡◌, ◌≤◌, ℕ, suc, ◌+◌, not, Bool, true, false, cond, nat_lt, List, [], ◌∷◌, length, map, Some, None, unwrap_or}
+use Rattle.std.proofs.Common.{◌≡◌, ◌≤◌, ℕ, suc, ◌+◌, not, Bool, true, false, cond, nat_lt, List, [], ◌∷◌, length, map, Some, None}
+use Rattle.std.proofs.Common.{unwrap_or}
 use Rattle.std.proofs.Common.{position, String, refl, ap, ◌∙◌, arith}
+use Rattle.std.proofs.lemmas.{List.Sums.prefix_len-le-length, List.length-map}
+use Rattle.inf_characters.specs.declared.characters.CharSet.{CharSet}
+use Rattle.inf_lexer.specs.Names.{Nest}
 use Rattle.std.specs.{List.position_or_len, List.prefix_len, String.string_bytes, declared.alloc.Global.Global}
 
 prefix_map : (test : List ℕ → Bool) (keys : List (String Global)) →
     prefix_len (λ k. test (string_bytes k)) keys ≡ prefix_len test (map string_bytes keys)
 prefix_map test [] = refl
 prefix_map test (k ∷ keys) = ap (λ n. cond (test (string_bytes k)) (1 + n) 0) (prefix_map test keys)
-
-prefix_le : (test : List ℕ → Bool) (names : List (List ℕ)) → prefix_len test names ≤ length names
-prefix_le test [] = omega arith
-prefix_le test (n ∷ names) = go (test n) (prefix_le test names)
-  where
-    go : (b : Bool) → prefix_len test names ≤ length names → cond b (1 + prefix_len test names) 0 ≤ suc (length names)
-    go true h = omega (arith, h)
-    go false h = omega arith
-
-length_map : (keys : List (String Global)) → length (map string_bytes keys) ≡ length keys
-length_map [] = refl
-length_map (k ∷ keys) = ap suc (length_map keys)
 
 within : (n m : ℕ) → n ≤ m → unwrap_or (cond (nat_lt n m) (Some n) None) m ≡ n
 within n m le = by (nat_lt n m) refl
@@ -35,4 +27,11 @@ place_in test keys =
     prefix_map (λ n. not (test n)) keys in
     ap (λ n. unwrap_or (cond (nat_lt n (length keys)) (Some n) None) (length keys)) same
     ∙ within (position_or_len test (map string_bytes keys)) (length keys)
-    (omega (arith, prefix_le (λ n. not (test n)) (map string_bytes keys), length_map keys))
+    (omega (arith, prefix_len-le-length (λ n. not (test n)) (map string_bytes keys), length-map keys string_bytes))
+
+-- the names that are kept by equal keys
+pub nest_same : {set : CharSet} {limit : ℕ} {files : List ℕ} {keys now : List (String Global)} {nest : Nest} → now ≡ keys
+    → record { set = set; limit = limit; names = map string_bytes keys; open_files = files } ≡ nest
+    → record { set = set; limit = limit; names = map string_bytes now; open_files = files } ≡ nest
+nest_same {set = set} {limit = limit} {files = files} same is =
+    ap (λ ks. record { set = set; limit = limit; names = map string_bytes ks; open_files = files }) same ∙ is

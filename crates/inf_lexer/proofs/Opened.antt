@@ -68,8 +68,8 @@ none_opened opened = record {
 pub opens_none : (names opened : List (List ℕ)) → OpensOn names names opened opened
 opens_none names opened = record { stays = λ q is. is; opened = λ are. are }
 
-pub opens_then : (a b c p q r : List (List ℕ)) → OpensOn a b p q → OpensOn b c q r → OpensOn a c p r
-opens_then a b c p q r first second = record {
+pub opens_then : {a b c p q r : List (List ℕ)} → OpensOn a b p q → OpensOn b c q r → OpensOn a c p r
+opens_then first second = record {
   stays = λ n is. second.stays n (first.stays n is);
   opened = λ are. second.opened (first.opened are);
 }
@@ -85,22 +85,6 @@ opens_with name names opened = record {
   stays = stays_with name opened;
   opened = λ are. with_one name names (with_name name opened) ((opens_one name names opened).opened are) (in_with name opened);
 }
-
-pub opens_same : (before after p q : List (List ℕ)) → after ≡ before → q ≡ p → OpensOn before after p q
-opens_same before after p q known opened =
-    subst (λ (ns : List (List ℕ)). OpensOn before ns p q) (sym known)
-    (subst (λ (ns : List (List ℕ)). OpensOn before before p ns) (sym opened) (opens_none before p))
-
-pub opens_one_is : (name : List ℕ) (before after p q : List (List ℕ)) → after ≡ before → q ≡ with_name name p → OpensOn before after p q
-opens_one_is name before after p q known opened =
-    subst (λ (ns : List (List ℕ)). OpensOn before ns p q) (sym known)
-    (subst (λ (ns : List (List ℕ)). OpensOn before before p ns) (sym opened) (opens_one name before p))
-
-pub opens_with_is : (name : List ℕ) (before after p q : List (List ℕ)) → after ≡ with_name name before → q ≡ with_name name p
-    → OpensOn before after p q
-opens_with_is name before after p q known opened =
-    subst (λ (ns : List (List ℕ)). OpensOn before ns p q) (sym known)
-    (subst (λ (ns : List (List ℕ)). OpensOn before (with_name name before) p ns) (sym opened) (opens_with name before p))
 
 found_within : (test : List ℕ → Bool) (names : List (List ℕ)) → list_any test names ≡ true → position_or_len test names < length names
 found_within test [] e = cc

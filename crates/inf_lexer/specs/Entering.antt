@@ -1,9 +1,10 @@
 -- The sources that are open behind the entering of a file, with a reader that keeps to its sources.
 use Rattle.std.specs.{List.IsDistinct, List.list_any, Str.bytes_eq}
-use Rattle.std.specs.Prelude.{◌≡◌, ℕ, ◌<◌, ◌≤◌, ◌⊎◌, List, [], ◌∷◌, ◌++◌, length, nat_le, Option, Some, None, is_some, slice_get, Result}
-use Rattle.std.specs.Prelude.{Ok, Err, Bool, true, false, IsTrue, if◌then◌else◌}
-use Rattle.inf_devices.specs.Files.{Sources, Openings, opened}
-use Rattle.inf_lexer.specs.{Readers.Reader, Readers.at_front, declared.enter_faults.EnterFault.EnterFault}
+use Rattle.std.specs.Prelude.{◌≡◌, ℕ, ◌+◌, ◌<◌, ◌≤◌, ◌⊎◌, List, [], ◌∷◌, ◌++◌, length, nat_le, Option, Some, None, is_some, slice_get}
+use Rattle.std.specs.Prelude.{Result, Ok, Err, is_ok, IfOk, OnErr, IsErrOf, Bool, true, false, IsTrue, if◌then◌else◌}
+use Rattle.inf_devices.specs.Files.{Closes, Openings, Rose, Sources, counts_closed, counts_opened, opened}
+use Rattle.inf_devices.specs.declared.files.Files.{Ghosts as Files}
+use Rattle.inf_lexer.specs.{Reading.Unless, Readers.Reader, Readers.at_front, declared.enter_faults.EnterFault.EnterFault}
 use Rattle.inf_lexer.specs.Names.{Nest, entered, number_of}
 
 -- one more source is open, the innermost
@@ -86,7 +87,44 @@ abbrev pub is_absent : Result Reader EnterFault → Bool
 is_absent (Err EnterFault.Absent) = true
 is_absent _ = false
 
+-- Whether a name is refused, or a further file, by the answer: `can` says that the name may be a file's, and `depth` how many files are open.
+-- Where one of them is refused, `same` holds.
+abbrev pub Declines : Bool → ℕ → Type 0 → Result Reader EnterFault → Type 0
+Declines can depth same (Err EnterFault.BadName) = (can ≡ false) × same
+Declines can depth same (Err EnterFault.TooDeep) = (can ≡ true) × ((16 ≤ depth) × same)
+Declines can depth same answer = (can ≡ true) × (depth < 16)
+
 -- whether an answer says that the reader failed, or that a name was one too many
 abbrev pub tells_failure : {T : Type 0} → Result T EnterFault → Bool
 tells_failure (Err EnterFault.Device) = true
 tells_failure _ = false
+
+-- A call opens one source, if `opens` is true, and else none. Where `failed` is false, the reader did not fail.
+pub record Tries {S : Type 0} (f : Files S) (opens failed : Bool) (old new : S) : Type 0 where
+  pub sources : f.sources new ≡ f.sources old
+  pub honesty : f.is_honest new ≡ f.is_honest old
+  pub depth : f.depth new ≡ (if opens then f.depth old + 1 else f.depth old)
+  pub counts : f.counts new ≡ (if opens then counts_opened (f.counts old) else f.counts old)
+  pub faults : f.faults old ≤ f.faults new
+  pub calm : Unless failed (f.faults new ≡ f.faults old)
+
+-- A call closes the innermost source, and nothing else of the reader changes.
+pub record ClosesInnermost {S : Type 0} (f : Files S) (old new : S) : Type 0 where
+  pub sources : f.sources new ≡ f.sources old
+  pub honesty : f.is_honest new ≡ f.is_honest old
+  pub depth : f.depth new + 1 ≡ f.depth old
+  pub opened : f.opened new ≡ f.opened old
+  pub counts : f.counts new ≡ counts_closed (f.counts old)
+  pub faults : f.faults new ≡ f.faults old
+  pub closes : IsTrue (f.is_honest old) → Closes (f.openings old) (f.openings new)
+
+-- An attempt to enter a file under one of these names, by its answer. Each known name is among those that the reader opened.
+pub record Attempts {S : Type 0} (f : Files S) (old new : S) (names : List (List ℕ)) (before after : Nest)
+    (answer : Result Reader EnterFault) : Type 0 where
+  pub tries : Tries f (is_ok answer) (tells_failure answer) old new
+  pub opened : OpensOn before.names after.names (f.opened old) (f.opened new)
+  pub entered : IfOk answer (Enters (f.sources old) (f.is_honest old) names (f.openings old) (f.openings new) before after)
+  pub same : OnErr answer (after ≡ before)
+  pub leaves : IsTrue (f.is_honest old) → Leaves (f.sources old) before.names names (f.openings old) (f.openings new) answer
+  pub cause : IsErrOf answer EnterFault.Device → Rose (f.faults old) (f.faults new)
+      ⊎ WasTooMany (f.sources old) (f.is_honest old) before.names names (f.openings old) (f.openings new) (f.opened new)

@@ -3,6 +3,7 @@ pub mod Heads
 pub mod Readers
 pub mod Names
 pub mod Counted
+pub mod Reading
 pub mod Entering
 pub mod AnswerLaws
 pub mod HeadLaws

@@ -34,28 +34,9 @@ pub record View : Type 0 where
   pub given : ℕ
   pub is_over : Bool
 
--- Between two moments these bytes came into view, and none behind the end. Of a reader that keeps to its sources they are the next
--- bytes of the innermost source.
-pub record ReadsOn (is_honest : Bool) (sources : Sources) (old new : Openings) (before after : View) : Type 0 where
-  pub bytes : List ℕ
-  pub left : after.left ≡ before.left ++ bytes
-  pub given : after.given ≡ before.given + length bytes
-  pub stops : before.is_over ≡ true → (bytes ≡ []) × (after.is_over ≡ true)
-  pub gave : IsTrue is_honest → Gave sources old new bytes
-
 -- the bytes that can follow those in view: none behind the end that was read, and any before
 abbrev pub CanFollow : View → List ℕ → Type 0
 CanFollow view behind = view.is_over ≡ true → behind ≡ []
-
--- Between two moments these bytes were given, and none behind the end. Of a reader that keeps to its sources they are the next bytes
--- of the innermost source. The value `now` of all that is still to come is the value `was` before, whatever follows these bytes.
-pub record Heard (T : Type 0) (is_honest : Bool) (sources : Sources) (old new : Openings) (before after : View) (now was : List ℕ → T) :
-    Type 0 where
-  pub bytes : List ℕ
-  pub given : after.given ≡ before.given + length bytes
-  pub stops : before.is_over ≡ true → (bytes ≡ []) × (after.is_over ≡ true)
-  pub gave : IsTrue is_honest → Gave sources old new bytes
-  pub same : (behind : List ℕ) → CanFollow after behind → now (after.left ++ behind) ≡ was (before.left ++ (bytes ++ behind))
 
 -- the bytes of a source behind those in view: none where its end was read
 abbrev pub behind_view : Sources → Openings → View → List ℕ
@@ -76,9 +57,3 @@ StillGives o view = view.is_over ≡ false → (innermost o).is_read_out ≡ fal
 -- nothing more is to come
 abbrev pub IsAtEnd : View → Type 0
 IsAtEnd view = (view.left ≡ []) × (view.is_over ≡ true)
-
--- Between two moments, in which `before` and then `after` bytes were given to a lexer, the innermost source gave just those in between.
-pub record Along (sources : Sources) (old new : Openings) (before after : ℕ) : Type 0 where
-  pub bytes : List ℕ
-  pub gave : Gave sources old new bytes
-  pub count : after ≡ before + length bytes

@@ -1,12 +1,11 @@
 //! The tokens of an open source, one after another.
-ghost use Rattle.std.specs.Prelude.{◌≡◌, ◌+◌, ◌-◌, ◌<◌, ◌≤◌, ◌⊎◌, [], false, true, length, is_err, IsTrue, IsErrOf, IfOk, OnOk, Err};
-ghost use Rattle.std.specs.Prelude.{IsErr, IfErr, OnErr};
-ghost use Rattle.inf_devices.specs.Files.{Rose};
-ghost use Rattle.inf_lexer.specs.Counted.{CountsOn};
-ghost use Rattle.inf_lexer.specs.Heads.{HeadFound, HeadRead, goes_on_at, head_found, is_behind, next_head_word};
-ghost use Rattle.inf_lexer.specs.Unread.{Along, Ends, Heard, StillGives, to_come, unread};
-ghost use Rattle.inf_lexer.specs.Readers.{HeadStaysOpen, StaysOpen, StaysUnfinished, Took, TookWord, at_front, head_out, read_out};
-ghost use Rattle.inf_scanner.specs.Scanning.{Found, begun, find, is_quoted, sight};
+ghost use Rattle.std.specs.Prelude.{◌≡◌, ◌+◌, ◌-◌, ◌<◌, ◌≤◌, [], false, true, length, is_err, IsErr, IsTrue, IfErr, IfOk, OnOk, Err};
+ghost use Rattle.inf_lexer.specs.Heads.{HeadFound, HeadRead, head_found, is_behind, next_head_word};
+ghost use Rattle.inf_lexer.specs.Reading.{Heard, ReadsOn, is_read, tells_read};
+ghost use Rattle.inf_lexer.specs.Readers.{HeadStaysOpen, Refuses, Stays, StaysOpen, Took, TookWord, at_front, head_out, place_after};
+ghost use Rattle.inf_lexer.specs.Readers.{read_out};
+ghost use Rattle.inf_lexer.specs.Unread.{to_come, unread};
+ghost use Rattle.inf_scanner.specs.Scanning.{Found, begun, find, sight};
 ghost use Rattle.inf_scanner.specs.Tokens.{Read, next_token};
 
 use crate::faults::LexFault;
@@ -32,35 +31,13 @@ fn scan<F: Files>(
     requires few { window.old.given ≤ 16777216 }
     requires room { seen.old.lines.line + length window.old.left ≤ window.old.given + 1 }
     requires window { length window.old.left ≤ 4096 }
-    ensures heard { IfOk result (λ e. Heard Found (F.is_honest files.old) (F.sources files.old)
-        (F.openings files.old) (F.openings files.new) window.old window.new
+    ensures heard { IfOk result (λ e. Heard Found F.Files false files.old files.new window.old window.new
         (λ rest. record { ending = e; seen = sight seen.new; rest = rest }) (find set limit State.Gap (begun seen.old.lines))) }
-    ensures end { IsTrue (F.is_honest files.old) → Ends (F.sources files.old) (F.openings files.old) window.old →
-        Ends (F.sources files.old) (F.openings files.new) window.new }
-    ensures still { IsTrue (F.is_honest files.old) → StillGives (F.openings files.old) window.old →
-        StillGives (F.openings files.new) window.new }
-    ensures gave { IsTrue (F.is_honest files.old) →
-        Along (F.sources files.old) (F.openings files.old) (F.openings files.new) window.old.given window.new.given }
+    ensures went { IfErr result (λ fault. ReadsOn F.Files (is_read fault) files.old files.new window.old window.new) }
     ensures room { OnOk result (seen.new.lines.line + length window.new.left ≤ window.new.given + 1) }
-    ensures window { length window.new.left ≤ 4096 }
-    ensures few { OnOk result (window.new.given ≤ 16777216) }
-    ensures more { window.old.given ≤ window.new.given }
-    ensures cause { IsErrOf result LexFault.Read →
-        Rose (F.faults files.old) (F.faults files.new) ⊎ (16777216 < window.new.given) }
-    ensures unfinished { IsErrOf result LexFault.Read → IsTrue (F.is_honest files.old) →
-        StaysUnfinished set limit seen.old.lines (to_come (F.sources files.old) (F.openings files.old) window.old)
-        (window.new.given - 16777216) (unread (F.sources files.old) (F.openings files.new)) }
-    ensures on { IsErrOf result LexFault.Read → window.new.is_over ≡ false }
-    ensures memory { IsErrOf result LexFault.Memory → IsTrue (F.is_honest files.old) →
-        is_quoted (find set limit State.Gap (begun seen.old.lines) (to_come (F.sources files.old) (F.openings files.old) window.old)).ending
-        ≡ true }
-    ensures counts { CountsOn (F.counts files.old) (F.counts files.new) window.old.given window.new.given }
-    ensures depth { F.depth files.new ≡ F.depth files.old }
-    ensures opened { F.opened files.new ≡ F.opened files.old }
-    ensures faults { (F.faults files.old ≤ F.faults files.new) × OnOk result (F.faults files.new ≡ F.faults files.old)
-        × (IsErrOf result LexFault.Memory → F.faults files.new ≡ F.faults files.old) }
-    ensures sources { F.sources files.new ≡ F.sources files.old }
-    ensures honesty { F.is_honest files.new ≡ F.is_honest files.old }
+    ensures refused { IsTrue (F.is_honest files.old) → IfErr result (Refuses set limit seen.old.lines
+        (to_come (F.sources files.old) (F.openings files.old) window.old)
+        (window.new.given - 16777216) (unread (F.sources files.old) (F.openings files.new))) }
 {
     seen.begin();
     let mut state = State::Gap;
@@ -92,34 +69,16 @@ fn scan_head<F: Files>(
     requires few { window.old.given ≤ 16777216 }
     requires room { lines.old.line + length window.old.left ≤ window.old.given + 1 }
     requires window { length window.old.left ≤ 4096 }
-    ensures heard { IfOk result (λ place. Heard HeadFound (F.is_honest files.old) (F.sources files.old)
-        (F.openings files.old) (F.openings files.new) window.old window.new
+    ensures heard { IfOk result (λ place. Heard HeadFound F.Files false files.old files.new window.old window.new
         (λ rest. record { place = place; word = word.new.items; lines = lines.new; rest = rest })
         (head_found from word.old.items lines.old)) }
-    ensures end { IsTrue (F.is_honest files.old) → Ends (F.sources files.old) (F.openings files.old) window.old →
-        Ends (F.sources files.old) (F.openings files.new) window.new }
-    ensures still { IsTrue (F.is_honest files.old) → StillGives (F.openings files.old) window.old →
-        StillGives (F.openings files.new) window.new }
-    ensures gave { IsTrue (F.is_honest files.old) →
-        Along (F.sources files.old) (F.openings files.old) (F.openings files.new) window.old.given window.new.given }
+    ensures went { IfErr result (λ fault. ReadsOn F.Files (is_read fault) files.old files.new window.old window.new) }
     ensures room { OnOk result (lines.new.line + length window.new.left ≤ window.new.given + 1) }
-    ensures window { length window.new.left ≤ 4096 }
-    ensures few { OnOk result (window.new.given ≤ 16777216) }
-    ensures more { window.old.given ≤ window.new.given }
     ensures err { IfErr result (λ fault. fault ≡ LexFault.Read) }
-    ensures cause { IsErr result → Rose (F.faults files.old) (F.faults files.new) ⊎ (16777216 < window.new.given) }
-    ensures unfinished { IsErr result → is_behind from ≡ false → IsTrue (F.is_honest files.old) →
+    ensures refused { IsErr result → is_behind from ≡ false → IsTrue (F.is_honest files.old) →
         StaysOpen (λ bytes. (head_found from word.old.items lines.old bytes).rest)
         (to_come (F.sources files.old) (F.openings files.old) window.old)
         (window.new.given - 16777216) (unread (F.sources files.old) (F.openings files.new)) }
-    ensures on { IsErr result → window.new.is_over ≡ false }
-    ensures counts { CountsOn (F.counts files.old) (F.counts files.new) window.old.given window.new.given }
-    ensures depth { F.depth files.new ≡ F.depth files.old }
-    ensures opened { F.opened files.new ≡ F.opened files.old }
-    ensures faults { F.faults files.old ≤ F.faults files.new }
-    ensures seen { OnOk result (F.faults files.new ≡ F.faults files.old) }
-    ensures sources { F.sources files.new ≡ F.sources files.old }
-    ensures honesty { F.is_honest files.new ≡ F.is_honest files.old }
 {
     let mut place = from;
     'windows: loop {
@@ -225,44 +184,21 @@ impl Lexer {
             (to_come (F.sources files.old) (F.openings files.old) self.old.window)) }
 
         // With any reader the result is the next token of the bytes that are in view and those that were given, whatever follows
-        // them, and nothing is read any more once the reader told the end.
-        ensures heard { IfOk result (λ token. Heard Read (F.is_honest files.old) (F.sources files.old)
-            (F.openings files.old) (F.openings files.new) self.old.window self.new.window
+        // them. At most 4,096 bytes behind the token were given to the lexer.
+        ensures heard { IfOk result (λ token. Heard Read F.Files false files.old files.new self.old.window self.new.window
             (read_out token self.new) (next_token self.old.set self.old.limit self.old.lines)) }
-        ensures took { IfOk result (λ token. Took token.kind self.old.window self.new.window self.new.kept) }
-        ensures end { IsTrue (F.is_honest files.old) → Ends (F.sources files.old) (F.openings files.old) self.old.window →
-            Ends (F.sources files.old) (F.openings files.new) self.new.window }
-        ensures still { IsTrue (F.is_honest files.old) → StillGives (F.openings files.old) self.old.window →
-            StillGives (F.openings files.new) self.new.window }
-        ensures file { IfOk result (λ token. token.place.file ≡ self.old.file) }
-        ensures same { (self.new.set ≡ self.old.set) × (self.new.limit ≡ self.old.limit) × (self.new.file ≡ self.old.file) }
-
-        // At most 4,096 bytes behind the token were given to the lexer, each once.
+        ensures took { IfOk result (λ token. Took token.kind self.old.window self.new.window self.new.kept
+            × (token.place.file ≡ self.old.file)) }
+        ensures went { self.old.has_failed ≡ false →
+            ReadsOn F.Files (tells_read result) files.old files.new self.old.window self.new.window }
         ensures window { length self.new.window.left ≤ 4096 }
-        ensures gave { IsTrue (F.is_honest files.old) → Along (F.sources files.old)
-            (F.openings files.old) (F.openings files.new) self.old.window.given self.new.window.given }
-        ensures counts { CountsOn (F.counts files.old) (F.counts files.new) self.old.window.given self.new.window.given }
-        ensures few { OnOk result (self.new.window.given ≤ 16777216) }
+        ensures same { Stays self.old self.new (is_err result) }
+        ensures refused { IsTrue (F.is_honest files.old) → self.old.has_failed ≡ false → IfErr result (Refuses self.old.set self.old.limit
+            self.old.lines (to_come (F.sources files.old) (F.openings files.old) self.old.window)
+            (self.new.window.given - 16777216) (unread (F.sources files.old) (F.openings files.new))) }
 
-        // A refusal has its cause, and each answer behind it is `Read`.
-        ensures cause { IsErrOf result LexFault.Read → (self.old.has_failed ≡ true)
-            ⊎ (Rose (F.faults files.old) (F.faults files.new) ⊎ (16777216 < self.new.window.given)) }
-        ensures unfinished { self.old.has_failed ≡ false → IsErrOf result LexFault.Read → IsTrue (F.is_honest files.old) →
-            StaysUnfinished self.old.set self.old.limit self.old.lines
-            (to_come (F.sources files.old) (F.openings files.old) self.old.window)
-            (self.new.window.given - 16777216) (unread (F.sources files.old) (F.openings files.new)) }
-        ensures on { self.old.has_failed ≡ false → IsErrOf result LexFault.Read → self.new.window.is_over ≡ false }
-        ensures memory { IsErrOf result LexFault.Memory → IsTrue (F.is_honest files.old) →
-            is_quoted (find self.old.set self.old.limit State.Gap (begun self.old.lines)
-            (to_come (F.sources files.old) (F.openings files.old) self.old.window)).ending ≡ true }
-        ensures failed { self.new.has_failed ≡ is_err result }
-        ensures over { self.old.has_failed ≡ true → result ≡ Err LexFault.Read }
-        ensures depth { F.depth files.new ≡ F.depth files.old }
-        ensures opened { F.opened files.new ≡ F.opened files.old }
-        ensures faults { (F.faults files.old ≤ F.faults files.new) × OnOk result (F.faults files.new ≡ F.faults files.old)
-            × (IsErrOf result LexFault.Memory → F.faults files.new ≡ F.faults files.old) }
-        ensures sources { F.sources files.new ≡ F.sources files.old }
-        ensures honesty { F.is_honest files.new ≡ F.is_honest files.old }
+        // Behind a refusal each answer is `Read`, and nothing changes.
+        ensures over { self.old.has_failed ≡ true → (result ≡ Err LexFault.Read) × ((self.new ≡ self.old) × (files.new ≡ files.old)) }
     {
         if self.has_failed {
             return Err(LexFault::Read);
@@ -295,7 +231,6 @@ impl Lexer {
     /// behind the head, but for a comment that ends it. The lexer's source is the one that was opened last and is not closed.
     ///
     /// Fails with `Read` where the source could not be read, or has more than 16,777,216 bytes, and after every refusal.
-    #[tactic(auto, using(crate::proofs::Heading::goes_on_is))]
     pub fn next_head_word<F: Files>(
         &mut self,
         files: &mut F,
@@ -310,43 +245,22 @@ impl Lexer {
             ≡ next_head_word place.old self.old.lines (to_come (F.sources files.old) (F.openings files.old) self.old.window)) }
 
         // With any reader the result is the next word of the bytes that are in view and those that were given, whatever follows them.
-        ensures heard { IfOk result (λ is_word. Heard HeadRead (F.is_honest files.old) (F.sources files.old)
-            (F.openings files.old) (F.openings files.new) self.old.window self.new.window
+        ensures heard { IfOk result (λ is_word. Heard HeadRead F.Files false files.old files.new self.old.window self.new.window
             (head_out is_word place.new word.new.items self.new) (next_head_word place.old self.old.lines)) }
-        ensures goes_to { IfOk result (λ is_word. place.new ≡ goes_on_at is_word) }
-        ensures took { IfOk result (λ is_word. TookWord is_word place.old self.old.window self.new.window) }
-        ensures end { IsTrue (F.is_honest files.old) → Ends (F.sources files.old) (F.openings files.old) self.old.window →
-            Ends (F.sources files.old) (F.openings files.new) self.new.window }
-        ensures still { IsTrue (F.is_honest files.old) → StillGives (F.openings files.old) self.old.window →
-            StillGives (F.openings files.new) self.new.window }
-        ensures same { (self.new.set ≡ self.old.set) × (self.new.limit ≡ self.old.limit) × (self.new.file ≡ self.old.file) }
-        ensures kept { self.new.kept ≡ self.old.kept }
-
-        // At most 4,096 bytes behind the word were given to the lexer, each once.
+        ensures took { (place.new ≡ place_after result place.old)
+            × IfOk result (λ is_word. TookWord is_word place.old self.old.window self.new.window) }
+        ensures went { self.old.has_failed ≡ false →
+            ReadsOn F.Files (tells_read result) files.old files.new self.old.window self.new.window }
         ensures window { length self.new.window.left ≤ 4096 }
-        ensures gave { IsTrue (F.is_honest files.old) → Along (F.sources files.old)
-            (F.openings files.old) (F.openings files.new) self.old.window.given self.new.window.given }
-        ensures counts { CountsOn (F.counts files.old) (F.counts files.new) self.old.window.given self.new.window.given }
-        ensures few { OnOk result (self.new.window.given ≤ 16777216) }
+        ensures same { Stays self.old self.new (is_err result) × (self.new.kept ≡ self.old.kept) }
 
-        // A refusal has its cause, leaves the place, and each answer behind it is `Read`. The bytes that were given end neither the
-        // word nor the head then.
-        ensures read { IfErr result (λ fault. fault ≡ LexFault.Read) }
-        ensures cause { IsErr result → (self.old.has_failed ≡ true)
-            ⊎ (Rose (F.faults files.old) (F.faults files.new) ⊎ (16777216 < self.new.window.given)) }
-        ensures unfinished { self.old.has_failed ≡ false → is_behind place.old ≡ false → IsErr result → IsTrue (F.is_honest files.old) →
-            HeadStaysOpen place.old self.old.lines (to_come (F.sources files.old) (F.openings files.old) self.old.window)
-            (self.new.window.given - 16777216) (unread (F.sources files.old) (F.openings files.new)) }
-        ensures on { self.old.has_failed ≡ false → IsErr result → self.new.window.is_over ≡ false }
-        ensures unmoved { OnErr result (place.new ≡ place.old) }
-        ensures failed { self.new.has_failed ≡ is_err result }
-        ensures over { self.old.has_failed ≡ true → result ≡ Err LexFault.Read }
-        ensures depth { F.depth files.new ≡ F.depth files.old }
-        ensures opened { F.opened files.new ≡ F.opened files.old }
-        ensures faults { F.faults files.old ≤ F.faults files.new }
-        ensures seen { OnOk result (F.faults files.new ≡ F.faults files.old) }
-        ensures sources { F.sources files.new ≡ F.sources files.old }
-        ensures honesty { F.is_honest files.new ≡ F.is_honest files.old }
+        // The bytes that were given end neither the word nor the head, where the call is refused. Behind a refusal each answer is
+        // `Read`, and nothing changes.
+        ensures refused { IfErr result (λ fault. (fault ≡ LexFault.Read)
+            × (IsTrue (F.is_honest files.old) → self.old.has_failed ≡ false → is_behind place.old ≡ false → HeadStaysOpen place.old
+            self.old.lines (to_come (F.sources files.old) (F.openings files.old) self.old.window)
+            (self.new.window.given - 16777216) (unread (F.sources files.old) (F.openings files.new)))) }
+        ensures over { self.old.has_failed ≡ true → (result ≡ Err LexFault.Read) × ((self.new ≡ self.old) × (files.new ≡ files.old)) }
     {
         if mem::replace(&mut self.has_failed, true) {
             return Err(LexFault::Read);

@@ -1,9 +1,8 @@
 //! The files that are open, one inside the other.
-ghost use Rattle.std.specs.Prelude.{option_copied, string_bytes, ◌≡◌, ◌+◌, ◌<◌, ◌≤◌, ◌⊎◌, ◌∷◌, [], true, false, length, map, if◌then◌else◌};
-ghost use Rattle.std.specs.Prelude.{slice_get, nat_le, is_ok, IsTrue, IsErrOf, IfOk, OnErr, Err};
-ghost use Rattle.inf_devices.specs.Files.{Rose, Closes, counts_closed, counts_opened};
+ghost use Rattle.std.specs.Prelude.{option_copied, string_bytes, ◌≡◌, ◌<◌, ◌≤◌, ◌∷◌, [], true, false, length, map, slice_get, nat_le};
+ghost use Rattle.std.specs.Prelude.{IsErrOf, IfOk, Err};
 ghost use Rattle.inf_lexer.specs.Names.{can_name, candidates, innermost_name, left, name_in, number_of};
-ghost use Rattle.inf_lexer.specs.Entering.{Enters, Leaves, OpensOn, WasTooMany, is_absent, is_of_opening, tells_failure};
+ghost use Rattle.inf_lexer.specs.Entering.{Attempts, ClosesInnermost, Declines, is_absent, is_of_opening};
 ghost use Rattle.inf_lexer.specs.Readers.{at_front};
 
 use crate::enter_faults::EnterFault;
@@ -109,28 +108,13 @@ impl Stack {
     /// open, and then nothing is opened; `Absent` and `Device` of the reader, `Device` also where 65,535
     /// other names were entered before; `Memory` where there is no room, which is asked for before the
     /// source is opened.
-    #[tactic(auto, using(crate::proofs::Opened::opens_same))]
     pub fn enter_main<F: Files>(&mut self, files: &mut F, name: &str) -> Result<Lexer, EnterFault>
-        ensures ok { IfOk result (λ lexer. Enters (F.sources files.old) (F.is_honest files.old) (name.now ∷ [])
-            (F.openings files.old) (F.openings files.new) self.old self.new lexer) }
-        ensures err { OnErr result (self.new ≡ self.old) }
+        ensures attempt { Attempts F.Files files.old files.new (name.now ∷ []) self.old self.new result }
         ensures bad_name { length name.now ≡ 0 → (result ≡ Err EnterFault.BadName) × (files.new ≡ files.old) }
         ensures too_deep { 0 < length name.now → 16 ≤ length self.old.open_files →
             (result ≡ Err EnterFault.TooDeep) × (files.new ≡ files.old) }
-        ensures leaves { IsTrue (F.is_honest files.old) → Leaves (F.sources files.old) self.old.names (name.now ∷ [])
-            (F.openings files.old) (F.openings files.new) result }
         ensures empty { IsErrOf result EnterFault.BadName → length name.now ≡ 0 }
         ensures full { IsErrOf result EnterFault.TooDeep → 16 ≤ length self.old.open_files }
-        ensures cause { IsErrOf result EnterFault.Device → Rose (F.faults files.old) (F.faults files.new)
-            ⊎ WasTooMany (F.sources files.old) (F.is_honest files.old) self.old.names (name.now ∷ [])
-            (F.openings files.old) (F.openings files.new) (F.opened files.new) }
-        ensures opened { OpensOn self.old.names self.new.names (F.opened files.old) (F.opened files.new) }
-        ensures depth { F.depth files.new ≡ (if is_ok result then F.depth files.old + 1 else F.depth files.old) }
-        ensures faults { (F.faults files.old ≤ F.faults files.new)
-            × (tells_failure result ≡ false → F.faults files.new ≡ F.faults files.old) }
-        ensures counts { F.counts files.new ≡ (if is_ok result then counts_opened (F.counts files.old) else F.counts files.old) }
-        ensures sources { F.sources files.new ≡ F.sources files.old }
-        ensures honesty { F.is_honest files.new ≡ F.is_honest files.old }
     {
         if name.is_empty() {
             return Err(EnterFault::BadName);
@@ -152,36 +136,15 @@ impl Stack {
     /// `TooDeep` where 16 files are open, and then nothing is opened; `Absent` and `Device` of the reader, `Device` also
     /// where 65,535 other names were entered before; `Memory` where there is no room, which is asked for before
     /// each attempt to open a source.
-    #[tactic(auto, using(crate::proofs::Opened::opens_same))]
     pub fn enter<F: Files>(
         &mut self,
         files: &mut F,
         directories: &[&str],
         text: &[u8],
     ) -> Result<Lexer, EnterFault>
-        ensures ok { IfOk result (λ lexer. Enters (F.sources files.old) (F.is_honest files.old)
-            (candidates (map (λ d. d.now) directories.now) (innermost_name self.old) text.now)
-            (F.openings files.old) (F.openings files.new) self.old self.new lexer) }
-        ensures err { OnErr result (self.new ≡ self.old) }
-        ensures bad_name { can_name text.now ≡ false → (result ≡ Err EnterFault.BadName) × (files.new ≡ files.old) }
-        ensures too_deep { can_name text.now ≡ true → 16 ≤ length self.old.open_files →
-            (result ≡ Err EnterFault.TooDeep) × (files.new ≡ files.old) }
-        ensures leaves { IsTrue (F.is_honest files.old) → Leaves (F.sources files.old) self.old.names
-            (candidates (map (λ d. d.now) directories.now) (innermost_name self.old) text.now)
-            (F.openings files.old) (F.openings files.new) result }
-        ensures unfit { IsErrOf result EnterFault.BadName → can_name text.now ≡ false }
-        ensures full { IsErrOf result EnterFault.TooDeep → 16 ≤ length self.old.open_files }
-        ensures cause { IsErrOf result EnterFault.Device → Rose (F.faults files.old) (F.faults files.new)
-            ⊎ WasTooMany (F.sources files.old) (F.is_honest files.old) self.old.names
-            (candidates (map (λ d. d.now) directories.now) (innermost_name self.old) text.now)
-            (F.openings files.old) (F.openings files.new) (F.opened files.new) }
-        ensures opened { OpensOn self.old.names self.new.names (F.opened files.old) (F.opened files.new) }
-        ensures depth { F.depth files.new ≡ (if is_ok result then F.depth files.old + 1 else F.depth files.old) }
-        ensures faults { (F.faults files.old ≤ F.faults files.new)
-            × (tells_failure result ≡ false → F.faults files.new ≡ F.faults files.old) }
-        ensures counts { F.counts files.new ≡ (if is_ok result then counts_opened (F.counts files.old) else F.counts files.old) }
-        ensures sources { F.sources files.new ≡ F.sources files.old }
-        ensures honesty { F.is_honest files.new ≡ F.is_honest files.old }
+        ensures attempt { Attempts F.Files files.old files.new
+            (candidates (map (λ d. d.now) directories.now) (innermost_name self.old) text.now) self.old self.new result }
+        ensures declines { Declines (can_name text.now) (length self.old.open_files) (files.new ≡ files.old) result }
     {
         let (is_beside, file) = without_sign(text);
         let Some(file) = fit_name(file) else {
@@ -209,7 +172,6 @@ impl Stack {
     }
 
     /// Opens the file in the first of `directories` that has it. The faults are those of `enter` from `Absent` on.
-    #[tactic(auto, using(crate::proofs::Opened::opens_then))]
     fn open_first<F: Files>(
         &mut self,
         files: &mut F,
@@ -217,23 +179,8 @@ impl Stack {
         file: &str,
     ) -> Result<Lexer, EnterFault>
         requires { length self.old.open_files < 16 }
-        ensures ok { IfOk result (λ lexer. Enters (F.sources files.old) (F.is_honest files.old)
-            (map (λ d. name_in d.now file.now) directories.now)
-            (F.openings files.old) (F.openings files.new) self.old self.new lexer) }
-        ensures err { OnErr result (self.new ≡ self.old) }
-        ensures leaves { IsTrue (F.is_honest files.old) → Leaves (F.sources files.old) self.old.names
-            (map (λ d. name_in d.now file.now) directories.now) (F.openings files.old) (F.openings files.new) result }
-        ensures cause { IsErrOf result EnterFault.Device → Rose (F.faults files.old) (F.faults files.new)
-            ⊎ WasTooMany (F.sources files.old) (F.is_honest files.old) self.old.names (map (λ d. name_in d.now file.now) directories.now)
-            (F.openings files.old) (F.openings files.new) (F.opened files.new) }
-        ensures opened { OpensOn self.old.names self.new.names (F.opened files.old) (F.opened files.new) }
+        ensures attempt { Attempts F.Files files.old files.new (map (λ d. name_in d.now file.now) directories.now) self.old self.new result }
         ensures named { is_of_opening result ≡ true }
-        ensures depth { F.depth files.new ≡ (if is_ok result then F.depth files.old + 1 else F.depth files.old) }
-        ensures faults { (F.faults files.old ≤ F.faults files.new)
-            × (tells_failure result ≡ false → F.faults files.new ≡ F.faults files.old) }
-        ensures counts { F.counts files.new ≡ (if is_ok result then counts_opened (F.counts files.old) else F.counts files.old) }
-        ensures sources { F.sources files.new ≡ F.sources files.old }
-        ensures honesty { F.is_honest files.new ≡ F.is_honest files.old }
     {
         for directory in directories {
             let name = name_in(self.alloc, directory, file)?;
@@ -246,25 +193,10 @@ impl Stack {
     }
 
     /// Opens the file with the name `name`. The faults are those of `enter` from `Absent` on.
-    #[tactic(auto, using(crate::proofs::Opened::opens_same))]
     fn open_named<F: Files>(&mut self, files: &mut F, name: String) -> Result<Lexer, EnterFault>
         requires { length self.old.open_files < 16 }
-        ensures ok { IfOk result (λ lexer. Enters (F.sources files.old) (F.is_honest files.old) (string_bytes name ∷ [])
-            (F.openings files.old) (F.openings files.new) self.old self.new lexer) }
-        ensures err { OnErr result (self.new ≡ self.old) }
-        ensures leaves { IsTrue (F.is_honest files.old) → Leaves (F.sources files.old) self.old.names
-            (string_bytes name ∷ []) (F.openings files.old) (F.openings files.new) result }
-        ensures cause { IsErrOf result EnterFault.Device → Rose (F.faults files.old) (F.faults files.new)
-            ⊎ WasTooMany (F.sources files.old) (F.is_honest files.old) self.old.names (string_bytes name ∷ [])
-            (F.openings files.old) (F.openings files.new) (F.opened files.new) }
-        ensures opened { OpensOn self.old.names self.new.names (F.opened files.old) (F.opened files.new) }
+        ensures attempt { Attempts F.Files files.old files.new (string_bytes name ∷ []) self.old self.new result }
         ensures named { is_of_opening result ≡ true }
-        ensures depth { F.depth files.new ≡ (if is_ok result then F.depth files.old + 1 else F.depth files.old) }
-        ensures faults { (F.faults files.old ≤ F.faults files.new)
-            × (tells_failure result ≡ false → F.faults files.new ≡ F.faults files.old) }
-        ensures counts { F.counts files.new ≡ (if is_ok result then counts_opened (F.counts files.old) else F.counts files.old) }
-        ensures sources { F.sources files.new ≡ F.sources files.old }
-        ensures honesty { F.is_honest files.new ≡ F.is_honest files.old }
     {
         let number = self.number_of(name.as_str());
         self.names.reserve(1)?;
@@ -328,14 +260,8 @@ impl Stack {
     /// Closes the innermost file.
     pub fn leave<F: Files>(&mut self, files: &mut F)
         requires is_open { 0 < F.depth files.old }
-        ensures closes { IsTrue (F.is_honest files.old) → Closes (F.openings files.old) (F.openings files.new) }
+        ensures closes { ClosesInnermost F.Files files.old files.new }
         ensures left { self.new ≡ left self.old }
-        ensures depth { F.depth files.new + 1 ≡ F.depth files.old }
-        ensures opened { F.opened files.new ≡ F.opened files.old }
-        ensures faults { F.faults files.new ≡ F.faults files.old }
-        ensures counts { F.counts files.new ≡ counts_closed (F.counts files.old) }
-        ensures sources { F.sources files.new ≡ F.sources files.old }
-        ensures honesty { F.is_honest files.new ≡ F.is_honest files.old }
     {
         files.close();
         let _ = self.open_files.pop();

@@ -1,8 +1,6 @@
 //! A source seen through a window.
-ghost use Rattle.std.specs.Prelude.{◌≡◌, ◌+◌, ◌-◌, ◌<◌, ◌≤◌, ◌^◌, ◌⊎◌, ◌∷◌, [], drop, length, false, true, IsTrue, IsErr, IfOk};
-ghost use Rattle.std.specs.Prelude.{IfErr, IsOk, OnErr, OnOk};
-ghost use Rattle.inf_devices.specs.Files.{Reads, Rose, counts_given};
-ghost use Rattle.inf_lexer.specs.{Counted.CountsOn, Unread.Ends, Unread.ReadsOn, Unread.StillGives};
+ghost use Rattle.std.specs.Prelude.{◌≡◌, ◌+◌, ◌-◌, ◌<◌, ◌≤◌, ◌^◌, ◌⊎◌, ◌∷◌, [], drop, is_err, length, false, true, IsErr, IfOk, IfErr};
+ghost use Rattle.inf_lexer.specs.Reading.{Fills, ReadsOnce};
 
 use crate::faults::LexFault;
 use inf_devices::files::{Files, ReadFault};
@@ -66,31 +64,14 @@ impl Window {
     pub(crate) fn refill<F: Files>(&mut self, files: &mut F) -> Result<(), LexFault>
         requires is_open { 0 < F.depth files.old }
         requires given { self.old.given ≤ 16777216 }
-        ensures reads { ReadsOn (F.is_honest files.old) (F.sources files.old)
-            (F.openings files.old) (F.openings files.new) self.old self.new }
+        ensures fills { Fills F.Files (is_err result) files.old files.new self.old self.new }
         ensures over { IfOk result (λ _. self.new.left ≡ [] → self.new.is_over ≡ true) }
-        ensures end { IsTrue (F.is_honest files.old) → Ends (F.sources files.old) (F.openings files.old) self.old →
-            Ends (F.sources files.old) (F.openings files.new) self.new }
-        ensures still { IsTrue (F.is_honest files.old) → StillGives (F.openings files.old) self.old →
-            StillGives (F.openings files.new) self.new }
-        ensures window { length self.new.left ≤ 4096 }
         ensures ahead { length self.new.left ≤ self.new.given }
         ensures taken { self.new.given + length self.old.left ≡ self.old.given + length self.new.left }
-        ensures more { self.old.given ≤ self.new.given }
-        ensures few { IfOk result (λ _. self.new.given ≤ 16777216) }
         ensures err { IfErr result (λ fault. fault ≡ LexFault.Read) }
         ensures refused { IsErr result → (self.old.left ≡ []) × (self.old.is_over ≡ false) }
         ensures unread { IsErr result → (self.new.given ≡ self.old.given)
             ⊎ ((self.old.given ≡ 16777216) × (self.new.given ≡ 16777217)) }
-        ensures on { IsErr result → self.new.is_over ≡ false }
-        ensures cause { IsErr result →
-            Rose (F.faults files.old) (F.faults files.new) ⊎ (16777216 < self.new.given) }
-        ensures counts { CountsOn (F.counts files.old) (F.counts files.new) self.old.given self.new.given }
-        ensures depth { F.depth files.new ≡ F.depth files.old }
-        ensures opened { F.opened files.new ≡ F.opened files.old }
-        ensures faults { (F.faults files.old ≤ F.faults files.new) × OnOk result (F.faults files.new ≡ F.faults files.old) }
-        ensures sources { F.sources files.new ≡ F.sources files.old }
-        ensures honesty { F.is_honest files.new ≡ F.is_honest files.old }
     {
         if self.next < self.end || self.is_over {
             return Ok(());
@@ -112,28 +93,13 @@ impl Window {
         requires given { self.old.given ≤ 16777216 }
         requires empty { self.old.left ≡ [] }
         requires going { self.old.is_over ≡ false }
-        ensures reads { ReadsOn (F.is_honest files.old) (F.sources files.old)
-            (F.openings files.old) (F.openings files.new) self.old self.new }
+        ensures fills { Fills F.Files (is_err result) files.old files.new self.old self.new }
         ensures over { IfOk result (λ _. self.new.left ≡ [] → self.new.is_over ≡ true) }
-        ensures end { IsTrue (F.is_honest files.old) → Ends (F.sources files.old) (F.openings files.new) self.new }
-        ensures still { IsTrue (F.is_honest files.old) → StillGives (F.openings files.old) self.old →
-            StillGives (F.openings files.new) self.new }
-        ensures window { length self.new.left ≤ 4096 }
         ensures ahead { length self.new.left ≤ self.new.given }
         ensures taken { self.new.given ≡ self.old.given + length self.new.left }
-        ensures few { IfOk result (λ _. self.new.given ≤ 16777216) }
         ensures err { IfErr result (λ fault. fault ≡ LexFault.Read) }
         ensures unread { IsErr result → (self.new.given ≡ self.old.given)
             ⊎ ((self.old.given ≡ 16777216) × (self.new.given ≡ 16777217)) }
-        ensures on { IsErr result → self.new.is_over ≡ false }
-        ensures cause { IsErr result →
-            Rose (F.faults files.old) (F.faults files.new) ⊎ (16777216 < self.new.given) }
-        ensures counts { CountsOn (F.counts files.old) (F.counts files.new) self.old.given self.new.given }
-        ensures depth { F.depth files.new ≡ F.depth files.old }
-        ensures opened { F.opened files.new ≡ F.opened files.old }
-        ensures faults { (F.faults files.old ≤ F.faults files.new) × OnOk result (F.faults files.new ≡ F.faults files.old) }
-        ensures sources { F.sources files.new ≡ F.sources files.old }
-        ensures honesty { F.is_honest files.new ≡ F.is_honest files.old }
     {
         self.next = 0;
         self.end = 0;
@@ -153,32 +119,20 @@ impl Window {
     /// Takes the first `n` bytes in view.
     pub(crate) fn pass(&mut self, n: usize)
         requires { n ≤ length self.old.left }
-        ensures left { self.new.left ≡ drop n self.old.left }
-        ensures given { self.new.given ≡ self.old.given }
-        ensures over { self.new.is_over ≡ self.old.is_over }
+        ensures { self.new ≡ record self.old { left = drop n self.old.left } }
     {
         self.next += n;
     }
 }
 
 /// Reads once into the first `room` places of `bytes`, and returns the number of bytes that were read.
-#[tactic(auto, using(crate::proofs::Giving::reads_front))]
 fn read_front<F: Files>(bytes: &mut [u8], room: usize, files: &mut F) -> Result<usize, ReadFault>
     requires is_open { 0 < F.depth files.old }
     requires room { 0 < room }
     requires within { room ≤ length bytes.old }
-    ensures reads { IsTrue (F.is_honest files.old) →
-        Reads (F.sources files.old) (F.openings files.old) (F.openings files.new) bytes.new result }
+    ensures reads { ReadsOnce F.Files files.old files.new bytes.new result }
     ensures count { IfOk result (λ n. n ≤ room) }
     ensures fits { IfOk result (λ n. n ≤ length bytes.new) }
-    ensures counts { IfOk result (λ n. F.counts files.new ≡ counts_given n (F.counts files.old)) }
-    ensures same { OnErr result (F.counts files.new ≡ F.counts files.old) }
-    ensures depth { F.depth files.new ≡ F.depth files.old }
-    ensures opened { F.opened files.new ≡ F.opened files.old }
-    ensures cause { IsErr result → Rose (F.faults files.old) (F.faults files.new) }
-    ensures faults { (F.faults files.old ≤ F.faults files.new) × (IsOk result → F.faults files.new ≡ F.faults files.old) }
-    ensures sources { F.sources files.new ≡ F.sources files.old }
-    ensures honesty { F.is_honest files.new ≡ F.is_honest files.old }
 {
     files.read(&mut bytes[..room])
 }

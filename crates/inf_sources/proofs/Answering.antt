@@ -1,25 +1,20 @@
 -- The outcome of an inclusion, by the outcome of opening a file beside the open ones.
-use Rattle.std.proofs.Common.{◌≡◌, ◌⊎◌, inl, inr, ℕ, suc, ◌+◌, ◌-◌, ◌≤◌, List, [], ◌∷◌, ◌++◌, length, drop, reverse, cond, not, nat_le}
-use Rattle.std.proofs.Common.{Bool, true, false, Option, Some, unwrap_or, refl, sym, ap, subst, ◌∙◌, arith, length-append, slice_get, Vec}
-use Rattle.std.proofs.{lemmas.Bool.le-leb, lemmas.Bool.leb-true, lemmas.List.length-reverse}
+use Rattle.std.proofs.Common.{◌≡◌, ◌⊎◌, inl, inr, ℕ, suc, ◌+◌, ◌-◌, ◌<◌, ◌≤◌, List, [], ◌∷◌, ◌++◌, length, drop, reverse, cond, not, nat_le}
+use Rattle.std.proofs.Common.{Bool, true, false, Option, Some, unwrap_or, Ok, refl, sym, ap, subst, ◌∙◌, arith, length-append, slice_get}
+use Rattle.std.proofs.Common.{Vec}
+use Rattle.std.proofs.{lemmas.Bool.le-leb, lemmas.Bool.lt-leb, lemmas.List.length-reverse}
 use Rattle.std.specs.declared.alloc.Global.{Global}
+use Rattle.inf_characters.specs.declared.characters.CharSet.{CharSet}
 use Rattle.inf_devices.specs.Files.{Openings, Sources}
 use Rattle.inf_lexer.specs.{Entering.ClosedAgain, Entering.first_there, Entering.with_opened, Readers.Reader, Readers.at_front}
 use Rattle.inf_lexer.specs.Names.{Nest, can_name, candidates, entered, innermost_name, name_at, number_of}
 use Rattle.inf_sources.specs.{declared.faults.IncludeFault.IncludeFault, declared.open_file.Conditional.Conditional}
 use Rattle.inf_sources.specs.{declared.open_file.OpenFile.OpenFile, declared.open_files.Included.Included}
-use Rattle.inf_sources.specs.Inclusions.{Inclusion, OpenedInVain, OpensNone, OpensTooMany, Opens, by_first, inclusion, nested_by}
+use Rattle.inf_sources.specs.Inclusions.{Includes, Inclusion, Nesting, OpenedInVain, OpensNone, OpensTooMany, Opens, answer_of, by_first}
+use Rattle.inf_sources.specs.Inclusions.{inclusion, nested_by}
 use Rattle.inf_sources.specs.Open.{AllWait, IsNested, Open, Waits, files_of, lexers_of, nesting, opened_since, waiting_at, waits}
 use Rattle.inf_sources.proofs.{Entered.Fits, Entered.files_more, Entered.lexers_more, Entered.waits_more, Openings.entered_nested}
 use Rattle.inf_sources.proofs.{Openings.entered_nesting, Openings.opened_and_closed, Places.innermost_of, Places.waiting_length}
-
-pub is_true : (b : Bool) → (b ≡ false → ⊥) → b ≡ true
-is_true true h = refl
-is_true false h = absurd (h refl)
-
-is_false : (b : Bool) → (b ≡ true → ⊥) → b ≡ false
-is_false true h = absurd (h refl)
-is_false false h = refl
 
 seam : (xs : List ℕ) (x : ℕ) → slice_get (xs ++ x ∷ []) (length xs) ≡ Some x
 seam [] x = refl
@@ -68,64 +63,58 @@ tested s directories text start now files n e =
     ∙ ap (λ (name : List ℕ). by_tests (can_name text) (nat_le 16 (length files.nest.open_files))
     (first_there s (candidates directories name text))) (sym (same_name files e))
 
-abbrev Comes : Sources → List (List ℕ) → List ℕ → Openings → Openings → Open → Inclusion → Type 0
-Comes s directories text start now files i = inclusion s directories text (nesting s start now files) ≡ i
+-- Lemmas about the outcome of an inclusion
 
-pub unfit_is : (s : Sources) (directories : List (List ℕ)) (text : List ℕ) (start now : Openings) (files : Open) →
-    IsNested start now files → IsNumbered files
-    → can_name text ≡ false → Comes s directories text start now files (OpensNone Included.NotThere)
-unfit_is s directories text start now files n e unfit =
-    tested s directories text start now files n e
-    ∙ ap (λ b. by_tests b (nat_le 16 (length files.nest.open_files))
-    (first_there s (candidates directories (innermost_name files.nest) text))) unfit
+module _ (s : Sources) (directories : List (List ℕ)) (text : List ℕ) {start old : Openings} {before : Open} (n : IsNested start old before)
+    (e : IsNumbered before) where
+  abbrev first : Option (List ℕ)
+  first = first_there s (candidates directories (innermost_name before.nest) text)
 
-pub deep_is : (s : Sources) (directories : List (List ℕ)) (text : List ℕ) (start now : Openings) (files : Open) → IsNested start now files →
-    IsNumbered files
-    → (can_name text ≡ false → ⊥) → 16 ≤ length files.nest.open_files → Comes s directories text start now files
-    (OpensNone Included.TooDeep)
-deep_is s directories text start now files n e fit deep =
-    tested s directories text start now files n e
-    ∙ ap (λ b. by_tests b (nat_le 16 (length files.nest.open_files))
-    (first_there s (candidates directories (innermost_name files.nest) text))) (is_true (can_name text) fit)
-    ∙ ap (λ b. by_tests true b (first_there s (candidates directories (innermost_name files.nest) text)))
-    (le-leb 16 (length files.nest.open_files) deep)
+  pub unfit_is : can_name text ≡ false → inclusion s directories text (nesting s start old before) ≡ OpensNone Included.NotThere
+  unfit_is unfit =
+      tested s directories text start old before n e ∙ ap (λ b. by_tests b (nat_le 16 (length before.nest.open_files)) first) unfit
 
-pub first_is : (s : Sources) (directories : List (List ℕ)) (text : List ℕ) (start now : Openings) (files : Open) (first : Option (List ℕ)) →
-    IsNested start now files
-    → IsNumbered files → (can_name text ≡ false → ⊥) → (16 ≤ length files.nest.open_files → ⊥)
-    → first_there s (candidates directories (innermost_name files.nest) text) ≡ first → Comes s directories text start now files
-    (by_first first)
-first_is s directories text start now files first n e fit flat there =
-    tested s directories text start now files n e
-    ∙ ap (λ b. by_tests b (nat_le 16 (length files.nest.open_files))
-    (first_there s (candidates directories (innermost_name files.nest) text))) (is_true (can_name text) fit)
-    ∙ ap (λ b. by_tests true b (first_there s (candidates directories (innermost_name files.nest) text)))
-    (is_false (nat_le 16 (length files.nest.open_files)) (λ h. flat (leb-true 16 (length files.nest.open_files) h)))
-    ∙ ap (λ o. by_tests true false o) there
+  pub deep_is : can_name text ≡ true → 16 ≤ length before.nest.open_files
+      → inclusion s directories text (nesting s start old before) ≡ OpensNone Included.TooDeep
+  deep_is fit deep =
+      tested s directories text start old before n e ∙ ap (λ b. by_tests b (nat_le 16 (length before.nest.open_files)) first) fit
+      ∙ ap (λ b. by_tests true b first) (le-leb 16 (length before.nest.open_files) deep)
 
--- the openings where the file was one too many
-pub opens_too_many : (s : Sources) (directories : List (List ℕ)) (text : List ℕ) (start old new : Openings) (before : Open) →
-    IsNested start old before
-    → IsNumbered before → (can_name text ≡ false → ⊥) → (16 ≤ length before.nest.open_files → ⊥)
-    → ClosedAgain s before.nest.names (candidates directories (innermost_name before.nest) text) old new
-    → OpensTooMany (inclusion s directories text (nesting s start old before)) (nesting s start old before) (opened_since start new)
-opens_too_many s directories text start old new before n e fit flat c = record {
-  name = c.name;
-  is_opened = first_is s directories text start old before (Some c.name) n e fit flat c.is_first;
-  is_too_many = c.is_too_many;
-  openings_are = opened_and_closed start old new c.name n.more c.is_closed;
-}
+  pub first_is : {found : Option (List ℕ)} → can_name text ≡ true → length before.nest.open_files < 16
+      → first_there s (candidates directories (innermost_name before.nest) text) ≡ found
+      → inclusion s directories text (nesting s start old before) ≡ by_first found
+  first_is fit few there =
+      tested s directories text start old before n e ∙ ap (λ b. by_tests b (nat_le 16 (length before.nest.open_files)) first) fit
+      ∙ ap (λ b. by_tests true b first) (lt-leb 16 (length before.nest.open_files) few) ∙ ap (λ o. by_tests true false o) there
 
--- the openings where the device refused
-pub opened_in_vain : (s : Sources) (directories : List (List ℕ)) (text : List ℕ) (start old new : Openings) (before : Open) →
-    IsNested start old before
-    → IsNumbered before → (can_name text ≡ false → ⊥) → (16 ≤ length before.nest.open_files → ⊥)
-    → (new ≡ old) ⊎ ClosedAgain s before.nest.names (candidates directories (innermost_name before.nest) text) old new
-    → OpenedInVain IncludeFault.Device (inclusion s directories text (nesting s start old before)) (nesting s start old before)
-    (opened_since start new)
-opened_in_vain s directories text start old new before n e fit flat (inl same) = inl (ap (λ (o : Openings). opened_since start o) same)
-opened_in_vain s directories text start old new before n e fit flat (inr c) =
-    inr (opens_too_many s directories text start old new before n e fit flat c)
+  -- the openings where the file was one too many
+  pub opens_too_many : {new : Openings} → can_name text ≡ true → length before.nest.open_files < 16
+      → ClosedAgain s before.nest.names (candidates directories (innermost_name before.nest) text) old new
+      → OpensTooMany (inclusion s directories text (nesting s start old before)) (nesting s start old before) (opened_since start new)
+  opens_too_many {new = new} fit few c = record {
+    name = c.name;
+    is_opened = first_is fit few c.is_first;
+    is_too_many = c.is_too_many;
+    openings_are = opened_and_closed start old new c.name n.more c.is_closed;
+  }
+
+  -- the openings where the device refused
+  pub opened_in_vain : {new : Openings} → can_name text ≡ true → length before.nest.open_files < 16
+      → (new ≡ old) ⊎ ClosedAgain s before.nest.names (candidates directories (innermost_name before.nest) text) old new
+      → OpenedInVain IncludeFault.Device (inclusion s directories text (nesting s start old before)) (nesting s start old before)
+      (opened_since start new)
+  opened_in_vain fit few (inl same) = inl (ap (opened_since start) same)
+  opened_in_vain fit few (inr c) = inr (opens_too_many fit few c)
+
+-- where no file is entered, the nesting stays
+pub nesting_same : (s : Sources) (start : Openings) {old new : Openings} {before after : Open} → new ≡ old → after ≡ before
+    → nesting s start new after ≡ nesting s start old before
+nesting_same s start {old = old} {after = after} opens same = ap (λ o. nesting s start o after) opens ∙ ap (nesting s start old) same
+
+pub includes_none : (set : CharSet) (limit : ℕ) (s : Sources) (conditionals : List Conditional) (is_system : Bool) {i : Inclusion}
+    {was now : Nesting} {why : Included} → i ≡ OpensNone why → now ≡ was → Includes set limit s conditionals is_system i was now (Ok why)
+includes_none set limit s conditionals is_system {was = was} comes same =
+    (sym (ap answer_of comes), same ∙ sym (ap (λ i. nested_by set limit s conditionals is_system i was) comes))
 
 -- the open files behind a file that was entered
 pub entered_is : (s : Sources) (start old new : Openings) (before : Open) (name : List ℕ) (nest : Nest) (lexer : Reader)
@@ -136,26 +125,15 @@ pub entered_is : (s : Sources) (start old new : Openings) (before : Open) (name 
     → nesting s start new (record { nest = nest; lexer = lexer; outer = outer }) ≡ nested_by before.nest.set before.nest.limit s
     (reverse conditionals.items) is_system (Opens name) (nesting s start old before)
 entered_is s start old new before name nest lexer outer conditionals is_system n opens enters fronts more =
-    ap (λ (o : Openings). nesting s start o (record { nest = nest; lexer = lexer; outer = outer })) opens
-    ∙ ap (λ (x : Nest). nesting s start (with_opened name old) (record { nest = x; lexer = lexer; outer = outer })) enters
-    ∙ ap (λ (r : Reader). nesting s start (with_opened name old) (record { nest = entered name before.nest; lexer = r; outer = outer }))
-    fronts
-    ∙ ap (λ (o : List OpenFile). nesting s start (with_opened name old)
-    (record {
-      nest = entered name before.nest;
-      lexer = at_front before.nest.set before.nest.limit (number_of name before.nest.names);
-      outer = o;
-    })) more
-    ∙ entered_nesting s start old before name before.nest.set before.nest.limit conditionals is_system n
+    rw (opens, enters, fronts, more)
+    (entered_nesting s start old before name before.nest.set before.nest.limit conditionals is_system n)
 
 pub entered_nested_of : (start old new : Openings) (before : Open) (name : List ℕ) (nest : Nest) (lexer : Reader) (outer : List OpenFile)
     (f : OpenFile) → f.lexer ≡ before.lexer → IsNested start old before
     → new ≡ with_opened name old → outer ≡ before.outer ++ f ∷ [] → IsNested start new
     (record { nest = nest; lexer = lexer; outer = outer })
 entered_nested_of start old new before name nest lexer outer f waits n opens more =
-    subst (λ (o : Openings). IsNested start o (record { nest = nest; lexer = lexer; outer = outer })) (sym opens)
-    (subst (λ (o : List OpenFile). IsNested start (with_opened name old) (record { nest = nest; lexer = lexer; outer = o })) (sym more)
-    (entered_nested start old before name nest lexer f waits n))
+    rw (opens, more) (entered_nested start old before name nest lexer f waits n)
 
 -- the numbers and settings of the open files behind a file that was entered
 pub entered_fits : (nest after : Nest) (outer new : List OpenFile) (f : OpenFile) (lexer : Reader) (name : List ℕ) →
@@ -170,6 +148,4 @@ entered_fits nest after outer new f lexer name files all w e enters fronts =
       ap (λ fs. fs ++ number_of name nest.names ∷ []) (files ∙ sym (files_more readers f.lexer)),
       (refl, (refl, waits_more nest.set nest.limit readers f.lexer all w)),
     ) in
-    subst (λ (n : Nest). Fits n lexer (lexers_of new)) (sym enters)
-    (subst (λ (r : Reader). Fits (entered name nest) r (lexers_of new)) (sym fronts)
-    (subst (λ (rs : List Reader). Fits (entered name nest) (at_front nest.set nest.limit (number_of name nest.names)) rs) (sym more) made))
+    rw (enters, fronts, more) made

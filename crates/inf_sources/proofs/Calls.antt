@@ -1,16 +1,18 @@
 -- Facts that calls keep: one behind the other, and each kind of them.
-use Rattle.std.proofs.Common.{◌≡◌, ◌+◌, ◌-◌, ◌≤◌, inl, inr, ℕ, true, suc, List, [], ◌∷◌, ◌++◌, length, min, IsTrue, refl, sym, ap}
+use Rattle.std.proofs.Common.{◌≡◌, ◌+◌, ◌-◌, ◌≤◌, inl, inr, ℕ, true, false, suc, List, [], ◌∷◌, ◌++◌, length, min, Bool, IsTrue, refl, sym}
+use Rattle.std.proofs.Common.{ap}
 use Rattle.std.proofs.Common.{subst, ◌∙◌, arith, length-append, drop, map, reverse}
-use Rattle.std.proofs.lemmas.List.{reverse-append}
+use Rattle.std.proofs.{Math.Path.subst⁻¹, lemmas.List.reverse-append}
 use Rattle.std.specs.{List.list_any, Str.bytes_eq}
-use Rattle.inf_devices.specs.Files.{Closes, Counts, Sources, counts_closed, counts_opened, last_count}
+use Rattle.inf_devices.specs.Files.{Counts, Sources, counts_closed, counts_opened, last_count}
 use Rattle.inf_devices.specs.declared.files.Files.{Ghosts as Files}
-use Rattle.inf_lexer.specs.{Counted.CountsOn, Counted.IsCountedBy, Entering.OpensOn, Names.Nest, Names.number_of, Readers.Reader}
-use Rattle.inf_lexer.specs.Unread.{Along, Ends, StillGives}
-use Rattle.inf_lexer.proofs.Opened.{opens_none, opens_then}
+use Rattle.inf_lexer.specs.{Counted.CountsOn, Counted.IsCountedBy, Entering.ClosesInnermost, Entering.OpensOn, Entering.Tries, Names.Nest}
+use Rattle.inf_lexer.specs.{Names.number_of, Readers.Reader, Reading.ReadsOn}
+use Rattle.inf_lexer.proofs.{Opened.opens_none, Opened.opens_then, Reading.reads_none, Reading.reads_then, Reading.unless_as}
 use Rattle.inf_sources.specs.{Open.AllGiven, Open.IsNested, Open.Open, Open.lexers_of, declared.open_file.OpenFile.OpenFile}
-use Rattle.inf_sources.specs.Calls.{AreCounted, AskedTooMany, Honestly, IsUnreadable, StaysFit, StaysGiven, Went, given_each}
+use Rattle.inf_sources.specs.Calls.{AreCounted, AskedTooMany, Honestly, IsUnreadable, ReadsFile, StaysFit, StaysGiven, Went, given_each}
 use Rattle.inf_sources.proofs.{Fronts.left_given, Fronts.read_fit, Fronts.read_given, Nestings.left_nested, Nestings.nested_on}
+use Rattle.inf_sources.proofs.Nestings.{opened_as_before}
 
 -- what was counted is counted where more openings are too long
 counted_more : (base : ℕ) (gs counts : List ℕ) (too_long more : ℕ) → min too_long last_count ≤ more → AreCounted base gs counts too_long
@@ -113,7 +115,7 @@ went_then f a b c x y z p q =
       faults = omega (arith, p.faults, q.faults);
       depth = omega (arith, p.depth, q.depth);
       counted = λ base was. q.counted base (p.counted base was);
-      opened = opens_then x.nest.names y.nest.names z.nest.names (f.opened a) (f.opened b) (f.opened c) p.opened q.opened;
+      opened = opens_then p.opened q.opened;
       nested = λ honest start nested. q.nested (still honest) start (p.nested honest start nested);
       stays_given = given_then f a b c x y z p.sources p.honesty p.nested p.stays_given q.stays_given;
     }
@@ -136,62 +138,74 @@ unreadable_then f a b c x y z w (inl (inr last)) = inl (inr last)
 unreadable_then f a b c x y z w (inr (inl long)) = inr (inl long)
 unreadable_then f a b c x y z w (inr (inr many)) = inr (inr many)
 
--- A token was read of the innermost file.
-pub went_read : {S : Type 0} (f : Files S) (old new : S) (nest : Nest) (before after : Reader) (outer : List OpenFile) →
-    f.sources new ≡ f.sources old
-    → f.is_honest new ≡ f.is_honest old → f.faults old ≤ f.faults new → f.depth new ≡ f.depth old
-    → CountsOn (f.counts old) (f.counts new) before.window.given after.window.given → f.opened new ≡ f.opened old
-    → (IsTrue (f.is_honest old) → Along (f.sources old) (f.openings old) (f.openings new) before.window.given after.window.given) →
-    after.file ≡ before.file
-    → length after.window.left ≤ 4096 → (IsTrue (f.is_honest old) → Ends (f.sources old) (f.openings old) before.window → Ends
-    (f.sources old) (f.openings new) after.window)
-    → (IsTrue (f.is_honest old) → StillGives (f.openings old) before.window → StillGives (f.openings new) after.window)
-    → Went f old new (record { nest = nest; lexer = before; outer = outer }) (record { nest = nest; lexer = after; outer = outer })
-went_read f old new nest before after outer sources honesty faults depth counts opened along file window ends still =
-    let was : Open = record { nest = nest; lexer = before; outer = outer } in
-    let now : Open = record { nest = nest; lexer = after; outer = outer } in
+-- the innermost file was read on
+pub reads_file : {S : Type 0} {f : Files S} {failed : Bool} {old new : S} {nest : Nest} {before after : Reader} {outer : List OpenFile}
+    → ReadsOn f failed old new before.window after.window → after.file ≡ before.file
+    → ReadsFile f failed old new (record { nest = nest; lexer = before; outer = outer })
+        (record { nest = nest; lexer = after; outer = outer })
+reads_file {f = f} {failed = failed} {old = old} {new = new} {nest = nest} {before = before} {after = after} {outer = outer} on file =
     record {
-      sources = sources;
-      honesty = honesty;
-      faults = faults;
-      depth = omega (arith, depth);
-      counted = λ base was. counted_read base (f.counts old) (f.counts new) before.window.given after.window.given
-          (map (λ (r : Reader). r.window.given) (lexers_of (reverse outer))) counts was;
-      opened = subst (λ (names : List (List ℕ)). OpensOn nest.names nest.names (f.opened old) names) (sym opened)
-          (opens_none nest.names (f.opened old));
-      nested = λ honest start n. let gave = (along honest).gave in nested_on start (f.openings old) (f.openings new) was now n gave.places
-          gave.count refl;
-      stays_given = λ honest start n g. read_given (f.sources old) start (f.openings old) (f.openings new) was now n refl refl file
-          (along honest) window (ends honest) (still honest) g;
-    }
+  went = record {
+    sources = on.sources;
+    honesty = on.honesty;
+    faults = on.faults;
+    depth = omega (arith, on.depth);
+    counted = λ base was. counted_read base (f.counts old) (f.counts new) before.window.given after.window.given
+        (map (λ (r : Reader). r.window.given) (lexers_of (reverse outer))) on.counts was;
+    opened = subst⁻¹ (λ (names : List (List ℕ)). OpensOn nest.names nest.names (f.opened old) names) on.opened
+        (opens_none nest.names (f.opened old));
+    nested = λ honest start n.
+        nested_on start (f.openings old) (f.openings new) (record { nest = nest; lexer = before; outer = outer })
+        (record { nest = nest; lexer = after; outer = outer }) n (on.gave honest).places (on.gave honest).count refl;
+    stays_given = λ honest start n given. read_given after on file honest n given;
+  };
+  on = on;
+  opened = λ honest start n.
+      opened_as_before (f.sources old) start (f.openings old) (f.openings new) on.bytes (on.gave honest);
+  fits = unless_as failed (λ few honest start n given fit. read_fit after on file honest n given few fit) on.few;
+  nest = refl;
+  outer = refl;
+  file = file;
+}
 
-pub fit_read : {S : Type 0} (f : Files S) (old new : S) (nest : Nest) (before after : Reader) (outer : List OpenFile)
-    → (IsTrue (f.is_honest old) → Along (f.sources old) (f.openings old) (f.openings new) before.window.given after.window.given) →
-    after.file ≡ before.file
-    → after.window.given ≤ 16777216 → length after.window.left ≤ 4096
-    → (IsTrue (f.is_honest old) → Ends (f.sources old) (f.openings old) before.window → Ends (f.sources old) (f.openings new) after.window)
-    → (IsTrue (f.is_honest old) → StillGives (f.openings old) before.window → StillGives (f.openings new) after.window)
-    → StaysFit f old new (record { nest = nest; lexer = before; outer = outer })
-fit_read f old new nest before after outer along file few window ends still = λ honest start n given fit.
-    read_fit (f.sources old) start (f.openings old) (f.openings new) (record { nest = nest; lexer = before; outer = outer })
-    (record { nest = nest; lexer = after; outer = outer }) n refl file
-    (along honest) few window (ends honest) (still honest) given fit
+-- no call, and one behind another
+pub reads_file_none : {S : Type 0} {f : Files S} {s : S} {files : Open} → files.lexer.window.given ≤ 16777216
+    → length files.lexer.window.left ≤ 4096 → ReadsFile f false s s files files
+reads_file_none {f = f} {s = s} {files = files} few window = record {
+  went = went_none f s files;
+  on = reads_none few window;
+  opened = λ honest start n. refl;
+  fits = fit_none f s files;
+  nest = refl;
+  outer = refl;
+  file = refl;
+}
+
+pub reads_file_then : {S : Type 0} {f : Files S} {failed : Bool} {a b c : S} {x y z : Open} → ReadsFile f false a b x y
+    → ReadsFile f failed b c y z → ReadsFile f failed a c x z
+reads_file_then {f = f} {failed = failed} {a = a} {b = b} {c = c} {x = x} {y = y} {z = z} p q = record {
+  went = went_then f a b c x y z p.went q.went;
+  on = reads_then p.on q.on;
+  opened = λ honest start n.
+      q.opened (p.went.honesty ∙ honest) start (p.went.nested honest start n) ∙ p.opened honest start n;
+  fits = unless_as failed (λ fit. fit_then f a b c x y p.went p.fits fit) q.fits;
+  nest = q.nest ∙ p.nest;
+  outer = q.outer ∙ p.outer;
+  file = q.file ∙ p.file;
+}
 
 -- A file was entered.
-pub went_in : {S : Type 0} (f : Files S) (old new : S) (before after : Open) → f.sources new ≡ f.sources old →
-    f.is_honest new ≡ f.is_honest old
-    → f.faults old ≤ f.faults new → f.depth new ≡ f.depth old + 1 → f.counts new ≡ counts_opened (f.counts old)
+pub went_in : {S : Type 0} {f : Files S} {failed : Bool} {old new : S} {before after : Open} → Tries f true failed old new
     → OpensOn before.nest.names after.nest.names (f.opened old) (f.opened new)
-    → (waits : OpenFile) → waits.lexer ≡ before.lexer → after.outer ≡ before.outer ++ waits ∷ []
-    → after.lexer.window.given ≡ 0
-    → Honestly f old before (λ start. IsNested start (f.openings new) after) → StaysGiven f old new before after → Went f old new before
-    after
-went_in f old new before after sources honesty faults depth counts opened waits same outer front nested stays = record {
-  sources = sources;
-  honesty = honesty;
-  faults = faults;
-  depth = omega (arith, depth, ap length outer, length-append before.outer (waits ∷ []));
-  counted = λ base was. counted_in base (f.counts old) (f.counts new) (given_each before) (given_each after) counts
+    → (waits : OpenFile) → waits.lexer ≡ before.lexer → after.outer ≡ before.outer ++ waits ∷ [] → after.lexer.window.given ≡ 0
+    → Honestly f old before (λ start. IsNested start (f.openings new) after) → StaysGiven f old new before after
+    → Went f old new before after
+went_in {f = f} {old = old} {new = new} {before = before} {after = after} t opened waits same outer front nested stays = record {
+  sources = t.sources;
+  honesty = t.honesty;
+  faults = t.faults;
+  depth = omega (arith, t.depth, ap length outer, length-append before.outer (waits ∷ []));
+  counted = λ base was. counted_in base (f.counts old) (f.counts new) (given_each before) (given_each after) t.counts
       (given_entered before after waits same outer front) was;
   opened = opened;
   nested = nested;
@@ -199,53 +213,46 @@ went_in f old new before after sources honesty faults depth counts opened waits 
 }
 
 -- No file was entered.
-pub went_by : {S : Type 0} (f : Files S) (old new : S) (before after : Open) → f.sources new ≡ f.sources old →
-    f.is_honest new ≡ f.is_honest old
-    → f.faults old ≤ f.faults new → f.depth new ≡ f.depth old → f.counts new ≡ f.counts old
+pub went_by : {S : Type 0} {f : Files S} {failed : Bool} {old new : S} {before after : Open} → Tries f false failed old new
     → OpensOn before.nest.names after.nest.names (f.opened old) (f.opened new) → after ≡ before
-    → Honestly f old before (λ start. IsNested start (f.openings new) before) → StaysGiven f old new before before → Went f old new before
-    after
-went_by f old new before after sources honesty faults depth counts opened same nested stays =
-    subst (λ (o : Open). Went f old new before o) (sym same) (record {
-      sources = sources;
-      honesty = honesty;
-      faults = faults;
-      depth = omega (arith, depth);
-      counted = λ base was. subst (λ (c : Counts). AreCounted base (given_each before) c.each c.too_long) (sym counts) was;
+    → Honestly f old before (λ start. IsNested start (f.openings new) before) → StaysGiven f old new before before
+    → Went f old new before after
+went_by {f = f} {old = old} {new = new} {before = before} t opened same nested stays =
+    subst⁻¹ (λ (o : Open). Went f old new before o) same (record {
+      sources = t.sources;
+      honesty = t.honesty;
+      faults = t.faults;
+      depth = omega (arith, t.depth);
+      counted = λ base was. subst⁻¹ (λ (c : Counts). AreCounted base (given_each before) c.each c.too_long) t.counts was;
       opened = subst (λ (o : Open). OpensOn before.nest.names o.nest.names (f.opened old) (f.opened new)) same opened;
       nested = nested;
       stays_given = stays;
     })
 
 -- A file was left.
-pub went_out : {S : Type 0} (f : Files S) (old new : S) (before after : Open) → f.sources new ≡ f.sources old →
-    f.is_honest new ≡ f.is_honest old
-    → f.faults new ≡ f.faults old → f.depth new + 1 ≡ f.depth old → f.counts new ≡ counts_closed (f.counts old) → f.opened new ≡ f.opened
-    old
-    → (back : OpenFile) → after.lexer ≡ back.lexer → before.outer ≡ after.outer ++ back ∷ []
-    → after.nest.names ≡ before.nest.names
-    → (IsTrue (f.is_honest old) → Closes (f.openings old) (f.openings new)) → Went f old new before after
-went_out f old new before after sources honesty faults depth counts opened back same outer names closes = record {
-  sources = sources;
-  honesty = honesty;
-  faults = omega (arith, faults);
-  depth = omega (arith, depth, ap length outer, length-append after.outer (back ∷ []));
-  counted = λ base was. counted_out base (f.counts old) (f.counts new) (given_each before) (given_each after) before.lexer.window.given counts
-      (given_left before after back same outer) was;
-  opened = subst (λ (ns : List (List ℕ)). OpensOn before.nest.names ns (f.opened old) (f.opened new)) (sym names)
-      (subst (λ (ns : List (List ℕ)). OpensOn before.nest.names before.nest.names (f.opened old) ns) (sym opened)
+pub went_out : {S : Type 0} {f : Files S} {old new : S} {before after : Open} → ClosesInnermost f old new
+    → (back : OpenFile) → after.lexer ≡ back.lexer → before.outer ≡ after.outer ++ back ∷ [] → after.nest.names ≡ before.nest.names
+    → Went f old new before after
+went_out {f = f} {old = old} {new = new} {before = before} {after = after} c back same outer names = record {
+  sources = c.sources;
+  honesty = c.honesty;
+  faults = omega (arith, c.faults);
+  depth = omega (arith, c.depth, ap length outer, length-append after.outer (back ∷ []));
+  counted = λ base was. counted_out base (f.counts old) (f.counts new) (given_each before) (given_each after) before.lexer.window.given
+      c.counts (given_left before after back same outer) was;
+  opened = subst⁻¹ (λ (ns : List (List ℕ)). OpensOn before.nest.names ns (f.opened old) (f.opened new)) names
+      (subst⁻¹ (λ (ns : List (List ℕ)). OpensOn before.nest.names before.nest.names (f.opened old) ns) c.opened
       (opens_none before.nest.names (f.opened old)));
-  nested = λ honest start n. left_nested start (f.openings old) (f.openings new) before after back n (closes honest) outer same;
-  stays_given =
-      λ honest start n g.
-      left_given (f.sources old) start (f.openings old) (f.openings new) before after n (closes honest) back outer same names g;
+  nested = λ honest start n. left_nested start (f.openings old) (f.openings new) before after back n (c.closes honest) outer same;
+  stays_given = λ honest start n g.
+      left_given (f.sources old) start (f.openings old) (f.openings new) before after n (c.closes honest) back outer same names g;
 }
 
 -- one name more than can be numbered was opened and closed
-pub asked_too_many : {S : Type 0} (f : Files S) (new : S) (after : Open) (known : Nest) (name : List ℕ) → after.nest ≡ known
+pub asked_too_many : {S : Type 0} {f : Files S} {new : S} {after : Open} {known : Nest} (name : List ℕ) → after.nest ≡ known
     → 65535 ≤ number_of name known.names → list_any (bytes_eq name) (f.opened new) ≡ true → AskedTooMany f new after
-asked_too_many f new after known name same many is = record {
+asked_too_many name same many is = record {
   name = name;
-  is_too_many = subst (λ (n : Nest). 65535 ≤ number_of name n.names) (sym same) many;
+  is_too_many = subst⁻¹ (λ (n : Nest). 65535 ≤ number_of name n.names) same many;
   is_opened = is;
 }

@@ -1,5 +1,5 @@
 -- The open files where all files are read by another character set.
-use Rattle.std.proofs.{lemmas.Grind.reverse_onto, lemmas.List.length-map}
+use Rattle.std.proofs.{lemmas.Grind.reverse_onto, lemmas.List.length-map, lemmas.List.map-append}
 use Rattle.std.proofs.Common.{◌≡◌, ℕ, suc, ◌+◌, List, [], ◌∷◌, ◌++◌, length, drop, map, reverse, refl, sym, ap, subst, ◌∙◌}
 use Rattle.inf_characters.specs.declared.characters.CharSet.{CharSet}
 use Rattle.inf_devices.specs.Files.{Opening, Openings, Sources}
@@ -10,16 +10,12 @@ use Rattle.inf_sources.specs.Open.{AllGiven, AllWait, AreNested, AreTracked, IsN
 use Rattle.inf_sources.specs.Open.{waiting_at}
 use Rattle.inf_sources.proofs.Places.{nested_as}
 
-map_last : {X : Type 0} → (f : X → X) (xs : List X) (x : X) → map f (xs ++ x ∷ []) ≡ map f xs ++ f x ∷ []
-map_last f [] x = refl
-map_last f (y ∷ xs) x = ap (λ ys. f y ∷ ys) (map_last f xs x)
-
 -- mapping each item backwards is mapping all and turning them
 reverse_each : {X : Type 0} → (f : X → X) (xs : List X) → reverse (map f xs) ≡ map f (reverse xs)
 reverse_each f [] = refl
 reverse_each f (x ∷ xs) =
     reverse_onto (map f xs) (f x) [] ∙ ap (λ ys. ys ++ f x ∷ []) (reverse_each f xs)
-    ∙ sym (ap (map f) (reverse_onto xs x []) ∙ map_last f (reverse xs) x)
+    ∙ sym (ap (map f) (reverse_onto xs x []) ∙ map-append f (reverse xs) (x ∷ []))
 
 -- Lemmas about the lexers that read by another set
 

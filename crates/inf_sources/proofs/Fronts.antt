@@ -1,16 +1,18 @@
 -- Each opening has a front of its source as its given bytes, and each open file is tracked.
 use Rattle.std.proofs.Common.{◌≡◌, ◌⊎◌, inl, inr, ℕ, suc, zero, ◌-◌, ◌<◌, ◌≤◌, List, [], ◌∷◌, ◌++◌, length, reverse, get_or, unwrap_or}
+use Rattle.std.proofs.Common.{Bool, IsTrue}
 use Rattle.std.proofs.Common.{Some, refl, sym, ap, subst, ◌∙◌, arith, append_assoc, length-append, slice_get}
-use Rattle.std.proofs.{Math.Seq.get_or-append_seam, lemmas.Bool.cases_lt}
+use Rattle.std.proofs.{Math.Path.subst⁻¹, Math.Seq.get_or-append_seam, lemmas.Bool.cases_lt}
 use Rattle.inf_characters.specs.declared.characters.CharSet.{CharSet}
-use Rattle.inf_devices.specs.Files.{Closes, Opening, Openings, Sources, opened}
+use Rattle.inf_devices.specs.{Files.Closes, Files.Opening, Files.Openings, Files.Sources, Files.opened}
+use Rattle.inf_devices.specs.{declared.files.Files.Ghosts as Files}
 use Rattle.inf_lexer.specs.{Entering.ClosedAgain, Entering.with_closed, Entering.with_opened, Names.Nest, Names.entered, Names.number_of}
 use Rattle.inf_lexer.specs.{Readers.Reader, Readers.at_front}
-use Rattle.inf_lexer.specs.Unread.{Along, Ends, Gave, StillGives, innermost, innermost_place, unread_of}
+use Rattle.inf_lexer.specs.{Reading.ReadsOn, Unread.Gave, Unread.innermost, Unread.innermost_place, Unread.unread_of}
 use Rattle.inf_sources.specs.{Open.AllGiven, Open.AreNested, Open.AreTracked, Open.Each, Open.Fits, Open.IsCounted, Open.IsFrontOf}
 use Rattle.inf_sources.specs.{Open.IsNested, Open.IsTracked, Open.Open, Open.lexers, Open.lexers_of, declared.open_file.OpenFile.OpenFile}
 use Rattle.inf_sources.proofs.{NamesKept.named_at, NamesKept.names_stay, Openings.slice_front}
-use Rattle.inf_sources.proofs.Places.{innermost_of, last_of, or_same, reverse_last}
+use Rattle.inf_sources.proofs.Places.{Innermost, innermost_of, last_of, or_same, reverse_last}
 
 -- two places are the same or not
 same_place : (i at : ℕ) → (i ≡ at) ⊎ (i ≡ at → ⊥)
@@ -67,88 +69,73 @@ read_each P s n old new bytes gave here each = λ i le lt. at i le lt (same_plac
     at i le lt (inr other) =
         subst (λ (o : Opening). P o) (sym (or_same old.all new.all i (gave.others i other))) (each i le (omega (arith, lt, gave.count)))
 
--- behind a token that was read, the innermost file is still tracked
-read_first : (s : Sources) (start old new : Openings) (before after : Open) → IsNested start old before →
-    after.nest.names ≡ before.nest.names
-    → after.lexer.file ≡ before.lexer.file → Along s old new before.lexer.window.given after.lexer.window.given → length
-    after.lexer.window.left ≤ 4096
-    → (Ends s old before.lexer.window → Ends s new after.lexer.window) →
-    (StillGives old before.lexer.window → StillGives new after.lexer.window)
-    → AllGiven s (length start.all) old before → IsTracked s (length start.all) after.nest.names new.all (innermost_place old) after.lexer
-read_first s start old new before after nested names file along window ends still given =
-    let n : ℕ = length start.all in
-    let gave = along.gave in
-    let at = innermost_of (length old.all) (reverse old.open_places) before.lexer (lexers_of (reverse before.outer)) nested.nested in
-    let place : innermost_place old ≡ at.place = last_of old.open_places at.place at.rest at.is in
-    let now : innermost_place new ≡ innermost_place old = ap (λ (ps : List ℕ). get_or ps (length ps - 1) 0) gave.places in
-    let was : AreTracked s n before.nest.names old.all (at.place ∷ at.rest) (lexers before) =
-    subst (λ (ps : List ℕ). AreTracked s n before.nest.names old.all ps (lexers before)) at.is given.tracked in
-    let first : IsTracked s n before.nest.names old.all (innermost_place old) before.lexer =
-    subst (λ (k : ℕ). IsTracked s n before.nest.names old.all k before.lexer) (sym place) was.0 in
-    let counted : IsCounted s (innermost new) after.lexer.window = record {
-      count = omega (arith, ap length gave.given, length-append (innermost old).given along.bytes, first.counted.count, along.count);
-      window = window;
-      ends = ends first.counted.ends;
-      goes_on = still first.counted.goes_on;
-    } in
-    record {
-      behind = first.behind;
-      named =
-          ap (λ (xs : List (List ℕ)). slice_get xs after.lexer.file) names ∙ ap (λ (k : ℕ). slice_get before.nest.names k) file
-          ∙ first.named ∙ ap (λ (x : List ℕ). Some x) (sym gave.name)
-          ∙ ap (λ (k : ℕ). Some (get_or new.all k (opened [])).name) now;
-      counted = subst (λ (k : ℕ). IsCounted s (get_or new.all k (opened [])) after.lexer.window) now counted;
-    }
+-- the innermost file was read on, by a lexer that is `r` then
+module _ {S : Type 0} {f : Files S} {failed : Bool} {a b : S} {nest : Nest} {q : Reader} {outer : List OpenFile} {start : Openings}
+    (r : Reader) (on : ReadsOn f failed a b q.window r.window) (file : r.file ≡ q.file) (honest : IsTrue (f.is_honest a))
+    (nested : IsNested start (f.openings a) (record { nest = nest; lexer = q; outer = outer }))
+    (given : AllGiven (f.sources a) (length start.all) (f.openings a) (record { nest = nest; lexer = q; outer = outer })) where
+  gave : Gave (f.sources a) (f.openings a) (f.openings b) on.bytes
+  gave = on.gave honest
 
-pub read_given : (s : Sources) (start old new : Openings) (before after : Open) → IsNested start old before → after.outer ≡ before.outer →
-    after.nest.names ≡ before.nest.names
-    → after.lexer.file ≡ before.lexer.file → Along s old new before.lexer.window.given after.lexer.window.given → length
-    after.lexer.window.left ≤ 4096
-    → (Ends s old before.lexer.window → Ends s new after.lexer.window) →
-    (StillGives old before.lexer.window → StillGives new after.lexer.window)
-    → AllGiven s (length start.all) old before → AllGiven s (length start.all) new after
-read_given s start old new before after nested outer names file along window ends still given =
-    let n : ℕ = length start.all in
-    let gave = along.gave in
-    let at = innermost_of (length old.all) (reverse old.open_places) before.lexer (lexers_of (reverse before.outer)) nested.nested in
-    let place : innermost_place old ≡ at.place = last_of old.open_places at.place at.rest at.is in
-    let first : IsTracked s n after.nest.names new.all at.place after.lexer =
-    subst (λ (k : ℕ). IsTracked s n after.nest.names new.all k after.lexer) place
-    (read_first s start old new before after nested names file along window ends still given) in
-    let was : AreTracked s n before.nest.names old.all (at.place ∷ at.rest) (lexers before) =
-    subst (λ (ps : List ℕ). AreTracked s n before.nest.names old.all ps (lexers before)) at.is given.tracked in
-    let rest : AreTracked s n after.nest.names new.all at.rest (lexers_of (reverse before.outer)) =
-    tracked_same s n before.nest.names after.nest.names old.all new.all at.place at.rest (lexers_of (reverse before.outer))
-    (λ i name e. ap (λ (xs : List (List ℕ)). slice_get xs i) names ∙ e) at.inner
-    (λ i less. gave.others i (λ e. omega (arith, less, e, place))) was.1 in
-    let front : IsFrontOf s (innermost new) =
-    next_front s (innermost old) (innermost new) along.bytes
-    (given.each (innermost_place old) (omega (arith, place, was.0.behind)) (omega (arith, place, at.less))) gave.next gave.given gave.name
-    in
-    record {
-      each = read_each (IsFrontOf s) s n old new along.bytes gave front given.each;
-      tracked = subst (λ (ps : List ℕ). AreTracked s n after.nest.names new.all ps (lexers after))
-          (sym (ap reverse gave.places ∙ at.is))
-          (subst (λ (fs : List OpenFile). AreTracked s n after.nest.names new.all (at.place ∷ at.rest)
-          (after.lexer ∷ lexers_of (reverse fs)))
-          (sym outer)
-          (first, rest));
-    }
+  at : Innermost (length (f.openings a).all) (reverse (f.openings a).open_places) (lexers_of (reverse outer))
+  at = innermost_of (length (f.openings a).all) (reverse (f.openings a).open_places) q (lexers_of (reverse outer)) nested.nested
 
--- as long as its lexer was given few bytes, no opening was given more
-pub read_fit : (s : Sources) (start old new : Openings) (before after : Open) → IsNested start old before →
-    after.nest.names ≡ before.nest.names
-    → after.lexer.file ≡ before.lexer.file → Along s old new before.lexer.window.given after.lexer.window.given → after.lexer.window.given ≤
-    16777216
-    → length after.lexer.window.left ≤ 4096 → (Ends s old before.lexer.window → Ends s new after.lexer.window)
-    → (StillGives old before.lexer.window → StillGives new after.lexer.window)
-    → AllGiven s (length start.all) old before → Each Fits (length start.all) old.all → Each Fits (length start.all) new.all
-read_fit s start old new before after nested names file along few window ends still given fit =
-    let gave = along.gave in
-    let now : innermost_place new ≡ innermost_place old = ap (λ (ps : List ℕ). get_or ps (length ps - 1) 0) gave.places in
-    let first = read_first s start old new before after nested names file along window ends still given in
-    read_each Fits s (length start.all) old new along.bytes gave
-    (subst (λ (k : ℕ). Fits (get_or new.all k (opened []))) (sym now) (omega (arith, first.counted.count, few))) fit
+  place : innermost_place (f.openings a) ≡ at.place
+  place = last_of (f.openings a).open_places at.place at.rest at.is
+
+  was : AreTracked (f.sources a) (length start.all) nest.names (f.openings a).all (at.place ∷ at.rest) (q ∷ lexers_of (reverse outer))
+  was = subst (λ (ps : List ℕ). AreTracked (f.sources a) (length start.all) nest.names (f.openings a).all ps
+      (q ∷ lexers_of (reverse outer)))
+      at.is given.tracked
+
+  -- the innermost file is still tracked
+  first : IsTracked (f.sources a) (length start.all) nest.names (f.openings b).all at.place r
+  first =
+      let here : (innermost_place (f.openings b)) ≡ at.place = ap (λ (ps : List ℕ). get_or ps (length ps - 1) 0) gave.places ∙ place in
+      let before = subst⁻¹ (λ (k : ℕ). IsTracked (f.sources a) (length start.all) nest.names (f.openings a).all k q) place was.0 in
+      let counted : IsCounted (f.sources a) (innermost (f.openings b)) r.window = record {
+        count = omega (
+          arith,
+          ap length gave.given,
+          length-append (innermost (f.openings a)).given on.bytes,
+          before.counted.count,
+          on.given,
+        );
+        window = on.window;
+        ends = on.end honest before.counted.ends;
+        goes_on = on.still honest before.counted.goes_on;
+      } in
+      record {
+        behind = was.0.behind;
+        named = ap (λ (k : ℕ). slice_get nest.names k) file ∙ before.named ∙ ap (λ (x : List ℕ). Some x) (sym gave.name)
+            ∙ ap (λ (k : ℕ). Some (get_or (f.openings b).all k (opened [])).name) here;
+        counted = subst (λ (k : ℕ). IsCounted (f.sources a) (get_or (f.openings b).all k (opened [])) r.window) here counted;
+      }
+
+  pub read_given : AllGiven (f.sources a) (length start.all) (f.openings b) (record { nest = nest; lexer = r; outer = outer })
+  read_given =
+      let rest : AreTracked (f.sources a) (length start.all) nest.names (f.openings b).all at.rest (lexers_of (reverse outer)) =
+      tracked_same (f.sources a) (length start.all) nest.names nest.names (f.openings a).all (f.openings b).all at.place at.rest
+      (lexers_of (reverse outer)) (λ i name e. e) at.inner (λ i less. gave.others i (λ e. omega (arith, less, e, place))) was.1 in
+      let front : IsFrontOf (f.sources a) (innermost (f.openings b)) =
+      next_front (f.sources a) (innermost (f.openings a)) (innermost (f.openings b)) on.bytes
+      (given.each (innermost_place (f.openings a)) (omega (arith, place, was.0.behind))
+          (omega (arith, place, at.less))) gave.next gave.given
+      gave.name in
+      record {
+        each = read_each (IsFrontOf (f.sources a)) (f.sources a) (length start.all) (f.openings a) (f.openings b) on.bytes gave front
+            given.each;
+        tracked = subst⁻¹ (λ (ps : List ℕ). AreTracked (f.sources a) (length start.all) nest.names (f.openings b).all ps
+            (r ∷ lexers_of (reverse outer))) (ap reverse gave.places ∙ at.is) (first, rest);
+      }
+
+  -- as long as its lexer was given few bytes, no opening was given more
+  pub read_fit : r.window.given ≤ 16777216 → Each Fits (length start.all) (f.openings a).all
+      → Each Fits (length start.all) (f.openings b).all
+  read_fit few fit =
+      let here : (innermost_place (f.openings b)) ≡ at.place = ap (λ (ps : List ℕ). get_or ps (length ps - 1) 0) gave.places ∙ place in
+      read_each Fits (f.sources a) (length start.all) (f.openings a) (f.openings b) on.bytes gave
+      (subst⁻¹ (λ (k : ℕ). Fits (get_or (f.openings b).all k (opened []))) here (omega (arith, first.counted.count, few))) fit
 
 -- Lemmas about one more opening
 
@@ -212,14 +199,7 @@ entered_given s start old new before after name set limit nested opens nest fron
     (tracked_new s n old.all name before.nest set limit nested.more, rest) in
     subst (λ (o : Openings). AllGiven s n o after) (sym opens) (record {
       each = each_more (IsFrontOf s) n old.all name refl given.each;
-      tracked = subst (λ (x : Nest). AreTracked s n x.names all (reverse (old.open_places ++ length old.all ∷ []))
-          (lexers after)) (sym nest)
-          (subst (λ (ps : List ℕ). AreTracked s n names all ps (lexers after))
-          (sym (reverse_last old.open_places (length old.all)))
-          (subst (λ (r : Reader). AreTracked s n names all (length old.all ∷ reverse old.open_places) (r ∷ lexers_of (reverse after.outer)))
-          (sym fronts)
-          (subst (λ (rs : List Reader). AreTracked s n names all (length old.all ∷ reverse old.open_places) (front ∷ rs)) (sym readers)
-          tracked)));
+      tracked = rw (nest, reverse_last old.open_places (length old.all), fronts, readers) tracked;
     })
 
 -- the main source alone
@@ -233,15 +213,8 @@ main_given s old new files name nest set limit opens enters fronts outer =
     let front : Reader = at_front set limit (number_of name nest.names) in
     subst (λ (o : Openings). AllGiven s n o files) (sym opens) (record {
       each = each_more (IsFrontOf s) n old.all name refl (λ i le lt. absurd (omega (arith, le, lt)));
-      tracked = subst (λ (x : Nest). AreTracked s n x.names all (reverse (old.open_places ++ length old.all ∷ []))
-          (lexers files)) (sym enters)
-          (subst (λ (ps : List ℕ). AreTracked s n (entered name nest).names all ps (lexers files))
-          (sym (reverse_last old.open_places (length old.all)))
-          (subst (λ (r : Reader). AreTracked s n (entered name nest).names all (length old.all ∷ reverse old.open_places)
-          (r ∷ lexers_of (reverse files.outer))) (sym fronts)
-          (subst (λ (fs : List OpenFile). AreTracked s n (entered name nest).names all (length old.all ∷ reverse old.open_places)
-          (front ∷ lexers_of (reverse fs))) (sym outer)
-          (tracked_new s n old.all name nest set limit (omega arith), tt))));
+      tracked = rw (enters, reverse_last old.open_places (length old.all), fronts, outer)
+          (tracked_new s n old.all name nest set limit (omega arith), tt);
     })
 
 -- one more opening, which was closed at once
@@ -282,10 +255,6 @@ left_given s start old new before after nested closes f outer back names given =
     let was : AreTracked s n before.nest.names old.all (closes.place ∷ reverse new.open_places) (lexers before) =
     subst (λ (ps : List ℕ). AreTracked s n before.nest.names old.all ps (lexers before)) places given.tracked in
     record {
-      each = subst (λ (all : List Opening). Each (IsFrontOf s) n all) (sym closes.same) given.each;
-      tracked =
-          subst (λ (x : List (List ℕ)). AreTracked s n x new.all (reverse new.open_places) (lexers after)) (sym names)
-          (subst (λ (all : List Opening). AreTracked s n before.nest.names all (reverse new.open_places)
-          (lexers after)) (sym closes.same)
-          (subst (λ (rs : List Reader). AreTracked s n before.nest.names old.all (reverse new.open_places) rs) readers was.1));
+      each = rw closes.same given.each;
+      tracked = rw (names, closes.same, ← readers) was.1;
     }

@@ -1,11 +1,11 @@
 pub mod Places
 pub mod Nestings
 pub mod Calls
-pub mod Counting
 pub mod Entered
 pub mod Openings
 pub mod NamesKept
 pub mod Fronts
 pub mod Quoted
 pub mod Answering
+pub mod Including
 pub mod Choosing

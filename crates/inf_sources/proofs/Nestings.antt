@@ -1,11 +1,13 @@
 -- The open files after a token was read, and after a file was left.
-use Rattle.std.proofs.Common.{◌≡◌, ℕ, suc, ◌-◌, List, [], ◌∷◌, ◌++◌, length, drop, reverse, get_or, sym, ap, subst, ◌∙◌, arith}
-use Rattle.std.proofs.Common.{length-append, Bool, false, Option, Some, None, IfNone, is_some}
+use Rattle.std.proofs.Common.{◌≡◌, ℕ, suc, ◌-◌, List, [], ◌∷◌, ◌++◌, length, drop, reverse, get_or, refl, sym, ap, subst, ◌∙◌, arith}
+use Rattle.std.proofs.Common.{length-append, Bool, false, IsTrue, Option, Some, None, IfNone, is_some}
 use Rattle.std.proofs.lemmas.List.{drop-map, reverse-reverse}
 use Rattle.inf_scanner.specs.{Tokens.Read, Tokens.next_token, declared.lines.Lines.Lines, declared.tokens.Token.Token}
-use Rattle.inf_devices.specs.Files.{Closes, Opening, Openings, Sources, opened}
-use Rattle.inf_lexer.specs.{Heads.HeadRead, Heads.next_head_word, Names.Nest, Names.left, Readers.Reader, Readers.head_out}
-use Rattle.inf_lexer.specs.{Readers.read_out, Unread.Gave, Unread.innermost_place, Unread.to_come, declared.head.HeadPlace.HeadPlace}
+use Rattle.inf_devices.specs.{Files.Closes, Files.Opening, Files.Openings, Files.Sources, Files.opened}
+use Rattle.inf_devices.specs.{declared.files.Files.Ghosts as Files}
+use Rattle.inf_lexer.specs.{Heads.HeadRead, Heads.next_head_word, Names.Nest, Names.left, Readers.Reader, Readers.Stays, Readers.head_out}
+use Rattle.inf_lexer.specs.{Readers.read_out, Reading.ReadsOn, Unread.Gave, Unread.innermost_place, Unread.to_come}
+use Rattle.inf_lexer.specs.declared.head.HeadPlace.{HeadPlace}
 use Rattle.inf_sources.specs.{Cursors.Cursor, Cursors.behind, Cursors.read, Heading.ReadsHead, Heading.behind_head, Heading.read_head}
 use Rattle.inf_sources.specs.{Inclusions.Nesting, Inclusions.Waiting, Inclusions.closed, declared.open_file.OpenFile.OpenFile}
 use Rattle.inf_sources.specs.Open.{AreNested, IsNested, Open, Reads, closed_to, cursor_of, lexers, lexers_of, nesting, opened_since}
@@ -17,14 +19,9 @@ pub nested_on : (start old new : Openings) (before after : Open) → IsNested st
     → length new.all ≡ length old.all → after.outer ≡ before.outer → IsNested start new after
 nested_on start old new before after n places count outer = record {
   more = omega (arith, n.more, count);
-  nested =
-      subst (λ (files : List OpenFile). AreNested (length new.all) (reverse new.open_places)
-      (after.lexer ∷ lexers_of (reverse files))) (sym outer)
-      (subst (λ (ps : List ℕ). AreNested (length new.all) (reverse ps) (after.lexer ∷ lexers_of (reverse before.outer))) (sym places)
-      (subst (λ (bound : ℕ). AreNested bound (reverse old.open_places) (after.lexer ∷ lexers_of (reverse before.outer))) (sym count)
-      (nested_as (length old.all) (reverse old.open_places) before.lexer after.lexer (lexers_of (reverse before.outer)) n.nested)));
-  others = ap (λ (files : List OpenFile). drop (suc (length files)) (reverse new.open_places)) outer
-      ∙ ap (λ (ps : List ℕ). drop (suc (length before.outer)) (reverse ps)) places ∙ n.others;
+  nested = rw (outer, places, count)
+      (nested_as (length old.all) (reverse old.open_places) before.lexer after.lexer (lexers_of (reverse before.outer)) n.nested);
+  others = rw (outer, places) n.others;
 }
 
 abbrev made : List (List ℕ) → List (List ℕ) → Cursor → List Waiting → Nesting
@@ -46,82 +43,74 @@ pub opened_as_before : (s : Sources) (start old new : Openings) (bytes : List �
 opened_as_before s start old new bytes gave = names_behind (length start.all) old.all new.all (names_given s old new bytes gave)
 
 -- a lexer that has read on
-cursor_moved : (before after : Reader) (rest was : List ℕ) (lines : Lines) → rest ≡ was → after.lines ≡ lines → after.file ≡ before.file
-    → after.set ≡ before.set → after.limit ≡ before.limit
-    → cursor_of after rest ≡ record { rest = was; lines = lines; file = before.file; set = before.set; limit = before.limit }
-cursor_moved before after rest was lines on passed file set limit =
-    ap (λ x. record { rest = x; lines = after.lines; file = after.file; set = after.set; limit = after.limit }) on
-    ∙ ap (λ x. record { rest = was; lines = x; file = after.file; set = after.set; limit = after.limit }) passed
-    ∙ ap (λ x. record { rest = was; lines = lines; file = x; set = after.set; limit = after.limit }) file
-    ∙ ap (λ x. record { rest = was; lines = lines; file = before.file; set = x; limit = after.limit }) set
-    ∙ ap (λ x. record { rest = was; lines = lines; file = before.file; set = before.set; limit = x }) limit
+cursor_moved : {q r : Reader} {is : Bool} {rest was : List ℕ} {lines : Lines} → rest ≡ was → r.lines ≡ lines → Stays q r is
+    → cursor_of r rest ≡ record { rest = was; lines = lines; file = q.file; set = q.set; limit = q.limit }
+cursor_moved {q = q} {r = r} {was = was} {lines = lines} on passed same =
+    ap (cursor_of r) on
+    ∙ ap (λ x. record { rest = was; lines = x; file = r.file; set = r.set; limit = r.limit }) passed
+    ∙ ap (λ x. record { rest = was; lines = lines; file = x; set = r.set; limit = r.limit }) same.file
+    ∙ ap (λ x. record { rest = was; lines = lines; file = q.file; set = x; limit = r.limit }) same.set
+    ∙ ap (λ x. record { rest = was; lines = lines; file = q.file; set = q.set; limit = x }) same.limit
 
--- where the innermost file was read on up to the cursor `c`, the nesting has this cursor and is otherwise the one before
-nesting_on : (s : Sources) (start old new : Openings) (before after : Open) (bytes : List ℕ) (c : Cursor) → IsNested start old before
-    → Gave s old new bytes → after.nest ≡ before.nest → after.outer ≡ before.outer
-    → cursor_of after.lexer (to_come s new after.lexer.window) ≡ c
-    → nesting s start new after ≡ record (nesting s start old before) { cursor = c }
-nesting_on s start old new before after bytes c n gave nest outer cursor =
-    let at = innermost_of (length old.all) (reverse old.open_places) before.lexer (lexers_of (reverse before.outer)) n.nested in
-    let place : innermost_place old ≡ at.place = last_of old.open_places at.place at.rest at.is in
-    let waits : waiting_at s new.all (drop 1 (reverse new.open_places)) (reverse after.outer) ≡ waiting_at s old.all
-    (drop 1 (reverse old.open_places)) (reverse before.outer) =
-    ap (λ (ps : List ℕ). waiting_at s new.all (drop 1 (reverse ps)) (reverse after.outer)) gave.places
-    ∙ ap (λ (files : List OpenFile). waiting_at s new.all (drop 1 (reverse old.open_places)) (reverse files)) outer
-    ∙ ap (λ (ps : List ℕ). waiting_at s new.all (drop 1 ps) (reverse before.outer)) at.is
-    ∙ waiting_same s old.all new.all at.place at.rest (reverse before.outer) at.inner
-    (λ i less. gave.others i (λ is. omega (arith, less, is, place)))
-    ∙ sym (ap (λ (ps : List ℕ). waiting_at s old.all (drop 1 ps) (reverse before.outer)) at.is) in
-    ap (λ (x : Nest). made x.names (names_of (drop (length start.all) new.all))
-    (cursor_of after.lexer (to_come s new after.lexer.window))
-    (waiting_at s new.all (drop 1 (reverse new.open_places)) (reverse after.outer))) nest
-    ∙ ap (λ x. made before.nest.names x (cursor_of after.lexer (to_come s new after.lexer.window))
-    (waiting_at s new.all (drop 1 (reverse new.open_places)) (reverse after.outer))) (opened_as_before s start old new bytes gave)
-    ∙ ap (λ x. made before.nest.names (names_of (drop (length start.all) old.all)) x
-    (waiting_at s new.all (drop 1 (reverse new.open_places)) (reverse after.outer))) cursor
-    ∙ ap (λ x. made before.nest.names (names_of (drop (length start.all) old.all)) c x) waits
+-- Lemmas about the innermost file, which a lexer that is `r` then read on
 
--- a token was read of the innermost file
-pub reads_on : (s : Sources) (start old new : Openings) (before after : Open) (token : Token) (bytes : List ℕ) → IsNested start old before
-    → Gave s old new bytes → after.nest ≡ before.nest → after.outer ≡ before.outer
-    → read_out token after.lexer (to_come s new after.lexer.window) ≡ next_token before.lexer.set before.lexer.limit before.lexer.lines
-    (to_come s old before.lexer.window)
-    → token.place.file ≡ before.lexer.file → (after.lexer.set ≡ before.lexer.set) × (after.lexer.limit ≡ before.lexer.limit) ×
-    (after.lexer.file ≡ before.lexer.file)
-    → Reads token after.lexer.kept.bytes (nesting s start old before) (nesting s start new after)
-reads_on s start old new before after token bytes n gave nest outer e file same =
-    let c = cursor_of before.lexer (to_come s old before.lexer.window) in
-    let r : Read = read c in
-    let cursor : cursor_of after.lexer (to_come s new after.lexer.window) ≡ behind c r =
-    cursor_moved before.lexer after.lexer (to_come s new after.lexer.window) r.rest r.lines (ap (λ (x : Read). x.rest) e)
-    (ap (λ (x : Read). x.lines) e) same.2 same.0 same.1 in
-    record {
-      kind = ap (λ (x : Read). x.kind) e;
-      place = ap (λ (f : ℕ). record { file = f; line = token.place.line }) file
-          ∙ ap (λ (l : ℕ). record { file = before.lexer.file; line = l }) (ap (λ (x : Read). x.line) e);
-      bytes = ap (λ (x : Read). x.kept.bytes) e;
-      goes_on = nesting_on s start old new before after bytes (behind c r) n gave nest outer cursor;
-    }
+module _ {S : Type 0} {f : Files S} {failed : Bool} {a b : S} {nest : Nest} {q r : Reader} {outer : List OpenFile} {start : Openings}
+    (on : ReadsOn f failed a b q.window r.window) (same : Stays q r false) (honest : IsTrue (f.is_honest a))
+    (nested : IsNested start (f.openings a) (record { nest = nest; lexer = q; outer = outer })) where
+  abbrev s : Sources
+  s = f.sources a
 
--- a word of the innermost file's head was read
-pub reads_head_on : (s : Sources) (start old new : Openings) (before after : Open) (is_word : Bool) (place from : HeadPlace)
-    (word bytes : List ℕ) → IsNested start old before → Gave s old new bytes → after.nest ≡ before.nest → after.outer ≡ before.outer
-    → head_out is_word place word after.lexer (to_come s new after.lexer.window)
-    ≡ next_head_word from before.lexer.lines (to_come s old before.lexer.window)
-    → (after.lexer.set ≡ before.lexer.set) × (after.lexer.limit ≡ before.lexer.limit) × (after.lexer.file ≡ before.lexer.file)
-    → ReadsHead is_word place word from (nesting s start old before) (nesting s start new after)
-reads_head_on s start old new before after is_word place from word bytes n gave nest outer e same =
-    let c = cursor_of before.lexer (to_come s old before.lexer.window) in
-    let r : HeadRead = read_head from c in
-    let cursor : cursor_of after.lexer (to_come s new after.lexer.window) ≡ behind_head c r =
-    cursor_moved before.lexer after.lexer (to_come s new after.lexer.window) r.rest r.lines (ap (λ (x : HeadRead). x.rest) e)
-    (ap (λ (x : HeadRead). x.lines) e) same.2 same.0 same.1 in
-    record {
-      tells = ap (λ (x : HeadRead). x.is_word) e;
-      goes_to = ap (λ (x : HeadRead). x.place) e;
-      spelled = ap (λ (x : HeadRead). x.word) e;
-      goes_on = nesting_on s start old new before after bytes (behind_head c r) n gave nest outer cursor;
-    }
+  abbrev old : Openings
+  old = f.openings a
+
+  abbrev new : Openings
+  new = f.openings b
+
+  -- the nesting has the cursor `c` then, and is otherwise the one before
+  nesting_on : (c : Cursor) → cursor_of r (to_come s new r.window) ≡ c
+      → nesting s start new (record { nest = nest; lexer = r; outer = outer })
+      ≡ record (nesting s start old (record { nest = nest; lexer = q; outer = outer })) { cursor = c }
+  nesting_on c cursor =
+      let gave = on.gave honest in
+      let at = innermost_of (length old.all) (reverse old.open_places) q (lexers_of (reverse outer)) nested.nested in
+      let place : innermost_place old ≡ at.place = last_of old.open_places at.place at.rest at.is in
+      let waits : waiting_at s new.all (drop 1 (reverse new.open_places)) (reverse outer)
+      ≡ waiting_at s old.all (drop 1 (reverse old.open_places)) (reverse outer) =
+      ap (λ (ps : List ℕ). waiting_at s new.all (drop 1 ps) (reverse outer)) (ap reverse gave.places ∙ at.is)
+      ∙ waiting_same s old.all new.all at.place at.rest (reverse outer) at.inner
+      (λ i less. gave.others i (λ is. omega (arith, less, is, place)))
+      ∙ sym (ap (λ (ps : List ℕ). waiting_at s old.all (drop 1 ps) (reverse outer)) at.is) in
+      rw (opened_as_before s start old new on.bytes gave, cursor, waits) refl
+
+  -- a token was read
+  pub reads_on : (token : Token) → read_out token r (to_come s new r.window) ≡ next_token q.set q.limit q.lines (to_come s old q.window)
+      → token.place.file ≡ q.file
+      → Reads token r.kept.bytes (nesting s start old (record { nest = nest; lexer = q; outer = outer }))
+      (nesting s start new (record { nest = nest; lexer = r; outer = outer }))
+  reads_on token e file =
+      let c = cursor_of q (to_come s old q.window) in
+      record {
+        kind = ap (λ (x : Read). x.kind) e;
+        place = ap (λ (f : ℕ). record { file = f; line = token.place.line }) file
+            ∙ ap (λ (l : ℕ). record { file = q.file; line = l }) (ap (λ (x : Read). x.line) e);
+        bytes = ap (λ (x : Read). x.kept.bytes) e;
+        goes_on = nesting_on (behind c (read c)) (cursor_moved (ap (λ (x : Read). x.rest) e) (ap (λ (x : Read). x.lines) e) same);
+      }
+
+  -- a word of its head was read
+  pub reads_head_on : (is_word : Bool) (place from : HeadPlace) (word : List ℕ)
+      → head_out is_word place word r (to_come s new r.window) ≡ next_head_word from q.lines (to_come s old q.window)
+      → ReadsHead is_word place word from (nesting s start old (record { nest = nest; lexer = q; outer = outer }))
+      (nesting s start new (record { nest = nest; lexer = r; outer = outer }))
+  reads_head_on is_word place from word e =
+      let c = cursor_of q (to_come s old q.window) in
+      record {
+        tells = ap (λ (x : HeadRead). x.is_word) e;
+        goes_to = ap (λ (x : HeadRead). x.place) e;
+        spelled = ap (λ (x : HeadRead). x.word) e;
+        goes_on = nesting_on (behind_head c (read_head from c))
+            (cursor_moved (ap (λ (x : HeadRead). x.rest) e) (ap (λ (x : HeadRead). x.lines) e) same);
+      }
 
 -- The innermost file was left
 

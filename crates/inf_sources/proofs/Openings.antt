@@ -1,7 +1,7 @@
 -- The open files after a file was entered.
 use Rattle.std.proofs.Common.{◌≡◌, ◌⊎◌, inl, inr, ℕ, suc, zero, ◌<◌, ◌≤◌, List, [], ◌∷◌, ◌++◌, length, drop, reverse, get_or, Some}
 use Rattle.std.proofs.Common.{unwrap_or, refl, sym, ap, subst, ◌∙◌, arith, length-append, slice_get, Bool, Vec}
-use Rattle.std.proofs.Math.Seq.{get_or-append_seam}
+use Rattle.std.proofs.Math.Seq.{drop-length, get_or-append_seam}
 use Rattle.std.specs.declared.alloc.Global.{Global}
 use Rattle.inf_characters.specs.declared.characters.CharSet.{CharSet}
 use Rattle.inf_devices.specs.Files.{Opening, Openings, Sources, opened}
@@ -52,29 +52,13 @@ pub main_nesting : (s : Sources) (old : Openings) (name : List ℕ) (set : CharS
     })
     ≡ main_opened set limit s name
 main_nesting s old name set limit =
-    ap (λ names. record {
-      names = name ∷ [];
-      openings = names;
-      cursor = cursor_of (at_front set limit 0)
-          (to_come s (with_opened name old) (at_front set limit 0).window);
-      waiting = waiting_at s (old.all ++ opened name ∷ [])
-          (drop 1 (reverse (old.open_places ++ length old.all ∷ []))) [];
-    })
-    (drop_more (length old.all) old.all (opened name) (omega arith) ∙ ap (λ os. names_of os ++ name ∷ []) (drop_all old.all))
-    ∙ ap (λ c. record {
-      names = name ∷ [];
-      openings = name ∷ [];
-      cursor = c;
-      waiting = waiting_at s (old.all ++ opened name ∷ [])
-          (drop 1 (reverse (old.open_places ++ length old.all ∷ []))) [];
-    }) (front_is s old name set limit 0)
-    ∙ ap (λ w. record { names = name ∷ []; openings = name ∷ []; cursor = front set limit 0 (unwrap_or (s name) []); waiting = w })
-    (none_at (drop 1 (reverse (old.open_places ++ length old.all ∷ []))))
+    rw (
+      drop_more (length old.all) old.all (opened name) (omega arith),
+      drop-length old.all,
+      front_is s old name set limit 0,
+      none_at (drop 1 (reverse (old.open_places ++ length old.all ∷ []))),
+    ) refl
   where
-    drop_all : (xs : List Opening) → drop (length xs) xs ≡ []
-    drop_all [] = refl
-    drop_all (x ∷ xs) = drop_all xs
-
     none_at : (places : List ℕ) → waiting_at s (old.all ++ opened name ∷ []) places [] ≡ []
     none_at [] = refl
     none_at (p ∷ places) = refl
@@ -183,7 +167,7 @@ pub only_name : (name x : List ℕ) (place : ℕ) → slice_get (name ∷ []) pl
 only_name name x zero e = cc
 only_name name x (suc place) e = cc
 
-abbrev fresh : CharSet → ℕ → Nest
+abbrev pub fresh : CharSet → ℕ → Nest
 fresh set limit = record { set = set; limit = limit; names = []; open_files = [] }
 
 pub main_of : (s : Sources) (old new : Openings) (name n : List ℕ) (stack nest : Nest) (lexer : Reader) (outer : List OpenFile)
@@ -192,24 +176,9 @@ pub main_of : (s : Sources) (old new : Openings) (name n : List ℕ) (stack nest
     (number_of n stack.names) → outer ≡ []
     → nesting s old new (record { nest = nest; lexer = lexer; outer = outer }) ≡ main_opened set limit s name
 main_of s old new name n stack nest lexer outer set limit is_fresh named opens enters fronts empty =
-    ap (λ (o : List OpenFile). nesting s old new (record { nest = nest; lexer = lexer; outer = o })) empty
-    ∙ ap (λ (r : Reader). nesting s old new (record { nest = nest; lexer = r; outer = [] })) fronts
-    ∙ ap (λ (x : Nest). nesting s old new (record {
-      nest = x;
-      lexer = at_front stack.set stack.limit (number_of n stack.names);
-      outer = [];
-    })) enters
-    ∙ ap (λ (x : Nest). nesting s old new (record { nest = entered n x; lexer = at_front x.set x.limit (number_of n x.names); outer = [] }))
-    is_fresh
-    ∙ ap (λ (o : Openings). nesting s old o (record { nest = entered n (fresh set limit); lexer = at_front set limit 0; outer = [] })) opens
-    ∙ ap (λ (m : List ℕ). nesting s old (with_opened m old)
-    (record { nest = entered m (fresh set limit); lexer = at_front set limit 0; outer = [] })) named
-    ∙ main_nesting s old name set limit
+    rw (empty, fronts, enters, opens, is_fresh, named) (main_nesting s old name set limit)
 
 pub main_nested_of : (old new : Openings) (n : List ℕ) (nest : Nest) (lexer : Reader) (outer : List OpenFile) → new ≡ with_opened n old →
     outer ≡ []
     → IsNested old new (record { nest = nest; lexer = lexer; outer = outer })
-main_nested_of old new n nest lexer outer opens empty =
-    subst (λ (o : Openings). IsNested old o (record { nest = nest; lexer = lexer; outer = outer })) (sym opens)
-    (subst (λ (o : List OpenFile). IsNested old (with_opened n old) (record { nest = nest; lexer = lexer; outer = o })) (sym empty)
-    (main_nested old n nest lexer))
+main_nested_of old new n nest lexer outer opens empty = rw (opens, empty) (main_nested old n nest lexer)

@@ -2,6 +2,7 @@
 use Rattle.std.proofs.Common.{◌≡◌, ℕ, suc, zero, ◌-◌, ◌<◌, List, [], ◌∷◌, ◌++◌, length, drop, map, reverse, get_or, Some, None, unwrap_or}
 use Rattle.std.proofs.Common.{refl, sym, ap, ◌∙◌, arith, length-append, slice_get}
 use Rattle.std.proofs.{Math.Seq.get_or-append_seam, lemmas.Grind.reverse_onto, lemmas.List.reverse-append, lemmas.List.reverse-reverse}
+use Rattle.std.proofs.lemmas.Option.{unwrap_or-slice_get}
 use Rattle.inf_devices.specs.Files.{Opening, Openings, Sources, opened}
 use Rattle.inf_lexer.specs.Readers.{Reader}
 use Rattle.inf_sources.specs.{Cursors.Cursor, Inclusions.cursors, Inclusions.cursors_of, declared.open_file.OpenFile.OpenFile}
@@ -50,14 +51,9 @@ nested_more bound more (p ∷ places) (r ∷ readers) le h = (omega (arith, le, 
 
 -- Lemmas about openings at places
 
-or_of : (all : List Opening) (i : ℕ) → get_or all i (opened []) ≡ unwrap_or (slice_get all i) (opened [])
-or_of [] zero = refl
-or_of [] (suc i) = refl
-or_of (o ∷ all) zero = refl
-or_of (o ∷ all) (suc i) = or_of all i
-
 pub or_same : (old new : List Opening) (i : ℕ) → slice_get new i ≡ slice_get old i → get_or new i (opened []) ≡ get_or old i (opened [])
-or_same old new i e = or_of new i ∙ ap (λ o. unwrap_or o (opened [])) e ∙ sym (or_of old i)
+or_same old new i e =
+    sym (unwrap_or-slice_get new i (opened [])) ∙ ap (λ o. unwrap_or o (opened [])) e ∙ unwrap_or-slice_get old i (opened [])
 
 -- files that wait have the same rests where their openings did not change
 pub waiting_same : (s : Sources) (old new : List Opening) (bound : ℕ) (places : List ℕ) (files : List OpenFile) →

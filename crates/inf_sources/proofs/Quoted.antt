@@ -3,8 +3,8 @@ use Rattle.std.proofs.Common.{◌≡◌, ℕ, List, [], ◌∷◌, ◌++◌, len
 use Rattle.std.proofs.Common.{length-take}
 use Rattle.std.proofs.lemmas.Bool.{cond_both}
 use Rattle.inf_characters.specs.declared.characters.CharSet.{CharSet}
-use Rattle.inf_devices.specs.Files.{Openings, Sources}
-use Rattle.inf_lexer.specs.{Readers.Reader, Readers.read_out, Unread.Heard, Unread.View}
+use Rattle.inf_devices.specs.declared.files.Files.{Ghosts as Files}
+use Rattle.inf_lexer.specs.{Readers.Reader, Readers.read_out, Reading.Heard, Unread.View}
 use Rattle.inf_scanner.specs.{Kept.Kept, Kinds.kind_of, Kinds.number_kind, Kinds.number_of, SpellingLaws.Piece, SpellingLaws.most_of}
 use Rattle.inf_scanner.specs.{Tokens.Read, Tokens.next_token, declared.lines.Lines.Lines, declared.scanner.Ending.Ending}
 use Rattle.inf_scanner.specs.{declared.tokens.BadToken.BadToken, declared.tokens.Token.Token, declared.tokens.TokenKind.TokenKind}
@@ -48,12 +48,12 @@ next_few set limit lines (b ∷ bytes) is =
     omega (arith, most, kept, cut, length-take (most_of limit s.is.ending) s.is.bytes)
 
 -- a lexer keeps few bytes of a quoted token, with any reader
-pub heard_few : (h : Bool) (s : Sources) (old new : Openings) (before after : View) (set : CharSet) (limit most : ℕ) (lines : Lines)
-    (token : Token) (lexer : Reader)
-    → limit ≡ most → Heard Read h s old new before after (read_out token lexer) (next_token set limit lines) → KeepsFew most token.kind
-    lexer.kept
-heard_few h s old new before after set limit most lines token lexer same heard is =
-    let bytes : List ℕ = before.left ++ (heard.bytes ++ []) in
+pub heard_few : {S : Type 0} {f : Files S} {failed : Bool} {a b : S} {before after : View} (set : CharSet) (limit : ℕ) (lines : Lines)
+    (token : Token) (lexer : Reader) {most : ℕ}
+    → limit ≡ most → Heard Read f failed a b before after (read_out token lexer) (next_token set limit lines)
+    → KeepsFew most token.kind lexer.kept
+heard_few {before = before} {after = after} set limit lines token lexer same heard is =
+    let bytes : List ℕ = before.left ++ (heard.went.bytes ++ []) in
     let read : read_out token lexer (after.left ++ []) ≡ next_token set limit lines bytes = heard.same [] (λ _. refl) in
     let kept = ap (λ (r : Read). length r.kept.bytes) read in
     omega (arith, kept, same, next_few set limit lines bytes (ap is_quoted_kind (sym (ap (λ (r : Read). r.kind) read)) ∙ is))

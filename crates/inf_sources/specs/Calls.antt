@@ -1,10 +1,10 @@
 -- Facts that calls on a reader of files keep.
 use Rattle.std.specs.{List.list_any, Str.bytes_eq}
-use Rattle.std.specs.Prelude.{◌≡◌, ◌+◌, ◌<◌, ◌≤◌, ◌⊎◌, ℕ, List, [], ◌∷◌, IsTrue, length, map, min, Bool, true, false, Result, Ok}
+use Rattle.std.specs.Prelude.{◌≡◌, ◌+◌, ◌<◌, ◌≤◌, ◌⊎◌, ℕ, List, [], ◌∷◌, IsTrue, length, map, min, Bool, true, false, Result, Ok, Err}
 use Rattle.inf_devices.specs.{Files.Openings, Files.Rose, Files.last_count, Files.most_source_bytes, declared.files.Files.Ghosts as Files}
-use Rattle.inf_lexer.specs.{Entering.OpensOn, Entering.StaysOpened, Names.number_of, Readers.Reader}
-use Rattle.inf_sources.specs.Open.{AllGiven, Each, Fits, IsNested, Open, lexers}
-use Rattle.inf_sources.specs.declared.open_files.Included.{Included}
+use Rattle.inf_lexer.specs.{Entering.OpensOn, Entering.StaysOpened, Names.number_of, Readers.Reader, Reading.ReadsOn, Reading.Unless}
+use Rattle.inf_sources.specs.Open.{AllGiven, Each, Fits, IsNested, Open, lexers, opened_since}
+use Rattle.inf_sources.specs.declared.{faults.IncludeFault.IncludeFault, open_files.Included.Included}
 
 -- `P` holds, with an honest reader, for all openings before the files that are open.
 abbrev pub Honestly : {S : Type 0} → Files S → S → Open → (Openings → Type 0) → Type 0
@@ -55,6 +55,16 @@ StaysFit f old new before =
     Honestly f old before (λ start. AllGiven (f.sources old) (length start.all) (f.openings old) before
     → Each Fits (length start.all) (f.openings old).all → Each Fits (length start.all) (f.openings new).all)
 
+-- A call read on in the innermost file, and nothing else changed; where `failed` is true, the file could at last not be read further.
+pub record ReadsFile {S : Type 0} (f : Files S) (failed : Bool) (old new : S) (before after : Open) : Type 0 where
+  pub went : Went f old new before after
+  pub on : ReadsOn f failed old new before.lexer.window after.lexer.window
+  pub opened : Honestly f old before (λ start. opened_since start (f.openings new) ≡ opened_since start (f.openings old))
+  pub fits : Unless failed (StaysFit f old new before)
+  pub nest : after.nest ≡ before.nest
+  pub outer : after.outer ≡ before.outer
+  pub file : after.lexer.file ≡ before.lexer.file
+
 -- A call asked for one name more than can be numbered, which is among those opened.
 pub record AskedTooMany {S : Type 0} (f : Files S) (new : S) (after : Open) : Type 0 where
   pub name : List ℕ
@@ -70,3 +80,8 @@ IsUnreadable f old new before after =
 abbrev pub has_entered : {E : Type 0} → Result Included E → Bool
 has_entered (Ok Included.Entered) = true
 has_entered _ = false
+
+-- whether an inclusion could not be tried since the reader failed, or since a name was one too many
+abbrev pub tells_device : {T : Type 0} → Result T IncludeFault → Bool
+tells_device (Err IncludeFault.Device) = true
+tells_device _ = false

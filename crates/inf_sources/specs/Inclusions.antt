@@ -1,6 +1,6 @@
 -- The file that an inclusion opens, and the files that are open then (Designer's Manual, fourth edition, sections 38 and 39).
 use Rattle.std.specs.Prelude.{◌≡◌, ℕ, ◌+◌, ◌≤◌, ◌⊎◌, List, [], ◌∷◌, ◌++◌, length, map, nat_le, not, Bool, if◌then◌else◌, Option, Some, None}
-use Rattle.std.specs.Prelude.{slice_get, unwrap_or}
+use Rattle.std.specs.Prelude.{slice_get, unwrap_or, Result, Ok, Err}
 use Rattle.inf_characters.specs.declared.characters.CharSet.{CharSet}
 use Rattle.inf_devices.specs.Files.{Sources}
 use Rattle.inf_lexer.specs.{Entering.first_there, Names.can_name, Names.candidates, Names.number_of, Names.with_name}
@@ -106,3 +106,10 @@ pub record OpensTooMany (i : Inclusion) (was : Nesting) (openings : List (List �
 abbrev pub OpenedInVain : IncludeFault → Inclusion → Nesting → List (List ℕ) → Type 0
 OpenedInVain IncludeFault.Memory i was openings = openings ≡ was.openings
 OpenedInVain IncludeFault.Device i was openings = (openings ≡ was.openings) ⊎ OpensTooMany i was openings
+
+-- An inclusion, by its answer: the file that is opened, or none, and the open files then.
+abbrev pub Includes : CharSet → ℕ → Sources → List Conditional → Bool → Inclusion → Nesting → Nesting → Result Included IncludeFault
+    → Type 0
+Includes set limit sources conditionals is_system i was now (Ok included) =
+    (included ≡ answer_of i) × (now ≡ nested_by set limit sources conditionals is_system i was)
+Includes set limit sources conditionals is_system i was now (Err fault) = OpenedInVain fault i was now.openings

@@ -1,13 +1,15 @@
 -- The nesting of the code's open files, with a reader that keeps to its sources.
-use Rattle.std.specs.Prelude.{◌≡◌, ℕ, suc, ◌<◌, ◌≤◌, List, [], ◌∷◌, ◌++◌, length, map, drop, reverse, get_or, unwrap_or, Some, slice_get}
-use Rattle.std.specs.Prelude.{Bool, true, false, if◌then◌else◌, Vec}
+use Rattle.std.specs.Prelude.{◌≡◌, ◌≢◌, ℕ, suc, ◌<◌, ◌≤◌, List, [], ◌∷◌, ◌++◌, length, map, drop, reverse, get_or, unwrap_or, Some}
+use Rattle.std.specs.Prelude.{slice_get}
+use Rattle.std.specs.Prelude.{Bool, true, false, if◌then◌else◌, None, Result, Ok, Err, Vec}
 use Rattle.std.specs.declared.alloc.Global.{Global}
 use Rattle.inf_characters.specs.declared.characters.CharSet.{CharSet}
 use Rattle.inf_scanner.specs.declared.tokens.Token.{Token}
 use Rattle.inf_devices.specs.Files.{Opening, Openings, Sources, opened}
 use Rattle.inf_lexer.specs.{Names.Nest, Readers.Reader, Unread.View, Unread.to_come, Unread.unread_of}
-use Rattle.inf_sources.specs.{Cursors.Cursor, Cursors.behind, Cursors.read, Inclusions.Nesting, Inclusions.Waiting}
-use Rattle.inf_sources.specs.{declared.open_file.Conditional.Conditional, declared.open_file.OpenFile.OpenFile}
+use Rattle.inf_sources.specs.{Cursors.Cursor, Cursors.behind, Cursors.read, Inclusions.Nesting, Inclusions.Waiting, Inclusions.main_opened}
+use Rattle.inf_sources.specs.declared.{faults.IncludeFault.IncludeFault, open_file.Conditional.Conditional, open_file.OpenFile.OpenFile}
+use Rattle.inf_sources.specs.declared.open_files.Included.{Included}
 
 -- The names and numbers of the files, the lexer of the innermost, and the files that wait, the main one first.
 pub record Open : Type 0 where
@@ -137,3 +139,27 @@ pub record Reads (token : Token) (spelling : List ℕ) (was now : Nesting) : Typ
 -- the openings with all files closed that were opened since
 abbrev pub closed_to : Openings → Openings → Openings
 closed_to start now = record now { open_places = start.open_places }
+
+-- The main source was entered.
+pub record MainEntered (sources : Sources) (name : List ℕ) (set : CharSet) (limit : ℕ) (old new : Openings) (files : Open) : Type 0 where
+  pub there : sources name ≢ None
+  pub nesting_is : nesting sources old new files ≡ main_opened set limit sources name
+  pub nested : IsNested old new files
+  pub given_all : AllGiven sources (length old.all) new files
+  pub fits : Each Fits (length old.all) new.all
+
+-- A file was entered, which has no conditional yet and no mark; the one that waits for it keeps its own.
+pub record EntersFile (old new : Open) (conditionals fresh : Vec Conditional Global) (is_system mark : Bool) : Type 0 where
+  pub given : new.lexer.window.given ≡ 0
+  pub left : new.lexer.window.left ≡ []
+  pub outer : new.outer ≡ old.outer ++ waits old.lexer conditionals is_system ∷ []
+  pub room : length old.outer < 15
+  pub conditionals_are : fresh.items ≡ []
+  pub mark_is : mark ≡ false
+
+-- An inclusion changes the open files, by its answer: if no file is entered, nothing changes.
+abbrev pub Moves : Open → Open → Vec Conditional Global → Vec Conditional Global → Bool → Bool → Result Included IncludeFault → Type 0
+Moves old new before after was is (Ok Included.Entered) = EntersFile old new before after was is
+Moves old new before after was is (Ok Included.NotThere) = (new ≡ old) × ((after ≡ before) × (is ≡ was))
+Moves old new before after was is (Ok Included.TooDeep) = (new ≡ old) × ((after ≡ before) × (is ≡ was))
+Moves old new before after was is (Err fault) = (new ≡ old) × ((after ≡ before) × (is ≡ was))

@@ -1,16 +1,15 @@
 //! The files that are open, each with its lexer.
-ghost use Rattle.std.specs.Prelude.{◌≡◌, ◌≢◌, ◌+◌, ◌-◌, ◌≤◌, ◌<◌, ◌⊎◌, ◌++◌, [], ◌∷◌, false, true, if◌then◌else◌, is_ok, IfErr};
-ghost use Rattle.std.specs.Prelude.{IfNone, IfOk, IfSome, OnOk, OnErr, IsErrOf, IsOk, IsTrue, None, Some, length, map, reverse, slice_get};
-ghost use Rattle.std.specs.Prelude.{ℕ, IsErr, is_err, unwrap_or};
-ghost use Rattle.inf_devices.specs.Files.{Openings, Rose, Sources, counts_opened};
-ghost use Rattle.inf_lexer.specs.{Entering.AreOpened, Entering.tells_failure, Heads.goes_on_at, Heads.is_behind, Names.can_name};
-ghost use Rattle.inf_lexer.specs.{Names.innermost_name, Readers.Took, Readers.TookWord, Readers.at_front, Unread.IsAtEnd, Unread.to_come};
-ghost use Rattle.inf_lexer.specs.{Unread.unread};
-ghost use Rattle.inf_sources.specs.{Cursors.Unfinished, Heading.ReadsHead, Heading.UnfinishedHead, Quoted.KeepsFew, Quoted.comes_quoted};
-ghost use Rattle.inf_sources.specs.Calls.{AskedTooMany, Honestly, Kept, StaysFit, Went, given_each, has_entered};
+ghost use Rattle.std.specs.Prelude.{◌≡◌, ◌+◌, ◌-◌, ◌<◌, ◌⊎◌, ◌++◌, [], ◌∷◌, ℕ, false, true, is_err, is_ok, length, map, reverse, slice_get};
+ghost use Rattle.std.specs.Prelude.{unwrap_or, None, IfErr, IfNone, IfOk, IfSome, OnOk, IsErrOf, IsTrue};
+ghost use Rattle.inf_devices.specs.Files.{Openings, Rose, Sources};
+ghost use Rattle.inf_lexer.specs.{Entering.AreOpened, Entering.Tries, Entering.tells_failure, Heads.is_behind, Names.can_name};
+ghost use Rattle.inf_lexer.specs.{Names.innermost_name, Readers.Took, Readers.TookWord, Readers.at_front, Readers.place_after};
+ghost use Rattle.inf_lexer.specs.{Reading.tells_read, Unread.unread};
+ghost use Rattle.inf_sources.specs.{Cursors.RefusesToken, Heading.ReadsHead, Heading.UnfinishedHead, Quoted.KeepsFew};
+ghost use Rattle.inf_sources.specs.Calls.{AskedTooMany, Honestly, Kept, ReadsFile, StaysFit, Went, given_each, has_entered, tells_device};
 ghost use Rattle.inf_sources.specs.Choosing.{chosen, file_with, nesting_chosen, nesting_with, open_with};
-ghost use Rattle.inf_sources.specs.Inclusions.{OpenedInVain, OpensTooMany, answer_of, closed, inclusion, main_opened, nested_by};
-ghost use Rattle.inf_sources.specs.Open.{AllGiven, Each, Fits, IsNested, Reads, closed_to, nesting, opened_since, waits};
+ghost use Rattle.inf_sources.specs.Inclusions.{Includes, OpensTooMany, closed, inclusion};
+ghost use Rattle.inf_sources.specs.Open.{AllGiven, IsNested, MainEntered, Moves, Reads, closed_to, nesting, opened_since, waits};
 
 use crate::faults::IncludeFault;
 use crate::open_file::{Conditional, OpenFile};
@@ -73,7 +72,6 @@ impl OpenFiles {
     ///
     /// The errors: `BadName` for an empty name; `Absent` and `Device` of the reader; `Memory` where there is no room,
     /// which is asked for before the source is opened.
-    #[tactic(auto, using(inf_lexer::proofs::Opened::stays_on))]
     pub fn enter_main<F: Files>(
         alloc: Global,
         set: CharSet,
@@ -81,27 +79,17 @@ impl OpenFiles {
         files: &mut F,
         name: &str,
     ) -> Result<OpenFiles, EnterFault>
-        ensures front { IfOk result (λ o. (o.lexer ≡ at_front set limit 0) × (o.outer ≡ [])) }
-        ensures there { IsTrue (F.is_honest files.old) → OnOk result (F.sources files.old name.now ≢ None) }
-        ensures nesting { IsTrue (F.is_honest files.old) → IfOk result (λ o.
-            nesting (F.sources files.old) (F.openings files.old) (F.openings files.new) o
-            ≡ main_opened set limit (F.sources files.old) name.now) }
-        ensures nested { IsTrue (F.is_honest files.old) →
-            IfOk result (λ o. IsNested (F.openings files.old) (F.openings files.new) o) }
-        ensures opened { IfOk result (λ o. AreOpened o.nest.names (F.opened files.new)) }
-        ensures given_all { IsTrue (F.is_honest files.old) →
-            IfOk result (λ o. AllGiven (F.sources files.old) (length (F.openings files.old).all) (F.openings files.new) o) }
-        ensures fits { IsTrue (F.is_honest files.old) →
-            OnOk result (Each Fits (length (F.openings files.old).all) (F.openings files.new).all) }
-        ensures absent { IsTrue (F.is_honest files.old) → IsErrOf result EnterFault.Absent → F.sources files.old name.now ≡ None }
-        ensures unopened { IsTrue (F.is_honest files.old) → OnErr result (F.openings files.new ≡ F.openings files.old) }
+        ensures front { IfOk result (λ o. (o.lexer ≡ at_front set limit 0)
+            × ((o.outer ≡ []) × AreOpened o.nest.names (F.opened files.new))) }
+        ensures entered { IsTrue (F.is_honest files.old) → IfOk result
+            (MainEntered (F.sources files.old) name.now set limit (F.openings files.old) (F.openings files.new)) }
+        ensures refused { IsTrue (F.is_honest files.old) → IfErr result (λ fault. (F.openings files.new ≡ F.openings files.old)
+            × (fault ≡ EnterFault.Absent → F.sources files.old name.now ≡ None)) }
         ensures empty { (IsErrOf result EnterFault.BadName → length name.now ≡ 0)
             × (length name.now ≡ 0 → IsErrOf result EnterFault.BadName × (files.new ≡ files.old)) }
-        ensures never { IsErrOf result EnterFault.TooDeep → ⊥ }
-        ensures cause { (IsErrOf result EnterFault.Device → Rose (F.faults files.old) (F.faults files.new))
-            × (tells_failure result ≡ false → F.faults files.new ≡ F.faults files.old) }
-        ensures depth { F.depth files.new ≡ (if is_ok result then F.depth files.old + 1 else F.depth files.old) }
-        ensures counts { F.counts files.new ≡ (if is_ok result then counts_opened (F.counts files.old) else F.counts files.old) }
+        ensures cause { (IsErrOf result EnterFault.TooDeep → ⊥)
+            × (IsErrOf result EnterFault.Device → Rose (F.faults files.old) (F.faults files.new)) }
+        ensures tries { Tries F.Files (is_ok result) (tells_failure result) files.old files.new }
         ensures kept { Kept F.Files files.old files.new }
     {
         let mut names = Stack::new(alloc, set, limit);
@@ -187,29 +175,13 @@ impl OpenFiles {
         ensures token { Honestly F.Files files.old self.old (λ start. IfOk result (λ token. Reads token self.new.lexer.kept.bytes
             (nesting (F.sources files.old) start (F.openings files.old) self.old)
             (nesting (F.sources files.old) start (F.openings files.new) self.new))) }
-        ensures opened { Honestly F.Files files.old self.old
-            (λ start. opened_since start (F.openings files.new) ≡ opened_since start (F.openings files.old)) }
-        ensures unfinished { IsTrue (F.is_honest files.old) → (start : Openings) → IsErrOf result LexFault.Read →
-            Unfinished (nesting (F.sources files.old) start (F.openings files.old) self.old).cursor
-            (self.new.lexer.window.given - 16777216) (unread (F.sources files.old) (F.openings files.new)) }
-        ensures on { IsErrOf result LexFault.Read → self.new.lexer.window.is_over ≡ false }
-        ensures went { Went F.Files files.old files.new self.old self.new }
-        ensures fits { OnOk result (StaysFit F.Files files.old files.new self.old) }
-        ensures took { IfOk result (λ token. Took token.kind self.old.lexer.window self.new.lexer.window self.new.lexer.kept) }
-        ensures quoted { IfOk result (λ token. KeepsFew self.old.nest.limit token.kind self.new.lexer.kept) }
-        ensures goes { OnOk result (self.new.lexer.has_failed ≡ false) }
-        ensures failed { OnErr result (self.new.lexer.has_failed ≡ true) }
-        ensures same { (self.new.nest ≡ self.old.nest) × ((self.new.outer ≡ self.old.outer) × (self.new.lexer.file ≡ self.old.lexer.file)) }
-
-        // The lexer was given at most 4,096 bytes behind the token.
-        ensures window { length self.new.lexer.window.left ≤ 4096 }
-        ensures few { OnOk result (self.new.lexer.window.given ≤ 16777216) }
-        ensures cause { (IsErrOf result LexFault.Read → Rose (F.faults files.old) (F.faults files.new)
-            ⊎ (16777216 < self.new.lexer.window.given))
-            × (IsErrOf result LexFault.Memory → F.faults files.new ≡ F.faults files.old)
-            × (IsErrOf result LexFault.Memory → IsTrue (F.is_honest files.old) → comes_quoted self.old.lexer
-            (to_come (F.sources files.old) (F.openings files.old) self.old.lexer.window) ≡ true) }
-        ensures seen { OnOk result (F.faults files.new ≡ F.faults files.old) }
+        ensures reads { ReadsFile F.Files (tells_read result) files.old files.new self.old self.new }
+        ensures took { IfOk result (λ token. Took token.kind self.old.lexer.window self.new.lexer.window self.new.lexer.kept
+            × KeepsFew self.old.nest.limit token.kind self.new.lexer.kept) }
+        ensures refused { IsTrue (F.is_honest files.old) → (start : Openings) → IfErr result
+            (RefusesToken (nesting (F.sources files.old) start (F.openings files.old) self.old).cursor
+            (self.new.lexer.window.given - 16777216) (unread (F.sources files.old) (F.openings files.new))) }
+        ensures failed { self.new.lexer.has_failed ≡ is_err result }
     {
         let token = self.lexer.next(files)?;
         Ok(token)
@@ -232,24 +204,14 @@ impl OpenFiles {
             ReadsHead is_word place.new word.new.items place.old
             (nesting (F.sources files.old) start (F.openings files.old) self.old)
             (nesting (F.sources files.old) start (F.openings files.new) self.new))) }
-        ensures opened { Honestly F.Files files.old self.old
-            (λ start. opened_since start (F.openings files.new) ≡ opened_since start (F.openings files.old)) }
-        ensures unfinished { IsTrue (F.is_honest files.old) → (start : Openings) → is_behind place.old ≡ false → IsErr result →
-            UnfinishedHead place.old (nesting (F.sources files.old) start (F.openings files.old) self.old).cursor
-            (self.new.lexer.window.given - 16777216) (unread (F.sources files.old) (F.openings files.new)) }
-        ensures goes_to { IfOk result (λ is_word. place.new ≡ goes_on_at is_word) }
-        ensures took { IfOk result (λ is_word. TookWord is_word place.old self.old.lexer.window self.new.lexer.window) }
-        ensures went { Went F.Files files.old files.new self.old self.new }
-        ensures fits { OnOk result (StaysFit F.Files files.old files.new self.old) }
+        ensures reads { ReadsFile F.Files (tells_read result) files.old files.new self.old self.new }
+        ensures took { (place.new ≡ place_after result place.old)
+            × IfOk result (λ is_word. TookWord is_word place.old self.old.lexer.window self.new.lexer.window) }
+        ensures refused { IfErr result (λ fault. (fault ≡ LexFault.Read) × (IsTrue (F.is_honest files.old) → (start : Openings) →
+            is_behind place.old ≡ false → UnfinishedHead place.old
+            (nesting (F.sources files.old) start (F.openings files.old) self.old).cursor
+            (self.new.lexer.window.given - 16777216) (unread (F.sources files.old) (F.openings files.new)))) }
         ensures failed { self.new.lexer.has_failed ≡ is_err result }
-        ensures same { (self.new.nest ≡ self.old.nest) × ((self.new.outer ≡ self.old.outer) × (self.new.lexer.file ≡ self.old.lexer.file)) }
-        ensures window { length self.new.lexer.window.left ≤ 4096 }
-        ensures few { OnOk result (self.new.lexer.window.given ≤ 16777216) }
-        ensures on { IsErr result → self.new.lexer.window.is_over ≡ false }
-        ensures unmoved { OnErr result (place.new ≡ place.old) }
-        ensures seen { OnOk result (F.faults files.new ≡ F.faults files.old) }
-        ensures cause { IsErr result → IsErrOf result LexFault.Read × (Rose (F.faults files.old) (F.faults files.new)
-            ⊎ (16777216 < self.new.lexer.window.given)) }
     {
         let is_word = self.lexer.next_head_word(files, place, word)?;
         Ok(is_word)
@@ -275,44 +237,24 @@ impl OpenFiles {
         requires goes { self.old.lexer.has_failed ≡ false }
 
         // With an honest reader the file is the first one that is there, and is read as the innermost one is.
-        ensures answer { Honestly F.Files files.old self.old
-            (λ start. IfOk result (λ included. included ≡ answer_of (inclusion (F.sources files.old) (map (λ d. d.now) directories.now)
-            text.now
-            (nesting (F.sources files.old) start (F.openings files.old) self.old)))) }
-        ensures nesting { Honestly F.Files files.old self.old
-            (λ start. OnOk result (let was = nesting (F.sources files.old) start (F.openings files.old) self.old in
-            nesting (F.sources files.old) start (F.openings files.new) self.new
-            ≡ nested_by self.old.lexer.set self.old.nest.limit (F.sources files.old) (reverse conditionals.old.items) is_system.old
-            (inclusion (F.sources files.old) (map (λ d. d.now) directories.now) text.now was) was)) }
-        ensures in_vain { Honestly F.Files files.old self.old
-            (λ start. IfErr result (λ fault. let was = nesting (F.sources files.old) start (F.openings files.old) self.old in
-            OpenedInVain fault (inclusion (F.sources files.old) (map (λ d. d.now) directories.now) text.now was) was
-            (opened_since start (F.openings files.new)))) }
+        ensures included { Honestly F.Files files.old self.old (λ start.
+            let was = nesting (F.sources files.old) start (F.openings files.old) self.old in
+            Includes self.old.lexer.set self.old.nest.limit (F.sources files.old) (reverse conditionals.old.items) is_system.old
+            (inclusion (F.sources files.old) (map (λ d. d.now) directories.now) text.now was) was
+            (nesting (F.sources files.old) start (F.openings files.new) self.new) result) }
         ensures fits { StaysFit F.Files files.old files.new self.old }
 
         // The clauses below hold with any reader.
         ensures went { Went F.Files files.old files.new self.old self.new }
-        ensures entered { IfOk result (λ included. included ≡ Included.Entered →
-            ((self.new.lexer.window.given ≡ 0) × (self.new.lexer.window.left ≡ []))
-            × ((self.new.outer ≡ self.old.outer ++ waits self.old.lexer conditionals.old is_system.old ∷ [])
-            × (length self.old.outer < 15))) }
-        ensures fresh { IfOk result (λ included. included ≡ Included.Entered →
-            (conditionals.new.items ≡ []) × (is_system.new ≡ false)) }
-        ensures kept { IfOk result (λ included. (included ≡ Included.Entered → ⊥) →
-            (self.new ≡ self.old) × ((conditionals.new ≡ conditionals.old) × (is_system.new ≡ is_system.old))) }
-        ensures err { OnErr result (self.new ≡ self.old) }
-        ensures unmoved { OnErr result ((conditionals.new ≡ conditionals.old) × (is_system.new ≡ is_system.old)) }
+        ensures moves { Moves self.old self.new conditionals.old conditionals.new is_system.old is_system.new result }
         ensures goes { OnOk result (self.new.lexer.has_failed ≡ false) }
         ensures settings { (self.new.nest.set ≡ self.old.nest.set) × (self.new.nest.limit ≡ self.old.nest.limit) }
-        ensures cause { (IsErrOf result IncludeFault.Device → Rose (F.faults files.old) (F.faults files.new)
+        ensures tries { Tries F.Files (has_entered result) (tells_device result) files.old files.new }
+        ensures cause { IsErrOf result IncludeFault.Device → (can_name text.now ≡ true) × (Rose (F.faults files.old) (F.faults files.new)
             ⊎ (AskedTooMany F.Files files.new self.new × Honestly F.Files files.old self.old (λ start.
             let was = nesting (F.sources files.old) start (F.openings files.old) self.old in
             OpensTooMany (inclusion (F.sources files.old) (map (λ d. d.now) directories.now) text.now was) was
-            (opened_since start (F.openings files.new)))))
-            × (IsErrOf result IncludeFault.Memory → F.faults files.new ≡ F.faults files.old) }
-        ensures seen { OnOk result (F.faults files.new ≡ F.faults files.old) }
-        ensures named { IsErrOf result IncludeFault.Device → can_name text.now ≡ true }
-        ensures counts { F.counts files.new ≡ (if has_entered result then counts_opened (F.counts files.old) else F.counts files.old) }
+            (opened_since start (F.openings files.new))))) }
     {
         self.outer.reserve(1)?;
         match self.names.enter(files, directories, text) {

@@ -43,7 +43,7 @@ loop-head-preserved g c =
     let inv = c.loop-head.invariant in
     let call = c.next_head_word.ensures in
     let took = c.in_ok-next_head_word.ensures in
-    let goes_to = took.goes_to ∙ ap goes_on_at c.if-branch.true in
+    let goes_to = took.took.0 ∙ ap goes_on_at c.if-branch.true in
     record {
       led = λ honest start nested.
           let first = nesting (files.sources a) start (files.openings a) x in
@@ -58,15 +58,15 @@ loop-head-preserved g c =
           (sym (c.take.ensures ∙ ap (λ w. take_head_word c.loop-head.head w) c.as_slice.ensures.value))
           (leads_on first was now from at c.loop-head.head word (inv.led honest start nested) inv.none reads);
       opened = λ honest start nested.
-          call.opened (subst (λ t. IsTrue t) (sym inv.went.honesty) honest) start (inv.went.nested honest start nested)
+          call.reads.opened (subst (λ t. IsTrue t) (sym inv.went.honesty) honest) start (inv.went.nested honest start nested)
           ∙ inv.opened honest start nested;
-      went = went_then files a b d x y z inv.went call.went;
-      fits = fit_then files a b d x y inv.went inv.fits took.fits;
-      is_open = omega (arith, inv.is_open, call.went.depth, ap (λ fs. length fs) call.same.1.0);
+      went = went_then files a b d x y z inv.went call.reads.went;
+      fits = fit_then files a b d x y inv.went inv.fits took.reads.fits;
+      is_open = omega (arith, inv.is_open, call.reads.went.depth, ap (λ fs. length fs) call.reads.outer);
       goes = took.failed;
-      same = (call.same.0 ∙ inv.same.0, (call.same.1.0 ∙ inv.same.1.0, call.same.1.1 ∙ inv.same.1.1));
-      seen = took.seen ∙ inv.seen;
-      window = λ few. call.window;
+      same = (call.reads.nest ∙ inv.same.0, (call.reads.outer ∙ inv.same.1.0, call.reads.file ∙ inv.same.1.1));
+      seen = took.reads.on.calm ∙ inv.seen;
+      window = λ few. call.reads.on.window;
       before = ap is_behind goes_to;
       none = ap is_word goes_to;
     }
@@ -134,7 +134,7 @@ returns-in_err-next_head_word-clause-unfinished g c = λ honest start nested.
     let not_ended : UnfinishedHead from (nesting (files.sources a) start (files.openings b) y).cursor past
     (unread (files.sources a) (files.openings d)) =
     behind_call files a b x y (λ s start. UnfinishedHead from (nesting s start (files.openings b) y).cursor past
-    (unread s (files.openings d))) inv.went (λ still start here. stops.unfinished still start inv.before refl) honest start nested in
+    (unread s (files.openings d))) inv.went (λ still start here. stops.refused.1 still start inv.before) honest start nested in
     on_err c.from_residual.result (stops_behind (nesting (files.sources a) start (files.openings a) x)
     (nesting (files.sources a) start (files.openings b) y) from c.loop-head.head past (unread (files.sources a) (files.openings d))
     (inv.led honest start nested) not_ended)

@@ -38,13 +38,13 @@ returns-clause-comes g c = λ honest.
     let r = c.translate_opened-open_files.result.1 in
     let still = subst (λ b. IsTrue b) (sym c.enter_main.ensures.kept.honesty) honest in
     let last = subst (λ b. IsTrue b) (sym c.translate_opened-open_files.ensures.went.honesty) still in
-    let nested = c.in-Ok.ensures.nested honest in
+    let nested = (c.in-Ok.ensures.entered honest).nested in
     let here = subst (λ (y : Sources). AllGiven y (length old.all) mid main) (sym c.enter_main.ensures.kept.sources)
-    (c.in-Ok.ensures.given_all honest) in
+    (c.in-Ok.ensures.entered honest).given_all in
     let given = subst (λ (y : Sources). AllGiven y (length old.all) now f) c.enter_main.ensures.kept.sources
     (c.translate_opened-open_files.ensures.went.stays_given still old nested here) in
     let concludes = subst (λ (n : Nesting). IfOk r (λ x. Concludes (limits_of (chosen_at n options).settings) s (chosen_at n options) serial
-    (begun_at n options []) old now f before after x)) (c.in-Ok.ensures.nesting honest)
+    (begun_at n options []) old now f before after x)) (c.in-Ok.ensures.entered honest).nesting_is
     (subst (λ (y : Sources). IfOk r (λ x. Concludes (limits_of (chosen_at (nesting y old mid main) options).settings) y
     (chosen_at (nesting y old mid main) options) serial (begun_at (nesting y old mid main) options []) old now f before after x))
     c.enter_main.ensures.kept.sources
@@ -53,12 +53,12 @@ returns-clause-comes g c = λ honest.
     now.all)
     (λ x. Comes s o serial name old (files.openings c.close.new.files) before after x)
     (λ x k. comes_of s o serial name old now (files.openings c.close.new.files) f (start s o name) before after x
-    (c.in-Ok.ensures.there honest) refl (c.close.ensures.closed last old k.0.nested) given k.1 k.0)
+    (c.in-Ok.ensures.entered honest).there refl (c.close.ensures.closed last old k.0.nested) given k.1 k.0)
     (if_ok_both r (λ x. Concludes (limits_of o.settings) s o serial (start s o name) old now f before after x)
     (λ x. Each Fits (length old.all) now.all) concludes
     (if_ok_more r (λ x. StaysFit files c.enter_main.new.files c.translate_opened-open_files.new.files main)
     (λ x. Each Fits (length old.all) now.all)
-    (λ x h. h still old nested here (c.in-Ok.ensures.fits honest)) c.translate_opened-open_files.ensures.fits))
+    (λ x h. h still old nested here (c.in-Ok.ensures.entered honest).fits) c.translate_opened-open_files.ensures.fits))
 
 pub returns-clause-begins : goal.returns-clause-begins
 returns-clause-begins g c = λ honest.
@@ -75,13 +75,13 @@ returns-clause-begins g c = λ honest.
     let after = g.M.Sink.taken c.translate_opened-open_files.new.messages in
     let still = subst (λ b. IsTrue b) (sym c.enter_main.ensures.kept.honesty) honest in
     on_err_weaker c.translate_opened-open_files.result.1
-    (λ k. begins_of s o serial name (start s o name) before after (c.in-Ok.ensures.there honest) refl
+    (λ k. begins_of s o serial name (start s o name) before after (c.in-Ok.ensures.entered honest).there refl
     (subst (λ (n : Nesting). Stops (limits_of (chosen_at n options).settings) s (chosen_at n options) serial (begun_at n options []) before
-    after) (c.in-Ok.ensures.nesting honest)
+    after) (c.in-Ok.ensures.entered honest).nesting_is
     (subst (λ (y : Sources). Stops (limits_of (chosen_at (nesting y old mid main) options).settings) y
     (chosen_at (nesting y old mid main) options) serial (begun_at (nesting y old mid main) options []) before after)
     c.enter_main.ensures.kept.sources k)))
-    (c.translate_opened-open_files.ensures.stops still old (c.in-Ok.ensures.nested honest))
+    (c.translate_opened-open_files.ensures.stops still old (c.in-Ok.ensures.entered honest).nested)
 
 pub returns-clause-fault : goal.returns-clause-fault
 returns-clause-fault g c =
@@ -96,8 +96,9 @@ returns-clause-fault g c =
     if_caused_more c.translate_opened-open_files.result.1 (λ name. IsUnreadable files entered read main f)
     (λ name. IsUnread files first last) rose rose
     (λ name why. unread_by files first entered read last main f c.enter_main.ensures.kept
-    (counted_at_front _ _ main (files.counts first) (files.counts entered) c.in-Ok.ensures.counts c.in-Ok.ensures.front)
-    c.in-Ok.ensures.opened c.translate_opened-open_files.ensures.went c.close.ensures.kept c.close.ensures.untouched
+    (counted_at_front _ _ main (files.counts first) (files.counts entered) c.in-Ok.ensures.tries.counts
+    (c.in-Ok.ensures.front.0, c.in-Ok.ensures.front.1.0))
+    c.in-Ok.ensures.front.1.1 c.translate_opened-open_files.ensures.went c.close.ensures.kept c.close.ensures.untouched
     why)
     (λ r. r) c.translate_opened-open_files.ensures.fault
 
@@ -115,18 +116,19 @@ returns-clause-opened g c = λ honest.
     let f = c.translate_opened-open_files.result.0 in
     let still = subst (λ b. IsTrue b) (sym c.enter_main.ensures.kept.honesty) honest in
     let last = subst (λ b. IsTrue b) (sym c.translate_opened-open_files.ensures.went.honesty) still in
-    let nested = c.in-Ok.ensures.nested honest in
+    let nested = (c.in-Ok.ensures.entered honest).nested in
     let closed = c.close.ensures.closed last old (c.translate_opened-open_files.ensures.went.nested still old nested) in
     let here = subst (λ (y : Sources). AllGiven y (length old.all) mid main) (sym c.enter_main.ensures.kept.sources)
-    (c.in-Ok.ensures.given_all honest) in
+    (c.in-Ok.ensures.entered honest).given_all in
     let given = subst (λ (y : Sources). AllGiven y (length old.all) now f) c.enter_main.ensures.kept.sources
     (c.translate_opened-open_files.ensures.went.stays_given still old nested here) in
     on_err_weaker c.translate_opened-open_files.result.1
     (λ k. inr (opened_some s o name old now (files.openings c.close.new.files) f (begun_at (nesting s old mid main) options) k.0
-    (subst (λ (n : Nesting). begun_at (nesting s old mid main) options [] ≡ begun_at n options []) (c.in-Ok.ensures.nesting honest) refl)
+    (subst (λ (n : Nesting). begun_at (nesting s old mid main) options [] ≡ begun_at n options [])
+        (c.in-Ok.ensures.entered honest).nesting_is refl)
     closed given
     (subst (λ (n : Nesting). OpensAll (run (limits_of (chosen_at n options).settings) s (chosen_at n options) k.0)
-    (begun_at (nesting s old mid main) options) (opened_since old now)) (c.in-Ok.ensures.nesting honest)
+    (begun_at (nesting s old mid main) options) (opened_since old now)) (c.in-Ok.ensures.entered honest).nesting_is
     (subst (λ (y : Sources). OpensAll (run (limits_of (chosen_at (nesting y old mid main) options).settings) y
     (chosen_at (nesting y old mid main) options) k.0) (begun_at (nesting y old mid main) options) (opened_since old now))
     c.enter_main.ensures.kept.sources k.1))))
@@ -149,9 +151,9 @@ returns-clause-heard g c = λ honest.
     let after = g.M.Sink.taken c.translate_opened-open_files.new.messages in
     let still = subst (λ b. IsTrue b) (sym c.enter_main.ensures.kept.honesty) honest in
     let last = subst (λ b. IsTrue b) (sym c.translate_opened-open_files.ensures.went.honesty) still in
-    let nested = c.in-Ok.ensures.nested honest in
+    let nested = (c.in-Ok.ensures.entered honest).nested in
     let here = subst (λ (y : Sources). AllGiven y (length old.all) mid main) (sym c.enter_main.ensures.kept.sources)
-    (c.in-Ok.ensures.given_all honest) in
+    (c.in-Ok.ensures.entered honest).given_all in
     let given = subst (λ (y : Sources). AllGiven y (length old.all) now f) c.enter_main.ensures.kept.sources
     (c.translate_opened-open_files.ensures.went.stays_given still old nested here) in
     let went = c.translate_opened-open_files.ensures.went in
@@ -168,7 +170,7 @@ returns-clause-heard g c = λ honest.
     (λ rose. subst (λ (n : ℕ). Rose first_faults n) (sym c.close.ensures.untouched.0)
     (rose_earlier first_faults main_faults read_faults c.enter_main.ensures.kept.faults rose))
     (subst (λ (n : Nesting). IfErr r (λ x. IfRead x (λ told. GivenUpFrom (limits_of (chosen_at n options).settings) later s
-    (chosen_at n options) n (begun_at n options) before after old now f told))) (c.in-Ok.ensures.nesting honest)
+    (chosen_at n options) n (begun_at n options) before after old now f told))) (c.in-Ok.ensures.entered honest).nesting_is
     (subst (λ (y : Sources). IfErr r (λ x. IfRead x (λ told. GivenUpFrom
     (limits_of (chosen_at (nesting y old mid main) options).settings) later y (chosen_at (nesting y old mid main) options)
     (nesting y old mid main) (begun_at (nesting y old mid main) options) before after old now f told))) c.enter_main.ensures.kept.sources
@@ -188,7 +190,8 @@ returns-in-Err-Absent-clause-begins g c = λ honest.
     ap (λ (e : Outcome). e.messages) c.in_ok-no_file-in-Err-Absent.ensures
     ∙ ap (λ (n : List ℕ). (missing n).messages) c.as_bytes.ensures.value in
     on_err_leads c.written.result (TakesFront (seen ending).messages old new) (Begins s o serial name old new)
-    (begins_missing s o serial name old new (seen ending).messages (c.in-Err-Absent.ensures.absent honest there) is)
+    (begins_missing s o serial name old new (seen ending).messages ((c.in-Err-Absent.ensures.refused honest).1 c.in-Err-Absent.field-0-is)
+        is)
     c.written.ensures.err
 
 -- where the main source could not be opened
@@ -210,7 +213,7 @@ returns-in-Err-BadName-clause-heard g c = λ honest.
     let taken = g.M.Sink.taken c.args.messages.now in
     let failed = Rose (files.faults c.args.files.now) (files.faults c.enter_main.new.files) in
     let rose : failed = search rules in
-    heard_none failed s o name old new taken taken (string_bytes c.in_ok-told.told) rose (c.in-Err-BadName.ensures.unopened honest) refl
+    heard_none failed s o name old new taken taken (string_bytes c.in_ok-told.told) rose (c.in-Err-BadName.ensures.refused honest).0 refl
     c.in_ok-told.ensures.ok
 
 pub returns-clause-quiet : goal.returns-clause-quiet
@@ -235,7 +238,7 @@ returns-clause-seen g c =
     let entered = files.faults c.enter_main.new.files in
     let read = files.faults c.translate_opened-open_files.new.files in
     subst (λ (n : ℕ). TellsEachRead r first n) (sym c.close.ensures.untouched.0)
-    (tells_then r first entered read (c.in-Ok.ensures.cause.1 refl) c.translate_opened-open_files.ensures.seen)
+    (tells_then r first entered read c.in-Ok.ensures.tries.calm c.translate_opened-open_files.ensures.seen)
 
 pub returns-in-Err-Absent-clause-seen : goal.returns-in-Err-Absent-clause-seen
 returns-in-Err-Absent-clause-seen g c =
@@ -294,11 +297,11 @@ returns-clause-early g c = λ honest.
     (StopsEarly (limits_of (chosen_at there options).settings) y (chosen_at there options) (begun_at there options []) before after)
     (StopsEarly (limits_of o.settings) s o (start s o name) before after)
     (λ k. subst (λ (n : Nesting). StopsEarly (limits_of (chosen_at n options).settings) s (chosen_at n options) (begun_at n options [])
-    before after) (c.in-Ok.ensures.nesting honest)
+    before after) (c.in-Ok.ensures.entered honest).nesting_is
     (subst (λ (x : Sources). StopsEarly (limits_of (chosen_at (nesting x old mid main) options).settings) x
     (chosen_at (nesting x old mid main) options) (begun_at (nesting x old mid main) options []) before after)
     c.enter_main.ensures.kept.sources k))
-    (c.translate_opened-open_files.ensures.early still old (c.in-Ok.ensures.nested honest))
+    (c.translate_opened-open_files.ensures.early still old (c.in-Ok.ensures.entered honest).nested)
 
 pub returns-in_err-told-clause-early : goal.returns-in_err-told-clause-early
 returns-in_err-told-clause-early g c = λ honest. if_memory_any c.from_residual.result _ (early_none _ _ _ _ _)

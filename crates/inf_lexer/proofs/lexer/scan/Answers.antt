@@ -1,237 +1,107 @@
-use Rattle.std.proofs.Common.{◌++◌, Bool, IsTrue, subst, ℕ, List, drop, length, refl, sym, ap, ◌∙◌, arith, length-drop}
-use Rattle.inf_lexer.specs.Unread.{behind_view}
-use Rattle.inf_lexer.proofs.{Counting.counts_then, Counting.counts_then_as, Unfinished.stays_unfinished}
-use Rattle.inf_lexer.proofs.Hearing.{ends_on, ends_taken, heard_on, heard_source, heard_taken, still_taken}
-use Rattle.inf_lexer.proofs.Scanned.{find_end, none_left, some_left}
+use Rattle.std.proofs.Common.{◌++◌, Err, false, length, refl, sym, ap, subst, ◌∙◌, arith, length-drop}
+use Rattle.std.proofs.Math.Path.{subst⁻¹}
+use Rattle.inf_lexer.specs.{Reading.Heard, Reading.ReadsOn, Readers.Refuses, Unread.View, Unread.behind_view}
+use Rattle.inf_lexer.proofs.{Reading.heard_none, Reading.heard_on, Reading.heard_same, Reading.heard_source, Reading.heard_taken}
+use Rattle.inf_lexer.proofs.{Reading.fault_is, Reading.room_on, Scanned.find_end, Scanned.none_left, Scanned.some_left}
+use Rattle.inf_lexer.proofs.{Scanned.token_stays_open}
 use Rattle.inf_scanner.specs.{declared.scanner.State.State, declared.scanner.Turn.Turn}
-use Rattle.inf_scanner.specs.Scanning.{Found, begun, find, found_after, is_on, is_open, is_quoted, sight}
+use Rattle.inf_scanner.specs.Scanning.{Found, Sight, begun, find, found_after, is_on, is_open, is_quoted, sight}
 use Rattle.inf_lexer.proofs.lexer.scan.Goals as goal
 
--- the bytes that were heard up to a full window
+pub windows-init : goal.windows-init
+windows-init g c = record {
+  heard = subst⁻¹ (λ s. Heard Found g.F.Files false c.args.files.now c.args.files.now c.args.window.now c.args.window.now
+      (find c.args.set c.args.limit State.Gap s) (find c.args.set c.args.limit State.Gap (begun c.args.seen.now.lines))) c.begin.ensures
+      (heard_none c.requires.few c.requires.window);
+  opens = refl;
+  room = omega (arith, c.requires.room, ap (λ (s : Sight). s.lines.line) c.begin.ensures);
+}
+
 pub windows-preserved : goal.windows-preserved
 windows-preserved g c =
-    let files = g.F.Files in
-    let inv = c.windows.invariant in
-    let filled = c.in_ok-refill.ensures in
     let took = c.in_ok-taken.ensures in
     record {
-      heard = heard_taken Found (files.is_honest c.args.files.now) (files.sources c.args.files.now) (files.openings c.args.files.now)
-          (files.openings c.refill.new.files) c.args.window.now c.refill.new.self c.pass.new.self
-          (find c.args.set c.args.limit c.windows.state (sight c.windows.seen))
-          (find c.args.set c.args.limit c.in-On.next (sight c.take_all.new.self))
-          (find c.args.set c.args.limit State.Gap (begun c.args.seen.now.lines))
-          (heard_on Found (files.is_honest c.args.files.now) (files.is_honest c.windows.files) (files.sources c.args.files.now)
-          (files.sources c.windows.files) (files.openings c.args.files.now) (files.openings c.windows.files)
-          (files.openings c.refill.new.files) c.args.window.now c.windows.window c.refill.new.self
-          (find c.args.set c.args.limit c.windows.state (sight c.windows.seen))
-          (find c.args.set c.args.limit State.Gap (begun c.args.seen.now.lines)) inv.heard inv.honesty inv.sources filled.reads)
-          c.pass.ensures.given c.pass.ensures.over
-          (λ rest may. ap (λ (l : List ℕ). find c.args.set c.args.limit c.in-On.next (sight c.take_all.new.self) (l ++ rest))
-          c.pass.ensures.left
-          ∙ ap (λ (l : List ℕ). find c.args.set c.args.limit c.in-On.next (sight c.take_all.new.self) (drop c.in_ok-taken.taken l ++ rest))
-          (sym c.left-in-windows.ensures)
-          ∙ ap (λ (t : Turn). found_after c.args.set c.args.limit t (sight c.take_all.new.self)
-          (drop c.in_ok-taken.taken c.left-in-windows.result.now ++ rest)) (sym c.in-On.is)
-          ∙ took.found rest
-          ∙ ap (λ (l : List ℕ). find c.args.set c.args.limit c.windows.state (sight c.windows.seen) (l ++ rest)) c.left-in-windows.ensures);
-      end = λ honest ends. ends_taken (files.sources c.args.files.now) (files.openings c.refill.new.files) c.refill.new.self c.pass.new.self
-          c.pass.ensures.over
-          (ends_on (files.is_honest c.args.files.now) (files.is_honest c.windows.files) (files.sources c.args.files.now)
-          (files.sources c.windows.files) (files.openings c.args.files.now) (files.openings c.windows.files)
-          (files.openings c.refill.new.files) c.args.window.now c.windows.window c.refill.new.self inv.end inv.honesty inv.sources
-          filled.end honest ends);
-      still = λ honest still. still_taken (files.openings c.refill.new.files) c.refill.new.self c.pass.new.self c.pass.ensures.over
-          (filled.still (subst (λ (b : Bool). IsTrue b) (sym inv.honesty) honest) (inv.still honest still));
-      opens = sym (ap is_open c.in-On.is) ∙ took.opens inv.opens;
-      room = omega (
-        arith,
-        ap (λ (l : List ℕ). length l) c.pass.ensures.left,
-        length-drop c.in_ok-taken.taken c.refill.new.self.left,
-        ap
-            (λ (l : List ℕ). length l) c.left-in-windows.ensures,
-        inv.room,
-        filled.taken,
-        c.pass.ensures.given,
-        took.few,
-        took.within,
-      );
-      window = omega (
-        arith,
-        ap (λ (l : List ℕ). length l) c.pass.ensures.left,
-        length-drop c.in_ok-taken.taken c.refill.new.self.left,
-        filled.window,
-      );
-      few = omega (arith, c.pass.ensures.given, filled.few);
-      more = omega (arith, c.pass.ensures.given, inv.more, filled.more);
-      counts = counts_then_as (files.counts c.args.files.now) (files.counts c.windows.files) (files.counts c.refill.new.files)
-          c.args.window.now.given c.windows.window.given c.refill.new.self.given c.pass.new.self.given inv.counts filled.counts
-          c.pass.ensures.given;
-      depth = filled.depth ∙ inv.depth;
-      opened = filled.opened ∙ inv.opened;
-      faults = filled.faults.1 ∙ inv.faults;
-      sources = filled.sources ∙ inv.sources;
-      honesty = filled.honesty ∙ inv.honesty;
+      heard = heard_taken (λ t. found_after c.args.set c.args.limit t (sight c.take_all.new.self)) c.in_ok-taken.taken
+          c.windows.invariant.heard c.in_ok-refill.ensures.fills c.left-in-windows.ensures c.pass.ensures took.found c.in-On.is;
+      opens = sym (ap is_open c.in-On.is) ∙ took.opens c.windows.invariant.opens;
+      room = room_on c.windows.seen.lines.line _ c.in_ok-taken.taken c.windows.window c.windows.invariant.room c.in_ok-refill.ensures.taken
+          c.left-in-windows.ensures c.pass.ensures took.within took.few;
     }
 
 pub windows-smaller : goal.windows-smaller
 windows-smaller g c =
     let filled = c.in_ok-refill.ensures in
-    let took = c.in_ok-taken.ensures in
-    let some = some_left c.left.result.now (sym c.is_empty.ensures ∙ c.if-is_empty.false) in
     omega (
       arith,
-      some,
-      ap (λ (l : List ℕ). length l) c.left.ensures,
-      ap (λ (l : List ℕ). length l) c.left-in-windows.ensures,
-      took.all (ap is_on c.in-On.is),
-      ap (λ (l : List ℕ). length l) c.pass.ensures.left,
+      some_left c.left.result.now (sym c.is_empty.ensures ∙ c.if-is_empty.false),
+      ap length c.left.ensures,
+      ap length c.left-in-windows.ensures,
+      c.in_ok-taken.ensures.all (ap is_on c.in-On.is),
+      ap (λ (v : View). length v.left) c.pass.ensures,
+      ap (λ (v : View). v.given) c.pass.ensures,
       length-drop c.in_ok-taken.taken c.refill.new.self.left,
       filled.taken,
-      filled.few,
-      filled.more,
-      c.pass.ensures.given,
-      c.windows.invariant.few,
+      filled.fills.went.few,
+      filled.fills.went.given,
+      c.windows.invariant.heard.went.few,
     )
 
 pub returns-then-is_empty-clause-heard : goal.returns-then-is_empty-clause-heard
 returns-then-is_empty-clause-heard g c =
-    let files = g.F.Files in
-    let inv = c.windows.invariant in
     let filled = c.in_ok-refill.ensures in
     let empty = sym c.left.ensures ∙ none_left c.left.result.now (sym c.is_empty.ensures ∙ c.if-is_empty.true) in
-    heard_taken Found (files.is_honest c.args.files.now) (files.sources c.args.files.now) (files.openings c.args.files.now)
-    (files.openings c.refill.new.files) c.args.window.now c.refill.new.self c.refill.new.self
-    (find c.args.set c.args.limit c.windows.state (sight c.windows.seen))
-    (λ rest. record { ending = c.at_end.result; seen = sight c.mark.new.self; rest = rest })
-    (find c.args.set c.args.limit State.Gap (begun c.args.seen.now.lines))
-    (heard_on Found (files.is_honest c.args.files.now) (files.is_honest c.windows.files) (files.sources c.args.files.now)
-    (files.sources c.windows.files) (files.openings c.args.files.now) (files.openings c.windows.files)
-    (files.openings c.refill.new.files) c.args.window.now c.windows.window c.refill.new.self
-    (find c.args.set c.args.limit c.windows.state (sight c.windows.seen))
-    (find c.args.set c.args.limit State.Gap (begun c.args.seen.now.lines)) inv.heard inv.honesty inv.sources filled.reads) refl refl
+    heard_same {failed = false} (heard_on c.windows.invariant.heard filled.fills)
     (λ rest may. ap (λ e. record { ending = e; seen = sight c.mark.new.self; rest = c.refill.new.self.left ++ rest }) c.at_end.ensures
     ∙ find_end c.args.set c.args.limit c.windows.state (sight c.windows.seen) (sight c.mark.new.self) c.refill.new.self.left rest
     empty (may (filled.over empty)) c.mark.ensures)
 
 pub returns-in-Last-clause-heard : goal.returns-in-Last-clause-heard
 returns-in-Last-clause-heard g c =
-    let files = g.F.Files in
-    let inv = c.windows.invariant in
-    let filled = c.in_ok-refill.ensures in
-    let took = c.in_ok-taken.ensures in
-    heard_taken Found (files.is_honest c.args.files.now) (files.sources c.args.files.now) (files.openings c.args.files.now)
-    (files.openings c.refill.new.files) c.args.window.now c.refill.new.self c.pass.new.self
-    (find c.args.set c.args.limit c.windows.state (sight c.windows.seen))
-    (λ rest. record { ending = c.in-Last.ending; seen = sight c.take_all.new.self; rest = rest })
-    (find c.args.set c.args.limit State.Gap (begun c.args.seen.now.lines))
-    (heard_on Found (files.is_honest c.args.files.now) (files.is_honest c.windows.files) (files.sources c.args.files.now)
-    (files.sources c.windows.files) (files.openings c.args.files.now) (files.openings c.windows.files)
-    (files.openings c.refill.new.files) c.args.window.now c.windows.window c.refill.new.self
-    (find c.args.set c.args.limit c.windows.state (sight c.windows.seen))
-    (find c.args.set c.args.limit State.Gap (begun c.args.seen.now.lines)) inv.heard inv.honesty inv.sources filled.reads)
-    c.pass.ensures.given c.pass.ensures.over
-    (λ rest may. ap (λ (l : List ℕ). record { ending = c.in-Last.ending; seen = sight c.take_all.new.self; rest = l ++ rest })
-    c.pass.ensures.left
-    ∙ ap (λ (l : List ℕ). record { ending = c.in-Last.ending; seen = sight c.take_all.new.self; rest = drop c.in_ok-taken.taken l ++ rest })
-    (sym c.left-in-windows.ensures)
-    ∙ ap (λ (t : Turn). found_after c.args.set c.args.limit t (sight c.take_all.new.self)
-    (drop c.in_ok-taken.taken c.left-in-windows.result.now ++ rest)) (sym c.in-Last.is)
-    ∙ took.found rest
-    ∙ ap (λ (l : List ℕ). find c.args.set c.args.limit c.windows.state (sight c.windows.seen) (l ++ rest)) c.left-in-windows.ensures)
+    heard_taken (λ t. found_after c.args.set c.args.limit t (sight c.take_all.new.self)) c.in_ok-taken.taken
+    c.windows.invariant.heard c.in_ok-refill.ensures.fills c.left-in-windows.ensures c.pass.ensures c.in_ok-taken.ensures.found
+    c.in-Last.is
 
 pub returns-in-Behind-clause-heard : goal.returns-in-Behind-clause-heard
 returns-in-Behind-clause-heard g c =
-    let files = g.F.Files in
-    let inv = c.windows.invariant in
-    let filled = c.in_ok-refill.ensures in
+    heard_taken (λ t. found_after c.args.set c.args.limit t (sight c.take_all.new.self)) c.in_ok-taken.taken
+    c.windows.invariant.heard c.in_ok-refill.ensures.fills c.left-in-windows.ensures c.pass.ensures c.in_ok-taken.ensures.found
+    c.in-Behind.is
+
+pub returns-in-Last-clause-room : goal.returns-in-Last-clause-room
+returns-in-Last-clause-room g c =
     let took = c.in_ok-taken.ensures in
-    heard_taken Found (files.is_honest c.args.files.now) (files.sources c.args.files.now) (files.openings c.args.files.now)
-    (files.openings c.refill.new.files) c.args.window.now c.refill.new.self c.pass.new.self
-    (find c.args.set c.args.limit c.windows.state (sight c.windows.seen))
-    (λ rest. record { ending = c.in-Behind.ending; seen = sight c.take_all.new.self; rest = rest })
-    (find c.args.set c.args.limit State.Gap (begun c.args.seen.now.lines))
-    (heard_on Found (files.is_honest c.args.files.now) (files.is_honest c.windows.files) (files.sources c.args.files.now)
-    (files.sources c.windows.files) (files.openings c.args.files.now) (files.openings c.windows.files)
-    (files.openings c.refill.new.files) c.args.window.now c.windows.window c.refill.new.self
-    (find c.args.set c.args.limit c.windows.state (sight c.windows.seen))
-    (find c.args.set c.args.limit State.Gap (begun c.args.seen.now.lines)) inv.heard inv.honesty inv.sources filled.reads)
-    c.pass.ensures.given c.pass.ensures.over
-    (λ rest may. ap (λ (l : List ℕ). record { ending = c.in-Behind.ending; seen = sight c.take_all.new.self; rest = l ++ rest })
-    c.pass.ensures.left
-    ∙ ap (λ (l : List ℕ). record {
-      ending = c.in-Behind.ending;
-      seen = sight c.take_all.new.self;
-      rest = drop c.in_ok-taken.taken l ++ rest;
-    }) (sym c.left-in-windows.ensures)
-    ∙ ap (λ (t : Turn). found_after c.args.set c.args.limit t (sight c.take_all.new.self)
-    (drop c.in_ok-taken.taken c.left-in-windows.result.now ++ rest)) (sym c.in-Behind.is)
-    ∙ took.found rest
-    ∙ ap (λ (l : List ℕ). find c.args.set c.args.limit c.windows.state (sight c.windows.seen) (l ++ rest)) c.left-in-windows.ensures)
+    room_on c.windows.seen.lines.line _ c.in_ok-taken.taken c.windows.window c.windows.invariant.room c.in_ok-refill.ensures.taken
+    c.left-in-windows.ensures c.pass.ensures took.within took.few
 
-pub returns-in_err-taken-clause-memory : goal.returns-in_err-taken-clause-memory
-returns-in_err-taken-clause-memory g c = λ memory honest.
-    let files = g.F.Files in
-    let inv = c.windows.invariant in
-    let filled = c.in_ok-refill.ensures in
-    let sources = files.sources c.args.files.now in
-    let openings = files.openings c.refill.new.files in
-    let same = heard_source Found (files.is_honest c.args.files.now) sources (files.openings c.args.files.now) openings c.args.window.now
-    c.refill.new.self (find c.args.set c.args.limit c.windows.state (sight c.windows.seen))
-    (find c.args.set c.args.limit State.Gap (begun c.args.seen.now.lines))
-    (heard_on Found (files.is_honest c.args.files.now) (files.is_honest c.windows.files) (files.sources c.args.files.now)
-    (files.sources c.windows.files) (files.openings c.args.files.now) (files.openings c.windows.files)
-    (files.openings c.refill.new.files) c.args.window.now c.windows.window c.refill.new.self
-    (find c.args.set c.args.limit c.windows.state (sight c.windows.seen))
-    (find c.args.set c.args.limit State.Gap (begun c.args.seen.now.lines)) inv.heard inv.honesty inv.sources filled.reads) honest
-    (ends_on (files.is_honest c.args.files.now) (files.is_honest c.windows.files) (files.sources c.args.files.now)
-    (files.sources c.windows.files) (files.openings c.args.files.now) (files.openings c.windows.files)
-    (files.openings c.refill.new.files) c.args.window.now c.windows.window c.refill.new.self inv.end inv.honesty inv.sources filled.end
-    honest) in
-    ap (λ (f : Found). is_quoted f.ending) (sym same)
-    ∙ ap (λ (l : List ℕ). is_quoted (find c.args.set c.args.limit c.windows.state (sight c.windows.seen)
-    (l ++ behind_view sources openings c.refill.new.self)).ending) (sym c.left-in-windows.ensures)
-    ∙ c.in_err-taken.ensures.memory refl (behind_view sources openings c.refill.new.self)
+pub returns-in-Behind-clause-room : goal.returns-in-Behind-clause-room
+returns-in-Behind-clause-room g c =
+    let took = c.in_ok-taken.ensures in
+    room_on c.windows.seen.lines.line _ c.in_ok-taken.taken c.windows.window c.windows.invariant.room c.in_ok-refill.ensures.taken
+    c.left-in-windows.ensures c.pass.ensures took.within took.few
 
-pub returns-in_err-refill-clause-unfinished : goal.returns-in_err-refill-clause-unfinished
-returns-in_err-refill-clause-unfinished g c = λ read honest.
-    let files = g.F.Files in
-    let inv = c.windows.invariant in
+pub returns-in_err-refill-clause-went : goal.returns-in_err-refill-clause-went
+returns-in_err-refill-clause-went g c =
     let filled = c.in_err-refill.ensures in
-    stays_unfinished (files.is_honest c.args.files.now) (files.is_honest c.windows.files) (files.sources c.args.files.now)
-    (files.sources c.windows.files) (files.openings c.args.files.now)
-    (files.openings c.windows.files) (files.openings c.refill.new.files) c.args.window.now c.windows.window c.refill.new.self c.args.set
-    c.args.limit c.args.seen.now.lines
-    c.windows.state (sight c.windows.seen) inv.heard inv.honesty inv.sources filled.reads inv.opens (filled.refused refl) inv.few
-    (filled.unread refl) honest
+    rw (fault_is c.from_residual.result c.from_residual.ensures ∙ ap Err filled.err)
+    (heard_on c.windows.invariant.heard filled.fills).went
 
-pub returns-in_err-refill-clause-counts : goal.returns-in_err-refill-clause-counts
-returns-in_err-refill-clause-counts g c =
-    let files = g.F.Files in
-    counts_then (files.counts c.args.files.now) (files.counts c.windows.files) (files.counts c.refill.new.files)
-    c.args.window.now.given c.windows.window.given c.refill.new.self.given c.windows.invariant.counts c.in_err-refill.ensures.counts
+pub returns-in_err-taken-clause-went : goal.returns-in_err-taken-clause-went
+returns-in_err-taken-clause-went g c =
+    rw (fault_is c.from_residual-in_err-taken.result c.from_residual-in_err-taken.ensures)
+    (heard_on c.windows.invariant.heard c.in_ok-refill.ensures.fills).went
 
-pub returns-then-is_empty-clause-counts : goal.returns-then-is_empty-clause-counts
-returns-then-is_empty-clause-counts g c =
-    let files = g.F.Files in
-    counts_then (files.counts c.args.files.now) (files.counts c.windows.files) (files.counts c.refill.new.files)
-    c.args.window.now.given c.windows.window.given c.refill.new.self.given c.windows.invariant.counts c.in_ok-refill.ensures.counts
+pub returns-in_err-refill-clause-refused : goal.returns-in_err-refill-clause-refused
+returns-in_err-refill-clause-refused g c = λ honest.
+    let filled = c.in_err-refill.ensures in
+    let inv = c.windows.invariant in
+    rw (fault_is c.from_residual.result c.from_residual.ensures ∙ ap Err filled.err)
+    (token_stays_open c.args.set c.args.limit inv.heard filled.fills inv.opens (filled.refused refl) (filled.unread refl) honest)
 
-pub returns-in_err-taken-clause-counts : goal.returns-in_err-taken-clause-counts
-returns-in_err-taken-clause-counts g c =
-    let files = g.F.Files in
-    counts_then (files.counts c.args.files.now) (files.counts c.windows.files) (files.counts c.refill.new.files)
-    c.args.window.now.given c.windows.window.given c.refill.new.self.given c.windows.invariant.counts c.in_ok-refill.ensures.counts
-
-pub returns-in-Last-clause-counts : goal.returns-in-Last-clause-counts
-returns-in-Last-clause-counts g c =
-    let files = g.F.Files in
-    counts_then_as (files.counts c.args.files.now) (files.counts c.windows.files) (files.counts c.refill.new.files)
-    c.args.window.now.given c.windows.window.given c.refill.new.self.given c.pass.new.self.given c.windows.invariant.counts
-    c.in_ok-refill.ensures.counts c.pass.ensures.given
-
-pub returns-in-Behind-clause-counts : goal.returns-in-Behind-clause-counts
-returns-in-Behind-clause-counts g c =
-    let files = g.F.Files in
-    counts_then_as (files.counts c.args.files.now) (files.counts c.windows.files) (files.counts c.refill.new.files)
-    c.args.window.now.given c.windows.window.given c.refill.new.self.given c.pass.new.self.given c.windows.invariant.counts
-    c.in_ok-refill.ensures.counts c.pass.ensures.given
+pub returns-in_err-taken-clause-refused : goal.returns-in_err-taken-clause-refused
+returns-in_err-taken-clause-refused g c = λ honest.
+    let behind = behind_view (g.F.Files.sources c.args.files.now) (g.F.Files.openings c.refill.new.files) c.refill.new.self in
+    rw (fault_is c.from_residual-in_err-taken.result c.from_residual-in_err-taken.ensures)
+    (ap (λ (f : Found). is_quoted f.ending) (sym (heard_source (heard_on c.windows.invariant.heard c.in_ok-refill.ensures.fills) honest))
+    ∙ ap (λ l. is_quoted (find c.args.set c.args.limit c.windows.state (sight c.windows.seen) (l ++ behind)).ending)
+    (sym c.left-in-windows.ensures)
+    ∙ c.in_err-taken.ensures.memory refl behind)

@@ -1,181 +1,72 @@
-use Rattle.std.proofs.Common.{◌++◌, Bool, IsTrue, subst, ℕ, List, drop, length, refl, sym, ap, ◌∙◌, arith, length-drop}
-use Rattle.inf_lexer.specs.Heads.{HeadFound, head_after, head_found, is_behind, is_head_on, turn_place}
-use Rattle.inf_lexer.specs.declared.head.HeadTurn.{HeadTurn}
-use Rattle.inf_lexer.proofs.{Counting.counts_then, Counting.counts_then_as, Heading.head_end, Heading.head_stays_open, Scanned.none_left}
-use Rattle.inf_lexer.proofs.{Scanned.some_left}
-use Rattle.inf_lexer.proofs.Hearing.{ends_on, ends_taken, heard_on, heard_taken, still_taken}
+use Rattle.std.proofs.Common.{Err, false, length, refl, sym, ap, ◌∙◌, arith, length-drop}
+use Rattle.inf_lexer.specs.{Heads.head_after, Heads.is_behind, Heads.is_head_on, Heads.turn_place, Unread.View}
+use Rattle.inf_lexer.proofs.{Heading.head_end, Heading.head_stays_open, Reading.fault_is, Reading.heard_none, Reading.heard_on}
+use Rattle.inf_lexer.proofs.{Reading.heard_same, Reading.heard_taken, Reading.room_on}
+use Rattle.inf_lexer.proofs.Scanned.{none_left, some_left}
 use Rattle.inf_lexer.proofs.lexer.scan_head.Goals as goal
 
--- the bytes that were heard up to a full window
+pub windows-init : goal.windows-init
+windows-init g c = record { heard = heard_none c.requires.few c.requires.window; before = λ not. not; room = c.requires.room }
+
 pub windows-preserved : goal.windows-preserved
 windows-preserved g c =
-    let files = g.F.Files in
-    let inv = c.windows.invariant in
-    let filled = c.in_ok-refill.ensures in
     let took = c.take_head-taken.ensures in
+    let filled = c.in_ok-refill.ensures in
     record {
-      heard = heard_taken HeadFound (files.is_honest c.args.files.now) (files.sources c.args.files.now) (files.openings c.args.files.now)
-          (files.openings c.refill.new.files) c.args.window.now c.refill.new.self c.pass.new.self
-          (head_found c.windows.place c.windows.word.items c.windows.lines)
-          (head_found c.in-On.next c.take_head-taken.new.word.items c.take_head-taken.new.lines)
-          (head_found c.args.from c.args.word.now.items c.args.lines.now)
-          (heard_on HeadFound (files.is_honest c.args.files.now) (files.is_honest c.windows.files) (files.sources c.args.files.now)
-          (files.sources c.windows.files) (files.openings c.args.files.now) (files.openings c.windows.files)
-          (files.openings c.refill.new.files) c.args.window.now c.windows.window c.refill.new.self
-          (head_found c.windows.place c.windows.word.items c.windows.lines)
-          (head_found c.args.from c.args.word.now.items c.args.lines.now) inv.heard inv.honesty inv.sources filled.reads)
-          c.pass.ensures.given c.pass.ensures.over
-          (λ rest may. ap (λ (l : List ℕ). head_found c.in-On.next c.take_head-taken.new.word.items c.take_head-taken.new.lines (l ++ rest))
-          c.pass.ensures.left
-          ∙ ap (λ (l : List ℕ). head_found c.in-On.next c.take_head-taken.new.word.items c.take_head-taken.new.lines
-          (drop c.take_head-taken.result.0 l ++ rest)) (sym c.left-in-windows.ensures)
-          ∙ ap (λ (t : HeadTurn). head_after t c.take_head-taken.new.word.items c.take_head-taken.new.lines
-          (drop c.take_head-taken.result.0 c.left-in-windows.result.now ++ rest)) (sym c.in-On.is)
-          ∙ took.found rest
-          ∙ ap (λ (l : List ℕ). head_found c.windows.place c.windows.word.items c.windows.lines (l ++ rest)) c.left-in-windows.ensures);
-      end = λ honest ends. ends_taken (files.sources c.args.files.now) (files.openings c.refill.new.files) c.refill.new.self c.pass.new.self
-          c.pass.ensures.over
-          (ends_on (files.is_honest c.args.files.now) (files.is_honest c.windows.files) (files.sources c.args.files.now)
-          (files.sources c.windows.files) (files.openings c.args.files.now) (files.openings c.windows.files)
-          (files.openings c.refill.new.files) c.args.window.now c.windows.window c.refill.new.self inv.end inv.honesty inv.sources
-          filled.end honest ends);
-      still = λ honest still. still_taken (files.openings c.refill.new.files) c.refill.new.self c.pass.new.self c.pass.ensures.over
-          (filled.still (subst (λ (b : Bool). IsTrue b) (sym inv.honesty) honest) (inv.still honest still));
-      before = λ not. sym (ap (λ (t : HeadTurn). is_behind (turn_place t)) c.in-On.is) ∙ took.before (inv.before not);
-      room = omega (
-        arith,
-        ap (λ (l : List ℕ). length l) c.pass.ensures.left,
-        length-drop c.take_head-taken.result.0 c.refill.new.self.left,
-        ap (λ (l : List ℕ). length l) c.left-in-windows.ensures,
-        inv.room,
-        filled.taken,
-        c.pass.ensures.given,
-        took.few,
-        took.within,
-      );
-      window = omega (
-        arith,
-        ap (λ (l : List ℕ). length l) c.pass.ensures.left,
-        length-drop c.take_head-taken.result.0 c.refill.new.self.left,
-        filled.window,
-      );
-      few = omega (arith, c.pass.ensures.given, filled.few);
-      more = omega (arith, c.pass.ensures.given, inv.more, filled.more);
-      counts = counts_then_as (files.counts c.args.files.now) (files.counts c.windows.files) (files.counts c.refill.new.files)
-          c.args.window.now.given c.windows.window.given c.refill.new.self.given c.pass.new.self.given inv.counts filled.counts
-          c.pass.ensures.given;
-      depth = filled.depth ∙ inv.depth;
-      opened = filled.opened ∙ inv.opened;
-      faults = filled.faults.1 ∙ inv.faults;
-      sources = filled.sources ∙ inv.sources;
-      honesty = filled.honesty ∙ inv.honesty;
+      heard = heard_taken (λ t. head_after t c.take_head-taken.new.word.items c.take_head-taken.new.lines) c.take_head-taken.result.0
+          c.windows.invariant.heard filled.fills c.left-in-windows.ensures c.pass.ensures took.found c.in-On.is;
+      before = λ not. sym (ap (λ t. is_behind (turn_place t)) c.in-On.is) ∙ took.before (c.windows.invariant.before not);
+      room = room_on c.windows.lines.line _ c.take_head-taken.result.0 c.windows.window c.windows.invariant.room filled.taken
+          c.left-in-windows.ensures
+          c.pass.ensures took.within took.few;
     }
 
 pub windows-smaller : goal.windows-smaller
 windows-smaller g c =
     let filled = c.in_ok-refill.ensures in
-    let took = c.take_head-taken.ensures in
-    let some = some_left c.left.result.now (sym c.is_empty.ensures ∙ c.if-is_empty.false) in
     omega (
       arith,
-      some,
-      ap (λ (l : List ℕ). length l) c.left.ensures,
-      ap (λ (l : List ℕ). length l) c.left-in-windows.ensures,
-      took.all (ap is_head_on c.in-On.is),
-      ap (λ (l : List ℕ). length l) c.pass.ensures.left,
+      some_left c.left.result.now (sym c.is_empty.ensures ∙ c.if-is_empty.false),
+      ap length c.left.ensures,
+      ap length c.left-in-windows.ensures,
+      c.take_head-taken.ensures.all (ap is_head_on c.in-On.is),
+      ap (λ (v : View). length v.left) c.pass.ensures,
+      ap (λ (v : View). v.given) c.pass.ensures,
       length-drop c.take_head-taken.result.0 c.refill.new.self.left,
       filled.taken,
-      filled.few,
-      filled.more,
-      c.pass.ensures.given,
-      c.windows.invariant.few,
+      filled.fills.went.few,
+      filled.fills.went.given,
+      c.windows.invariant.heard.went.few,
     )
 
 pub returns-then-is_empty-clause-heard : goal.returns-then-is_empty-clause-heard
 returns-then-is_empty-clause-heard g c =
-    let files = g.F.Files in
-    let inv = c.windows.invariant in
     let filled = c.in_ok-refill.ensures in
     let empty = sym c.left.ensures ∙ none_left c.left.result.now (sym c.is_empty.ensures ∙ c.if-is_empty.true) in
-    heard_taken HeadFound (files.is_honest c.args.files.now) (files.sources c.args.files.now) (files.openings c.args.files.now)
-    (files.openings c.refill.new.files) c.args.window.now c.refill.new.self c.refill.new.self
-    (head_found c.windows.place c.windows.word.items c.windows.lines)
-    (λ rest. record { place = c.windows.place; word = c.windows.word.items; lines = c.windows.lines; rest = rest })
-    (head_found c.args.from c.args.word.now.items c.args.lines.now)
-    (heard_on HeadFound (files.is_honest c.args.files.now) (files.is_honest c.windows.files) (files.sources c.args.files.now)
-    (files.sources c.windows.files) (files.openings c.args.files.now) (files.openings c.windows.files)
-    (files.openings c.refill.new.files) c.args.window.now c.windows.window c.refill.new.self
-    (head_found c.windows.place c.windows.word.items c.windows.lines)
-    (head_found c.args.from c.args.word.now.items c.args.lines.now) inv.heard inv.honesty inv.sources filled.reads) refl refl
-    (λ rest may. head_end c.windows.place c.windows.word.items c.windows.lines c.refill.new.self.left rest
-    empty (may (filled.over empty)))
+    heard_same {failed = false} (heard_on c.windows.invariant.heard filled.fills)
+    (λ rest may. head_end c.windows.place c.windows.word.items c.windows.lines c.refill.new.self.left rest empty
+    (may (filled.over empty)))
 
 pub returns-in-Stopped-clause-heard : goal.returns-in-Stopped-clause-heard
 returns-in-Stopped-clause-heard g c =
-    let files = g.F.Files in
-    let inv = c.windows.invariant in
-    let filled = c.in_ok-refill.ensures in
+    heard_taken (λ t. head_after t c.take_head-taken.new.word.items c.take_head-taken.new.lines) c.take_head-taken.result.0
+    c.windows.invariant.heard c.in_ok-refill.ensures.fills c.left-in-windows.ensures c.pass.ensures c.take_head-taken.ensures.found
+    c.in-Stopped.is
+
+pub returns-in-Stopped-clause-room : goal.returns-in-Stopped-clause-room
+returns-in-Stopped-clause-room g c =
     let took = c.take_head-taken.ensures in
-    heard_taken HeadFound (files.is_honest c.args.files.now) (files.sources c.args.files.now) (files.openings c.args.files.now)
-    (files.openings c.refill.new.files) c.args.window.now c.refill.new.self c.pass.new.self
-    (head_found c.windows.place c.windows.word.items c.windows.lines)
-    (λ rest. record {
-      place = c.in-Stopped.last;
-      word = c.take_head-taken.new.word.items;
-      lines = c.take_head-taken.new.lines;
-      rest =
-          rest;
-    })
-    (head_found c.args.from c.args.word.now.items c.args.lines.now)
-    (heard_on HeadFound (files.is_honest c.args.files.now) (files.is_honest c.windows.files) (files.sources c.args.files.now)
-    (files.sources c.windows.files) (files.openings c.args.files.now) (files.openings c.windows.files)
-    (files.openings c.refill.new.files) c.args.window.now c.windows.window c.refill.new.self
-    (head_found c.windows.place c.windows.word.items c.windows.lines)
-    (head_found c.args.from c.args.word.now.items c.args.lines.now) inv.heard inv.honesty inv.sources filled.reads)
-    c.pass.ensures.given c.pass.ensures.over
-    (λ rest may. ap (λ (l : List ℕ). record {
-      place = c.in-Stopped.last;
-      word = c.take_head-taken.new.word.items;
-      lines = c.take_head-taken.new.lines;
-      rest = l ++ rest;
-    }) c.pass.ensures.left
-    ∙ ap (λ (l : List ℕ). record {
-      place = c.in-Stopped.last;
-      word = c.take_head-taken.new.word.items;
-      lines = c.take_head-taken.new.lines;
-      rest = drop c.take_head-taken.result.0 l ++ rest;
-    }) (sym c.left-in-windows.ensures)
-    ∙ ap (λ (t : HeadTurn). head_after t c.take_head-taken.new.word.items c.take_head-taken.new.lines
-    (drop c.take_head-taken.result.0 c.left-in-windows.result.now ++ rest)) (sym c.in-Stopped.is)
-    ∙ took.found rest
-    ∙ ap (λ (l : List ℕ). head_found c.windows.place c.windows.word.items c.windows.lines (l ++ rest)) c.left-in-windows.ensures)
+    room_on c.windows.lines.line _ c.take_head-taken.result.0 c.windows.window c.windows.invariant.room c.in_ok-refill.ensures.taken
+    c.left-in-windows.ensures c.pass.ensures took.within took.few
 
-pub returns-in_err-refill-clause-unfinished : goal.returns-in_err-refill-clause-unfinished
-returns-in_err-refill-clause-unfinished g c = λ refused not honest.
-    let files = g.F.Files in
-    let inv = c.windows.invariant in
+pub returns-in_err-refill-clause-went : goal.returns-in_err-refill-clause-went
+returns-in_err-refill-clause-went g c =
     let filled = c.in_err-refill.ensures in
-    head_stays_open (files.is_honest c.args.files.now) (files.is_honest c.windows.files) (files.sources c.args.files.now)
-    (files.sources c.windows.files) (files.openings c.args.files.now)
-    (files.openings c.windows.files) (files.openings c.refill.new.files) c.args.window.now c.windows.window c.refill.new.self c.args.from
-    c.windows.place c.args.word.now.items c.windows.word.items c.args.lines.now c.windows.lines
-    inv.heard inv.honesty inv.sources filled.reads (inv.before not) (filled.refused refl) inv.few (filled.unread refl) honest
+    rw (fault_is c.from_residual.result c.from_residual.ensures ∙ ap Err filled.err)
+    (heard_on c.windows.invariant.heard filled.fills).went
 
-pub returns-in_err-refill-clause-counts : goal.returns-in_err-refill-clause-counts
-returns-in_err-refill-clause-counts g c =
-    let files = g.F.Files in
-    counts_then (files.counts c.args.files.now) (files.counts c.windows.files) (files.counts c.refill.new.files)
-    c.args.window.now.given c.windows.window.given c.refill.new.self.given c.windows.invariant.counts c.in_err-refill.ensures.counts
-
-pub returns-then-is_empty-clause-counts : goal.returns-then-is_empty-clause-counts
-returns-then-is_empty-clause-counts g c =
-    let files = g.F.Files in
-    counts_then (files.counts c.args.files.now) (files.counts c.windows.files) (files.counts c.refill.new.files)
-    c.args.window.now.given c.windows.window.given c.refill.new.self.given c.windows.invariant.counts c.in_ok-refill.ensures.counts
-
-pub returns-in-Stopped-clause-counts : goal.returns-in-Stopped-clause-counts
-returns-in-Stopped-clause-counts g c =
-    let files = g.F.Files in
-    counts_then_as (files.counts c.args.files.now) (files.counts c.windows.files) (files.counts c.refill.new.files)
-    c.args.window.now.given c.windows.window.given c.refill.new.self.given c.pass.new.self.given c.windows.invariant.counts
-    c.in_ok-refill.ensures.counts c.pass.ensures.given
+pub returns-in_err-refill-clause-refused : goal.returns-in_err-refill-clause-refused
+returns-in_err-refill-clause-refused g c = λ refused not honest.
+    let filled = c.in_err-refill.ensures in
+    let inv = c.windows.invariant in
+    head_stays_open inv.heard filled.fills (inv.before not) (filled.refused refl) (filled.unread refl) honest

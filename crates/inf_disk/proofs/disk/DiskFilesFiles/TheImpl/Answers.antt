@@ -13,8 +13,7 @@ open-tells g c = record {
   cause = c.ensures.cause;
   faults = c.ensures.faults;
   counts = c.ensures.counts;
-  sources = refl;
-  honesty = refl;
+  kept = (refl, refl);
 }
 
 pub read-tells : goal.read-tells
@@ -22,13 +21,11 @@ read-tells g c = record {
   reads = not_honest;
   count = c.ensures.count;
   counts = c.ensures.counts;
-  same = c.ensures.same;
   depth = c.ensures.depth;
   opened = c.ensures.opened;
   cause = c.ensures.cause;
   faults = c.ensures.faults;
-  sources = refl;
-  honesty = refl;
+  kept = (refl, refl);
 }
 
 pub close-tells : goal.close-tells
@@ -38,6 +35,5 @@ close-tells g c = record {
   opened = c.ensures.opened;
   faults = c.ensures.faults;
   counts = c.ensures.counts;
-  sources = refl;
-  honesty = refl;
+  kept = (refl, refl);
 }

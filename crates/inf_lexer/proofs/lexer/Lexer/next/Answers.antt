@@ -1,34 +1,49 @@
 use Rattle.std.proofs.Common.{◌≡◌, refl, sym, ap, subst, ◌∙◌, true}
-use Rattle.inf_lexer.specs.{Readers.Reader, Readers.Took, Unread.to_come}
-use Rattle.inf_lexer.proofs.{Hearing.heard_source, Taken.heard_token, Taken.took_of}
-use Rattle.inf_scanner.specs.Scanning.{Found, begun, find, is_quoted, sight}
+use Rattle.inf_lexer.specs.{Readers.Reader, Unread.to_come}
+use Rattle.inf_lexer.proofs.{Reading.fault_is, Reading.heard_source, Reading.reads_refused, Taken.heard_token, Taken.took_of}
+use Rattle.inf_scanner.specs.Scanning.{Found, begun, find, is_quoted}
 use Rattle.inf_scanner.specs.declared.scanner.State.{State}
 use Rattle.inf_lexer.proofs.lexer.Lexer.next.Goals as goal
 
-pub returns-in_err-kind-clause-memory : goal.returns-in_err-kind-clause-memory
-returns-in_err-kind-clause-memory g c = λ memory honest.
+pub returns-in_err-ending-clause-went : goal.returns-in_err-ending-clause-went
+returns-in_err-ending-clause-went g c = λ goes.
+    rw (← c.self.view_is) (reads_refused (fault_is c.from_residual.result c.from_residual.ensures) c.in_err-ending.ensures.went)
+
+pub returns-in_err-ending-clause-refused : goal.returns-in_err-ending-clause-refused
+returns-in_err-ending-clause-refused g c = λ honest goes.
+    rw (← c.self.view_is, fault_is c.from_residual.result c.from_residual.ensures) (c.in_err-ending.ensures.refused honest)
+
+pub returns-in_err-kind-clause-went : goal.returns-in_err-kind-clause-went
+returns-in_err-kind-clause-went g c = λ goes.
+    rw (← c.self.view_is)
+    (reads_refused (fault_is c.from_residual-in_err-kind.result c.from_residual-in_err-kind.ensures) c.in_ok-ending.ensures.heard.went)
+
+pub returns-in_err-kind-clause-refused : goal.returns-in_err-kind-clause-refused
+returns-in_err-kind-clause-refused g c = λ honest goes.
     let files = g.F.Files in
-    let sources = files.sources c.args.files.now in
-    let old = files.openings c.args.files.now in
-    let new = files.openings c.scan.new.files in
-    let lexer = c.self.inside in
-    let scanned = c.in_ok-ending.ensures in
-    let same = heard_source Found (files.is_honest c.args.files.now) sources old new lexer.window c.scan.new.window
-    (λ rest. record { ending = c.in_ok-ending.ending; seen = sight c.scan.new.seen; rest = rest })
-    (find lexer.set lexer.limit State.Gap (begun lexer.seen.lines)) scanned.heard honest (scanned.end honest) in
-    subst (λ (r : Reader). is_quoted (find r.set r.limit State.Gap (begun r.lines) (to_come sources old r.window)).ending ≡ true)
+    rw (fault_is c.from_residual-in_err-kind.result c.from_residual-in_err-kind.ensures)
+    (subst (λ (r : Reader). is_quoted (find r.set r.limit State.Gap (begun r.lines)
+    (to_come (files.sources c.args.files.now) (files.openings c.args.files.now) r.window)).ending ≡ true)
     c.self.view_is
-    (ap (λ (f : Found). is_quoted f.ending) (sym same) ∙ c.in_err-kind.ensures.memory refl)
+    (ap (λ (f : Found). is_quoted f.ending) (sym (heard_source c.in_ok-ending.ensures.heard honest)) ∙ c.in_err-kind.ensures.memory refl))
+
+pub returns-clause-token : goal.returns-clause-token
+returns-clause-token g c = λ honest.
+    let lexer = c.self.inside in
+    rw (← c.self.view_is) (heard_source (heard_token lexer.set lexer.limit c.in_ok-ending.ensures.heard c.in_ok-kind.ensures.ok) honest)
+
+pub returns-clause-heard : goal.returns-clause-heard
+returns-clause-heard g c =
+    let lexer = c.self.inside in
+    rw (← c.self.view_is) (heard_token lexer.set lexer.limit c.in_ok-ending.ensures.heard c.in_ok-kind.ensures.ok)
 
 pub returns-clause-took : goal.returns-clause-took
 returns-clause-took g c =
-    let files = g.F.Files in
     let lexer = c.self.inside in
-    let heard = heard_token (files.is_honest c.args.files.now) (files.sources c.args.files.now) (files.openings c.args.files.now)
-    (files.openings c.scan.new.files)
-    lexer.window c.scan.new.window lexer.set lexer.limit lexer.seen.lines c.in_ok-ending.ending (sight c.scan.new.seen) c.in_ok-kind.kind
-    c.in_ok-ending.ensures.heard c.in_ok-kind.ensures.ok in
-    subst (λ (r : Reader). Took c.in_ok-kind.kind r.window c.scan.new.window c.scan.new.seen.spelling) c.self.view_is
-    (took_of (files.is_honest c.args.files.now) (files.sources c.args.files.now) (files.openings c.args.files.now)
-    (files.openings c.scan.new.files)
-    lexer.window c.scan.new.window lexer.set lexer.limit lexer.seen.lines (sight c.scan.new.seen) c.in_ok-kind.kind heard)
+    rw (← c.self.view_is) (
+      took_of lexer.set lexer.limit (heard_token lexer.set lexer.limit c.in_ok-ending.ensures.heard c.in_ok-kind.ensures.ok),
+      refl,
+    )
+
+pub returns-clause-went : goal.returns-clause-went
+returns-clause-went g c = λ goes. rw (← c.self.view_is) c.in_ok-ending.ensures.heard.went

@@ -1,28 +1,43 @@
-use Rattle.std.proofs.Common.{◌-◌, Bool, ℕ, List, refl, subst, sym}
-use Rattle.inf_lexer.specs.{Heads.head_found, Heads.is_word, Unread.to_come, Unread.unread}
-use Rattle.inf_lexer.specs.Readers.{HeadStaysOpen, Reader, StaysOpen, TookWord}
-use Rattle.inf_lexer.proofs.Heading.{took_word}
+use Rattle.std.proofs.Common.{◌-◌, Err, ℕ, List, refl, ap, subst, sym, ◌∙◌}
+use Rattle.inf_lexer.specs.{Heads.goes_on_at, Heads.head_found, Readers.StaysOpen, Unread.to_come, Unread.unread}
+use Rattle.inf_lexer.proofs.{Heading.goes_on_is, Heading.heard_word, Heading.took_word, Reading.fault_is, Reading.heard_source}
+use Rattle.inf_lexer.proofs.{Reading.reads_refused}
 use Rattle.inf_lexer.proofs.lexer.Lexer.next_head_word.Goals as goal
 
-pub returns-clause-took : goal.returns-clause-took
-returns-clause-took g c =
-    let files = g.F.Files in
-    let lexer = c.self.inside in
-    subst (λ (is : Bool). TookWord is c.args.place.now c.args.self.now.window c.scan_head.new.window) (sym c.is_word.ensures)
-    (subst (λ (r : Reader). TookWord (is_word c.in_ok-last.last) c.args.place.now r.window c.scan_head.new.window) c.self.view_is
-    (took_word (files.is_honest c.args.files.now) (files.sources c.args.files.now) (files.openings c.args.files.now)
-    (files.openings c.scan_head.new.files) lexer.window c.scan_head.new.window c.args.place.now c.in_ok-last.last c.clear.new.self.items
-    c.scan_head.new.word.items lexer.seen.lines c.scan_head.new.lines c.in_ok-last.ensures.heard))
+pub returns-in_err-last-clause-took : goal.returns-in_err-last-clause-took
+returns-in_err-last-clause-took g c = rw (fault_is c.from_residual.result c.from_residual.ensures) (refl, tt)
 
-pub returns-in_err-last-clause-unfinished : goal.returns-in_err-last-clause-unfinished
-returns-in_err-last-clause-unfinished g c = λ goes not refused honest.
+pub returns-in_err-last-clause-went : goal.returns-in_err-last-clause-went
+returns-in_err-last-clause-went g c = λ goes.
+    rw (← c.self.view_is) (reads_refused (fault_is c.from_residual.result c.from_residual.ensures) c.in_err-last.ensures.went)
+
+pub returns-in_err-last-clause-refused : goal.returns-in_err-last-clause-refused
+returns-in_err-last-clause-refused g c =
     let files = g.F.Files in
     let sources = files.sources c.args.files.now in
-    let old = files.openings c.args.files.now in
-    let left = unread sources (files.openings c.scan_head.new.files) in
     let lexer = c.self.inside in
-    subst (λ (r : Reader). HeadStaysOpen c.args.place.now r.lines (to_come sources old r.window) (c.scan_head.new.window.given - 16777216)
-    left) c.self.view_is
-    (subst (λ (word : List ℕ). StaysOpen (λ bytes. (head_found c.args.place.now word lexer.seen.lines bytes).rest)
-    (to_come sources old lexer.window) (c.scan_head.new.window.given - 16777216) left) c.clear.ensures
-    (c.in_err-last.ensures.unfinished refl not honest))
+    rw (← c.self.view_is, fault_is c.from_residual.result c.from_residual.ensures ∙ ap Err c.in_err-last.ensures.err) (
+      refl,
+      λ honest goes not. subst (λ (word : List ℕ). StaysOpen (λ bytes. (head_found c.args.place.now word lexer.seen.lines bytes).rest)
+          (to_come sources (files.openings c.args.files.now) lexer.window) (c.scan_head.new.window.given - 16777216)
+          (unread sources (files.openings c.scan_head.new.files))) c.clear.ensures
+          (c.in_err-last.ensures.refused refl not honest),
+    )
+
+pub returns-clause-word : goal.returns-clause-word
+returns-clause-word g c = λ honest.
+    rw (← c.self.view_is)
+    (heard_source (heard_word c.in_ok-last.ensures.heard c.clear.ensures c.is_word.ensures c.place_behind.ensures) honest)
+
+pub returns-clause-heard : goal.returns-clause-heard
+returns-clause-heard g c =
+    rw (← c.self.view_is) (heard_word c.in_ok-last.ensures.heard c.clear.ensures c.is_word.ensures c.place_behind.ensures)
+
+pub returns-clause-took : goal.returns-clause-took
+returns-clause-took g c = (
+  c.place_behind.ensures ∙ goes_on_is c.in_ok-last.last ∙ ap goes_on_at (sym c.is_word.ensures),
+  rw (← c.self.view_is, c.is_word.ensures) (took_word c.in_ok-last.ensures.heard),
+)
+
+pub returns-clause-went : goal.returns-clause-went
+returns-clause-went g c = λ goes. rw (← c.self.view_is) c.in_ok-last.ensures.heard.went

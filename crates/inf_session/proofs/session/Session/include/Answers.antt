@@ -22,7 +22,7 @@ returns-in-Err-Device-clause-fault g c =
     let before = c.args.self.now.open_files in
     let unreadable = IsUnreadable files c.args.files.now c.include.new.files before c.include.new.self in
     let cause : unreadable =
-    elim (c.in-Err-Device.ensures.cause.0 (ap (λ f. Err f) c.in-Err-Device.field-0-is)) [
+    elim (c.in-Err-Device.ensures.cause (ap (λ f. Err f) c.in-Err-Device.field-0-is)).1 [
       | inl rose ↦ inl rose
       | inr many ↦ inr (inr many.0)
     ] in
@@ -39,16 +39,16 @@ returns-in-Err-Device-clause-stops g c = λ honest start nested.
     let failed = Rose (files.faults c.args.files.now) (files.faults c.include.new.files) in
     let device = ap (λ f. Err f) c.in-Err-Device.field-0-is in
     let cause : failed ⊎ OpensTooMany (inclusion s directories text was) was opened =
-    elim (c.in-Err-Device.ensures.cause.0 device) [
+    elim (c.in-Err-Device.ensures.cause device).1 [
       | inl rose ↦ inl rose
       | inr many ↦ inr (many.1 honest start nested)
     ] in
     subst (λ (f : Fault). IfRead f (λ name. (name ≡ text) × NotTried failed s directories text was opened)) (sym c.lose.ensures) (
-      c.in_ok-told.ensures.ok ∙ c.shown.ensures (c.in-Err-Device.ensures.named device),
+      c.in_ok-told.ensures.ok ∙ c.shown.ensures (c.in-Err-Device.ensures.cause device).0,
       record {
         cause = cause;
         openings_are = subst (λ f. OpenedInVain f (inclusion s directories text was) was opened) c.in-Err-Device.field-0-is
-            (c.in-Err-Device.ensures.in_vain honest start nested);
+            (c.in-Err-Device.ensures.included honest start nested);
       },
     )
 
@@ -63,7 +63,7 @@ returns-in-Err-Device-clause-opened g c = λ honest start nested.
     let was = nesting s start old before.open_files in
     in_vain s o c.args.unit c.args.text.now start old before (opened_since start new)
     (subst (λ f. OpenedInVain f (inclusion s o.directories c.args.text.now was) was (opened_since start new)) c.in-Err-Device.field-0-is
-    (c.in-Err-Device.ensures.in_vain honest start nested))
+    (c.in-Err-Device.ensures.included honest start nested))
 
 pub returns-in-Err-Memory-clause-opened : goal.returns-in-Err-Memory-clause-opened
 returns-in-Err-Memory-clause-opened g c = λ honest start nested.
@@ -75,7 +75,7 @@ returns-in-Err-Memory-clause-opened g c = λ honest start nested.
     let before = c.args.self.now in
     let was = nesting s start old before.open_files in
     inl (λ told. subst (λ f. OpenedInVain f (inclusion s o.directories c.args.text.now was) was (opened_since start new))
-    c.in-Err-Memory.field-0-is (c.in-Err-Memory.ensures.in_vain honest start nested))
+    c.in-Err-Memory.field-0-is (c.in-Err-Memory.ensures.included honest start nested))
 
 pub returns-in-Err-Device-clause-seen : goal.returns-in-Err-Device-clause-seen
 returns-in-Err-Device-clause-seen g c =
@@ -84,7 +84,7 @@ returns-in-Err-Device-clause-seen g c =
     (tt, unless_read_told (fault_of c.lose.result c.lose.new.lost) c.in_ok-told.told same c.lose.ensures)
 
 pub returns-in-Err-Memory-clause-seen : goal.returns-in-Err-Memory-clause-seen
-returns-in-Err-Memory-clause-seen g c = (tt, c.in-Err-Memory.ensures.cause.1 (ap (λ f. Err f) c.in-Err-Memory.field-0-is))
+returns-in-Err-Memory-clause-seen g c = (tt, (rw c.in-Err-Memory.field-0-is at c.in-Err-Memory.ensures.tries).calm)
 
 -- no room for the text
 

@@ -21,14 +21,14 @@ pub returns-clause-moves : goal.returns-clause-moves
 returns-clause-moves g c =
     let before = c.args.self.now in
     let token = c.in-Ok.token in
-    let took = c.in-Ok.ensures.took in
+    let took = c.in-Ok.ensures.took.0 in
     let stand = standing before.progress in
     let context : Context = record { names = c.names.result.now.names; set = c.characters.result; settings = before.setup.settings.now } in
     let t = token_at (is_between stand.reading) token.kind c.spelling.result.now token.place stand.work in
     elim took.one [
       | inl end ↦ inl (ap (λ (x : Taken). is_mode_ended x.stand.reading.mode) c.in_ok-self.ensures
           ∙ taken_ends g.B.Bounds.most context t before.conditionals stand before.quoted end)
-      | inr less ↦ inr (room_less c.args.self.now.open_files.lexer c.next.new.self.lexer less c.in-Ok.ensures.few)
+      | inr less ↦ inr (room_less c.args.self.now.open_files.lexer c.next.new.self.lexer less c.in-Ok.ensures.reads.on.few)
     ]
 
 pub returns-in-Err-Read-clause-stops : goal.returns-in-Err-Read-clause-stops
@@ -42,22 +42,21 @@ returns-in-Err-Read-clause-stops g c = λ honest start nested.
     let was = state s start old c.args.self.now in
     let failed = Rose (files.faults c.args.files.now) (files.faults c.next.new.files) in
     let next = c.in-Err-Read.ensures in
-    let read = ap (λ f. Err f) c.in-Err-Read.field-0-is in
-    let same = c.next.ensures.same in
+    let reads = rw c.in-Err-Read.field-0-is at next.reads in
     subst (λ (f : Fault). IfRead f (λ name. (told : List ℕ) → StopsInToken failed s (was told) start now after name))
     (sym c.lose.ensures)
     (λ told. record {
-      cause = next.cause.0 read;
-      not_ended = next.unfinished honest start read;
-      goes_on = next.on read;
-      openings = c.next.ensures.opened honest start nested;
-      names = ap (λ (n : Nest). n.names) same.0;
+      cause = reads.on.cause;
+      not_ended = rw c.in-Err-Read.field-0-is at (next.refused honest start);
+      goes_on = reads.on.on;
+      openings = reads.opened honest start nested;
+      names = ap (λ (n : Nest). n.names) reads.nest;
       numbers =
-          ap (λ (n : ℕ). n ∷ files_of (lexers_of (reverse after.outer))) same.1.1
-          ∙ ap (λ (fs : List OpenFile). before.lexer.file ∷ files_of (lexers_of (reverse fs))) same.1.0
+          ap (λ (n : ℕ). n ∷ files_of (lexers_of (reverse after.outer))) reads.file
+          ∙ ap (λ (fs : List OpenFile). before.lexer.file ∷ files_of (lexers_of (reverse fs))) reads.outer
           ∙ sym (files_are s start old before nested);
-      name_is = c.give_room-name.ensures ∙ ap (λ (n : Nest). unwrap_or (slice_get n.names after.lexer.file) []) same.0
-          ∙ ap (λ (k : ℕ). unwrap_or (slice_get before.nest.names k) []) same.1.1;
+      name_is = c.give_room-name.ensures ∙ ap (λ (n : Nest). unwrap_or (slice_get n.names after.lexer.file) []) reads.nest
+          ∙ ap (λ (k : ℕ). unwrap_or (slice_get before.nest.names k) []) reads.file;
     })
 
 pub returns-in-Err-Read-clause-fault : goal.returns-in-Err-Read-clause-fault
@@ -65,7 +64,7 @@ returns-in-Err-Read-clause-fault g c =
     let files = g.F.Files in
     let next = c.in-Err-Read.ensures in
     let unread = IsUnreadable files c.args.files.now c.next.new.files c.args.self.now.open_files c.next.new.self in
-    let cause : unread = elim (next.cause.0 (ap (λ f. Err f) c.in-Err-Read.field-0-is)) [
+    let cause : unread = elim (rw c.in-Err-Read.field-0-is at next.reads).on.cause [
       | inl rose ↦ inl rose
       | inr long ↦ inr (inl long)
     ] in
@@ -78,24 +77,24 @@ returns-in-Err-Read-clause-seen g c =
     (tt, unless_read_told (fault_of c.lose.result c.lose.new.lost) c.give_room-name.result same c.lose.ensures)
 
 pub returns-in-Err-Memory-clause-seen : goal.returns-in-Err-Memory-clause-seen
-returns-in-Err-Memory-clause-seen g c = (tt, c.in-Err-Memory.ensures.cause.1 (ap (λ f. Err f) c.in-Err-Memory.field-0-is))
+returns-in-Err-Memory-clause-seen g c = (tt, (rw c.in-Err-Memory.field-0-is at c.in-Err-Memory.ensures.reads).on.calm)
 
 pub returns-in_err-self-clause-seen : goal.returns-in_err-self-clause-seen
 returns-in_err-self-clause-seen g c =
     let files = g.F.Files in
     halt_tells_none c.from_residual.result c.args.lost.now (files.faults c.args.files.now) (files.faults c.next.new.files)
-    c.in-Ok.ensures.seen
+    c.in-Ok.ensures.reads.on.calm
 
 pub returns-clause-seen : goal.returns-clause-seen
-returns-clause-seen g c = (c.in-Ok.ensures.seen, tt)
+returns-clause-seen g c = (c.in-Ok.ensures.reads.on.calm, tt)
 
 pub give_room-name-requires : goal.give_room-name-requires
 give_room-name-requires g c =
-    subst (λ (n : Nest). length (innermost_name n) ≤ string_capacity c.args.self.now.room) (sym c.next.ensures.same.0) c.requires.room
+    subst (λ (n : Nest). length (innermost_name n) ≤ string_capacity c.args.self.now.room) (sym c.next.ensures.reads.nest) c.requires.room
 
 pub returns-clause-room : goal.returns-clause-room
 returns-clause-room g c =
-    subst (λ (n : Nest). length (innermost_name n) ≤ string_capacity c.args.self.now.room) (sym c.next.ensures.same.0) c.requires.room
+    subst (λ (n : Nest). length (innermost_name n) ≤ string_capacity c.args.self.now.room) (sym c.next.ensures.reads.nest) c.requires.room
 
 pub returns-clause-longest : goal.returns-clause-longest
 returns-clause-longest g c = λ few_before.
@@ -106,7 +105,7 @@ returns-clause-longest g c = λ few_before.
     let context : Context = record { names = c.names.result.now.names; set = c.characters.result; settings = before.setup.settings.now } in
     let t = token_at (is_between stand.reading) token.kind c.spelling.result.now token.place stand.work in
     let few = λ (is : is_quoted_kind token.kind ≡ true). subst (λ (bytes : List ℕ). length bytes ≤ most) (sym c.spelling.ensures)
-    (c.in-Ok.ensures.quoted is) in
+    (c.in-Ok.ensures.took.1 is) in
     subst (λ n. n ≤ most) (sym (ap (λ (x : Taken). x.quoted) c.in_ok-self.ensures))
     (taken_within g.B.Bounds.most context t before.conditionals stand before.quoted most few few_before)
 
@@ -124,7 +123,8 @@ returns-clause-stepped g c = λ honest start nested told.
       set = c.characters.result;
       settings = c.args.self.now.setup.settings.now;
     } in
-    let named : c.names.result.now.names ≡ before.nesting.names = ap (λ (n : Nest). n.names) (c.names.ensures ∙ c.in-Ok.ensures.same.0) in
+    let named : c.names.result.now.names ≡ before.nesting.names = ap (λ (n : Nest). n.names)
+        (c.names.ensures ∙ c.in-Ok.ensures.reads.nest) in
     let set_is : c.characters.result ≡ before.nesting.cursor.set =
     c.characters.ensures.innermost ∙ ap (λ (n : Nesting). n.cursor.set) reads.goes_on in
     let same : context ≡ context_of o before =
@@ -138,4 +138,4 @@ returns-clause-stepped g c = λ honest start nested told.
     c.in_ok-self.ensures
 
 pub returns-clause-fits : goal.returns-clause-fits
-returns-clause-fits g c = c.in-Ok.ensures.fits
+returns-clause-fits g c = c.in-Ok.ensures.reads.fits

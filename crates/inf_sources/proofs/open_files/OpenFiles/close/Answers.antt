@@ -11,4 +11,4 @@ returns-clause-closed g c = λ honest start nested.
     closed_is start (files.openings c.args.files.now) (files.openings c.leave.new.files) (files.openings c.leave-2.new.files) c.loop.self
     (subst (λ f. IsNested start (files.openings f) c.loop.self) (sym last.1.1) (inv.nested honest start nested)) (ap length last.0)
     (ap (λ f. (files.openings f).all) last.1.1 ∙ inv.all honest)
-    (c.leave-2.ensures.closes (subst (λ b. IsTrue b) (sym (c.leave.ensures.went.honesty ∙ inv.honesty)) honest))
+    (c.leave-2.ensures.closes.closes (subst (λ b. IsTrue b) (sym (c.leave.ensures.went.honesty ∙ inv.honesty)) honest))

@@ -8,17 +8,11 @@ use Rattle.inf_sources.proofs.Entered.{Fits as FitsAhead, left_fits, left_none, 
 use Rattle.inf_sources.proofs.open_files.OpenFiles.leave.Goals as goal
 
 pub returns-in_err-lexer-clause-nesting : goal.returns-in_err-lexer-clause-nesting
-returns-in_err-lexer-clause-nesting g c = λ honest start nested.
-    let files = g.F.Files in
-    let s = files.sources c.args.files.now in
-    let now = files.openings c.args.files.now in
-    subst (λ (o : Open). nesting s start now (record {
-      nest = c.self.inside.names;
-      lexer = c.self.inside.lexer;
-      outer = c.pop.new.self.items;
-    }) ≡ closed (nesting s start now o)) c.self.view_is
-    (left_none s start now c.self.inside.names c.self.inside.lexer c.self.inside.outer.items c.pop.new.self.items
-    (omega (arith, c.in_err-lexer.ensures.cases.0)) c.in_err-lexer.ensures.items)
+returns-in_err-lexer-clause-nesting g c =
+    rw (← c.self.view_is) (λ honest start n.
+    left_none (g.F.Files.sources c.args.files.now) start (g.F.Files.openings c.args.files.now) c.self.inside.names c.self.inside.lexer
+    c.self.inside.outer.items c.pop.new.self.items (omega (arith, c.in_err-lexer.ensures.cases.0))
+    c.in_err-lexer.ensures.items)
 
 pub invariant_of-self-2 : goal.invariant_of-self-2
 invariant_of-self-2 g c =
@@ -43,32 +37,22 @@ returns-clause-left g c =
     )
 
 pub returns-clause-nesting : goal.returns-clause-nesting
-returns-clause-nesting g c = λ honest start nested.
+returns-clause-nesting g c =
     let files = g.F.Files in
-    let s = files.sources c.args.files.now in
-    let old = files.openings c.args.files.now in
-    let new = files.openings c.leave.new.files in
-    let f = c.in_ok-lexer.field-0 in
-    let items = c.in_ok-lexer.ensures.items in
-    let before : Open = record { nest = c.self.inside.names; lexer = c.self.inside.lexer; outer = c.self.inside.outer.items } in
-    let after : Open = record { nest = c.keep.new.self; lexer = c.replace-left.new.dest; outer = c.pop.new.self.items } in
-    subst (λ (o : Open). IsNested start old o → nesting s start new after ≡ closed (nesting s start old o)) c.self.view_is
-    (λ n. left_nesting s start old new before after f n (c.leave.ensures.closes honest) items c.replace-left.ensures.after
-    (c.keep.ensures ∙ c.leave.ensures.left)) nested
+    let inside = c.self.inside in
+    rw (← c.self.view_is) (λ honest start n.
+    left_nesting (files.sources c.args.files.now) start (files.openings c.args.files.now) (files.openings c.leave.new.files)
+    (record { nest = inside.names; lexer = inside.lexer; outer = inside.outer.items })
+    (record { nest = c.keep.new.self; lexer = c.replace-left.new.dest; outer = c.pop.new.self.items }) c.in_ok-lexer.field-0 n
+        (c.leave.ensures.closes.closes honest) c.in_ok-lexer.ensures.items
+    c.replace-left.ensures.after (c.keep.ensures ∙ c.leave.ensures.left))
 
 pub returns-clause-went : goal.returns-clause-went
 returns-clause-went g c =
-    let files = g.F.Files in
-    let leave = c.leave.ensures in
-    let f = c.in_ok-lexer.field-0 in
-    let items = c.in_ok-lexer.ensures.items in
-    let before : Open = record { nest = c.self.inside.names; lexer = c.self.inside.lexer; outer = c.self.inside.outer.items } in
-    let after : Open = record { nest = c.keep.new.self; lexer = c.replace-left.new.dest; outer = c.pop.new.self.items } in
-    subst (λ (o : Open). Went files c.args.files.now c.leave.new.files o after) c.self.view_is
-    (went_out files c.args.files.now c.leave.new.files before after leave.sources leave.honesty leave.faults leave.depth leave.counts
-    leave.opened f c.replace-left.ensures.after items
-    (ap (λ (n : Nest). n.names) (c.keep.ensures ∙ leave.left)) leave.closes)
+    rw (← c.self.view_is)
+    (went_out c.leave.ensures.closes c.in_ok-lexer.field-0 c.replace-left.ensures.after c.in_ok-lexer.ensures.items
+    (ap (λ (n : Nest). n.names) (c.keep.ensures ∙ c.leave.ensures.left)))
 
 pub returns-clause-fits : goal.returns-clause-fits
 returns-clause-fits g c = λ honest start nested given fit.
-    subst (λ (all : List Opening). Each Fits (length start.all) all) (sym (c.leave.ensures.closes honest).same) fit
+    subst (λ (all : List Opening). Each Fits (length start.all) all) (sym (c.leave.ensures.closes.closes honest).same) fit

@@ -1,62 +1,38 @@
-use Rattle.std.proofs.Common.{refl, subst}
-use Rattle.inf_sources.specs.{Calls.StaysFit, Calls.Went, Heading.ReadsHead, Open.IsNested, Open.Open, Open.nesting}
-use Rattle.inf_sources.proofs.{Calls.fit_read, Calls.went_read, Nestings.opened_as_before, Nestings.reads_head_on}
+use Rattle.std.proofs.Common.{ap, ◌∙◌}
+use Rattle.inf_lexer.proofs.Reading.{fault_is, reads_refused}
+use Rattle.inf_sources.specs.Open.{Open}
+use Rattle.inf_sources.proofs.{Calls.reads_file, Nestings.reads_head_on}
 use Rattle.inf_sources.proofs.open_files.OpenFiles.next_head_word.Goals as goal
 
 pub returns-clause-word : goal.returns-clause-word
-returns-clause-word g c = λ honest start nested.
-    let files = g.F.Files in
-    let s = files.sources c.args.files.now in
-    let old = files.openings c.args.files.now in
-    let new = files.openings c.next_head_word.new.files in
-    let before : Open = record { nest = c.self.inside.names; lexer = c.self.inside.lexer; outer = c.self.inside.outer.items } in
-    let after : Open = record { nest = c.self.inside.names; lexer = c.next_head_word.new.self; outer = c.self.inside.outer.items } in
-    let along = c.next_head_word.ensures.gave honest in
-    subst (λ (o : Open). IsNested start old o → ReadsHead c.in_ok-is_word.is_word c.next_head_word.new.place
-    c.next_head_word.new.word.items c.args.place.now (nesting s start old o) (nesting s start new after)) c.self.view_is
-    (λ n. reads_head_on s start old new before after c.in_ok-is_word.is_word c.next_head_word.new.place c.args.place.now
-    c.next_head_word.new.word.items along.bytes n along.gave refl refl (c.in_ok-is_word.ensures.word honest) c.next_head_word.ensures.same)
-    nested
+returns-clause-word g c =
+    let next = c.in_ok-is_word.ensures in
+    let on = next.went (ap (λ (o : Open). o.lexer.has_failed) c.self.view_is ∙ c.requires.goes) in
+    rw (← c.self.view_is) (λ honest start n.
+    reads_head_on on next.same.0 honest n c.in_ok-is_word.is_word c.next_head_word.new.place c.args.place.now
+    c.next_head_word.new.word.items (next.word honest))
 
-pub returns-clause-went : goal.returns-clause-went
-returns-clause-went g c =
-    let files = g.F.Files in
-    let inside = c.self.inside in
-    let next = c.next_head_word.ensures in
-    subst (λ (o : Open). Went files c.args.files.now c.next_head_word.new.files o
-    (record { nest = inside.names; lexer = c.next_head_word.new.self; outer = inside.outer.items })) c.self.view_is
-    (went_read files c.args.files.now c.next_head_word.new.files inside.names inside.lexer c.next_head_word.new.self inside.outer.items
-    next.sources next.honesty next.faults next.depth next.counts next.opened next.gave next.same.2 next.window next.end next.still)
+pub returns-clause-reads : goal.returns-clause-reads
+returns-clause-reads g c =
+    let next = c.in_ok-is_word.ensures in
+    rw (← c.self.view_is)
+    (reads_file (next.went (ap (λ (o : Open). o.lexer.has_failed) c.self.view_is ∙ c.requires.goes)) next.same.0.file)
 
-pub returns-in_err-is_word-clause-went : goal.returns-in_err-is_word-clause-went
-returns-in_err-is_word-clause-went g c =
-    let files = g.F.Files in
-    let inside = c.self.inside in
-    let next = c.next_head_word.ensures in
-    subst (λ (o : Open). Went files c.args.files.now c.next_head_word.new.files o
-    (record { nest = inside.names; lexer = c.next_head_word.new.self; outer = inside.outer.items })) c.self.view_is
-    (went_read files c.args.files.now c.next_head_word.new.files inside.names inside.lexer c.next_head_word.new.self inside.outer.items
-    next.sources next.honesty next.faults next.depth next.counts next.opened next.gave next.same.2 next.window next.end next.still)
+pub returns-in_err-is_word-clause-reads : goal.returns-in_err-is_word-clause-reads
+returns-in_err-is_word-clause-reads g c =
+    let next = c.in_err-is_word.ensures in
+    rw (← c.self.view_is)
+    (reads_file (reads_refused (fault_is c.from_residual.result c.from_residual.ensures)
+    (next.went (ap (λ (o : Open). o.lexer.has_failed) c.self.view_is ∙ c.requires.goes))) next.same.0.file)
 
-pub returns-clause-opened : goal.returns-clause-opened
-returns-clause-opened g c = λ honest start nested.
-    let files = g.F.Files in
-    let along = c.next_head_word.ensures.gave honest in
-    opened_as_before (files.sources c.args.files.now) start (files.openings c.args.files.now)
-    (files.openings c.next_head_word.new.files) along.bytes along.gave
+pub returns-in_err-is_word-clause-took : goal.returns-in_err-is_word-clause-took
+returns-in_err-is_word-clause-took g c =
+    rw (fault_is c.from_residual.result c.from_residual.ensures) c.in_err-is_word.ensures.took
 
-pub returns-in_err-is_word-clause-opened : goal.returns-in_err-is_word-clause-opened
-returns-in_err-is_word-clause-opened g c = λ honest start nested.
-    let files = g.F.Files in
-    let along = c.next_head_word.ensures.gave honest in
-    opened_as_before (files.sources c.args.files.now) start (files.openings c.args.files.now)
-    (files.openings c.next_head_word.new.files) along.bytes along.gave
-
-pub returns-clause-fits : goal.returns-clause-fits
-returns-clause-fits g c =
-    let files = g.F.Files in
-    let inside = c.self.inside in
-    let next = c.next_head_word.ensures in
-    subst (λ (o : Open). StaysFit files c.args.files.now c.next_head_word.new.files o) c.self.view_is
-    (fit_read files c.args.files.now c.next_head_word.new.files inside.names inside.lexer c.next_head_word.new.self inside.outer.items
-    next.gave next.same.2 c.in_ok-is_word.ensures.few next.window next.end next.still)
+pub returns-in_err-is_word-clause-refused : goal.returns-in_err-is_word-clause-refused
+returns-in_err-is_word-clause-refused g c =
+    let refused = c.in_err-is_word.ensures.refused in
+    rw (← c.self.view_is, fault_is c.from_residual.result c.from_residual.ensures) (
+      refused.0,
+      λ honest start not. refused.1 honest (ap (λ (o : Open). o.lexer.has_failed) c.self.view_is ∙ c.requires.goes) not,
+    )
